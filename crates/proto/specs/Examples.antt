@@ -1,0 +1,298 @@
+-- Worked examples, whose theorems stand in proofs/. Each is the contract of a function of the module
+-- `examples`.
+use Rattle.std.specs.Prelude.{◌≡◌, ℕ, ℤ, pos, negsuc, true, false, List, [], ◌∷◌, ◌++◌, codes, replicate, Option, Some, None}
+use Rattle.std.specs.List.{AllByRecursion}
+use Rattle.std.specs.FinMap as finite
+use Rattle.proto.specs.declared.message.Put.{Put}
+use Rattle.proto.specs.declared.message.Hit.{Hit}
+use Rattle.proto.specs.declared.message.Request.{Request}
+use Rattle.proto.specs.declared.message.Request.TheVariants.{Get, Set, Add, Replace, Cas, Delete, Incr, Decr, FlushAll}
+use Rattle.proto.specs.declared.message.Reply.{Reply}
+use Rattle.proto.specs.declared.message.Reply.TheVariants as reply
+use Rattle.proto.specs.declared.message.Message.{Message}
+use Rattle.proto.specs.declared.message.Message.TheVariants.{Ask, Wrong, Quit, Fatal}
+use Rattle.proto.specs.declared.message.WrongKind.TheVariants as wrong
+use Rattle.proto.specs.declared.message.FatalKind.TheVariants as fatal
+use Rattle.proto.specs.Sizes.{sizes_of}
+use Rattle.proto.specs.Grammar.{Spells}
+use Rattle.proto.specs.Reading.{Reads, asks}
+use Rattle.proto.specs.Answers.{answer, said}
+use Rattle.proto.specs.Needs.{IsUnfinished}
+use Rattle.proto.specs.Cache.{Entry, Entries, no_entries, Cache, empty_cache, live, found_at}
+use Rattle.proto.specs.Commands.{Outcome, act}
+use Rattle.proto.specs.declared.history.Answered.{Answered}
+use Rattle.proto.specs.History.{Legal, session_share, had, asked}
+use Rattle.proto.specs.Buckets.{bucket_of, width_of, lower_end, shared_deadline, MayLive}
+
+abbrev pub put_with : List ℕ → ℕ → ℤ → List ℕ → Put
+put_with key flags exptime value = record { key = key; flags = flags; exptime = exptime; value = value }
+
+abbrev pub a : List ℕ
+a = codes "a"
+
+abbrev pub b : List ℕ
+b = codes "b"
+
+-- a key of 251 letters, one too many
+abbrev pub long_key : List ℕ
+long_key = replicate 251 107
+
+abbrev pub line_break : List ℕ
+line_break = codes "\r\n"
+
+-- ---- spellings
+
+-- the bytes and the message that they spell
+abbrev pub Example : Type 0
+Example = List ℕ × Message
+
+abbrev pub IsSpelled : Example → Type 0
+IsSpelled e = Spells e.0 e.1
+
+abbrev pub requests : List Example
+requests =
+    (codes "set a 0 0 1\r\nx\r\n", Ask (Set (put_with a 0 (pos 0) (codes "x"))) false)
+    ∷ (codes "set a 0 0 7\r\nget b\r\n\r\n", Ask (Set (put_with a 0 (pos 0) (codes "get b\r\n"))) false)
+    ∷ (codes "set a 0 0 0\r\n\r\n", Ask (Set (put_with a 0 (pos 0) [])) false)
+    ∷ (codes "set a 0 0 1 noreply\r\nx\r\n", Ask (Set (put_with a 0 (pos 0) (codes "x"))) true)
+    ∷ (codes "set a 0 -1 1\r\nx\r\n", Ask (Set (put_with a 0 (negsuc 0) (codes "x"))) false)
+    ∷ (codes "set a 4294967295 9999999999 1\r\nx\r\n", Ask (Set (put_with a 4294967295 (pos 9999999999) (codes "x"))) false)
+    ∷ (codes "cas a 0 0 1 1\r\ny\r\n", Ask (Cas (put_with a 0 (pos 0) (codes "y")) 1) false)
+    ∷ (codes "get a\r\n", Ask (Get (a ∷ []) false) false)
+    ∷ (codes "gets a b\r\n", Ask (Get (a ∷ b ∷ []) true) false)
+    ∷ (codes "get a noreply\r\n", Ask (Get (a ∷ codes "noreply" ∷ []) false) false)
+    ∷ (codes "delete a noreply\r\n", Ask (Delete a) true)
+    ∷ (codes "incr a 18446744073709551615\r\n", Ask (Incr a 18446744073709551615) false)
+    ∷ (codes "decr n 5\r\n", Ask (Decr (codes "n") 5) false)
+    ∷ (codes "flush_all\r\n", Ask (FlushAll 0) false)
+    ∷ (codes "flush_all noreply\r\n", Ask (FlushAll 0) true)
+    ∷ (codes "flush_all 0 noreply\r\n", Ask (FlushAll 0) true)
+    ∷ (codes "flush_all 10\r\n", Ask (FlushAll 10) false)
+    ∷ (codes "flush_all 9999999999 noreply\r\n", Ask (FlushAll 9999999999) true)
+    ∷ (codes "quit\r\n", Quit)
+    ∷ []
+
+abbrev pub faults : List Example
+faults =
+    (codes "foo\r\n", Wrong wrong.Unknown)
+    ∷ (codes "\r\n", Wrong wrong.Unknown)
+    ∷ (codes " get a\r\n", Wrong wrong.Unknown)
+    ∷ (codes "GET a\r\n", Wrong wrong.Unknown)
+    ∷ (codes "get\r\n", Wrong wrong.BadLine)
+    ∷ (codes "get \r\n", Wrong wrong.BadLine)
+    ∷ (codes "get  a\r\n", Wrong wrong.BadLine)
+    ∷ (codes "get a\nget a\r\n", Wrong wrong.BadLine)
+    ∷ (codes "get " ++ long_key ++ line_break, Wrong wrong.BadLine)
+    ∷ (codes "quit \r\n", Wrong wrong.BadLine)
+    ∷ (codes "flush_all 00\r\n", Wrong wrong.BadLine)
+    ∷ (codes "flush_all -1\r\n", Wrong wrong.BadLine)
+    ∷ (codes "flush_all 10000000000\r\n", Wrong wrong.BadLine)
+    ∷ (codes "flush_all 10 20\r\n", Wrong wrong.BadLine)
+    ∷ (codes "incr a 18446744073709551616\r\n", Wrong wrong.BadLine)
+    ∷ (codes "set a 00 0 1\r\n", Fatal fatal.BadLine)
+    ∷ (codes "set " ++ long_key ++ codes " 0 0 1\r\n", Fatal fatal.BadLine)
+    ∷ (codes "set a 4294967296 0 1\r\n", Fatal fatal.BadLine)
+    ∷ (codes "set a 0 10000000000 1\r\n", Fatal fatal.BadLine)
+    ∷ (codes "set a 0 -0 1\r\n", Fatal fatal.BadLine)
+    ∷ (codes "set a 0 0 10000000000\r\n", Fatal fatal.BadLine)
+    ∷ (codes "set a 0 0 131073\r\n", Fatal fatal.TooLarge)
+    ∷ (codes "set a 0 0 9999999999\r\n", Fatal fatal.TooLarge)
+    ∷ (codes "set a 0 0 2\r\nxyz\r", Fatal fatal.BadChunk)
+    ∷ (codes "set a 0 0 1\r\nx\ry", Fatal fatal.BadChunk)
+    ∷ []
+
+-- lines at the limit: with its end one may have 2,048 bytes, and what is longer isn't read to its end
+abbrev pub long_lines : List Example
+long_lines =
+    (replicate 2046 97 ++ line_break, Wrong wrong.Unknown)
+    ∷ (replicate 2048 97, Fatal fatal.LongLine)
+    ∷ (replicate 2047 97 ++ codes "\r", Fatal fatal.LongLine)
+    ∷ []
+
+-- what isn't a whole message yet
+abbrev pub unfinished : List (List ℕ)
+unfinished =
+    [] ∷ codes "get a" ∷ codes "get a\r" ∷ codes "set a 0 0 1\r\n" ∷ codes "set a 0 0 1\r\nx\r"
+    ∷ codes "set a 0 0 7\r\nget b\r\n" ∷ replicate 2047 97 ∷ []
+
+-- bytes, and how many there have to be before more can be found
+abbrev pub HasNeed : List ℕ × ℕ → Type 0
+HasNeed e = IsUnfinished e.0 e.1
+
+abbrev pub needs : List (List ℕ × ℕ)
+needs =
+    ([], 1) ∷ (codes "get a", 6) ∷ (codes "set a 0 0 1\r", 13) ∷ (codes "set a 0 0 1\r\n", 16)
+    ∷ (codes "set a 0 0 1\r\nx\r", 16) ∷ (codes "set a 0 0 100000\r\n", 100020) ∷ []
+
+-- ---- answers
+
+abbrev pub hit_with : List ℕ → ℕ → List ℕ → ℕ → Hit
+hit_with key flags value cas = record { key = key; flags = flags; value = value; cas = cas }
+
+abbrev pub AnswersAre : Type 0
+AnswersAre =
+    (answer (Ask (Set (put_with a 0 (pos 0) (codes "x"))) false) (Some reply.Stored) ≡ codes "STORED\r\n")
+    × (answer (Ask (Set (put_with a 0 (pos 0) (codes "x"))) true) (Some reply.NoMemory) ≡ [])
+    × (answer (Ask (Get (a ∷ []) false) false) (Some (reply.Values (hit_with a 0 (codes "x") 1 ∷ []))) ≡ codes "VALUE a 0 1\r\nx\r\nEND\r\n")
+    × (answer (Ask (Get (a ∷ []) true) false) (Some (reply.Values (hit_with a 0 [] 1 ∷ []))) ≡ codes "VALUE a 0 0 1\r\n\r\nEND\r\n")
+    × (answer (Ask (Get (b ∷ []) false) false) (Some (reply.Values [])) ≡ codes "END\r\n")
+    × (answer (Ask (Incr a 1) false) (Some (reply.Number 0)) ≡ codes "0\r\n")
+    × (answer (Ask (Incr a 1) false) (Some reply.NotNumber) ≡ codes "CLIENT_ERROR cannot increment or decrement non-numeric value\r\n")
+    × (answer (Wrong wrong.Unknown) None ≡ codes "ERROR\r\n")
+    × (answer (Fatal fatal.LongLine) None ≡ codes "CLIENT_ERROR line too long\r\n")
+    × (answer Quit None ≡ [])
+
+-- ---- commands, at the moment 1,000 with the limit 8,192
+
+abbrev pub entry_with : List ℕ → Option ℕ → ℕ → Entry
+entry_with value deadline cas = record { value = value; flags = 0; deadline = deadline; cas = cas }
+
+-- the entries with one at the key `a`, which has the cas number 1
+abbrev pub with_a : List ℕ → Entries
+with_a value = finite.insert no_entries a (entry_with value None 1)
+
+abbrev pub outcome_with : Entries → ℕ → Reply → Option (List ℕ) → Outcome
+outcome_with entries c answered stored = record { entries = entries; last_cas = c; pending = None; reply = answered; stored = stored }
+
+-- the cache that has `a` alone, and perhaps a flush pending
+abbrev pub cache_with : List ℕ → Option ℕ → Cache
+cache_with value pending = record { entries = with_a value; last_cas = 1; pending = pending }
+
+abbrev pub set_a : ℤ → Request
+set_a exptime = Set (put_with a 0 exptime (codes "x"))
+
+-- a request to the cache that has `a` alone
+abbrev pub after_a : List ℕ → Request → Outcome
+after_a value q = act 8192 (cache_with value None) 1000 q
+
+abbrev pub CommandsDo : Type 0
+CommandsDo =
+    -- `set` of a new key, with no deadline, with one from now on, and with one that has passed
+    (act 8192 (empty_cache 0) 1000 (set_a (pos 0)) ≡ outcome_with (with_a (codes "x")) 1 reply.Stored (Some a))
+    × (act 8192 (empty_cache 0) 1000 (set_a (pos 5)) ≡ outcome_with (finite.insert no_entries a (entry_with (codes "x") (Some 1005) 1)) 1 reply.Stored (Some a))
+    × (act 8192 (empty_cache 0) 1000 (set_a (negsuc 0)) ≡ outcome_with (finite.remove no_entries a) 0 reply.Stored None)
+    × (act 8192 (empty_cache 0) 1000 (set_a (pos 2592001)) ≡ outcome_with (finite.insert no_entries a (entry_with (codes "x") (Some 2592001) 1)) 1 reply.Stored (Some a))
+    × (act 8192 (empty_cache 0) 2592002 (set_a (pos 2592001)) ≡ outcome_with (finite.remove no_entries a) 0 reply.Stored None)
+    -- the last cas number is spent
+    × (act 8192 (empty_cache 18446744073709551615) 1000 (set_a (pos 0)) ≡ outcome_with no_entries 18446744073709551615 reply.NoCas None)
+    × (act 8192 (empty_cache 18446744073709551615) 1000 (set_a (negsuc 0)) ≡ outcome_with (finite.remove no_entries a) 18446744073709551615 reply.Stored None)
+    -- an item of 512 bytes is the largest with segments of 4,096
+    × ((act 512 (empty_cache 0) 1000 (Set (put_with a 0 (pos 0) (replicate 487 120)))).reply ≡ reply.Stored)
+    × ((act 512 (empty_cache 0) 1000 (Set (put_with a 0 (pos 0) (replicate 488 120)))).reply ≡ reply.TooLarge)
+    -- a key that no bytes spell
+    × ((act 8192 (empty_cache 0) 1000 (Set (put_with [] 0 (pos 0) []))).reply ≡ reply.TooLarge)
+    × ((act 8192 (empty_cache 0) 1000 (Set (put_with long_key 0 (pos 0) []))).reply ≡ reply.TooLarge)
+
+-- the replies to requests where `a` has a value
+abbrev pub RepliesAre : Type 0
+RepliesAre =
+    ((after_a (codes "x") (Get (a ∷ b ∷ a ∷ []) false)).reply ≡ reply.Values (hit_with a 0 (codes "x") 1 ∷ hit_with a 0 (codes "x") 1 ∷ []))
+    × ((after_a (codes "x") (Add (put_with a 0 (pos 0) []))).reply ≡ reply.NotStored)
+    × ((after_a (codes "x") (Replace (put_with b 0 (pos 0) []))).reply ≡ reply.NotStored)
+    × ((after_a (codes "x") (Cas (put_with a 0 (pos 0) []) 1)).reply ≡ reply.Stored)
+    × ((after_a (codes "x") (Cas (put_with a 0 (pos 0) []) 2)).reply ≡ reply.Exists)
+    × ((after_a (codes "x") (Cas (put_with b 0 (pos 0) []) 1)).reply ≡ reply.NotFound)
+    × ((after_a (codes "x") (Delete a)).reply ≡ reply.Deleted)
+    × ((after_a (codes "x") (Delete b)).reply ≡ reply.NotFound)
+    × ((after_a (codes "x") (Incr a 1)).reply ≡ reply.NotNumber)
+    × ((after_a (codes "18446744073709551615") (Incr a 1)).reply ≡ reply.Number 0)
+    × ((after_a (codes "00000000000000000007") (Incr a 1)).reply ≡ reply.Number 8)
+    × ((after_a (codes "3") (Decr a 5)).reply ≡ reply.Number 0)
+    × ((after_a (codes "18446744073709551616") (Incr a 1)).reply ≡ reply.NotNumber)
+    × ((after_a (codes "x") (Incr b 1)).reply ≡ reply.NotFound)
+
+-- `flush_all`, at once and with a delay, where a flush is pending already, and at the greatest moment
+abbrev pub FlushesDo : Type 0
+FlushesDo =
+    (after_a (codes "x") (FlushAll 0) ≡ outcome_with no_entries 1 reply.Flushed None)
+    × (after_a (codes "x") (FlushAll 10) ≡ record { entries = with_a (codes "x"); last_cas = 1; pending = Some 1010; reply = reply.Flushed; stored = None })
+    × ((act 8192 (cache_with (codes "x") (Some 1010)) 1005 (FlushAll 20)).pending ≡ Some 1025)
+    × ((act 8192 (cache_with (codes "x") (Some 1010)) 1005 (FlushAll 0)).pending ≡ None)
+    × ((act 8192 (cache_with (codes "x") (Some 1010)) 1005 (Delete b)).pending ≡ Some 1010)
+    × ((act 8192 (cache_with (codes "x") None) 18446744073709551610 (FlushAll 10)).pending ≡ Some 18446744073709551615)
+    -- before its moment, and at it
+    × ((found_at (cache_with (codes "x") (Some 1010)) 1009).entries ≡ live (with_a (codes "x")) 1009)
+    × ((found_at (cache_with (codes "x") (Some 1010)) 1009).pending ≡ Some 1010)
+    × (found_at (cache_with (codes "x") (Some 1010)) 1010 ≡ empty_cache 1)
+
+-- ---- a session of two requests
+
+abbrev pub session_input : List ℕ
+session_input = codes "set a 0 0 1\r\nx\r\nget a\r\n"
+
+abbrev pub session_messages : List Message
+session_messages = Ask (set_a (pos 0)) false ∷ Ask (Get (a ∷ []) false) false ∷ []
+
+abbrev pub session_history : List Answered
+session_history =
+    record { worker = 0; session = 1; number = 1; request = set_a (pos 0); moment = 1000; reply = reply.Stored }
+    ∷ record { worker = 0; session = 1; number = 2; request = Get (a ∷ []) false; moment = 1000; reply = reply.Values (hit_with a 0 (codes "x") 1 ∷ []) }
+    ∷ []
+
+pub record SessionIs : Type 0 where
+  pub reads : Reads session_input session_messages []
+  pub legal : Legal (sizes_of 65536 64) session_history
+  pub asked_in_order : asked (session_share session_history 0 1) ≡ asks session_messages
+  pub output : said session_messages (had (session_share session_history 0 1)) ≡ codes "STORED\r\nVALUE a 0 1\r\nx\r\nEND\r\n"
+
+-- ---- a flush that comes while a session goes on
+
+abbrev pub get_a_again : ℕ → ℕ → List Hit → Answered
+get_a_again number moment hits =
+    record { worker = 0; session = 1; number = number; request = Get (a ∷ []) false; moment = moment; reply = reply.Values hits }
+
+-- `a` is set at 1000, a flush is to come at 1015, and `a` is read before it and then
+abbrev pub flush_history : List Answered
+flush_history =
+    record { worker = 0; session = 1; number = 1; request = set_a (pos 0); moment = 1000; reply = reply.Stored }
+    ∷ record { worker = 0; session = 1; number = 2; request = FlushAll 10; moment = 1005; reply = reply.Flushed }
+    ∷ get_a_again 3 1010 (hit_with a 0 (codes "x") 1 ∷ []) ∷ get_a_again 4 1015 [] ∷ []
+
+abbrev pub FlushIs : Type 0
+FlushIs = Legal (sizes_of 65536 64) flush_history
+
+-- ---- buckets
+
+abbrev pub HasBucket : ℕ × ℕ → Type 0
+HasBucket e = bucket_of (Some e.0) ≡ e.1
+
+-- the first and last time to live of each width
+abbrev pub bucket_bounds : List (ℕ × ℕ)
+bucket_bounds =
+    (1, 0) ∷ (7, 0) ∷ (8, 1) ∷ (2047, 255) ∷ (2048, 272) ∷ (32767, 511) ∷ (32768, 528) ∷ (524287, 767)
+    ∷ (524288, 784) ∷ (8355839, 1022) ∷ (8355840, 1023) ∷ (8388607, 1023) ∷ (8388608, 1023) ∷ []
+
+abbrev pub HasEnds : ℕ × ℕ × ℕ → Type 0
+HasEnds e = (lower_end e.0 ≡ e.1) × (width_of e.0 ≡ e.2)
+
+-- the first and last bucket of each width, with its lower end
+abbrev pub bucket_ends : List (ℕ × ℕ × ℕ)
+bucket_ends =
+    (0, 0, 8) ∷ (1, 8, 8) ∷ (255, 2040, 8) ∷ (272, 2048, 128) ∷ (511, 32640, 128) ∷ (528, 32768, 2048)
+    ∷ (767, 522240, 2048) ∷ (784, 524288, 32768) ∷ (1022, 8323072, 32768) ∷ (1023, 8355840, 32768) ∷ []
+
+abbrev pub BucketsAre : Type 0
+BucketsAre = AllByRecursion HasBucket bucket_bounds × (bucket_of None ≡ 1024) × AllByRecursion HasEnds bucket_ends
+
+-- ---- deadlines that may stand for the one asked for
+
+-- the moment of the write, the deadline asked for, and the one given
+abbrev pub Life : Type 0
+Life = ℕ × Option ℕ × Option ℕ
+
+abbrev pub MayBe : Life → Type 0
+MayBe e = MayLive e.0 e.1 e.2
+
+abbrev pub MayNotBe : Life → Type 0
+MayNotBe e = ¬ (MayLive e.0 e.1 e.2)
+
+abbrev pub lives : List Life
+lives =
+    (1000, None, None) ∷ (1000, Some 1005, Some 1005) ∷ (1000, Some 1005, Some (shared_deadline 0 1000))
+    ∷ (1007, Some 1023, Some (shared_deadline 2 1000)) ∷ (1003, Some 1016, Some (shared_deadline 1 1003))
+    ∷ (1000, Some 9000000000, Some (shared_deadline 1023 1000)) ∷ []
+
+abbrev pub no_lives : List Life
+no_lives =
+    (1000, None, Some 1005) ∷ (1000, Some 1005, None) ∷ (1000, Some 1005, Some 1000)
+    ∷ (1000, Some 1005, Some 1006) ∷ (1000, Some 1040, Some 1024) ∷ (1000, Some 9000000000, Some 1001) ∷ []

@@ -18,7 +18,7 @@ use Rattle.proto.specs.Grammar.{Spells}
 use Rattle.proto.specs.Reading.{Reads, asks}
 use Rattle.proto.specs.Answers.{answer, said}
 use Rattle.proto.specs.Needs.{IsUnfinished}
-use Rattle.proto.specs.Cache.{Entry, Entries, no_entries, Cache, empty_cache, live, found_at}
+use Rattle.proto.specs.Cache.{Entry, Entries, no_entries, Cache, empty_cache, live, found_at, deadline_of, has_arrived}
 use Rattle.proto.specs.Commands.{Outcome, act}
 use Rattle.proto.specs.declared.history.Answered.{Answered}
 use Rattle.proto.specs.History.{Legal, session_share, had, asked}
@@ -142,6 +142,16 @@ AnswersAre =
     × (answer (Fatal fatal.LongLine) None ≡ codes "CLIENT_ERROR line too long\r\n")
     × (answer Quit None ≡ [])
 
+-- what a session's messages are answered together, where the requests had these replies
+abbrev pub SaidAre : Type 0
+SaidAre =
+    -- local answers stand in their places, before and behind a request's
+    (said (Wrong wrong.Unknown ∷ Wrong wrong.Unknown ∷ Ask (Get (a ∷ []) false) false ∷ []) (reply.Values [] ∷ []) ≡ codes "ERROR\r\nERROR\r\nEND\r\n")
+    × (said (Ask (Get (a ∷ []) false) false ∷ Wrong wrong.Unknown ∷ []) (reply.Values [] ∷ []) ≡ codes "END\r\nERROR\r\n")
+    -- and none is given before an earlier request's
+    × (said (Ask (Get (a ∷ []) false) false ∷ Wrong wrong.Unknown ∷ []) [] ≡ [])
+    × (said (Fatal fatal.BadChunk ∷ []) [] ≡ codes "CLIENT_ERROR bad data chunk\r\n")
+
 -- ---- commands, at the moment 1,000 with the limit 8,192
 
 abbrev pub entry_with : List ℕ → Option ℕ → ℕ → Entry
@@ -235,6 +245,20 @@ pub record SessionIs : Type 0 where
   pub asked_in_order : asked (session_share session_history 0 1) ≡ asks session_messages
   pub output : said session_messages (had (session_share session_history 0 1)) ≡ codes "STORED\r\nVALUE a 0 1\r\nx\r\nEND\r\n"
 
+-- ---- a session that ends
+
+abbrev pub quit_input : List ℕ
+quit_input = codes "set a 0 0 1 noreply\r\nx\r\nset a 0 0 1\r\ny\r\nquit\r\nget a\r\n"
+
+abbrev pub quit_messages : List Message
+quit_messages =
+    Ask (Set (put_with a 0 (pos 0) (codes "x"))) true ∷ Ask (Set (put_with a 0 (pos 0) (codes "y"))) false ∷ Quit ∷ []
+
+-- nothing is read behind `quit`, and the quiet request is not answered
+pub record QuitIs : Type 0 where
+  pub reads : Reads quit_input quit_messages (codes "get a\r\n")
+  pub output : said quit_messages (reply.Stored ∷ reply.Stored ∷ []) ≡ codes "STORED\r\n"
+
 -- ---- a flush that comes while a session goes on
 
 abbrev pub get_a_again : ℕ → ℕ → List Hit → Answered
@@ -273,6 +297,21 @@ bucket_ends =
 
 abbrev pub BucketsAre : Type 0
 BucketsAre = AllByRecursion HasBucket bucket_bounds × (bucket_of None ≡ 1024) × AllByRecursion HasEnds bucket_ends
+
+-- ---- deadlines asked for
+
+-- 30 days count from the moment of the write, and more is a moment itself; a deadline has arrived at its very
+-- moment
+abbrev pub DeadlinesAre : Type 0
+DeadlinesAre =
+    (deadline_of (pos 0) 1000 ≡ None)
+    × (deadline_of (pos 5) 1000 ≡ Some 1005)
+    × (deadline_of (pos 2592000) 2592000 ≡ Some 5184000)
+    × (deadline_of (pos 2592001) 2592000 ≡ Some 2592001)
+    × (has_arrived (Some 1005) 1004 ≡ false)
+    × (has_arrived (Some 1005) 1005 ≡ true)
+    × (has_arrived (deadline_of (negsuc 0) 0) 0 ≡ true)
+    × (has_arrived None 1000 ≡ false)
 
 -- ---- deadlines that may stand for the one asked for
 

@@ -8,11 +8,13 @@ pub mod geometry;
 pub mod head;
 pub mod history;
 pub mod laws;
-pub mod line;
+mod line;
 pub mod message;
 pub mod next;
 pub mod no_memory;
-pub mod parse;
+mod parse;
 pub mod show;
+#[cfg(test)]
+mod tests;
 pub mod view;
 pub mod words;

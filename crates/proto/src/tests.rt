@@ -1,0 +1,352 @@
+//! Bytes through `next_message` and `show`, as a table of inputs and outcomes, and the sizes at their limits.
+
+ghost use Rattle.std.specs.Prelude.{◌≡◌, is_some};
+ghost use Rattle.proto.specs.Answers.{is_ask};
+
+use crate::byte_string::{ByteString, Keys};
+use crate::geometry::Geometry;
+use crate::head::View;
+use crate::message::{Hit, Hits, Message, Next, Reply, Request};
+use crate::next::next_message;
+use crate::show::show;
+use crate::view::next_view;
+use std::alloc::{AllocError, Global};
+use std::process::Abort;
+use std::test::Fail;
+
+/// Requests with the reply that each is given, the answer, and whether it is quiet.
+const REQUESTS: [(&[u8], Given, &[u8]); 16] = [
+    (b"set a 0 0 1\r\nx\r\n", Given::Stored, b"STORED\r\n"),
+    (b"set a 0 0 1 noreply\r\nx\r\n", Given::Stored, b""),
+    (
+        b"set a 0 0 7\r\nget b\r\n\r\n",
+        Given::Stored,
+        b"STORED\r\n",
+    ),
+    (
+        b"set a 4294967295 9999999999 0\r\n\r\n",
+        Given::TooLarge,
+        b"SERVER_ERROR object too large for cache\r\n",
+    ),
+    (
+        b"add a 0 -1 1\r\nx\r\n",
+        Given::NotStored,
+        b"NOT_STORED\r\n",
+    ),
+    (b"cas a 0 0 1 1\r\nz\r\n", Given::Exists, b"EXISTS\r\n"),
+    (b"cas b 0 0 1 1 noreply\r\nw\r\n", Given::NotFound, b""),
+    (b"get a\r\n", Given::Hit, b"VALUE a 0 1\r\nx\r\nEND\r\n"),
+    (
+        b"gets a b\r\n",
+        Given::Hit,
+        b"VALUE a 0 1 18446744073709551615\r\nx\r\nEND\r\n",
+    ),
+    (b"get b noreply\r\n", Given::Miss, b"END\r\n"),
+    (b"delete a\r\n", Given::Deleted, b"DELETED\r\n"),
+    (b"incr n 1\r\n", Given::Zero, b"0\r\n"),
+    (
+        b"decr n 5\r\n",
+        Given::NotNumber,
+        b"CLIENT_ERROR cannot increment or decrement non-numeric value\r\n",
+    ),
+    (b"flush_all 10\r\n", Given::Flushed, b"OK\r\n"),
+    (
+        b"set a 0 0 1\r\nx\r\n",
+        Given::NoMemory,
+        b"SERVER_ERROR out of memory\r\n",
+    ),
+    (
+        b"set a 0 0 1\r\nx\r\n",
+        Given::NoCas,
+        b"SERVER_ERROR out of cas numbers\r\n",
+    ),
+];
+
+/// Lines that are answered without the cache.
+const FAULTS: [(&[u8], &[u8]); 20] = [
+    (b"foo\r\n", b"ERROR\r\n"),
+    (b"\r\n", b"ERROR\r\n"),
+    (b" get a\r\n", b"ERROR\r\n"),
+    (b"GET a\r\n", b"ERROR\r\n"),
+    (b"get\r\n", b"CLIENT_ERROR bad command line format\r\n"),
+    (b"get \r\n", b"CLIENT_ERROR bad command line format\r\n"),
+    (b"get  a\r\n", b"CLIENT_ERROR bad command line format\r\n"),
+    (
+        b"get a\nget a\r\n",
+        b"CLIENT_ERROR bad command line format\r\n",
+    ),
+    (b"quit \r\n", b"CLIENT_ERROR bad command line format\r\n"),
+    (
+        b"incr a 18446744073709551616\r\n",
+        b"CLIENT_ERROR bad command line format\r\n",
+    ),
+    (
+        b"flush_all 00\r\n",
+        b"CLIENT_ERROR bad command line format\r\n",
+    ),
+    (
+        b"flush_all 10000000000\r\n",
+        b"CLIENT_ERROR bad command line format\r\n",
+    ),
+    (
+        b"set a 00 0 1\r\n",
+        b"CLIENT_ERROR bad command line format\r\n",
+    ),
+    (
+        b"set a 4294967296 0 1\r\n",
+        b"CLIENT_ERROR bad command line format\r\n",
+    ),
+    (
+        b"set a 0 -0 1\r\n",
+        b"CLIENT_ERROR bad command line format\r\n",
+    ),
+    (
+        b"set a 0 0 131073\r\n",
+        b"SERVER_ERROR object too large for cache\r\n",
+    ),
+    (
+        b"set a 0 0 9999999999\r\n",
+        b"SERVER_ERROR object too large for cache\r\n",
+    ),
+    (b"set a 0 0 2\r\nxyz\r", b"CLIENT_ERROR bad data chunk\r\n"),
+    (b"set a 0 0 1\r\nx\ry", b"CLIENT_ERROR bad data chunk\r\n"),
+    (b"quit\r\n", b""),
+];
+
+#[derive(Clone, Copy, Debug, PartialEq, Eq)]
+enum Given {
+    Stored,
+    NotStored,
+    Exists,
+    NotFound,
+    Hit,
+    Miss,
+    Deleted,
+    Zero,
+    Flushed,
+    TooLarge,
+    NoMemory,
+    NotNumber,
+    NoCas,
+}
+
+fn reply_of(alloc: Global, given: Given) -> Result<Reply, AllocError> {
+    Ok(match given {
+        Given::Stored => Reply::Stored,
+        Given::NotStored => Reply::NotStored,
+        Given::Exists => Reply::Exists,
+        Given::NotFound => Reply::NotFound,
+        Given::Hit => Reply::Values(Hits::from_vec(vec![in alloc;
+            Hit {
+                key: ByteString::from_vec(Vec::from_slice(alloc, b"a")?),
+                flags: 0,
+                value: ByteString::from_vec(Vec::from_slice(alloc, b"x")?),
+                cas: u64::MAX,
+            },
+        ]?)),
+        Given::Miss => Reply::Values(Hits::from_vec(Vec::new(alloc))),
+        Given::Deleted => Reply::Deleted,
+        Given::Zero => Reply::Number(0),
+        Given::Flushed => Reply::Flushed,
+        Given::TooLarge => Reply::TooLarge,
+        Given::NoMemory => Reply::NoMemory,
+        Given::NotNumber => Reply::NotNumber,
+        Given::NoCas => Reply::NoCas,
+    })
+}
+
+/// The message that the whole input spells.
+fn whole(rt: &impl Abort, alloc: Global, input: &[u8]) -> Result<Option<Message>, Fail> {
+    match next_message(alloc, input)? {
+        Next::Found(message, n) => {
+            assert_eq!(rt; n, input.len(), "the length at {input:?}");
+            Ok(Some(message))
+        }
+        Next::More => Ok(None),
+    }
+}
+
+/// The bytes that show appends to what was there.
+fn shown(alloc: Global, message: &Message, reply: Option<&Reply>) -> Result<Vec<u8>, Fail>
+    requires { is_some reply ≡ is_ask message.now }
+{
+    let mut out = Vec::new(alloc);
+    show(message, reply, &mut out)?;
+    Ok(out)
+}
+
+fn check_request(rt: &impl Abort, alloc: Global, row: &(&[u8], Given, &[u8])) -> Result<(), Fail> {
+    let (input, given, answer) = row;
+    let message = whole(rt, alloc, input)?.ok_or("a message")?;
+    let reply = reply_of(alloc, *given)?;
+    let Message::Ask(request, quiet) = message else {
+        return Err(Fail::from("a request"));
+    };
+    let out = shown(alloc, &Message::Ask(request, quiet), Some(&reply))?;
+    assert_eq!(rt; out.as_slice(), *answer, "the answer at {input:?}");
+    begins_with_nothing(rt, alloc, input)
+}
+
+fn check_requests(
+    rt: &impl Abort,
+    alloc: Global,
+    rows: &[(&[u8], Given, &[u8])],
+) -> Result<(), Fail> {
+    for row in rows {
+        check_request(rt, alloc, row)?;
+    }
+    Ok(())
+}
+
+#[test]
+fn requests_are_read_and_answered(rt: HostRuntime) -> Result<(), Fail> {
+    check_requests(&rt, rt.alloc(), &REQUESTS)
+}
+
+/// The answer to a message that isn't a request.
+fn local_answer(alloc: Global, message: Message) -> Result<Vec<u8>, Fail> {
+    match message {
+        Message::Ask(..) => Err(Fail::from("no request")),
+        Message::Wrong(kind) => shown(alloc, &Message::Wrong(kind), None),
+        Message::Fatal(kind) => shown(alloc, &Message::Fatal(kind), None),
+        Message::Quit => shown(alloc, &Message::Quit, None),
+    }
+}
+
+fn check_faults(rt: &impl Abort, alloc: Global, rows: &[(&[u8], &[u8])]) -> Result<(), Fail> {
+    for (input, answer) in rows {
+        let message = whole(rt, alloc, input)?.ok_or("a message")?;
+        let out = local_answer(alloc, message)?;
+        assert_eq!(rt; out.as_slice(), *answer, "the answer at {input:?}");
+        begins_with_nothing(rt, alloc, input)?;
+    }
+    Ok(())
+}
+
+#[test]
+fn faults_are_answered(rt: HostRuntime) -> Result<(), Fail> {
+    check_faults(&rt, rt.alloc(), &FAULTS)
+}
+
+/// No shorter beginning of the input spells anything.
+fn begins_with_nothing(rt: &impl Abort, alloc: Global, input: &[u8]) -> Result<(), Fail> {
+    for n in 0..input.len() {
+        let begun = next_message(alloc, &input[..n])?;
+        assert!(rt; matches!(begun, Next::More), "{n} bytes of {input:?}");
+    }
+    Ok(())
+}
+
+/// As many letters `a`, and then these bytes.
+fn letters(alloc: Global, count: usize, behind: &[u8]) -> Result<Vec<u8>, AllocError> {
+    let mut line = vec![in alloc; b'a'; count]?;
+    line.extend_from_slice(behind)?;
+    Ok(line)
+}
+
+/// What a line of so many letters with these bytes behind it is answered; 2,048 bytes are read of it.
+fn check_long_line(
+    rt: &impl Abort,
+    alloc: Global,
+    count: usize,
+    behind: &[u8],
+    answer: &[u8],
+) -> Result<(), Fail> {
+    let input = letters(alloc, count, behind)?;
+    let Next::Found(message, n) = next_message(alloc, input.as_slice())? else {
+        return Err(Fail::from("a message"));
+    };
+    assert_eq!(rt; n, 2048, "{count} letters");
+    let out = local_answer(alloc, message)?;
+    assert_eq!(rt; out.as_slice(), answer, "{count} letters");
+    Ok(())
+}
+
+#[test]
+fn lines_end_within_2048_bytes(rt: HostRuntime) -> Result<(), Fail> {
+    let alloc = rt.alloc();
+    let too_long = b"CLIENT_ERROR line too long\r\n";
+    check_long_line(&rt, alloc, 2046, b"\r\nget a\r\n", b"ERROR\r\n")?;
+    check_long_line(&rt, alloc, 2047, b"\r\n", too_long)?;
+    check_long_line(&rt, alloc, 2048, b"", too_long)
+}
+
+fn check_need(rt: &impl Abort, input: &[u8], most: usize) {
+    match next_view(input) {
+        View::Found(..) => assert!(rt; false, "a message at {input:?}"),
+        View::More(need) => assert_eq!(rt; need, most, "at {input:?}"),
+    }
+}
+
+#[test]
+fn a_storage_line_says_how_much_is_needed(rt: HostRuntime) {
+    check_need(&rt, b"", 1);
+    check_need(&rt, b"get a", 6);
+    check_need(&rt, b"set a 0 0 1\r", 13);
+    check_need(&rt, b"set a 0 0 1\r\n", 16);
+    check_need(&rt, b"set a 0 0 1\r\nx\r", 16);
+    check_need(&rt, b"set a 0 0 100000\r\n", 100_020);
+}
+
+fn check_cas(rt: &impl Abort, alloc: Global, request: Request) -> Result<(), Fail> {
+    let Request::Cas(put, unique) = request else {
+        return Err(Fail::from("a cas"));
+    };
+    assert_eq!(rt; put.key.as_slice(), b"key".as_slice());
+    assert_eq!(rt; (put.flags, put.exptime, unique), (7, -5, u64::MAX));
+    assert_eq!(rt; put.value.as_slice(), b"a\r\n".as_slice());
+    let copy = put.key.try_clone(alloc)?;
+    assert_eq!(rt; copy.into_vec().as_slice(), b"key".as_slice());
+    Ok(())
+}
+
+#[test]
+fn a_cas_is_read_whole(rt: HostRuntime) -> Result<(), Fail> {
+    let input = b"cas key 7 -5 3 18446744073709551615\r\na\r\n\r\n";
+    match whole(&rt, rt.alloc(), input)? {
+        Some(Message::Ask(request, false)) => check_cas(&rt, rt.alloc(), request),
+        _ => Err(Fail::from("a request that isn't quiet")),
+    }
+}
+
+fn check_gets(rt: &impl Abort, request: Request) -> Result<(), Fail> {
+    let Request::Get { keys, with_cas } = request else {
+        return Err(Fail::from("a gets"));
+    };
+    assert!(rt; with_cas);
+    assert_eq!(rt; keys.as_slice().len(), 2);
+    assert_eq!(rt; Keys::from_vec(keys.into_vec()).as_slice().len(), 2);
+    Ok(())
+}
+
+#[test]
+fn noreply_is_a_key_of_gets(rt: HostRuntime) -> Result<(), Fail> {
+    match whole(&rt, rt.alloc(), b"gets a noreply\r\n")? {
+        Some(Message::Ask(request, false)) => check_gets(&rt, request),
+        _ => Err(Fail::from("a request that isn't quiet")),
+    }
+}
+
+fn check_sizes(rt: &impl Abort, sizes: &[(u32, u32)], good: bool) {
+    for (size, segments) in sizes {
+        let made = Geometry::new(*size, *segments);
+        assert_eq!(rt; made.is_ok(), good, "{size} by {segments}");
+    }
+}
+
+#[test]
+fn sizes_are_within_their_limits(rt: HostRuntime) -> Result<(), Fail> {
+    check_sizes(&rt, &[(4096, 8), (1_048_576, 65_536), (65_536, 64)], true);
+    check_sizes(&rt, &[(4095, 8), (2048, 8), (4096, 7), (0, 0)], false);
+    check_sizes(&rt, &[(2_097_152, 8), (65_536, 65_537), (12_288, 8)], false);
+    let geometry = Geometry::new(4096, 9)?;
+    assert_eq!(rt;
+        (
+            geometry.segment_size(),
+            geometry.segments(),
+            geometry.item_limit()
+        ),
+        (4096, 9, 512)
+    );
+    Ok(())
+}

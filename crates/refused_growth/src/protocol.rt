@@ -1,0 +1,67 @@
+//! Messages are read and answered again after a refusal.
+
+ghost use Rattle.std.specs.Prelude.{◌≡◌, true};
+ghost use Rattle.proto.specs.Answers.{is_ask};
+
+use proto::message::{Message, Next, Reply};
+use proto::next::next_message;
+use proto::show::show;
+use std::alloc::Global;
+
+/// A request of each form that is copied, and what the reply Stored makes of it.
+const INPUTS: [&[u8]; 5] = [
+    b"set key 7 0 5\r\nvalue\r\n",
+    b"cas key 7 0 5 1\r\nvalue\r\n",
+    b"get key other third\r\n",
+    b"delete key\r\n",
+    b"incr key 1\r\n",
+];
+
+/// The message, where it is read at the first or the second try.
+fn read(alloc: Global, input: &[u8]) -> Option<Message> {
+    for _ in 0..2 {
+        if let Ok(Next::Found(message, _)) = next_message(alloc, input) {
+            return Some(message);
+        }
+    }
+    None
+}
+
+/// Whether the answer is appended at the first or the second try, and a refusal leaves what was there.
+fn is_shown(message: &Message, out: &mut Vec<u8>) -> bool
+    requires { is_ask message.now ≡ true }
+{
+    for _ in 0..2 {
+        let before = out.len();
+        if show(message, Some(&Reply::Stored), out).is_ok() {
+            return out.as_slice().ends_with(b"STORED\r\n");
+        }
+        if out.len() != before {
+            return false;
+        }
+    }
+    false
+}
+
+fn check_input(alloc: Global, input: &[u8]) -> bool {
+    let Some(message) = read(alloc, input) else {
+        return false;
+    };
+    let Message::Ask(request, quiet) = message else {
+        return false;
+    };
+    let mut out = Vec::new(alloc);
+    is_shown(&Message::Ask(request, quiet), &mut out)
+}
+
+pub fn check<R: Print + AllocGlobal>(rt: &R) -> bool {
+    for input in INPUTS {
+        let held = check_input(rt.alloc(), input);
+        if !held {
+            let _ = rt.println("a message differs after a refusal");
+            return false;
+        }
+    }
+    let _ = rt.println("messages: as without a refusal");
+    true
+}

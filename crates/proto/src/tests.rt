@@ -113,7 +113,7 @@ const FAULTS: [(&[u8], &[u8]); 20] = [
     (b"quit\r\n", b""),
 ];
 
-#[derive(Clone, Copy, Debug, PartialEq, Eq)]
+#[derive(Clone, Copy)]
 enum Given {
     Stored,
     NotStored,

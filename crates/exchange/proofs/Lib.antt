@@ -1,0 +1,9 @@
+pub mod Lists
+pub mod Lane
+pub mod Table
+pub mod WorkerSteps
+pub mod StorageSteps
+pub mod Known
+pub mod Fields
+pub mod Looks
+pub mod Comparisons

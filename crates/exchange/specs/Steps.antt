@@ -1,0 +1,136 @@
+-- What each step tells, and what it makes of a view.
+use Rattle.std.specs.Prelude.{◌≡◌, ◌⊎◌, ℕ, suc, ◌+◌, ◌*◌, ◌<◌, ◌≤◌, List, [], ◌∷◌, ◌++◌, length, take, Option, Some, None, true}
+use mathlib.Core.Option.{some}
+use lib.ListN.{get_elem?}
+use Rattle.atomic_table.specs.Table.{Step, rest}
+use Rattle.proto.specs.declared.history.Posted.{Posted}
+use Rattle.proto.specs.declared.history.Answered.{Answered}
+use Rattle.exchange.specs.declared.messages.LaneMessage.{LaneMessage}
+use Rattle.exchange.specs.declared.messages.LaneMessage.TheVariants.{Ask, Bye, Answer}
+use Rattle.exchange.specs.declared.views.WorkerState.{WorkerState}
+use Rattle.exchange.specs.declared.views.StorageState.{StorageState}
+use Rattle.exchange.specs.declared.views.View.{View}
+use Rattle.exchange.specs.declared.views.View.TheVariants.{Nobody, Worker, Storage, Comparing}
+use Rattle.exchange.specs.Beginnings.{StartsWith, times}
+use Rattle.proto.specs.History.{worker_share, asked_posted, Legal}
+use Rattle.exchange.specs.Lanes.{SeatState, slot_of, first_worker_state, Agree}
+
+abbrev StepTells : Type 1
+StepTells = Step (Option LaneMessage) → SeatState → ℕ → SeatState → Type 0
+
+abbrev pub holding_slot : WorkerState → ℕ → WorkerState
+holding_slot c k = record c { slot_held = k }
+
+abbrev pub sent_on : WorkerState → Posted → WorkerState
+sent_on c p = record c { sent = c.sent ++ p ∷ []; slot_held = 0 }
+
+abbrev pub with_bye : WorkerState → WorkerState
+with_bye c = record c { said_bye = true; slot_held = 0 }
+
+-- told of the history g by the done word n
+abbrev pub learnt_of : WorkerState → List Answered → ℕ → WorkerState
+learnt_of c g n = record c { seen = g; loads = c.loads ++ n ∷ [] }
+
+abbrev pub took_out : WorkerState → List Answered → ℕ → Answered → WorkerState
+took_out c g n a = record c { seen = g; loads = c.loads ++ n ∷ []; back = c.back ++ a ∷ []; slot_held = suc (length c.back + 64) }
+
+-- the worker takes the slot of its next message
+abbrev pub begun : StepTells
+begun st m r m' = (c : WorkerState) → m.0 ≡ Worker c → m' ≡ (Worker (holding_slot c (suc (length c.sent))), (slot_of c.worker (length c.sent), None) ∷ m.1)
+
+-- the store of posted
+abbrev pub posted : StepTells
+posted st m r m' = (c : WorkerState) (p : Posted) (k : ℕ) → m ≡ (Worker c, (k, Some (Ask p)) ∷ []) → m' ≡ (Worker (sent_on c p), [])
+
+abbrev pub bye_posted : StepTells
+bye_posted st m r m' = (c : WorkerState) (k : ℕ) → m ≡ (Worker c, (k, Some Bye) ∷ []) → m' ≡ (Worker (with_bye c), [])
+
+-- what a worker learns at the load of done: a legal history that begins with what it had seen, in which its requests are the first n of those sent
+pub record Learnt (c : WorkerState) (n : ℕ) (g : List Answered) : Type 0 where
+  pub legal : Legal c.geometry g
+  pub later : StartsWith g c.seen
+  pub asks : asked_posted (worker_share g c.worker) ≡ take n c.sent
+  pub counted : (n ≡ length (worker_share g c.worker)) ⊎ ((c.said_bye ≡ true) × (n ≡ length c.sent + 1))
+  pub back : StartsWith (worker_share g c.worker) c.back
+
+-- at the load of done, which found n: the next answer's slot is taken, or all answers of the history were taken before
+abbrev pub DoneTells : WorkerState → ℕ → List (ℕ × Option LaneMessage) → SeatState → List Answered → Type 0
+DoneTells c n cs m' g = Learnt c n g
+    × (length c.back < n → length c.back < length c.sent → (a : Answered) × (get_elem? (worker_share g c.worker) (length c.back) ≡ some a) × (m' ≡ (Worker (took_out c g n a), (slot_of c.worker (length c.back), Some (Answer a)) ∷ cs)))
+    × ((n ≤ length c.back) ⊎ (length c.sent ≤ length c.back) → (c.back ≡ worker_share g c.worker) × (m' ≡ (Worker (learnt_of c g n), cs)))
+
+abbrev pub done_loaded : StepTells
+done_loaded st m n m' = (c : WorkerState) → m.0 ≡ Worker c → (g : List Answered) × DoneTells c n m.1 m' g
+
+-- the worker gives a slot back, empty
+abbrev pub slot_returned : StepTells
+slot_returned st m r m' = (c : WorkerState) → m.0 ≡ Worker c → m' ≡ (Worker (holding_slot c 0), rest m.1)
+
+-- how many messages of lane w storage has settled
+abbrev pub settled : StorageState → ℕ → ℕ
+settled d w = length (worker_share d.history w) + times w d.byes
+
+abbrev pub looked_at : StorageState → ℕ → ℕ → StorageState
+looked_at d w n = record d { looks = d.looks ++ (w, n) ∷ [] }
+
+-- the request that a message of worker w has
+abbrev pub request_in : ℕ → LaneMessage → List (ℕ × Posted)
+request_in w (Ask p) = (w, p) ∷ []
+request_in w Bye = []
+request_in w (Answer a) = []
+
+abbrev pub opened : StorageState → ℕ → ℕ → LaneMessage → StorageState
+opened d w n x = record d { looks = d.looks ++ (w, n) ∷ []; holding = Some (w, x); taken = d.taken ++ request_in w x }
+
+abbrev pub replied : StorageState → Answered → StorageState
+replied d a = record d { history = d.history ++ a ∷ []; holding = None }
+
+abbrev pub bye_settled : StorageState → ℕ → StorageState
+bye_settled d w = record d { byes = w ∷ d.byes; holding = None }
+
+-- a worker's message, of which no Bye was settled: a Bye, or a request whose number is 1 more than that of the worker's last entry in the history
+abbrev pub IsSent : StorageState → ℕ → LaneMessage → Type 0
+IsSent d w x = (times w d.byes ≡ 0) × (((p : Posted) × (x ≡ Ask p) × (p.number ≡ suc (length (worker_share d.history w)))) ⊎ (x ≡ Bye))
+
+abbrev pub PostedTells : StorageState → ℕ → ℕ → List (ℕ × Option LaneMessage) → SeatState → Type 0
+PostedTells d w n cs m' =
+    (n ≤ settled d w → m' ≡ (Storage (looked_at d w n), cs))
+    × (settled d w < n → (x : LaneMessage) × IsSent d w x × (m' ≡ (Storage (opened d w n x), (slot_of w (settled d w), Some x) ∷ cs)))
+
+-- the load of posted of lane w
+abbrev pub posted_loaded : StepTells
+posted_loaded st m n m' = (d : StorageState) (w : ℕ) → m.0 ≡ Storage d → st.word ≡ 16 * w → PostedTells d w n m.1 m'
+
+-- the store of done, with an answer
+abbrev pub answered : StepTells
+answered st m r m' = (d : StorageState) (a : Answered) (k : ℕ) → m ≡ (Storage d, (k, Some (Answer a)) ∷ []) → m' ≡ (Storage (replied d a), [])
+
+-- the store of done, after a Bye
+abbrev pub settle_bye : StepTells
+settle_bye st m r m' = (d : StorageState) (w k : ℕ) → m ≡ (Storage d, (k, None) ∷ []) → d.holding ≡ Some (w, Bye) → m' ≡ (Storage (bye_settled d w), [])
+
+-- how storage makes a worker
+abbrev pub with_one_more : View → View
+with_one_more (Storage d) = Storage (record d { made = suc d.made })
+with_one_more Nobody = Nobody
+with_one_more (Worker c) = Worker c
+with_one_more (Comparing d c) = Comparing d c
+
+abbrev pub new_worker : View → View
+new_worker (Storage d) = Worker (first_worker_state d.geometry d.made)
+new_worker Nobody = Nobody
+new_worker (Worker c) = Nobody
+new_worker (Comparing d c) = Nobody
+
+-- how storage and a worker compare
+abbrev pub comparing : View → View → View
+comparing (Storage d) (Worker c) = Comparing d c
+comparing (Storage d) Nobody = Storage d
+comparing (Storage d) (Storage e) = Storage d
+comparing (Storage d) (Comparing e c) = Storage d
+comparing Nobody v = Nobody
+comparing (Worker c) v = Worker c
+comparing (Comparing d c) v = Comparing d c
+
+abbrev pub compared : StepTells
+compared st m r m' = (d : StorageState) (c : WorkerState) → m.0 ≡ Comparing d c → Agree d c × (m' ≡ (Storage d, m.1))

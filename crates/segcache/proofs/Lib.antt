@@ -1,0 +1,4 @@
+pub mod Digits
+pub mod LiveLemmas
+pub mod HitLemmas
+pub mod PlainLemmas

@@ -1,0 +1,5 @@
+pub mod Number
+pub mod Live
+pub mod State
+pub mod Plain
+pub mod Change

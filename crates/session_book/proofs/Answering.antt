@@ -1,0 +1,117 @@
+-- What is said, and what is left to say, when messages or replies come behind.
+use Rattle.std.proofs.Common.{◌≡◌, ℕ, ◌+◌, ◌<◌, ◌≤◌, Bool, true, false, List, [], ◌∷◌, ◌++◌, length, Some, None, refl, sym, ap, ◌∙◌, arith, append_assoc, length-append}
+use Rattle.proto.specs.declared.message.Request.{Request}
+use Rattle.proto.specs.declared.message.Reply.{Reply}
+use Rattle.proto.specs.declared.message.Message.{Message}
+use Rattle.proto.specs.declared.message.Message.TheVariants.{Ask, Wrong, Quit, Fatal}
+use Rattle.proto.specs.Reading.{asks}
+use Rattle.proto.specs.Answers.{answer, said, is_ask}
+use Rattle.session_book.specs.Session.{left, begins_asked}
+
+-- requests of joined lists
+pub asks-append : (ms ns : List Message) → asks (ms ++ ns) ≡ asks ms ++ asks ns
+asks-append [] ns = refl
+asks-append (Ask q quiet ∷ ms) ns = ap (λ (qs : List Request). q ∷ qs) (asks-append ms ns)
+asks-append (Wrong kind ∷ ms) ns = asks-append ms ns
+asks-append (Quit ∷ ms) ns = asks-append ms ns
+asks-append (Fatal kind ∷ ms) ns = asks-append ms ns
+
+behind : (a b c d : List ℕ) → b ≡ c ++ d → a ++ b ≡ (a ++ c) ++ d
+behind a b c d e = ap (λ (x : List ℕ). a ++ x) e ∙ sym (append_assoc a c d)
+
+-- more messages are said behind what is left, where no reply was too many
+pub said-append : (ms ns : List Message) (rs : List Reply) → length rs ≤ length (asks ms) → said (ms ++ ns) rs ≡ said ms rs ++ said (left ms rs ++ ns) []
+said-append [] ns [] le = refl
+said-append [] ns (r ∷ rs) le = absurd (omega arith)
+said-append (Ask q quiet ∷ ms) ns [] le = refl
+said-append (Ask q quiet ∷ ms) ns (r ∷ rs) le = behind _ _ _ _ (said-append ms ns rs (omega arith))
+said-append (Wrong kind ∷ ms) ns rs le = behind _ _ _ _ (said-append ms ns rs le)
+said-append (Quit ∷ ms) ns rs le = said-append ms ns rs le
+said-append (Fatal kind ∷ ms) ns rs le = behind _ _ _ _ (said-append ms ns rs le)
+
+pub left-append : (ms ns : List Message) (rs : List Reply) → length rs ≤ length (asks ms) → left (ms ++ ns) rs ≡ left (left ms rs ++ ns) []
+left-append [] ns [] le = refl
+left-append [] ns (r ∷ rs) le = absurd (omega arith)
+left-append (Ask q quiet ∷ ms) ns [] le = refl
+left-append (Ask q quiet ∷ ms) ns (r ∷ rs) le = left-append ms ns rs (omega arith)
+left-append (Wrong kind ∷ ms) ns rs le = left-append ms ns rs le
+left-append (Quit ∷ ms) ns rs le = left-append ms ns rs le
+left-append (Fatal kind ∷ ms) ns rs le = left-append ms ns rs le
+
+-- more replies go to what is left
+pub said_more : (ms : List Message) (rs ss : List Reply) → said ms (rs ++ ss) ≡ said ms rs ++ said (left ms rs) ss
+said_more [] rs ss = refl
+said_more (Ask q quiet ∷ ms) [] ss = refl
+said_more (Ask q quiet ∷ ms) (r ∷ rs) ss = behind _ _ _ _ (said_more ms rs ss)
+said_more (Wrong kind ∷ ms) rs ss = behind _ _ _ _ (said_more ms rs ss)
+said_more (Quit ∷ ms) rs ss = said_more ms rs ss
+said_more (Fatal kind ∷ ms) rs ss = behind _ _ _ _ (said_more ms rs ss)
+
+pub left_more : (ms : List Message) (rs ss : List Reply) → left ms (rs ++ ss) ≡ left (left ms rs) ss
+left_more [] rs ss = refl
+left_more (Ask q quiet ∷ ms) [] ss = refl
+left_more (Ask q quiet ∷ ms) (r ∷ rs) ss = left_more ms rs ss
+left_more (Wrong kind ∷ ms) rs ss = left_more ms rs ss
+left_more (Quit ∷ ms) rs ss = left_more ms rs ss
+left_more (Fatal kind ∷ ms) rs ss = left_more ms rs ss
+
+-- the requests left are those without a reply
+pub asks-left : (ms : List Message) (rs : List Reply) → length rs ≤ length (asks ms) → length rs + length (asks (left ms rs)) ≡ length (asks ms)
+asks-left [] [] le = refl
+asks-left [] (r ∷ rs) le = absurd (omega arith)
+asks-left (Ask q quiet ∷ ms) [] le = omega arith
+asks-left (Ask q quiet ∷ ms) (r ∷ rs) le = omega (arith, asks-left ms rs (omega arith))
+asks-left (Wrong kind ∷ ms) rs le = asks-left ms rs le
+asks-left (Quit ∷ ms) rs le = asks-left ms rs le
+asks-left (Fatal kind ∷ ms) rs le = asks-left ms rs le
+
+-- what is left begins with a request
+pub begins_asked-left : (ms : List Message) (rs : List Reply) → begins_asked (left ms rs) ≡ true
+begins_asked-left [] rs = refl
+begins_asked-left (Ask q quiet ∷ ms) [] = refl
+begins_asked-left (Ask q quiet ∷ ms) (r ∷ rs) = begins_asked-left ms rs
+begins_asked-left (Wrong kind ∷ ms) rs = begins_asked-left ms rs
+begins_asked-left (Quit ∷ ms) rs = begins_asked-left ms rs
+begins_asked-left (Fatal kind ∷ ms) rs = begins_asked-left ms rs
+
+-- a queue that begins with a request stays as it is, and says nothing, until the reply comes
+pub left_waits : (m : Message) (ms : List Message) → is_ask m ≡ true → left (m ∷ ms) [] ≡ m ∷ ms
+left_waits (Ask q quiet) ms e = refl
+left_waits (Wrong kind) ms e = absurd cc
+left_waits Quit ms e = absurd cc
+left_waits (Fatal kind) ms e = absurd cc
+
+pub said_waits : (m : Message) (ms : List Message) → is_ask m ≡ true → said (m ∷ ms) [] ≡ []
+said_waits (Ask q quiet) ms e = refl
+said_waits (Wrong kind) ms e = absurd cc
+said_waits Quit ms e = absurd cc
+said_waits (Fatal kind) ms e = absurd cc
+
+-- a message that is no request is answered at once
+pub left_local : (m : Message) (ms : List Message) → is_ask m ≡ false → left (m ∷ ms) [] ≡ left ms []
+left_local (Ask q quiet) ms e = absurd cc
+left_local (Wrong kind) ms e = refl
+left_local Quit ms e = refl
+left_local (Fatal kind) ms e = refl
+
+pub said_local : (m : Message) (ms : List Message) → is_ask m ≡ false → said (m ∷ ms) [] ≡ answer m None ++ said ms []
+said_local (Ask q quiet) ms e = absurd cc
+said_local (Wrong kind) ms e = refl
+said_local Quit ms e = refl
+said_local (Fatal kind) ms e = refl
+
+-- a request that has its reply is answered
+pub left_reply : (m : Message) (ms : List Message) (r : Reply) → is_ask m ≡ true → left (m ∷ ms) (r ∷ []) ≡ left ms []
+left_reply (Ask q quiet) ms r e = refl
+left_reply (Wrong kind) ms r e = absurd cc
+left_reply Quit ms r e = absurd cc
+left_reply (Fatal kind) ms r e = absurd cc
+
+pub said_reply : (m : Message) (ms : List Message) (r : Reply) → is_ask m ≡ true → said (m ∷ ms) (r ∷ []) ≡ answer m (Some r) ++ said ms []
+said_reply (Ask q quiet) ms r e = refl
+said_reply (Wrong kind) ms r e = absurd cc
+said_reply Quit ms r e = absurd cc
+said_reply (Fatal kind) ms r e = absurd cc
+
+pub begins_asked_by : (queue ms : List Message) (rs : List Reply) → queue ≡ left ms rs → begins_asked queue ≡ true
+begins_asked_by queue ms rs e = rw e (begins_asked-left ms rs)

@@ -1,0 +1,288 @@
+-- A book stays a book when one session changes.
+use Rattle.std.proofs.Common.{◌≡◌, ℕ, ◌+◌, ◌<◌, ◌≤◌, Bool, true, false, cond, List, [], ◌∷◌, ◌++◌, length, drop, Option, Some, None, Result, Ok, Err, is_some, refl, sym, ap, subst, ◌∙◌, arith, inl, inr, add-zero, zero-add, length-append}
+use Rattle.std.proofs.lemmas.List.{append-nil}
+use Rattle.session_book.proofs.Steps.{reads_nothing}
+use Rattle.std.specs.Prelude.{◌≢◌, count_by, ◌==◌, slice_get}
+use Rattle.std.proofs.lemmas.Bool.{cases_Bool, cases_eq, cases_lt, cases_order, eq-eqb, ne_eqb, both_ways}
+use Rattle.std.specs.Prelude.{IsSome}
+use Rattle.std.specs.Ordering.{nat_cmp, is_eq}
+use Rattle.std.specs.declared.cmp.Ordering.TheVariants.{Less, Equal, Greater}
+use Rattle.std.specs.Cmp.{nat_cmp_is}
+use Rattle.std.specs.BTreeMap.{BTreeMap, is_at, get_by, UpdatesBy, WritesThrough}
+use Rattle.std.specs.Map.{lookup}
+use Rattle.std.specs.Result.{OnOk, OnErr}
+use Rattle.std.proofs.lemmas.Map.Steps.{set_value_same}
+use Rattle.proto.specs.declared.message.Request.{Request}
+use Rattle.proto.specs.declared.message.Message.{Message}
+use Rattle.proto.specs.declared.message.Reply.{Reply}
+use Rattle.proto.specs.declared.history.Answered.{Answered}
+use Rattle.proto.specs.declared.no_memory.NoMemory.{NoMemory}
+use Rattle.proto.specs.Reading.{asks}
+use Rattle.session_book.specs.declared.causes.Unsettled.{Unsettled}
+use Rattle.session_book.specs.declared.causes.FeedFault.{FeedFault}
+use Rattle.session_book.specs.Session.{SessionState, new_session, begins_asked, left, settled, fed, ReadsOn, ReadsAsk, request_in}
+use Rattle.session_book.specs.Book.{BookState, session_of, unsettled_in, OnlyAt, IsBook, GivesNone, NextAsk, given_in, IsOldest, SettlesReply}
+use Rattle.session_book.proofs.Answering.{asks-append, asks-left, begins_asked_by}
+
+-- an open session's number is not above the greatest one
+pub open_within : (book : BookState) (session : ℕ) (s : SessionState) → IsBook book → session_of book session ≡ Some s → session ≤ book.greatest
+open_within book session s is open_now =
+    elim (cases_lt book.greatest session) [
+      | inl above ↦ absurd (let none = is.open_below session above in cc)
+      | inr within ↦ within
+    ]
+
+pub at_session : (before after : BookState) (session : ℕ) (o : Option SessionState) → OnlyAt before after session o → session_of after session ≡ o
+at_session before after session o only = only session ∙ rw (eq-eqb session session refl) refl
+
+pub at_other : (before after : BookState) (session other : ℕ) (o : Option SessionState) → OnlyAt before after session o → (other ≡ session → ⊥) → session_of after other ≡ session_of before other
+at_other before after session other o only apart = only other ∙ rw (ne_eqb other session apart) refl
+
+-- a session that may stand in a book, with so many unsettled requests
+pub record FitsBook (t : SessionState) (unsettled : ℕ) : Type 0 where
+  pub asked : begins_asked t.queue ≡ true
+  pub queued : length (asks t.queue) ≡ unsettled
+
+-- one session becomes another one, or is closed
+pub stays_book : (before after : BookState) (session : ℕ) (o : Option SessionState) → IsBook before → OnlyAt before after session o → session ≤ after.greatest → before.greatest ≤ after.greatest
+    → ((t : SessionState) → o ≡ Some t → FitsBook t (unsettled_in after.unsettled session))
+    → ((other : ℕ) → (other ≡ session → ⊥) → unsettled_in after.unsettled other ≡ unsettled_in before.unsettled other)
+    → IsBook after
+stays_book before after session o is only within grows mine others = record {
+  asked = λ other s open_now.
+      elim (cases_eq other session) [
+        | inl same ↦ (mine s (sym (at_session before after session o only) ∙ ap (session_of after) (sym same) ∙ open_now)).asked
+        | inr apart ↦ is.asked other s (sym (at_other before after session other o only apart) ∙ open_now)
+      ];
+  queued = λ other s open_now.
+      elim (cases_eq other session) [
+        | inl same ↦
+            let there : o ≡ Some s = sym (at_session before after session o only) ∙ ap (session_of after) (sym same) ∙ open_now in
+            (mine s there).queued ∙ ap (unsettled_in after.unsettled) (sym same)
+        | inr apart ↦ is.queued other s (sym (at_other before after session other o only apart) ∙ open_now) ∙ sym (others other apart)
+      ];
+  open_below = λ other above. at_other before after session other o only (λ same. absurd (omega arith)) ∙ is.open_below other (omega arith);
+  unsettled_below = λ other above. others other (λ same. absurd (omega arith)) ∙ is.unsettled_below other (omega arith);
+}
+
+-- what holds of one session holds of the one that is there
+of_one : (t u : SessionState) (n : ℕ) → FitsBook t n → Some t ≡ Some u → FitsBook u n
+of_one t u n fits e = let u_is : t ≡ u = cc in rw (← u_is) fits
+
+-- a session's messages are read, and the unsettled requests stay as they are
+pub stays_unsettled : (before after : BookState) (session : ℕ) (s t : SessionState) → IsBook before → session_of before session ≡ Some s → OnlyAt before after session (Some t)
+    → after.greatest ≡ before.greatest → after.unsettled ≡ before.unsettled → (begins_asked s.queue ≡ true → FitsBook t (length (asks s.queue))) → IsBook after
+stays_unsettled before after session s t is open_now only greatest unsettled fits =
+    let within = open_within before session s is open_now in
+    let fits_now : FitsBook t (unsettled_in after.unsettled session) = rw (unsettled, ← is.queued session s open_now) (fits (is.asked session s open_now)) in
+    stays_book before after session (Some t) is only (omega (arith, greatest, within)) (omega (arith, greatest)) (λ u e. of_one t u _ fits_now e) (λ other apart. rw unsettled refl)
+
+-- where the queue stays the session fits
+pub same_queue : (s t : SessionState) → t.queue ≡ s.queue → begins_asked s.queue ≡ true → FitsBook t (length (asks s.queue))
+same_queue s t same asked = record { asked = rw same asked; queued = rw same refl }
+
+fed_queue : (s : SessionState) (piece : List ℕ) → (fed s piece).queue ≡ s.queue
+fed_queue s piece =
+    elim (cases_Bool (is_some s.ended)) [
+      | inl ended ↦ rw ended refl
+      | inr open_yet ↦ rw open_yet refl
+    ]
+
+pub feed_queue : (r : Result (Unit {0}) FeedFault) (s t : SessionState) (piece : List ℕ) → OnOk r (t ≡ fed s piece) → OnErr r (t ≡ s) → t.queue ≡ s.queue
+feed_queue (Ok u) s t piece ok err = ap (λ (x : SessionState). x.queue) ok ∙ fed_queue s piece
+feed_queue (Err e) s t piece ok err = ap (λ (x : SessionState). x.queue) err
+
+-- a new session fits at a number that wasn't in use
+pub opens_book : (before after : BookState) (session : ℕ) → IsBook before → OnlyAt before after session (Some new_session) → before.greatest < session → after.greatest ≡ session
+    → after.unsettled ≡ before.unsettled → IsBook after
+opens_book before after session is only new greatest unsettled =
+    stays_book before after session (Some new_session) is only (omega (arith, greatest)) (omega (arith, greatest))
+    (λ u e. of_one new_session u _ (record { asked = refl; queued = rw unsettled (sym (is.unsettled_below session new)) }) e)
+    (λ other apart. rw unsettled refl)
+
+-- ---- reading and settling
+
+-- the requests read go to the queue
+asks_read : (s t : SessionState) (ms : List Message) → ReadsOn s ms t → length (asks t.queue) ≡ length (asks s.queue) + length (asks ms)
+asks_read s t ms h = rw h.queue (sym (zero-add _) ∙ asks-left (s.queue ++ ms) [] (omega arith) ∙ ap length (asks-append s.queue ms) ∙ length-append (asks s.queue) (asks ms))
+
+begins_read : (s t : SessionState) (ms : List Message) → ReadsOn s ms t → begins_asked t.queue ≡ true
+begins_read s t ms h = begins_asked_by t.queue (s.queue ++ ms) [] h.queue
+
+-- a session that has read no request fits as before
+pub fits_unasked : (s t : SessionState) (looks looks_after : ℕ) (r : Result (Option Request) NoMemory) → ReadsAsk s looks r t looks_after → request_in r ≡ [] → FitsBook t (length (asks s.queue))
+fits_unasked s t looks looks_after r h none = record {
+  asked = begins_read s t h.messages h.reading.reads;
+  queued = omega (arith, asks_read s t h.messages h.reading.reads, ap length (h.reading.requests_are ∙ none));
+}
+
+-- a request more is unsettled in its session, and in no other
+count_more : (us : List Unsettled) (number session other : ℕ) (b : Bool) → (session == other) ≡ b → unsettled_in (us ++ record { number = number; session = session } ∷ []) other ≡ unsettled_in us other + cond b 1 0
+count_more [] number session other true e = rw e refl
+count_more [] number session other false e = rw e refl
+count_more (u ∷ us) number session other b e =
+    elim (cases_Bool (u.session == other)) [
+      | inl same ↦ rw same (omega (arith, count_more us number session other b e))
+      | inr apart ↦ rw apart (count_more us number session other b e)
+    ]
+
+-- a session has read a request, which is unsettled
+pub asks_book : (before after : BookState) (session number : ℕ) (s t : SessionState) (q : Request) (r : Result (Option Request) NoMemory) (looks looks_after : ℕ) → IsBook before → session_of before session ≡ Some s
+    → OnlyAt before after session (Some t) → after.greatest ≡ before.greatest → after.unsettled ≡ before.unsettled ++ record { number = number; session = session } ∷ []
+    → r ≡ Ok (Some q) → ReadsAsk s looks r t looks_after → IsBook after
+asks_book before after session number s t q r looks looks_after is open_now only greatest unsettled r_is h =
+    let within = open_within before session s is open_now in
+    let mine : unsettled_in after.unsettled session ≡ unsettled_in before.unsettled session + 1 =
+          rw unsettled (count_more before.unsettled number session session true (eq-eqb session session refl)) in
+    let queued : length (asks t.queue) ≡ unsettled_in after.unsettled session =
+          omega (arith, asks_read s t h.messages h.reading.reads, ap length (h.reading.requests_are ∙ ap request_in r_is), is.queued session s open_now, mine) in
+    stays_book before after session (Some t) is only (omega (arith, greatest, within)) (omega (arith, greatest))
+    (λ u e. of_one t u _ (record { asked = begins_read s t h.messages h.reading.reads; queued = queued }) e)
+    (λ other apart. rw unsettled (count_more before.unsettled number session other false (ne_eqb session other (λ e. apart (sym e))) ∙ add-zero _))
+
+-- the first of the unsettled requests is one of its session
+first_unsettled : (us : List Unsettled) (number session other : ℕ) (b : Bool) → (session == other) ≡ b → slice_get us 0 ≡ Some (record { number = number; session = session })
+    → unsettled_in us other ≡ unsettled_in (drop 1 us) other + cond b 1 0
+first_unsettled [] number session other b e first = absurd cc
+first_unsettled (u ∷ us) number session other true e first =
+    let at : u.session ≡ session = (let same : u ≡ record { number = number; session = session } = cc in ap (λ (v : Unsettled). v.session) same) in
+    rw (at, e) (omega arith)
+first_unsettled (u ∷ us) number session other false e first =
+    let at : u.session ≡ session = (let same : u ≡ record { number = number; session = session } = cc in ap (λ (v : Unsettled). v.session) same) in
+    rw (at, e) (omega arith)
+
+-- the oldest request is no longer unsettled
+pub settles_book : (before after : BookState) (session number : ℕ) (o : Option SessionState) → IsBook before → OnlyAt before after session o → after.greatest ≡ before.greatest
+    → slice_get before.unsettled 0 ≡ Some (record { number = number; session = session }) → after.unsettled ≡ drop 1 before.unsettled
+    → ((t : SessionState) → o ≡ Some t → begins_asked t.queue ≡ true) → ((t : SessionState) → o ≡ Some t → length (asks t.queue) + 1 ≡ unsettled_in before.unsettled session) → IsBook after
+settles_book before after session number o is only greatest oldest unsettled asked queued =
+    let counted : unsettled_in before.unsettled session ≡ unsettled_in after.unsettled session + 1 =
+          first_unsettled before.unsettled number session session true (eq-eqb session session refl) oldest ∙ ap (λ (us : List Unsettled). unsettled_in us session + 1) (sym unsettled) in
+    let within : session ≤ before.greatest =
+          elim (cases_lt before.greatest session) [
+            | inl above ↦ absurd (omega (arith, is.unsettled_below session above, counted))
+            | inr below ↦ below
+          ] in
+    stays_book before after session o is only (omega (arith, greatest, within)) (omega (arith, greatest))
+    (λ t e. record { asked = asked t e; queued = omega (arith, queued t e, counted) })
+    (λ other apart.
+        rw unsettled (sym (first_unsettled before.unsettled number session other false (ne_eqb session other (λ e. apart (sym e))) oldest ∙ add-zero _)))
+
+-- the session of the oldest request has a request in its queue
+pub first_asked : (before : BookState) (session number : ℕ) (s : SessionState) → IsBook before → session_of before session ≡ Some s
+    → slice_get before.unsettled 0 ≡ Some (record { number = number; session = session }) → 0 < length (asks s.queue)
+first_asked before session number s is open_now oldest =
+    omega (arith, is.queued session s open_now, first_unsettled before.unsettled number session session true (eq-eqb session session refl) oldest)
+
+-- it gets its reply
+pub settles_kept : (before after : BookState) (session number : ℕ) (s t : SessionState) (reply : Reply) → IsBook before → session_of before session ≡ Some s → OnlyAt before after session (Some t)
+    → after.greatest ≡ before.greatest → slice_get before.unsettled 0 ≡ Some (record { number = number; session = session }) → after.unsettled ≡ drop 1 before.unsettled
+    → t ≡ settled s reply → IsBook after
+settles_kept before after session number s t reply is open_now only greatest oldest unsettled t_is =
+    let queue : t.queue ≡ left s.queue (reply ∷ []) = ap (λ (x : SessionState). x.queue) t_is in
+    let one : 0 < length (asks s.queue) = first_asked before session number s is open_now oldest in
+    let queued : length (asks t.queue) + 1 ≡ unsettled_in before.unsettled session =
+          rw queue (omega (arith, asks-left s.queue (reply ∷ []) one, is.queued session s open_now)) in
+    settles_book before after session number (Some t) is only greatest oldest unsettled
+    (λ u e. (let u_is : t ≡ u = cc in rw (← u_is) (begins_asked_by t.queue s.queue (reply ∷ []) queue)))
+    (λ u e. (let u_is : t ≡ u = cc in rw (← u_is) queued))
+
+-- ---- the map of the sessions
+
+same_number : (a b : ℕ) → is_eq (nat_cmp a b) ≡ (b == a)
+same_number a b =
+    elim (cases_order a b) [
+      | inl same ↦ ap is_eq (sym (nat_cmp_is a b Equal same)) ∙ sym (eq-eqb b a (sym same))
+      | inr (inl less) ↦ ap is_eq (sym (nat_cmp_is a b Less less)) ∙ sym (ne_eqb b a (λ e. absurd (omega arith)))
+      | inr (inr more) ↦ ap is_eq (sym (nat_cmp_is a b Greater more)) ∙ sym (ne_eqb b a (λ e. absurd (omega arith)))
+    ]
+
+-- the map has another value, or none, at one number
+abbrev pub OnlySession : List (ℕ × SessionState) → List (ℕ × SessionState) → ℕ → Option SessionState → Type 0
+OnlySession before after session o = (q : ℕ) → lookup (is_at (nat_cmp q)) after ≡ cond (q == session) o (lookup (is_at (nat_cmp q)) before)
+
+pub updated_only : (m n : BTreeMap ℕ SessionState) (session : ℕ) (o : Option SessionState) → UpdatesBy nat_cmp (nat_cmp session) m n o → OnlySession m.entries n.entries session o
+updated_only m n session o h q = h.0 q ∙ ap (λ (b : Bool). cond b o (lookup (is_at (nat_cmp q)) m.entries)) (same_number session q)
+
+-- the session that was found was written
+pub written_only : (m n : BTreeMap ℕ SessionState) (session : ℕ) (s t : SessionState) → WritesThrough nat_cmp (nat_cmp session) m t n → Some s ≡ get_by (nat_cmp session) m → OnlySession m.entries n.entries session (Some t)
+written_only m n session s t w found = updated_only m n session (Some t) (w.3 (subst (λ (o : Option SessionState). IsSome o) found refl))
+
+-- what was read and written back changes nothing
+pub written_back : (m n : BTreeMap ℕ SessionState) (session : ℕ) (s t : SessionState) → WritesThrough nat_cmp (nat_cmp session) m t n → Some s ≡ get_by (nat_cmp session) m → t ≡ s → n.entries ≡ m.entries
+written_back m n session s t w found same = w.0 ∙ set_value_same (is_at (nat_cmp session)) m.entries t (sym found ∙ ap (λ (x : SessionState). Some x) (sym same))
+
+-- where nothing is open at the number, the map is the one without it
+pub closed_only : (m n : BTreeMap ℕ SessionState) (session : ℕ) → n ≡ m → None ≡ get_by (nat_cmp session) m → OnlySession m.entries n.entries session None
+closed_only m n session same none q =
+    elim (cases_eq q session) [
+      | inl at ↦ rw (same, at, eq-eqb session session refl) (sym none)
+      | inr apart ↦ rw (same, ne_eqb q session apart) refl
+    ]
+
+-- the last change counts
+pub only_again : (a b c : List (ℕ × SessionState)) (session : ℕ) (o p : Option SessionState) → OnlySession a b session o → OnlySession b c session p → OnlySession a c session p
+only_again a b c session o p h k q =
+    elim (cases_Bool (q == session)) [
+      | inl at ↦ k q ∙ rw at refl
+      | inr apart ↦ k q ∙ rw apart (h q ∙ rw apart refl)
+    ]
+
+-- a session that stays as it is
+pub nothing_only : (a : List (ℕ × SessionState)) (session : ℕ) (s : SessionState) → lookup (is_at (nat_cmp session)) a ≡ Some s → OnlySession a a session (Some s)
+nothing_only a session s open_now q =
+    elim (cases_eq q session) [
+      | inl at ↦ rw (at, eq-eqb session session refl) open_now
+      | inr apart ↦ rw (ne_eqb q session apart) refl
+    ]
+
+-- ---- what the calls answer
+
+-- no request is given, and nothing was read
+pub idle_ask : (before : BookState) (session : ℕ) (s : SessionState) (result : Result (Option (Request × ℕ)) NoMemory) (after : BookState) → given_in result ≡ [] → after ≡ before → IsBook before
+    → session_of before session ≡ Some s → (result ≡ Ok None → GivesNone before s) → NextAsk before session s result after
+idle_ask before session s result after none same is open_now cause = record {
+  messages = [];
+  read = s;
+  reading = record {
+    reads = reads_nothing s (is.asked session s open_now);
+    ask_at_last = tt;
+    requests_are = rw none refl;
+    most_looks = rw same (omega arith);
+    no_look = λ short. ap (λ (b : BookState). b.looks) same;
+  };
+  only_at = rw same (nothing_only before.sessions session s open_now);
+  numbers = rw none refl;
+  rest = rw (none, same, append-nil, add-zero) refl;
+  room = rw (same) (omega arith);
+  enough = rw (same) (omega arith);
+  none = cause;
+}
+
+-- the reply went to the session
+pub settles_reply : (before now after : BookState) (answered : Answered) (s t : SessionState) → before ≡ now → IsBook before → session_of before answered.session ≡ Some s
+    → OnlyAt before after answered.session (Some t) → IsOldest before answered → after ≡ record before { sessions = after.sessions; unsettled = drop 1 before.unsettled }
+    → t ≡ settled s answered.reply → SettlesReply now after answered
+settles_reply before now after answered s t same is open_now only oldest rest t_is =
+    subst (λ (b : BookState). SettlesReply b after answered) same (record {
+      s = s;
+      was_open = open_now;
+      unsettled = first_asked before answered.session answered.number s is open_now oldest;
+      settles = record { oldest = oldest; only_at = subst (λ (x : SessionState). OnlyAt before after answered.session (Some x)) t_is only; rest = rest };
+    })
+
+-- a piece that was refused changes nothing
+pub unfed : (r : Result (Unit {0}) FeedFault) (before after now : BookState) → before ≡ now → (s t : SessionState) → OnErr r (t ≡ s) → (t ≡ s → after.sessions ≡ before.sessions)
+    → after ≡ record before { sessions = after.sessions } → OnErr r (after ≡ now)
+unfed (Ok u) before after now same s t err back rest = tt
+unfed (Err e) before after now same s t err back rest = rest ∙ ap (λ (es : List (ℕ × SessionState)). record before { sessions = es }) (back err) ∙ same
+
+-- no growth was made before the session was read
+pub refused_ask : (before after now : BookState) (session : ℕ) (s : SessionState) (result : Result (Option (Request × ℕ)) NoMemory) (e : NoMemory) → before ≡ now → result ≡ Err e → IsBook before
+    → after.sessions ≡ before.sessions → after.unsettled ≡ before.unsettled → after ≡ record before { sessions = after.sessions; unsettled = after.unsettled }
+    → session_of now session ≡ Some s → NextAsk now session s result after
+refused_ask before after now session s result e same failed is sessions unsettled rest open_now =
+    let unchanged : after ≡ now =
+          rest ∙ ap (λ (es : List (ℕ × SessionState)). record before { sessions = es; unsettled = after.unsettled }) sessions
+          ∙ ap (λ (us : List Unsettled). record before { unsettled = us }) unsettled ∙ same in
+    idle_ask now session s result after (ap given_in failed) unchanged (subst (λ (b : BookState). IsBook b) same is) open_now (λ none. absurd cc)

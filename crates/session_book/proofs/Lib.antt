@@ -1,0 +1,6 @@
+pub mod Answering
+pub mod Reading
+pub mod AccountLaws
+pub mod Needing
+pub mod Steps
+pub mod Books

@@ -1,0 +1,101 @@
+-- How many bytes there have to be before a message can be found.
+use Rattle.std.proofs.Common.{◌≡◌, ℕ, ◌+◌, ◌<◌, ◌≤◌, Bool, true, false, List, [], ◌∷◌, ◌++◌, length, take, drop, refl, sym, ap, ◌∙◌, arith, inl, inr, append_assoc, length-append, take_at, take-append-drop}
+use Rattle.std.specs.Prelude.{nat_le}
+use Rattle.std.specs.Bool.{OnFalse}
+use Rattle.std.proofs.lemmas.Bool.{cases_Bool, cases_lt, leb-false}
+use Rattle.std.proofs.lemmas.List.{append-nil, length-take, length-take-le, length-drop}
+use Rattle.proto.specs.declared.message.Message.{Message}
+use Rattle.proto.specs.Grammar.{StorageLine, storage_request, put_of, MakesRequest, LacksEnd, IsBlockWith, Spells, SpellsNone}
+use Rattle.proto.specs.Lines.{line_end}
+use Rattle.proto.specs.declared.message.Message.TheVariants.{Ask, Fatal}
+use Rattle.proto.specs.declared.message.FatalKind.TheVariants as fatal
+use Rattle.proto.specs.Needs.{AwaitsData, IsNeed, NeedsMore, IsUnfinished}
+use Rattle.proto.proofs.MessageReader.{spelling_nonempty}
+use Rattle.session_book.specs.Session.{SessionState, Stops, no_message}
+
+-- one byte is needed always
+pub needs_one : (b : List ℕ) → NeedsMore b 1
+needs_one b more fewer n m h = omega (arith, spelling_nonempty (take n (b ++ more)) m h, length-take n (b ++ more))
+
+-- bytes that come behind don't change the need
+pub needs_behind : (b piece : List ℕ) (need : ℕ) → NeedsMore b need → NeedsMore (b ++ piece) need
+needs_behind b piece need h more fewer = rw append_assoc (h (piece ++ more) (rw append_assoc at fewer))
+
+-- as long as fewer bytes are there, no beginning spells a message
+pub spells_none : (b : List ℕ) (need : ℕ) → NeedsMore b need → length b < need → SpellsNone b
+spells_none b need h fewer =
+    let none : SpellsNone (b ++ []) = h [] (rw append-nil fewer) in
+    rw append-nil at none
+
+pub stops_short : (s : SessionState) → NeedsMore s.unread s.need → OnFalse (nat_le s.need (length s.unread)) (Stops s)
+stops_short s h =
+    elim (cases_Bool (nat_le s.need (length s.unread))) [
+      | inl enough ↦ rw enough tt
+      | inr short ↦
+          let fewer : length s.unread < s.need = leb-false _ _ short in
+          rw short (no_message fewer (spells_none s.unread s.need h fewer))
+    ]
+
+-- the storage line, its block and the two bytes behind it
+module _ (b : List ℕ) (need : ℕ) (a : AwaitsData b need) where
+  block : List ℕ
+  block = take a.says.size a.rest
+
+  last : List ℕ
+  last = take 2 (drop a.says.size a.rest)
+
+  cut : b ≡ (a.line ++ line_end ++ block ++ last) ++ drop 2 (drop a.says.size a.rest)
+  unfolding block last
+  cut = a.whole
+      ∙ ap (λ (x : List ℕ). a.line ++ line_end ++ x) (sym (take-append-drop a.says.size a.rest) ∙ ap (λ (x : List ℕ). take a.says.size a.rest ++ x) (sym (take-append-drop 2 (drop a.says.size a.rest))))
+      ∙ simp append_assoc
+
+  length_block : a.says.size + 2 ≤ length a.rest → length block ≡ a.says.size
+  unfolding block
+  length_block le = length-take-le a.says.size a.rest (omega arith)
+
+  length_last : a.says.size + 2 ≤ length a.rest → length last ≡ 2
+  unfolding last
+  length_last le = length-take-le 2 (drop a.says.size a.rest) (omega (arith, length-drop a.says.size a.rest))
+
+  front : a.says.size + 2 ≤ length a.rest → take need b ≡ a.line ++ line_end ++ block ++ last
+  front le =
+      let whole : length (a.line ++ line_end ++ block ++ last) ≡ need =
+            simp length-append (omega (arith, length_block le, length_last le, a.need_is)) in
+      ap (λ (x : List ℕ). take need x) cut ∙ take_at (a.line ++ line_end ++ block ++ last) (drop 2 (drop a.says.size a.rest)) need whole
+
+  block_with : (P : StorageLine → List ℕ → List ℕ → Type 0) → a.says.size + 2 ≤ length a.rest → P a.says block last → IsBlockWith P (take need b)
+  block_with P le has = record {
+    line = a.line;
+    says = a.says;
+    block = block;
+    last = last;
+    is_line = a.is_line;
+    line_says = a.line_says;
+    small = a.small;
+    size = length_block le;
+    two = length_last le;
+    has = has;
+    whole = front le;
+  }
+
+  -- it would be a request, or a fatal message
+  never_there : SpellsNone b → a.says.size + 2 ≤ length a.rest → ⊥
+  never_there none le =
+      none need (Fatal fatal.BadChunk)
+      (block_with LacksEnd le
+       (λ ended. none need (Ask (storage_request a.says.command (put_of a.says block)) a.says.quiet)
+        (inr (block_with (MakesRequest _ _) le (record { request_is = refl; quiet_is = refl; ended = ended })))))
+
+-- what the parser needs isn't there
+pub unfinished_short : (b : List ℕ) (need : ℕ) → IsUnfinished b need → length b < need
+unfinished_short b need h = by_need h.need_is
+  where
+    by_need : IsNeed b need → length b < need
+    by_need (inr line) = omega (arith, line.1)
+    by_need (inl a) =
+        let len : length b ≡ length a.line + 2 + length a.rest = rw a.whole (simp length-append (omega arith)) in
+        elim (cases_lt (length b) need) [
+          | inl short ↦ short
+          | inr there ↦ absurd (never_there b need a h.none (omega (arith, a.need_is)))
+        ]

@@ -1,0 +1,232 @@
+-- A session's reading, message by message.
+use Rattle.std.proofs.Common.{◌≡◌, ℕ, ◌+◌, ◌<◌, ◌≤◌, Bool, true, false, List, [], ◌∷◌, ◌++◌, length, take, drop, Option, Some, None, Ok, Err, is_some, refl, sym, ap, subst, ◌∙◌, arith, inl, inr, append_assoc, length-append, take-append-drop}
+use Rattle.std.specs.List.{concat}
+use Rattle.std.proofs.lemmas.List.{append-nil}
+use Rattle.std.proofs.lemmas.List.Folds.{concat-append}
+use Rattle.std.proofs.lemmas.Bool.{both_ways}
+use Rattle.proto.specs.declared.message.Request.{Request}
+use Rattle.proto.specs.declared.message.Message.{Message}
+use Rattle.proto.specs.declared.message.Message.TheVariants.{Ask, Wrong, Quit, Fatal}
+use Rattle.proto.specs.Grammar.{Spells}
+use Rattle.proto.specs.Reading.{asks, EndsAtLast}
+use Rattle.proto.specs.Answers.{said, is_ask}
+use Rattle.proto.specs.Needs.{IsUnfinished}
+use Rattle.proto.proofs.MessageReader.{spelling_nonempty}
+use Rattle.session_book.specs.declared.causes.EndCause.{EndCause}
+use Rattle.session_book.specs.declared.session.Read.{Read}
+use Rattle.session_book.specs.Session.{SessionState, left, ended_by, need_after, begins_asked, ReadsOn, AskAtLast, Stops, no_message, IsReady, ReadsAsk, Takes, TakesLocal, TakesAsk, TakesNothing, ReadsOne, read_of}
+use Rattle.proto.specs.declared.no_memory.NoMemory.{NoMemory}
+use Rattle.session_book.proofs.Needing.{unfinished_short}
+use Rattle.session_book.proofs.Answering.{asks-append, said-append, left-append, left_waits, said_waits}
+use Rattle.session_book.proofs.Reading.{SpellEach-append, ended_by-append, not_ended_before, EndsAtLast-append}
+
+-- a message that was taken is what was read
+takes_one : (before after : SessionState) (m : Message) → Takes before m after → ReadsOne before (Ok (read_of m)) after
+takes_one before after (Ask q quiet) h = record { quiet = quiet; takes = h }
+takes_one before after (Wrong kind) h = record { message = Wrong kind; no_ask = refl; takes = h }
+takes_one before after Quit h = record { message = Quit; no_ask = refl; takes = h }
+takes_one before after (Fatal kind) h = record { message = Fatal kind; no_ask = refl; takes = h }
+
+-- each message takes a byte at least
+pub takes_less : (before after : SessionState) (m : Message) → Takes before m after → length after.unread < length before.unread
+takes_less before after m h = rw h.unread (omega (arith, length-append h.piece after.unread, spelling_nonempty h.piece m h.spells))
+
+-- a queue that begins with a request, or is empty, stays as it is
+pub left_stays : (queue : List Message) → begins_asked queue ≡ true → left queue [] ≡ queue
+left_stays [] e = refl
+left_stays (m ∷ ms) e = left_waits m ms e
+
+pub said_stays : (queue : List Message) → begins_asked queue ≡ true → said queue [] ≡ []
+said_stays [] e = refl
+said_stays (m ∷ ms) e = said_waits m ms e
+
+-- nothing was read yet
+pub reads_nothing : (s : SessionState) → begins_asked s.queue ≡ true → ReadsOn s [] s
+reads_nothing s asked = record {
+  pieces = [];
+  spelled = tt;
+  unread = refl;
+  ends_at_last = tt;
+  not_ended = λ e. refl;
+  ended = refl;
+  queue = rw append-nil (sym (left_stays s.queue asked));
+  out = rw (append-nil, said_stays s.queue asked, append-nil) refl;
+  need = inl refl;
+}
+
+need_one : (need : ℕ) (ms : List Message) (m : Message) → need_after need (ms ++ m ∷ []) ≡ 1
+need_one need [] m = refl
+need_one need (n ∷ ms) m = refl
+
+-- what hasn't ended can't have been ended before
+never : (ended : Option EndCause) (ms : List Message) → ended_by ended ms ≡ None → is_some ended ≡ true → ⊥
+never ended ms none some = both_ways (is_some ended) (ap (λ (o : Option EndCause). is_some o) (not_ended_before ended ms none)) some
+
+none_left : (ended : Option EndCause) (ms : List Message) → ended_by ended ms ≡ None → ended_by None ms ≡ None
+none_left ended ms e = ap (λ (o : Option EndCause). ended_by o ms) (sym (not_ended_before ended ms e)) ∙ e
+
+-- one more message is read
+pub reads_more : (before now after : SessionState) (ms : List Message) (m : Message) → ReadsOn before ms now → now.ended ≡ None → Takes now m after → ReadsOn before (ms ++ m ∷ []) after
+reads_more before now after ms m h none t =
+    let open_yet : ended_by before.ended ms ≡ None = sym h.ended ∙ none in
+    let grouped : (before.queue ++ ms) ++ m ∷ [] ≡ before.queue ++ (ms ++ m ∷ []) = append_assoc before.queue ms (m ∷ []) in
+    record {
+      pieces = h.pieces ++ t.piece ∷ [];
+      spelled = SpellEach-append h.pieces (t.piece ∷ []) ms (m ∷ []) h.spelled (t.spells, tt);
+      unread = h.unread ∙ ap (λ (x : List ℕ). concat h.pieces ++ x) t.unread ∙ sym (append_assoc (concat h.pieces) t.piece after.unread)
+          ∙ ap (λ (x : List ℕ). x ++ after.unread) (ap (λ (x : List ℕ). concat h.pieces ++ x) (sym (append-nil t.piece)) ∙ sym (concat-append h.pieces (t.piece ∷ [])));
+      ends_at_last = EndsAtLast-append ms (m ∷ []) (none_left before.ended ms open_yet) tt;
+      not_ended = λ e. absurd (never before.ended ms open_yet e);
+      ended = t.ended ∙ ap (λ (e : Option EndCause). ended_by e (m ∷ [])) h.ended ∙ sym (ended_by-append before.ended ms (m ∷ []));
+      queue = t.queue ∙ ap (λ (q : List Message). left (q ++ m ∷ []) []) h.queue ∙ sym (left-append (before.queue ++ ms) (m ∷ []) [] (omega arith)) ∙ ap (λ (q : List Message). left q []) grouped;
+      out = t.out ∙ ap (λ (x : List ℕ). x ++ said (now.queue ++ m ∷ []) []) h.out ∙ append_assoc before.out (said (before.queue ++ ms) []) (said (now.queue ++ m ∷ []) [])
+          ∙ ap (λ (q : List Message). before.out ++ (said (before.queue ++ ms) [] ++ said (q ++ m ∷ []) [])) h.queue
+          ∙ ap (λ (x : List ℕ). before.out ++ x) (sym (said-append (before.queue ++ ms) (m ∷ []) [] (omega arith)) ∙ ap (λ (q : List Message). said q []) grouped);
+      need = inl (t.need ∙ sym (need_one before.need ms m));
+    }
+
+-- the parser has found no further message
+pub reads_no_more : (before now after : SessionState) (ms : List Message) → ReadsOn before ms now → TakesNothing now after → ReadsOn before ms after
+reads_no_more before now after ms h t = record {
+  pieces = h.pieces;
+  spelled = h.spelled;
+  unread = h.unread ∙ ap (λ (s : SessionState). concat h.pieces ++ s.unread) (sym t.rest);
+  ends_at_last = h.ends_at_last;
+  not_ended = h.not_ended;
+  ended = ap (λ (s : SessionState). s.ended) t.rest ∙ h.ended;
+  queue = ap (λ (s : SessionState). s.queue) t.rest ∙ h.queue;
+  out = ap (λ (s : SessionState). s.out) t.rest ∙ h.out;
+  need = inr t.unfinished;
+}
+
+no_ask_first : (n : Message) (ns : List Message) → is_ask n ≡ false → AskAtLast ns → AskAtLast (n ∷ ns)
+no_ask_first n [] other h = tt
+no_ask_first n (o ∷ ns) other h = (other, h)
+
+-- behind messages that are no requests one may come
+pub asks_at_last : (ms : List Message) (m : Message) → asks ms ≡ [] → AskAtLast (ms ++ m ∷ [])
+asks_at_last [] m e = tt
+asks_at_last (Ask q quiet ∷ ms) m e = absurd cc
+asks_at_last (Wrong kind ∷ ms) m e = no_ask_first (Wrong kind) (ms ++ m ∷ []) refl (asks_at_last ms m e)
+asks_at_last (Quit ∷ ms) m e = no_ask_first Quit (ms ++ m ∷ []) refl (asks_at_last ms m e)
+asks_at_last (Fatal kind ∷ ms) m e = no_ask_first (Fatal kind) (ms ++ m ∷ []) refl (asks_at_last ms m e)
+
+pub no_asks : (ms : List Message) → asks ms ≡ [] → AskAtLast ms
+no_asks [] e = tt
+no_asks (Ask q quiet ∷ ms) e = absurd cc
+no_asks (Wrong kind ∷ ms) e = no_ask_first (Wrong kind) ms refl (no_asks ms e)
+no_asks (Quit ∷ ms) e = no_ask_first Quit ms refl (no_asks ms e)
+no_asks (Fatal kind ∷ ms) e = no_ask_first (Fatal kind) ms refl (no_asks ms e)
+
+-- messages were read, none of them a request, with at most a call of the parser for each; where there were fewer
+-- bytes than needed nothing was read
+pub record HasReadLocals (before : SessionState) (looks : ℕ) (now : SessionState) (looks_now : ℕ) : Type 0 where
+  pub messages : List Message
+  pub reads : ReadsOn before messages now
+  pub no_ask : asks messages ≡ []
+  pub most_looks : looks_now ≤ looks + length messages
+  pub nothing : length before.unread < before.need → (now ≡ before) × (looks_now ≡ looks)
+
+-- the first n bytes are taken where they spell the message
+taken : (before : SessionState) (b : List ℕ) (n : ℕ) (m seen : Message) (after : SessionState) → b ≡ before.unread → Spells (take n b) seen → m ≡ seen → before.ended ≡ None
+    → after.unread ≡ drop n before.unread → after.ended ≡ ended_by None (m ∷ []) → after.queue ≡ left (before.queue ++ m ∷ []) [] → after.out ≡ before.out ++ said (before.queue ++ m ∷ []) []
+    → after.need ≡ 1 → Takes before m after
+taken before b n m seen after b_is spelled m_is open_yet unread ended queue out need = record {
+  piece = take n b;
+  spells = rw m_is spelled;
+  unread = sym (take-append-drop n before.unread) ∙ ap (λ (x : List ℕ). take n x ++ drop n before.unread) (sym b_is) ∙ ap (λ (x : List ℕ). take n b ++ x) (sym unread);
+  ended = ended ∙ ap (λ (e : Option EndCause). ended_by e (m ∷ [])) (sym open_yet);
+  queue = queue;
+  out = out;
+  need = need;
+}
+
+none_asked : (m : Message) → is_ask m ≡ false → asks (m ∷ []) ≡ []
+none_asked (Ask q quiet) e = absurd cc
+none_asked (Wrong kind) e = refl
+none_asked Quit e = refl
+none_asked (Fatal kind) e = refl
+
+-- a session without the bytes that it needs isn't ready at first
+too_short : (before now : SessionState) (looks looks_now : ℕ) → HasReadLocals before looks now looks_now → IsReady now → length before.unread < before.need → ⊥
+too_short before now looks looks_now h ready short =
+    let same : now ≡ before = (h.nothing short).0 in
+    let enough : before.need ≤ length before.unread = rw same at ready.enough in
+    omega arith
+
+-- a message that is no request was read
+pub reads_local : (before now after : SessionState) (looks looks_now looks_after : ℕ) → HasReadLocals before looks now looks_now → IsReady now → looks_after ≤ looks_now + 1 → TakesLocal now after → HasReadLocals before looks after looks_after
+reads_local before now after looks looks_now looks_after h ready one t = record {
+  messages = h.messages ++ t.message ∷ [];
+  reads = reads_more before now after h.messages t.message h.reads ready.not_ended t.takes;
+  no_ask = rw (asks-append, h.no_ask) (none_asked t.message t.no_ask);
+  most_looks = omega (arith, h.most_looks, length-append h.messages (t.message ∷ []));
+  nothing = λ short. absurd (too_short before now looks looks_now h ready short);
+}
+
+pub starts_locals : (s : SessionState) (looks : ℕ) → begins_asked s.queue ≡ true → HasReadLocals s looks s looks
+starts_locals s looks asked = record { messages = []; reads = reads_nothing s asked; no_ask = refl; most_looks = omega arith; nothing = λ short. (refl, refl) }
+
+-- a request was read
+pub reads_ask : (before now after : SessionState) (looks looks_now looks_after : ℕ) (q : Request) → HasReadLocals before looks now looks_now → IsReady now → looks_after ≤ looks_now + 1 → TakesAsk now q after → ReadsAsk before looks (Ok (Some q)) after looks_after
+reads_ask before now after looks looks_now looks_after q h ready one t = record {
+  messages = h.messages ++ Ask q t.quiet ∷ [];
+  reading = record {
+    reads = reads_more before now after h.messages (Ask q t.quiet) h.reads ready.not_ended t.takes;
+    ask_at_last = asks_at_last h.messages (Ask q t.quiet) h.no_ask;
+    requests_are = rw (asks-append, h.no_ask) refl;
+    most_looks = omega (arith, h.most_looks, length-append h.messages (Ask q t.quiet ∷ []));
+    no_look = λ short. absurd (too_short before now looks looks_now h ready short);
+  };
+  none = λ e. absurd cc;
+}
+
+-- the parser found no further message
+pub reads_none : (before now after : SessionState) (looks looks_now looks_after : ℕ) → HasReadLocals before looks now looks_now → IsReady now → looks_after ≤ looks_now + 1 → TakesNothing now after → ReadsAsk before looks (Ok None) after looks_after
+reads_none before now after looks looks_now looks_after h ready one t = record {
+  messages = h.messages;
+  reading = record {
+    reads = reads_no_more before now after h.messages h.reads t;
+    ask_at_last = no_asks h.messages h.no_ask;
+    requests_are = h.no_ask;
+    most_looks = omega (arith, h.most_looks);
+    no_look = λ short. absurd (too_short before now looks looks_now h ready short);
+  };
+  none = λ e. no_message (unfinished_short after.unread after.need t.unfinished) t.unfinished.none;
+}
+
+-- the session reads no further
+pub reads_stops : (before now : SessionState) (looks looks_now : ℕ) → HasReadLocals before looks now looks_now → Stops now → ReadsAsk before looks (Ok None) now looks_now
+reads_stops before now looks looks_now h stops = record {
+  messages = h.messages;
+  reading = record {
+    reads = h.reads;
+    ask_at_last = no_asks h.messages h.no_ask;
+    requests_are = h.no_ask;
+    most_looks = omega (arith, h.most_looks);
+    no_look = λ short. (h.nothing short).1;
+  };
+  none = λ e. stops;
+}
+
+-- there was no memory for a message, which stays unread
+pub reads_refused : (before now after : SessionState) (looks looks_now looks_after : ℕ) (no_memory : NoMemory) → HasReadLocals before looks now looks_now → IsReady now → looks_after ≤ looks_now + 1 → after ≡ now → ReadsAsk before looks (Err no_memory) after looks_after
+reads_refused before now after looks looks_now looks_after no_memory h ready one same = record {
+  messages = h.messages;
+  reading = record {
+    reads = rw same h.reads;
+    ask_at_last = no_asks h.messages h.no_ask;
+    requests_are = h.no_ask;
+    most_looks = omega (arith, h.most_looks);
+    no_look = λ short. absurd (too_short before now looks looks_now h ready short);
+  };
+  none = λ e. absurd cc;
+}
+
+-- the parser found a message, as the session's parts say
+pub read_found : (now view : SessionState) (b : List ℕ) (n : ℕ) (m seen : Message) (r : Read) (after : SessionState) → view ≡ now → r ≡ read_of m → b ≡ view.unread → Spells (take n b) seen
+    → m ≡ seen → now.ended ≡ None → after.unread ≡ drop n view.unread → after.ended ≡ ended_by None (m ∷ []) → after.queue ≡ left (view.queue ++ m ∷ []) []
+    → after.out ≡ view.out ++ said (view.queue ++ m ∷ []) [] → after.need ≡ 1 → ReadsOne now (Ok r) after
+read_found now view b n m seen r after same r_is b_is spelled m_is open_yet unread ended queue out need =
+    let takes : ReadsOne view (Ok (read_of m)) after = takes_one view after m (taken view b n m seen after b_is spelled m_is (ap (λ (s : SessionState). s.ended) same ∙ open_yet) unread ended queue out need) in
+    subst (λ (s : SessionState). ReadsOne s (Ok r) after) same (subst (λ (x : Read). ReadsOne view (Ok x) after) (sym r_is) takes)

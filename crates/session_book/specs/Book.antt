@@ -1,0 +1,119 @@
+-- The sessions of one worker.
+use Rattle.std.specs.Prelude.{◌≡◌, ℕ, ◌+◌, ◌<◌, ◌≤◌, ◌⊎◌, ⊤, true, List, [], ◌∷◌, ◌++◌, map, length, Option, Some, None, Result, Ok, Err, IsSome, slice_get, drop, max, filter, ◌==◌, if◌then◌else◌}
+use Rattle.std.specs.Ordering.{nat_cmp}
+use Rattle.std.specs.Map.{lookup}
+use Rattle.std.specs.BTreeMap.{is_at}
+use Rattle.proto.specs.declared.message.Request.{Request}
+use Rattle.proto.specs.declared.message.Message.{Message}
+use Rattle.proto.specs.declared.history.Answered.{Answered}
+use Rattle.proto.specs.declared.no_memory.NoMemory.{NoMemory}
+use Rattle.proto.specs.Reading.{asks}
+use Rattle.session_book.specs.declared.causes.Unsettled.{Unsettled}
+use Rattle.session_book.specs.declared.causes.Settled.{Settled}
+use Rattle.session_book.specs.declared.causes.Settled.TheVariants as outcomes
+use Rattle.session_book.specs.declared.limits.TheConstants.{MAX_UNSETTLED, MAX_SESSIONS, MAX_POSTS}
+use Rattle.session_book.specs.Session.{SessionState, begins_asked, ReadsUpTo, Stops, settled}
+
+-- A worker's book: the worker's number; the open sessions by their numbers; how many requests got a number;
+-- the unsettled requests in the order of their numbers; the greatest number of a session opened, and how many
+-- were; and how often the parser was called.
+pub record BookState : Type 0 where
+  pub worker : ℕ
+  pub sessions : List (ℕ × SessionState)
+  pub posted : ℕ
+  pub unsettled : List Unsettled
+  pub greatest : ℕ
+  pub opened : ℕ
+  pub looks : ℕ
+
+-- the session of this number, if it is open
+abbrev pub session_of : BookState → ℕ → Option SessionState
+session_of book session = lookup (is_at (nat_cmp session)) book.sessions
+
+-- how many of the unsettled requests are of the session
+abbrev pub unsettled_in : List Unsettled → ℕ → ℕ
+unsettled_in unsettled session = length (filter (λ u. u.session == session) unsettled)
+
+-- The unsettled requests of each open session are those in its queue, which is empty or begins with one; and no
+-- number above the greatest one opened is in use.
+pub record IsBook (book : BookState) : Type 0 where
+  pub asked : (session : ℕ) (s : SessionState) → session_of book session ≡ Some s → begins_asked s.queue ≡ true
+  pub queued : (session : ℕ) (s : SessionState) → session_of book session ≡ Some s → length (asks s.queue) ≡ unsettled_in book.unsettled session
+  pub open_below : (session : ℕ) → book.greatest < session → session_of book session ≡ None
+  pub unsettled_below : (session : ℕ) → book.greatest < session → unsettled_in book.unsettled session ≡ 0
+
+-- the output that wasn't given yet, none of a session that isn't open
+abbrev pub out_of : Option SessionState → List ℕ
+out_of None = []
+out_of (Some s) = s.out
+
+-- only this session is another one: it is so afterwards, or not open
+abbrev pub OnlyAt : BookState → BookState → ℕ → Option SessionState → Type 0
+OnlyAt before after session s =
+    (other : ℕ) → session_of after other ≡ (if other == session then s else session_of before other)
+
+-- and nothing else of the book changes
+pub record Changes (before after : BookState) (session : ℕ) (s : Option SessionState) : Type 0 where
+  pub only_at : OnlyAt before after session s
+  pub rest : after ≡ record before { sessions = after.sessions }
+
+-- a session can't be opened with this number, or none can
+abbrev pub IsKnown : BookState → ℕ → Type 0
+IsKnown book session = (session ≤ book.greatest) ⊎ (MAX_SESSIONS ≤ book.opened)
+
+-- the request with its number, where one is given
+abbrev pub given_in : Result (Option (Request × ℕ)) NoMemory → List (Request × ℕ)
+given_in (Ok (Some given)) = given ∷ []
+given_in (Ok None) = []
+given_in (Err e) = []
+
+-- a request that was given is unsettled
+abbrev pub unsettled_of : ℕ → Request × ℕ → Unsettled
+unsettled_of session a = record { number = a.1; session = session }
+
+-- why no request is given: so many are unsettled, all numbers were given, or the session reads no further
+pub data GivesNone (before : BookState) (s : SessionState) : Type 0 where
+  full : MAX_UNSETTLED ≤ length before.unsettled → GivesNone before s
+  spent : MAX_POSTS ≤ before.posted → GivesNone before s
+  stops : Stops s → GivesNone before s
+
+-- The session s is read up to the request that is given, with the worker's next number. Of the rest of the book
+-- only what is said here changes.
+pub record NextAsk (before : BookState) (session : ℕ) (s : SessionState) (result : Result (Option (Request × ℕ)) NoMemory) (after : BookState) : Type 0 where
+  pub messages : List Message
+  pub read : SessionState
+  pub reading : ReadsUpTo s before.looks messages (map (λ a. a.0) (given_in result)) read after.looks
+  pub only_at : OnlyAt before after session (Some read)
+  pub numbers : map (λ a. a.1) (given_in result) ≡ map (λ a. before.posted + 1) (given_in result)
+  pub rest : after ≡ record before { sessions = after.sessions; posted = before.posted + length (given_in result); unsettled = before.unsettled ++ map (unsettled_of session) (given_in result); looks = after.looks }
+  pub room : length after.unsettled ≤ max MAX_UNSETTLED (length before.unsettled)
+  pub enough : after.posted ≤ max MAX_POSTS before.posted
+  pub none : result ≡ Ok None → GivesNone before read
+
+-- the answer is that of the oldest unsettled request
+abbrev pub IsOldest : BookState → Answered → Type 0
+IsOldest book answered =
+    slice_get book.unsettled 0 ≡ Some (record { number = answered.number; session = answered.session })
+
+-- the oldest request is no longer unsettled, and at its session only this is so
+pub record SettlesOldest (before after : BookState) (answered : Answered) (s : Option SessionState) : Type 0 where
+  pub oldest : IsOldest before answered
+  pub only_at : OnlyAt before after answered.session s
+  pub rest : after ≡ record before { sessions = after.sessions; unsettled = drop 1 before.unsettled }
+
+-- the reply goes to the session's first unsettled request
+pub record SettlesReply (before after : BookState) (answered : Answered) : Type 0 where
+  pub s : SessionState
+  pub was_open : session_of before answered.session ≡ Some s
+  pub unsettled : 0 < length (asks s.queue)
+  pub settles : SettlesOldest before after answered (Some (settled s answered.reply))
+
+-- What becomes of an answer: it is a stranger where it isn't that of the oldest unsettled request; else it is
+-- dropped where its session was closed, or its bytes go to its session, which is closed where they find no room.
+abbrev pub Settles : BookState → Answered → Settled → BookState → Type 0
+Settles before answered outcomes.Stranger after = ¬ (IsOldest before answered) × (after ≡ before)
+Settles before answered outcomes.Dropped after =
+    (session_of before answered.session ≡ None) × SettlesOldest before after answered None
+Settles before answered outcomes.Kept after = SettlesReply before after answered
+Settles before answered outcomes.Starved after =
+    IsSome (session_of before answered.session) × SettlesOldest before after answered None

@@ -1,0 +1,4 @@
+pub mod Place
+pub mod Session
+pub mod Book
+pub mod Accounts

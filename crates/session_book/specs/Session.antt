@@ -1,0 +1,173 @@
+-- One session: what of its bytes was read, what was asked, and what is to be given.
+use Rattle.std.specs.Prelude.{◌≡◌, ℕ, ◌+◌, ◌<◌, ◌≤◌, ◌⊎◌, ⊤, Bool, true, false, List, [], ◌∷◌, ◌++◌, length, drop, Option, Some, None, Result, Ok, Err, is_some, ◌==◌, ◌&&◌, if◌then◌else◌}
+use Rattle.std.specs.List.{concat}
+use Rattle.proto.specs.declared.message.Request.{Request}
+use Rattle.proto.specs.declared.message.Reply.{Reply}
+use Rattle.proto.specs.declared.message.Message.{Message}
+use Rattle.proto.specs.declared.message.Message.TheVariants.{Ask, Wrong, Quit, Fatal}
+use Rattle.proto.specs.declared.no_memory.NoMemory.{NoMemory}
+use Rattle.proto.specs.Grammar.{Spells, SpellsNone}
+use Rattle.proto.specs.Reading.{SpellEach, EndsAtLast, asks}
+use Rattle.proto.specs.Needs.{IsUnfinished}
+use Rattle.proto.specs.Answers.{said, is_ask}
+use Rattle.session_book.specs.declared.causes.EndCause.{EndCause}
+use Rattle.session_book.specs.declared.causes.EndCause.TheVariants as causes
+use Rattle.session_book.specs.declared.session.Read.{Read}
+use Rattle.session_book.specs.declared.session.Read.TheVariants as reads
+use Rattle.session_book.specs.declared.limits.TheConstants.{MAX_UNREAD, MAX_WAITING}
+
+-- An open session: its unread bytes; the messages read, from its oldest unsettled request on; its output that
+-- wasn't given yet; whether it has read Quit or a fatal message; and how many unread bytes there have to be
+-- before the parser is asked again.
+pub record SessionState : Type 0 where
+  pub unread : List ℕ
+  pub queue : List Message
+  pub out : List ℕ
+  pub ended : Option EndCause
+  pub need : ℕ
+
+-- a session that was just opened
+abbrev pub new_session : SessionState
+new_session = record { unread = []; queue = []; out = []; ended = None; need = 1 }
+
+-- the messages from the first request on for which no reply is left, where the requests use up the replies
+-- one after the other: those that `said` stops before
+abbrev pub left : List Message → List Reply → List Message
+left [] replies = []
+left (Ask q quiet ∷ ms) [] = Ask q quiet ∷ ms
+left (Ask q quiet ∷ ms) (reply ∷ replies) = left ms replies
+left (Wrong kind ∷ ms) replies = left ms replies
+left (Quit ∷ ms) replies = left ms replies
+left (Fatal kind ∷ ms) replies = left ms replies
+
+-- what has ended the session once the messages were read too
+abbrev pub ended_by : Option EndCause → List Message → Option EndCause
+ended_by ended [] = ended
+ended_by ended (Ask q quiet ∷ ms) = ended_by ended ms
+ended_by ended (Wrong kind ∷ ms) = ended_by ended ms
+ended_by ended (Quit ∷ ms) = ended_by (Some causes.Quit) ms
+ended_by ended (Fatal kind ∷ ms) = ended_by (Some causes.Fatal) ms
+
+-- the need after the messages were read: 1 once there is one
+abbrev pub need_after : ℕ → List Message → ℕ
+need_after need [] = need
+need_after need (m ∷ ms) = 1
+
+-- A piece of input goes behind the unread bytes; once Quit or a fatal message was read it is dropped.
+abbrev pub fed : SessionState → List ℕ → SessionState
+fed s piece = if is_some s.ended then s else record s { unread = s.unread ++ piece }
+
+-- the queue is empty, or its first message is a request
+abbrev pub begins_asked : List Message → Bool
+begins_asked [] = true
+begins_asked (m ∷ ms) = is_ask m
+
+-- Spellings of the messages ms leave the front of the unread bytes, none of them after Quit or a fatal message.
+-- The messages go behind the queue; then those before the queue's first request leave it, and their answers
+-- go behind the output. The need is what the parser said where it found no message in what is left.
+pub record ReadsOn (before : SessionState) (ms : List Message) (after : SessionState) : Type 0 where
+  pub pieces : List (List ℕ)
+  pub spelled : SpellEach pieces ms
+  pub unread : before.unread ≡ concat pieces ++ after.unread
+  pub ends_at_last : EndsAtLast ms
+  pub not_ended : is_some before.ended ≡ true → ms ≡ []
+  pub ended : after.ended ≡ ended_by before.ended ms
+  pub queue : after.queue ≡ left (before.queue ++ ms) []
+  pub out : after.out ≡ before.out ++ said (before.queue ++ ms) []
+  pub need : (after.need ≡ need_after before.need ms) ⊎ IsUnfinished after.unread after.need
+
+-- The queue's first request gets its reply; then the messages before the next request leave the queue, and
+-- the answers go behind the output.
+abbrev pub settled : SessionState → Reply → SessionState
+settled s reply = record s { queue = left s.queue (reply ∷ []); out = s.out ++ said s.queue (reply ∷ []) }
+
+-- so many bytes of the output were given
+abbrev pub gave : SessionState → ℕ → SessionState
+gave s n = record s { out = drop n s.out }
+
+-- how the session has ended, once no request is unsettled and all output was given
+abbrev pub finished_by : SessionState → Option EndCause
+finished_by s = if length s.queue == 0 && length s.out == 0 then s.ended else None
+
+-- no message before the last is a request
+abbrev pub AskAtLast : List Message → Type 0
+AskAtLast [] = ⊤
+AskAtLast (m ∷ []) = ⊤
+AskAtLast (m ∷ n ∷ ms) = (is_ask m ≡ false) × AskAtLast (n ∷ ms)
+
+-- why a session reads no further: it has ended, too much output waits, or no message is left, and the parser
+-- isn't called again before its need is there
+pub data Stops (s : SessionState) : Type 0 where
+  ended : is_some s.ended ≡ true → Stops s
+  waiting : MAX_WAITING < length s.out → Stops s
+  no_message : length s.unread < s.need → SpellsNone s.unread → Stops s
+
+-- the piece doesn't fit behind the unread bytes; it always does once the session drops its input
+abbrev pub IsFull : SessionState → List ℕ → Type 0
+IsFull s piece = (s.ended ≡ None) × (MAX_UNREAD < length s.unread + length piece)
+
+-- the parser is asked for the next message
+pub record IsReady (s : SessionState) : Type 0 where
+  pub not_ended : s.ended ≡ None
+  pub room : length s.out ≤ MAX_WAITING
+  pub enough : s.need ≤ length s.unread
+
+-- Messages of a session are read, and looks counts the calls of the parser. Only the last message may be a
+-- request: these are the requests read.
+pub record ReadsUpTo (before : SessionState) (looks : ℕ) (messages : List Message) (requests : List Request) (after : SessionState) (looks_after : ℕ) : Type 0 where
+  pub reads : ReadsOn before messages after
+  pub ask_at_last : AskAtLast messages
+  pub requests_are : asks messages ≡ requests
+  pub most_looks : looks_after ≤ looks + length messages + 1
+  pub no_look : length before.unread < before.need → looks_after ≡ looks
+
+abbrev pub request_in : Result (Option Request) NoMemory → List Request
+request_in (Ok (Some q)) = q ∷ []
+request_in (Ok None) = []
+request_in (Err e) = []
+
+-- A session is read up to its next request; there is none only where it stops.
+pub record ReadsAsk (before : SessionState) (looks : ℕ) (result : Result (Option Request) NoMemory) (after : SessionState) (looks_after : ℕ) : Type 0 where
+  pub messages : List Message
+  pub reading : ReadsUpTo before looks messages (request_in result) after looks_after
+  pub none : result ≡ Ok None → Stops after
+
+-- A message is read: its spelling leaves the unread bytes, and it goes behind the queue.
+pub record Takes (before : SessionState) (m : Message) (after : SessionState) : Type 0 where
+  pub piece : List ℕ
+  pub spells : Spells piece m
+  pub unread : before.unread ≡ piece ++ after.unread
+  pub ended : after.ended ≡ ended_by before.ended (m ∷ [])
+  pub queue : after.queue ≡ left (before.queue ++ m ∷ []) []
+  pub out : after.out ≡ before.out ++ said (before.queue ++ m ∷ []) []
+  pub need : after.need ≡ 1
+
+-- a message that is no request is read
+pub record TakesLocal (before after : SessionState) : Type 0 where
+  pub message : Message
+  pub no_ask : is_ask message ≡ false
+  pub takes : Takes before message after
+
+-- a request is read
+pub record TakesAsk (before : SessionState) (q : Request) (after : SessionState) : Type 0 where
+  pub quiet : Bool
+  pub takes : Takes before (Ask q quiet) after
+
+-- the parser finds no message, and the session keeps what it needs
+pub record TakesNothing (before after : SessionState) : Type 0 where
+  pub unfinished : IsUnfinished after.unread after.need
+  pub rest : after ≡ record before { need = after.need }
+
+-- what it comes to that a message is found
+abbrev pub read_of : Message → Read
+read_of (Ask q quiet) = reads.Ask q
+read_of (Wrong kind) = reads.Local
+read_of Quit = reads.Local
+read_of (Fatal kind) = reads.Local
+
+-- what one call of the parser comes to; want of memory changes nothing
+abbrev pub ReadsOne : SessionState → Result Read NoMemory → SessionState → Type 0
+ReadsOne before (Ok reads.Nothing) after = TakesNothing before after
+ReadsOne before (Ok reads.Local) after = TakesLocal before after
+ReadsOne before (Ok (reads.Ask q)) after = TakesAsk before q after
+ReadsOne before (Err e) after = after ≡ before

@@ -1,0 +1,192 @@
+//! The sessions of one worker: reading what they were fed, and answering in the order of their messages.
+
+ghost use Rattle.std.specs.Prelude.{◌≡◌, ◌+◌, ◌≤◌, ◌<◌, ◌↔◌, [], length, option_map, IsSomeAnd, OnOk, OnErr};
+ghost use Rattle.session_book.specs.Session.{SessionState, new_session, IsFull, fed, gave, finished_by};
+ghost use Rattle.std.specs.Option.{option_and_then};
+
+use crate::causes::{EndCause, FeedFault, OpenFault, Settled, Unsettled};
+use crate::limits::{MAX_POSTS, MAX_SESSIONS, MAX_UNSETTLED};
+use crate::session::Session;
+use proto::history::Answered;
+use proto::message::Request;
+use proto::no_memory::NoMemory;
+use std::alloc::Global;
+use std::collections::{BTreeMap, VecDeque};
+use std::marker::Model;
+
+/// The sessions of a worker. Contracts see it as a `BookState`.
+#[derive(Drop)]
+pub struct Book {
+    alloc: Global,
+    worker: usize,
+    sessions: BTreeMap<u64, Session>,
+    posted: u64,
+    unsettled: VecDeque<Unsettled>,
+    greatest: u64,
+    opened: u64,
+    looks: u64,
+}
+
+impl Model for Book {
+    ghost use Rattle.session_book.specs.Book.{BookState, IsBook};
+
+    ghost Value = { BookState };
+
+    ghost view = { λ a. record { worker = a.worker; sessions = a.sessions.entries; posted = a.posted; unsettled = a.unsettled.items; greatest = a.greatest; opened = a.opened; looks = a.looks } };
+
+    ghost invariant = { λ a. IsBook (record { worker = a.worker; sessions = a.sessions.entries; posted = a.posted; unsettled = a.unsettled.items; greatest = a.greatest; opened = a.opened; looks = a.looks }) };
+}
+
+impl Book {
+    ghost use Rattle.session_book.specs.Book.{session_of, out_of, Changes, OnlyAt, IsKnown, NextAsk, Settles};
+
+    /// No session is open yet. The worker's number is kept for its owner.
+    pub fn new(alloc: Global, worker: usize) -> Self
+        ensures { result ≡ record { worker = worker; sessions = []; posted = 0; unsettled = []; greatest = 0; opened = 0; looks = 0 } }
+    {
+        Book {
+            alloc,
+            worker,
+            sessions: BTreeMap::new(alloc),
+            posted: 0,
+            unsettled: VecDeque::new(alloc),
+            greatest: 0,
+            opened: 0,
+            looks: 0,
+        }
+    }
+
+    pub fn worker(&self) -> usize
+        ensures { result ≡ self.now.worker }
+    {
+        self.worker
+    }
+
+    /// Opens a session. Numbers are above 0 and rise.
+    pub fn open(&mut self, session: u64) -> Result<(), OpenFault>
+        ensures known { (result ≡ Err OpenFault.Known) ↔ IsKnown self.old session }
+        ensures ok { OnOk result (OnlyAt self.old self.new session (Some new_session)) }
+        ensures rest { OnOk result (self.new ≡ record self.old { sessions = self.new.sessions; greatest = session; opened = self.old.opened + 1 }) }
+        ensures err { OnErr result (self.new ≡ self.old) }
+    {
+        if session <= self.greatest || self.opened >= MAX_SESSIONS {
+            return Err(OpenFault::Known);
+        }
+        match self.sessions.insert(session, Session::new(self.alloc)) {
+            Ok(_) => {}
+            Err(_) => return Err(OpenFault::NoMemory),
+        }
+        self.greatest = session;
+        self.opened += 1;
+        Ok(())
+    }
+
+    /// Puts a piece of input behind the unread bytes. A session that has read Quit or a fatal message drops it.
+    pub fn feed(&mut self, session: u64, piece: &[u8]) -> Result<(), FeedFault>
+        ensures unknown { (result ≡ Err FeedFault.Unknown) ↔ (session_of self.old session ≡ None) }
+        ensures full { (result ≡ Err FeedFault.Full) ↔ IsSomeAnd (session_of self.old session) (λ s. IsFull s piece.now) }
+        ensures ok { OnOk result (Changes self.old self.new session (option_map (λ s. fed s piece.now) (session_of self.old session))) }
+        ensures err { OnErr result (self.new ≡ self.old) }
+    {
+        let Some(open) = self.sessions.get_mut(&session) else {
+            return Err(FeedFault::Unknown);
+        };
+        open.feed(piece)
+    }
+
+    /// The next request of a session with its number, which the caller posts. Messages that the book answers
+    /// itself take their places; nothing is read while 64 requests are unsettled or all numbers were given. After
+    /// `NoMemory` the messages before the refused one stay read.
+    pub fn next_ask(&mut self, session: u64) -> Result<Option<(Request, u64)>, NoMemory>
+        ensures closed { session_of self.old session ≡ None → (result ≡ Ok None) × (self.new ≡ self.old) }
+        ensures open { (s : SessionState) → session_of self.old session ≡ Some s → NextAsk self.old session s result self.new }
+    {
+        if self.unsettled.len() >= MAX_UNSETTLED || self.posted >= MAX_POSTS {
+            return Ok(None);
+        }
+        let Some(open) = self.sessions.get_mut(&session) else {
+            return Ok(None);
+        };
+        self.unsettled.reserve(1)?;
+        let Some(request) = open.next_ask(&mut self.looks)? else {
+            return Ok(None);
+        };
+        self.posted += 1;
+        let number = self.posted;
+        self.unsettled.push_back(Unsettled { number, session })?;
+        Ok(Some((request, number)))
+    }
+
+    /// Puts the answer to the oldest unsettled request behind the output of its session, and behind it the answers
+    /// that waited for it.
+    pub fn settle(&mut self, answered: Answered) -> Settled
+        ensures { Settles self.old answered result self.new }
+    {
+        self.settle_by(&answered)
+    }
+
+    fn settle_by(&mut self, answered: &Answered) -> Settled
+        ensures { Settles self.old answered.now result self.new }
+    {
+        let asked = Unsettled {
+            number: answered.number,
+            session: answered.session,
+        };
+        if self.unsettled.front() != Some(&asked) {
+            return Settled::Stranger;
+        }
+        self.unsettled.pop_front();
+        let Some(open) = self.sessions.get_mut(&answered.session) else {
+            return Settled::Dropped;
+        };
+        match open.settle(&answered.reply) {
+            Ok(()) => Settled::Kept,
+            Err(NoMemory) => {
+                self.sessions.remove(&answered.session);
+                Settled::Starved
+            }
+        }
+    }
+
+    /// The output of a session that wasn't given yet.
+    pub fn out(&self, session: u64) -> &[u8]
+        ensures { result.now ≡ out_of (session_of self.now session) }
+    {
+        match self.sessions.get(&session) {
+            Some(open) => open.out(),
+            None => &[],
+        }
+    }
+
+    /// So many bytes of the output were given.
+    pub fn gave(&mut self, session: u64, n: usize)
+        requires { n ≤ length (out_of (session_of self.old session)) }
+        ensures { Changes self.old self.new session (option_map (λ s. gave s n) (session_of self.old session)) }
+    {
+        let Some(open) = self.sessions.get_mut(&session) else {
+            return;
+        };
+        open.gave(n);
+    }
+
+    /// Quit or Fatal, once all before it was answered and given.
+    pub fn finished(&self, session: u64) -> Option<EndCause>
+        ensures { result ≡ option_and_then finished_by (session_of self.now session) }
+    {
+        self.sessions.get(&session)?.finished()
+    }
+
+    /// Drops a session with its input and output. The answers to its unsettled requests are dropped when they come.
+    pub fn close(&mut self, session: u64)
+        ensures { Changes self.old self.new session None }
+    {
+        self.sessions.remove(&session);
+    }
+
+    /// How often the parser was called; the count stays at the greatest number.
+    pub fn looks(&self) -> u64
+        ensures { result ≡ self.now.looks }
+    {
+        self.looks
+    }
+}

@@ -1,0 +1,90 @@
+//! Bytes that come in behind and go out in front.
+
+ghost use Rattle.std.specs.Prelude.{◌≡◌, ◌++◌, [], length, drop, ◌≤◌, OnOk, OnErr};
+ghost use Rattle.proto.specs.Answers.{answer, is_ask, reply_bytes};
+ghost use Rattle.std.specs.Prelude.{is_some, option_copied};
+
+use proto::message::{Message, Reply};
+use proto::no_memory::NoMemory;
+use proto::show::{show, show_reply};
+use std::alloc::Global;
+use std::marker::Model;
+
+/// A queue of bytes that lends them as one slice. The bytes in front that have gone out are kept until they are
+/// at least half of all, so each byte is moved at most once for each byte that goes out.
+#[derive(Drop)]
+pub struct Buffer {
+    bytes: Vec<u8>,
+    start: usize,
+}
+
+impl Model for Buffer {
+    ghost use Rattle.std.specs.Prelude.{List, ℕ, drop, length, ◌≤◌};
+
+    ghost Value = { List ℕ };
+
+    ghost view = { λ a. drop a.start a.bytes.items };
+
+    ghost invariant = { λ a. a.start ≤ length a.bytes.items };
+}
+
+impl Buffer {
+    pub fn new(alloc: Global) -> Self
+        ensures { result ≡ [] }
+    {
+        Buffer {
+            bytes: Vec::new(alloc),
+            start: 0,
+        }
+    }
+
+    pub fn len(&self) -> usize
+        ensures { result ≡ length self.now }
+    {
+        self.bytes.len() - self.start
+    }
+
+    pub fn as_slice(&self) -> &[u8]
+        ensures { result.now ≡ self.now }
+    {
+        &self.bytes.as_slice()[self.start..]
+    }
+
+    /// Puts bytes behind the others.
+    pub fn append(&mut self, piece: &[u8]) -> Result<(), NoMemory>
+        ensures ok { OnOk result (self.new ≡ self.old ++ piece.now) }
+        ensures err { OnErr result (self.new ≡ self.old) }
+    {
+        self.bytes.extend_from_slice(piece)?;
+        Ok(())
+    }
+
+    /// Puts the answer to a message behind the others.
+    pub fn show(&mut self, message: &Message, reply: Option<&Reply>) -> Result<(), NoMemory>
+        requires { is_some reply ≡ is_ask message.now }
+        ensures ok { OnOk result (self.new ≡ self.old ++ answer message.now (option_copied reply.entry)) }
+        ensures err { OnErr result (self.new ≡ self.old) }
+    {
+        show(message, reply, &mut self.bytes)
+    }
+
+    /// Puts the answer that shows a reply behind the others.
+    pub fn show_reply(&mut self, with_cas: bool, reply: &Reply) -> Result<(), NoMemory>
+        ensures ok { OnOk result (self.new ≡ self.old ++ reply_bytes with_cas reply.now) }
+        ensures err { OnErr result (self.new ≡ self.old) }
+    {
+        show_reply(with_cas, reply, &mut self.bytes)
+    }
+
+    /// Takes bytes away in front.
+    pub fn discard(&mut self, n: usize)
+        requires { n ≤ length self.old }
+        ensures { self.new ≡ drop n self.old }
+    {
+        self.start += n;
+        if self.start >= self.bytes.len() - self.start {
+            self.bytes.drain(..self.start);
+            self.start = 0;
+        }
+    }
+}

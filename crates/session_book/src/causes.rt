@@ -1,0 +1,58 @@
+//! Why calls are refused, what becomes of an answer, and how sessions end.
+
+use thiserror::Error;
+
+/// Why a session isn't opened.
+#[derive(Clone, Copy, Debug, PartialEq, Eq, Error)]
+pub enum OpenFault {
+    /// The number is 0 or not above every number opened before, or the limit of sessions was reached.
+    #[error("the session's number isn't new")]
+    Known,
+    #[error("out of memory")]
+    NoMemory,
+}
+
+/// Why a piece of input isn't taken.
+#[derive(Clone, Copy, Debug, PartialEq, Eq, Error)]
+pub enum FeedFault {
+    #[error("the session isn't open")]
+    Unknown,
+    /// The piece can be fed once more of the input was read.
+    #[error("too many unread bytes")]
+    Full,
+    #[error("out of memory")]
+    NoMemory,
+}
+
+/// What became of an answer.
+#[derive(Clone, Copy, Debug, PartialEq, Eq)]
+pub enum Settled {
+    /// Its bytes stand behind the output of its session.
+    Kept,
+    /// Its session was closed.
+    Dropped,
+    /// There was no memory for it; its session is closed.
+    Starved,
+    /// It isn't the answer to the oldest unsettled request.
+    Stranger,
+}
+
+/// How a session ended.
+#[derive(Clone, Copy, Debug, PartialEq, Eq)]
+pub enum EndCause {
+    /// Its input ended and all was answered.
+    Drained,
+    Quit,
+    /// A fatal message was read.
+    Fatal,
+    /// The peer has gone.
+    Gone,
+    NoMemory,
+}
+
+/// A request that was given with this number and has no reply yet.
+#[derive(Clone, Copy, Debug, PartialEq, Eq)]
+pub struct Unsettled {
+    pub number: u64,
+    pub session: u64,
+}

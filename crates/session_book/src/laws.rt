@@ -1,0 +1,20 @@
+//! What a caller carries over a whole run, over the definitions alone.
+
+ghost use Rattle.session_book.specs.Accounts.{StartsAccounts, FeedKeeps, ReadKeeps, SettleKeeps, GiveKeeps, ReadBegins, ReadIsWhole, SaidBegins, SaidIsWhole};
+
+/// What was read and what was said of a session, from its opening on, through each call that changes it.
+pub fn accounts()
+    ensures starts { StartsAccounts }
+    ensures feed { FeedKeeps }
+    ensures read { ReadKeeps }
+    ensures settle { SettleKeeps }
+    ensures give { GiveKeeps }
+{}
+
+/// What was read and said is a beginning of all that there is to read and to say, and at the end the whole.
+pub fn beginnings()
+    ensures read { ReadBegins }
+    ensures read_whole { ReadIsWhole }
+    ensures said { SaidBegins }
+    ensures said_whole { SaidIsWhole }
+{}

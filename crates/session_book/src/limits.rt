@@ -1,0 +1,17 @@
+//! The limits of a book.
+
+/// Requests of a worker that may be unsettled at a time, over all its sessions.
+pub const MAX_UNSETTLED: usize = 64;
+
+/// Unread bytes of a session. It is above the longest spelling, a line of 2,048 bytes and a data block of
+/// 131,072 with its end, so a session whose input is full always has a message to read.
+pub const MAX_UNREAD: usize = 262_144;
+
+/// Bytes of waiting output above which a session isn't read.
+pub const MAX_WAITING: usize = 1_048_576;
+
+/// Sessions that a worker opens in a run.
+pub const MAX_SESSIONS: u64 = 16_777_216;
+
+/// Requests that a worker numbers in a run.
+pub const MAX_POSTS: u64 = 4_611_686_018_427_387_904;

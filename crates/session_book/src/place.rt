@@ -1,0 +1,87 @@
+//! The places of answers in a session's output.
+
+ghost use Rattle.std.specs.Prelude.{◌≡◌, ◌++◌, is_some, option_copied, OnOk, OnErr};
+ghost use Rattle.proto.specs.Answers.{answer, is_ask};
+ghost use Rattle.session_book.specs.Place.{kind_of};
+
+use crate::buffer::Buffer;
+use proto::message::{FatalKind, Message, Reply, WrongKind};
+use proto::no_memory::NoMemory;
+use proto::show::shows_cas;
+use std::marker::Model;
+use std::snapshot::Snapshot;
+
+/// What of a message its answer depends on.
+#[derive(Clone, Copy, Debug, PartialEq, Eq)]
+pub enum Kind {
+    Ask { with_cas: bool, quiet: bool },
+    Wrong(WrongKind),
+    Quit,
+    Fatal(FatalKind),
+}
+
+fn kind_of(message: &Message) -> Kind
+    ensures { result ≡ kind_of message.now }
+{
+    match message {
+        Message::Ask(request, quiet) => Kind::Ask {
+            with_cas: shows_cas(request),
+            quiet: *quiet,
+        },
+        Message::Wrong(kind) => Kind::Wrong(*kind),
+        Message::Quit => Kind::Quit,
+        Message::Fatal(kind) => Kind::Fatal(*kind),
+    }
+}
+
+/// The place of the answer to a message. Clauses see the message; of its bytes nothing is kept but its kind.
+#[derive(Drop)]
+pub struct Place {
+    kind: Kind,
+    message: Snapshot<Message>,
+}
+
+impl Model for Place {
+    ghost use Rattle.proto.specs.declared.message.Message.{Message};
+
+    ghost Value = { Message };
+
+    ghost use Rattle.std.specs.Prelude.{◌≡◌};
+    ghost use Rattle.session_book.specs.Place.{kind_of};
+
+    ghost view = { λ a. a.message.value };
+
+    ghost invariant = { λ a. a.kind ≡ kind_of a.message.value };
+}
+
+impl Place {
+    pub fn of(message: &Message) -> Self
+        ensures { result ≡ message.now }
+    {
+        Place {
+            kind: kind_of(message),
+            message: Snapshot::of(message),
+        }
+    }
+
+    pub fn is_ask(&self) -> bool
+        ensures { result ≡ is_ask self.now }
+    {
+        matches!(self.kind, Kind::Ask { .. })
+    }
+
+    /// Puts the answer to the message of this place behind the output.
+    pub fn show(&self, reply: Option<&Reply>, out: &mut Buffer) -> Result<(), NoMemory>
+        requires { is_some reply ≡ is_ask self.now }
+        ensures ok { OnOk result (out.new ≡ out.old ++ answer self.now (option_copied reply.entry)) }
+        ensures err { OnErr result (out.new ≡ out.old) }
+    {
+        match (self.kind, reply) {
+            (Kind::Ask { with_cas, quiet: false }, Some(reply)) => out.show_reply(with_cas, reply),
+            (Kind::Ask { .. }, _) => Ok(()),
+            (Kind::Wrong(kind), _) => out.show(&Message::Wrong(kind), None),
+            (Kind::Quit, _) => Ok(()),
+            (Kind::Fatal(kind), _) => out.show(&Message::Fatal(kind), None),
+        }
+    }
+}

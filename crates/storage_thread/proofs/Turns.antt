@@ -1,0 +1,165 @@
+-- What one turn of the storage thread keeps.
+use Rattle.std.proofs.Common.{◌≡◌, ◌≢◌, ℕ, zero, suc, ◌+◌, ◌<◌, ◌≤◌, List, [], ◌∷◌, ◌++◌, map, length, Some, None, Bool, cond, refl, sym, ap, ◌∙◌, subst, arith, length-append, append_assoc, eq-eqb, ne_eqb}
+use Rattle.std.specs.List.{All}
+use Rattle.std.proofs.lemmas.List.Elements.{All-nil, All-cons, All-head, All-tail}
+use mathlib.Core.Logic.{dite}
+use mathlib.Core.List.{map-append}
+use native.Mathlib.Decide.{ℕ_discrete}
+use Rattle.proto.specs.declared.history.Posted.{Posted}
+use Rattle.proto.specs.declared.history.Answered.{Answered}
+use Rattle.proto.specs.Cache.{Cache, empty_cache}
+use Rattle.proto.specs.History.{worker_share}
+use Rattle.exchange.specs.declared.messages.Taken.TheVariants.{Asked, Bye}
+use Rattle.exchange.specs.Beginnings.{times}
+use Rattle.exchange.specs.Ends.{StorageView, FindsNone, FindsOne}
+use Rattle.storage_thread.specs.Serving.{moments, moment_after, moments_after, last_or, IsTimed, taken_as, SaidBye, IsUnused, Reaches, IsAnswered, IsServing}
+use Rattle.storage_thread.proofs.Reaching.{moments_more, times_more}
+
+-- before the first request
+pub serving_first : (v : StorageView) (c : Cache) (m : ℕ) → IsUnused v → c ≡ empty_cache 0 → m ≡ 0 → IsServing v v c m
+serving_first v c m u c_is m_is = record {
+  same = (refl, refl, refl);
+  shut = u.1;
+  taken = u.0 ∙ sym (ap (map taken_as) u.2);
+  reaches = subst (λ (z : List Answered × Cache × ℕ). Reaches v.geometry z.0 z.1 z.2) (λ i. (sym u.2 i, sym c_is i, sym m_is i))
+      record { caches = []; chain = tt; cache_is = refl; moments_are = tt; moment_is = refl; small = omega arith; numbers = λ w. tt };
+  inside = subst (All (λ w. w < v.workers)) (sym u.3) (All-nil (λ w. w < v.workers));
+  once = λ w. subst (λ (l : List ℕ). times w l ≤ 1) (sym u.3) (omega arith);
+}
+
+pub timed_first : (a : List ℕ) (h : List Answered) → h ≡ [] → IsTimed a a h
+timed_first a h none = ([], sym (append_nil a), ap moments none)
+  where
+    append_nil : (l : List ℕ) → l ++ [] ≡ l
+    append_nil [] = refl
+    append_nil (x ∷ l) = ap (λ (z : List ℕ). x ∷ z) (append_nil l)
+
+-- a turn in which nothing came
+module _ (old now new : StorageView) (c : Cache) (m : ℕ) (r : IsServing old now c m) where
+  pub serving_none : FindsNone now new → IsServing old new c m
+  serving_none f = let whole : new ≡ record now { looks = now.looks ++ f.0 } = f.3 in record {
+    same = (ap (λ (z : StorageView). z.exchange) whole ∙ r.same.0, ap (λ (z : StorageView). z.workers) whole ∙ r.same.1, ap (λ (z : StorageView). z.geometry) whole ∙ r.same.2);
+    shut = ap (λ (z : StorageView). z.open_request) whole ∙ r.shut;
+    taken = subst (λ (z : StorageView). z.taken ≡ map taken_as z.history) (sym whole) r.taken;
+    reaches = subst (λ (z : StorageView). Reaches z.geometry z.history c m) (sym whole) r.reaches;
+    inside = subst (λ (z : StorageView). All (λ w. w < z.workers) z.byes) (sym whole) r.inside;
+    once = λ v. subst (λ (z : StorageView). times v z.byes ≤ 1) (sym whole) (r.once v);
+  }
+
+  -- a bye was taken
+  pub serving_bye : (w : ℕ) → FindsOne now new (Bye w) → IsServing old new c m
+  serving_bye w f = let whole = f.after in record {
+    same = (ap (λ (z : StorageView). z.exchange) whole ∙ r.same.0, ap (λ (z : StorageView). z.workers) whole ∙ r.same.1, ap (λ (z : StorageView). z.geometry) whole ∙ r.same.2);
+    shut = ap (λ (z : StorageView). z.open_request) whole ∙ r.shut;
+    taken = subst (λ (z : StorageView). z.taken ≡ map taken_as z.history) (sym whole) r.taken;
+    reaches = subst (λ (z : StorageView). Reaches z.geometry z.history c m) (sym whole) r.reaches;
+    inside = subst (λ (z : StorageView). All (λ w. w < z.workers) z.byes) (sym whole) (All-cons (λ w. w < now.workers) f.lane now.byes f.inside r.inside);
+    once = λ v. subst (λ (z : StorageView). times v z.byes ≤ 1) (sym whole) (one_more f.lane v now.byes f.is_next.1 (r.once v));
+  }
+    where
+      one_more : (w v : ℕ) (byes : List ℕ) → times w byes ≡ 0 → times v byes ≤ 1 → times v (w ∷ byes) ≤ 1
+      one_more w v byes none few = dite (ℕ_discrete w v)
+          (λ same. let e = ap (λ (b : Bool). cond b 1 0 + times v byes) (eq-eqb w v same) in let n : times v byes ≡ 0 = ap (λ (z : ℕ). times z byes) (sym same) ∙ none in omega (arith, e, n))
+          (λ other. let e = ap (λ (b : Bool). cond b 1 0 + times v byes) (ne_eqb w v other) in omega (arith, e, few))
+
+  pub one_bye : (w : ℕ) → FindsOne now new (Bye w) → length new.byes ≡ length now.byes + 1
+  one_bye w f = ap (λ (z : StorageView). length z.byes) f.after ∙ (omega arith)
+
+-- a request was taken
+module _ (now mid : StorageView) (w : ℕ) (p : Posted) (f : FindsOne now mid (Asked w p)) where
+  pub asked_reaches : (c : Cache) (m : ℕ) → Reaches now.geometry now.history c m → Reaches mid.geometry mid.history c m
+  asked_reaches c m r = subst (λ (z : StorageView). Reaches z.geometry z.history c m) (sym f.after) r
+
+  pub asked_sizes : now.geometry ≡ mid.geometry
+  asked_sizes = ap (λ (z : StorageView). z.geometry) (sym f.after)
+
+  pub asked_open : mid.open_request ≡ Some (w, p)
+  asked_open = ap (λ (z : StorageView). z.open_request) f.after ∙ ap (λ (z : ℕ). Some (z, p)) (sym f.is_next.0)
+
+  pub asked_next : p.number ≡ length (worker_share mid.history w) + 1
+  asked_next = f.is_next.2 ∙ ap (λ (z : ℕ × StorageView). length (worker_share z.1.history z.0) + 1) (λ i. (sym f.is_next.0 i, sym f.after i))
+
+  -- and answered
+  module _ (new : StorageView) (m : ℕ) (a : IsAnswered mid new w p m) where
+    pub whole : new ≡ record now { taken = now.taken ++ (f.lane, p) ∷ []; open_request = None; history = now.history ++ a.0 ∷ []; looks = now.looks ++ (f.before ++ (f.lane, f.posted) ∷ []); last = f.lane }
+    whole = a.4 ∙ (λ i. let z : StorageView = f.after i in record z { history = z.history ++ a.0 ∷ []; open_request = None })
+
+    pub serving_asked : (old : StorageView) (c₀ c : Cache) (m₀ : ℕ) → IsServing old now c₀ m₀ → Reaches new.geometry new.history c m → IsServing old new c m
+    serving_asked old c₀ c m₀ r reaches = record {
+      same = (ap (λ (z : StorageView). z.exchange) whole ∙ r.same.0, ap (λ (z : StorageView). z.workers) whole ∙ r.same.1, ap (λ (z : StorageView). z.geometry) whole ∙ r.same.2);
+      shut = ap (λ (z : StorageView). z.open_request) whole;
+      taken = ap (λ (z : StorageView). z.taken) whole ∙ (ap (λ (l : List (ℕ × Posted)). l ++ (f.lane, p) ∷ []) r.taken
+          ∙ ((λ i. map taken_as now.history ++ (sym (a.1 ∙ f.is_next.0) i, sym a.2 i) ∷ []) ∙ (sym (map-append taken_as now.history (a.0 ∷ [])) ∙ ap (λ (z : StorageView). map taken_as z.history) (sym whole))));
+      reaches = reaches;
+      inside = subst (λ (z : StorageView). All (λ w. w < z.workers) z.byes) (sym whole) r.inside;
+      once = λ v. subst (λ (z : StorageView). times v z.byes ≤ 1) (sym whole) (r.once v);
+    }
+
+    pub one_entry : new.history ≡ now.history ++ a.0 ∷ []
+    one_entry = ap (λ (z : StorageView). z.history) whole
+
+    pub longer : length new.history ≡ length now.history + 1
+    longer = ap length one_entry ∙ (length-append now.history (a.0 ∷ []) ∙ (omega arith))
+
+    pub same_sizes : now.geometry ≡ new.geometry
+    same_sizes = ap (λ (z : StorageView). z.geometry) (sym whole)
+
+    pub same_byes : length new.byes ≡ length now.byes
+    same_byes = ap (λ (z : StorageView). length z.byes) whole
+
+    pub same_workers : new.workers ≡ now.workers
+    same_workers = ap (λ (z : StorageView). z.workers) whole
+
+    pub timed_asked : (before mid_answers after : List ℕ) (n m₀ : ℕ) → last_or 0 (moments now.history) ≡ m₀ → IsTimed before mid_answers now.history → after ≡ mid_answers ++ n ∷ [] → m ≡ moment_after m₀ n → IsTimed before after new.history
+    timed_asked before mid_answers after n m₀ last_is t after_is m_is = (
+      t.0 ++ n ∷ [],
+      after_is ∙ (ap (λ (l : List ℕ). l ++ n ∷ []) t.1 ∙ append_assoc before t.0 (n ∷ [])),
+      ap moments one_entry ∙ (moments_more now.history a.0 ∙ (ap (λ (l : List ℕ). l ++ a.0.moment ∷ []) t.2
+          ∙ ((λ i. moments_after 0 t.0 ++ (a.3 ∙ m_is ∙ ap (λ (z : ℕ). moment_after z n) (sym last_is ∙ ap (last_or 0) t.2)) i ∷ []) ∙ sym (times_more 0 t.0 n)))),
+    )
+
+-- one bye of each worker
+
+-- how many of the first n numbers, counted as often as they stand there, are in the list
+abbrev among : ℕ → List ℕ → ℕ
+among zero xs = 0
+among (suc n) xs = among n xs + times n xs
+
+one_here : (w x : ℕ) (xs : List ℕ) → x ≡ w → times w (x ∷ xs) ≡ suc (times w xs)
+one_here w x xs e = ap (λ (b : Bool). cond b 1 0 + times w xs) (eq-eqb x w e) ∙ (omega arith)
+
+none_here : (w x : ℕ) (xs : List ℕ) → x ≢ w → times w (x ∷ xs) ≡ times w xs
+none_here w x xs e = ap (λ (b : Bool). cond b 1 0 + times w xs) (ne_eqb x w e) ∙ (omega arith)
+
+among_else : (n x : ℕ) (xs : List ℕ) → n ≤ x → among n (x ∷ xs) ≡ among n xs
+among_else zero x xs le = refl
+among_else (suc n) x xs le = let le' : suc n ≤ x = le in let a = among_else n x xs (omega arith) in let b = none_here n x xs (λ e. omega arith) in omega (arith, a, b)
+
+among_more : (n x : ℕ) (xs : List ℕ) → x < n → among n (x ∷ xs) ≡ suc (among n xs)
+among_more zero x xs lt = absurd (omega arith)
+among_more (suc n) x xs lt = let lt' : x < suc n = lt in dite (ℕ_discrete x n)
+    (λ e. let a = among_else n x xs (let e' : x ≡ n = e in omega arith) in let b = one_here n x xs e in omega (arith, a, b))
+    (λ ne. let ne' : x ≢ n = ne in let a = among_more n x xs (omega arith) in let b = none_here n x xs ne in omega (arith, a, b))
+
+among_all : (n : ℕ) (xs : List ℕ) → All (λ w. w < n) xs → among n xs ≡ length xs
+among_all n [] all = none n
+  where
+    none : (n : ℕ) → among n [] ≡ 0
+    none zero = refl
+    none (suc n) = let a = none n in omega (arith, a)
+among_all n (x ∷ xs) all = among_more n x xs (All-head (λ w. w < n) x xs all) ∙ ap suc (among_all n xs (All-tail (λ w. w < n) x xs all))
+
+among_few : (n : ℕ) (xs : List ℕ) → ((w : ℕ) → times w xs ≤ 1) → among n xs ≤ n
+among_few zero xs few = omega arith
+among_few (suc n) xs few = let a = among_few n xs few in let b = few n in omega (arith, a, b)
+
+among_fewer : (n w : ℕ) (xs : List ℕ) → ((w : ℕ) → times w xs ≤ 1) → w < n → times w xs ≡ 0 → among n xs < n
+among_fewer zero w xs few lt none = absurd (omega arith)
+among_fewer (suc n) w xs few lt none = let lt' : w < suc n = lt in dite (ℕ_discrete w n)
+    (λ e. let a = among_few n xs few in let b : times n xs ≡ 0 = ap (λ (z : ℕ). times z xs) (sym e) ∙ none in omega (arith, a, b))
+    (λ ne. let ne' : w ≢ n = ne in let a = among_fewer n w xs few (omega arith) none in let b = few n in omega (arith, a, b))
+
+pub all_said : (old new : StorageView) (c : Cache) (m : ℕ) → IsServing old new c m → length new.byes ≡ new.workers → SaidBye new
+all_said old new c m r all w lt = let few : times w new.byes ≤ 1 = r.once w in dite (ℕ_discrete (times w new.byes) 0)
+    (λ none. let a = among_fewer new.workers w new.byes r.once lt none in let b = among_all new.workers new.byes r.inside in omega (arith, a, b, all))
+    (λ some. let some' : times w new.byes ≢ 0 = some in omega arith)

@@ -1,0 +1,23 @@
+use Rattle.std.proofs.Common.{rules, arith, ℕ, ◌∙◌}
+use Rattle.proto.specs.declared.history.Posted.{Posted}
+use Rattle.exchange.specs.Ends.{StorageView}
+use Rattle.storage_thread.proofs.Turns.{longer, same_sizes, same_byes, same_workers, serving_asked, timed_asked, all_said}
+use Rattle.storage_thread.proofs.serving.run_storage.Goals as goal
+
+pub loop-preserved-in-Some-Asked : goal.loop-preserved-in-Some-Asked
+loop-preserved-in-Some-Asked g c = let i = c.loop.invariant in let f = rw c.in-Some-Asked.field-0-is at c.in-Some-Asked.ensures.next in let now : StorageView = c.loop.end in let mid : StorageView = c.next-in-loop.new.self in let new : StorageView = c.execute.new.end in
+    let w : ℕ = c.in-Some-Asked.worker in let p : Posted = c.in-Some-Asked.posted in let m : ℕ = g.S.StorageEngine.moment c.execute.new.store in let a = c.execute.ensures.answered in
+    let long = longer now mid w p f new m a in let added = c.saturating_add-executed.ensures in let so_far = i.7 in let all = i.4 in
+    let byes = same_byes now mid w p f new m a in let workers = same_workers now mid w p f new m a in (
+      tt,
+      tt,
+      serving_asked now mid w p f new m a c.args.storage_end (g.S.StorageEngine.cache c.loop.store) (g.S.StorageEngine.cache c.execute.new.store) (g.S.StorageEngine.moment c.loop.store) i.2 c.execute.ensures.reaches,
+      c.execute.ensures.sizes ∙ (i.3 ∙ same_sizes now mid w p f new m a),
+      omega (arith, all, byes, workers),
+      c.execute.ensures.tells ∙ i.5,
+      (λ t. let n = c.execute.ensures.moment (i.5 ∙ t) in timed_asked now mid w p f new m a _ _ _ n.0 (g.S.StorageEngine.moment c.loop.store) i.2.reaches.moment_is (i.6 t) n.1 n.2),
+      omega (arith, added, so_far, long),
+    )
+
+pub returns-then-left-eq0-clause-bye : goal.returns-then-left-eq0-clause-bye
+returns-then-left-eq0-clause-bye g c = let i = c.loop.invariant in let all = i.4 in all_said _ _ _ _ i.2 (search rules)

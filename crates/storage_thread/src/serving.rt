@@ -1,0 +1,113 @@
+//! The loop of the storage thread.
+
+ghost use Rattle.std.specs.Prelude.{◌≡◌, ℕ, ◌+◌, ◌-◌, ◌^◌, ◌<◌, ◌≤◌, ◌++◌, [], ◌∷◌, map, min, length, Some, None, true};
+ghost use Rattle.proto.specs.Cache.{empty_cache};
+ghost use Rattle.proto.specs.History.{max_moment, worker_share, Legal};
+ghost use Rattle.storage_thread.specs.Serving.{moment_after, IsTimed, taken_as, SaidBye, IsUnused, IsSameExchange, Reaches, IsAnswered};
+
+use crate::clock::Clock;
+use crate::idle::IdleTurns;
+use exchange::{Answered, Posted, StorageEnd, Taken};
+use segcache::engine::StorageEngine;
+use std::sync::Wait;
+use std::time;
+
+/// The greatest moment, in seconds.
+pub const MAX_MOMENT: u64 = 1 << 62;
+
+/// What the storage thread leaves.
+#[derive(Drop)]
+pub struct StorageReport<C: Clock> {
+    pub clock: C,
+    pub storage_end: StorageEnd,
+    /// How many requests were executed. It stays at the greatest number of its type.
+    pub executed: u64,
+}
+
+// Executes the open request, and answers it.
+fn execute<S: StorageEngine, C: Clock>(
+    store: &mut S,
+    clock: &mut C,
+    end: &mut StorageEnd,
+    worker: usize,
+    posted: Posted,
+)
+    requires reaches { Reaches end.old.geometry end.old.history (S.cache store.old) (S.moment store.old) }
+    requires sizes { S.sizes store.old ≡ end.old.geometry }
+    requires open_request { end.old.open_request ≡ Some (worker, posted) }
+    requires next { posted.number ≡ length (worker_share end.old.history worker) + 1 }
+    ensures reaches { Reaches end.new.geometry end.new.history (S.cache store.new) (S.moment store.new) }
+    ensures sizes { S.sizes store.new ≡ S.sizes store.old }
+    ensures answered { IsAnswered end.old end.new worker posted (S.moment store.new) }
+    ensures tells { C.tells clock.new ≡ C.tells clock.old }
+    ensures moment { C.tells clock.old ≡ true → (n : ℕ) × (C.answers clock.new ≡ C.answers clock.old ++ n ∷ []) × (S.moment store.new ≡ moment_after (S.moment store.old) n) }
+{
+    let now = clock.now().min(MAX_MOMENT);
+    let moment = now.max(store.last_moment());
+    let reply = store.handle(moment, &posted.request);
+    let Posted {
+        session,
+        number,
+        request,
+    } = posted;
+    let answered = Answered {
+        worker,
+        session,
+        number,
+        request,
+        moment,
+        reply,
+    };
+    if end.answer(answered).is_err() {
+        unreachable!()
+    }
+}
+
+/// Executes requests until each worker has said bye. The store is empty, for the geometry that the exchange was
+/// made for, and nothing was taken from the end. The clock is asked once for each request.
+pub fn run_storage<R: Wait + time::Clock, S: StorageEngine + Drop, C: Clock>(
+    rt: &R,
+    store: S,
+    clock: C,
+    storage_end: StorageEnd,
+) -> StorageReport<C>
+    requires empty { (S.cache store ≡ empty_cache 0) × (S.moment store ≡ 0) }
+    requires sizes { S.sizes store ≡ storage_end.geometry }
+    requires unused { IsUnused storage_end }
+    ensures same { IsSameExchange storage_end result.storage_end }
+    ensures legal { Legal storage_end.geometry result.storage_end.history }
+    ensures once_in_order { (result.storage_end.taken ≡ map taken_as result.storage_end.history) × (result.storage_end.open_request ≡ None) }
+    ensures bye { SaidBye result.storage_end }
+    ensures tells { C.tells result.clock ≡ C.tells clock }
+    ensures moments { C.tells clock ≡ true → IsTimed (C.answers clock) (C.answers result.clock) result.storage_end.history }
+    ensures executed { result.executed ≡ min (length result.storage_end.history) (2 ^ 64 - 1) }
+{
+    let mut store = store;
+    let mut clock = clock;
+    let mut end = storage_end;
+    let mut executed = 0u64;
+    let mut left = end.workers();
+    let mut idle = IdleTurns::new();
+    for _ in rt.forever() {
+        if left == 0 {
+            return StorageReport {
+                clock,
+                storage_end: end,
+                executed,
+            };
+        }
+        match end.next() {
+            Some(Taken::Asked { worker, posted }) => {
+                execute(&mut store, &mut clock, &mut end, worker, posted);
+                executed = executed.saturating_add(1);
+                idle.reset();
+            }
+            Some(Taken::Bye { worker: _ }) => {
+                left -= 1;
+                idle.reset();
+            }
+            None => idle.turn(rt),
+        }
+    }
+    unreachable!()
+}

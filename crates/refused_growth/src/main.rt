@@ -3,12 +3,30 @@
 //! same text.
 #![tactic(auto)]
 
+mod book;
+mod cache;
+mod lanes;
 mod protocol;
 
 use std::process::ExitCode;
 
+/// Writes whether a layer did as it does without a refusal.
+fn report(rt: &impl Print, layer: &str, held: bool) -> bool {
+    let outcome = if held {
+        "as without a refusal"
+    } else {
+        "DIFFERS"
+    };
+    println!(rt; "{layer}: {outcome}").is_ok() && held
+}
+
 fn main(rt: HostRuntime) -> ExitCode {
-    if protocol::check(&rt) {
+    let alloc = rt.alloc();
+    let messages = report(&rt, "messages", protocol::is_repeatable(alloc));
+    let requests = report(&rt, "requests", cache::is_repeatable(alloc));
+    let exchange = report(&rt, "lanes", lanes::is_repeatable(alloc));
+    let sessions = report(&rt, "sessions", book::is_repeatable(alloc));
+    if messages && requests && exchange && sessions {
         ExitCode::SUCCESS
     } else {
         ExitCode::FAILURE

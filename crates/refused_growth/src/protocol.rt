@@ -54,14 +54,6 @@ fn check_input(alloc: Global, input: &[u8]) -> bool {
     is_shown(&Message::Ask(request, quiet), &mut out)
 }
 
-pub fn check<R: Print + AllocGlobal>(rt: &R) -> bool {
-    for input in INPUTS {
-        let held = check_input(rt.alloc(), input);
-        if !held {
-            let _ = rt.println("a message differs after a refusal");
-            return false;
-        }
-    }
-    let _ = rt.println("messages: as without a refusal");
-    true
+pub fn is_repeatable(alloc: Global) -> bool {
+    INPUTS.iter().all(|input| check_input(alloc, input))
 }

@@ -1,0 +1,18 @@
+//! An exchange is made after a refusal.
+
+use exchange::make;
+use proto::geometry::Geometry;
+use std::alloc::Global;
+
+/// Whether the ends of two workers are made at the first or the second try.
+pub fn is_repeatable(alloc: Global) -> bool {
+    let Ok(geometry) = Geometry::new(4096, 8) else {
+        return false;
+    };
+    for _ in 0..2 {
+        if let Ok((ends, storage)) = make(alloc, 2, geometry) {
+            return ends.len() == 2 && storage.workers() == 2;
+        }
+    }
+    false
+}

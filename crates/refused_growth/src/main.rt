@@ -4,8 +4,8 @@
 #![tactic(auto)]
 
 mod book;
-mod cache;
 mod lanes;
+mod plain_store;
 mod protocol;
 
 use std::process::ExitCode;
@@ -23,7 +23,7 @@ fn report(rt: &impl Print, layer: &str, held: bool) -> bool {
 fn main(rt: HostRuntime) -> ExitCode {
     let alloc = rt.alloc();
     let messages = report(&rt, "messages", protocol::is_repeatable(alloc));
-    let requests = report(&rt, "requests", cache::is_repeatable(alloc));
+    let requests = report(&rt, "requests", plain_store::is_repeatable(&rt));
     let exchange = report(&rt, "lanes", lanes::is_repeatable(alloc));
     let sessions = report(&rt, "sessions", book::is_repeatable(alloc));
     if messages && requests && exchange && sessions {

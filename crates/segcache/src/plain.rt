@@ -1,9 +1,6 @@
 //! A cache over a plain map, which evicts nothing and gives each entry exactly the deadline that it asks
 //! for.
 
-mod hits;
-mod live;
-
 ghost use Rattle.std.specs.Prelude.{◌≡◌, ◌≢◌, ◌≤◌, OnOk, OnErr, IfSome, None, false};
 ghost use Rattle.std.specs.Option.{option_copied};
 ghost use Rattle.std.specs.FinMap as map;
@@ -14,6 +11,9 @@ ghost use Rattle.proto.specs.Steps.{Step};
 ghost use Rattle.proto.specs.History.{max_moment};
 ghost use Rattle.segcache.specs.Plain.{Leaves, Gives, PlainStep, outcome_at, needs_memory};
 ghost use Rattle.segcache.specs.Change.{changed_by};
+
+mod hits;
+mod live;
 
 use crate::deadline::{deadline_of, has_arrived};
 use crate::engine::StorageEngine;

@@ -130,6 +130,12 @@ fn deadlines_and_flushes(rt: HostRuntime) -> Result<(), Fail> {
         (
             1000,
             3,
+            "set a 0 16 1\r\nw\r\nset b 0 16 1\r\nx\r\nset c 0 16 1\r\ny\r\nset d 0 16 1\r\nz\r\nget a b c d\r\nget a\r\nget a b c d\r\n",
+            "STORED\r\nSTORED\r\nSTORED\r\nSTORED\r\nVALUE a 0 1\r\nw\r\nVALUE b 0 1\r\nx\r\nVALUE c 0 1\r\ny\r\nVALUE d 0 1\r\nz\r\nEND\r\nVALUE a 0 1\r\nw\r\nEND\r\nVALUE b 0 1\r\nx\r\nVALUE c 0 1\r\ny\r\nVALUE d 0 1\r\nz\r\nEND\r\n",
+        ),
+        (
+            1000,
+            3,
             "set n 0 16 1\r\n1\r\nincr n 1\r\nget n\r\nget n\r\nget n\r\nget n\r\n",
             "STORED\r\n2\r\nVALUE n 0 1\r\n2\r\nEND\r\nVALUE n 0 1\r\n2\r\nEND\r\nVALUE n 0 1\r\n2\r\nEND\r\nVALUE n 0 1\r\n2\r\nEND\r\n",
         ),

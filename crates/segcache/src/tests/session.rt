@@ -3,15 +3,12 @@
 ghost use Rattle.std.specs.Prelude.{◌≡◌, is_some};
 ghost use Rattle.proto.specs.Answers.{is_ask};
 
-use crate::engine::StorageEngine;
+use crate::engine::{MAX_MOMENT, StorageEngine};
 use proto::message::{Message, Next, Reply};
 use proto::next::next_message;
 use proto::no_memory::NoMemory;
 use proto::show::show;
 use std::alloc::Global;
-
-/// The greatest moment.
-const MAX_MOMENT: u64 = 4_611_686_018_427_387_904;
 
 /// Executes the message, if it is a request; the moment is not before the last one.
 fn reply<S: StorageEngine>(store: &mut S, now: u64, message: &Message) -> Option<Reply>

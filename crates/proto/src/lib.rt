@@ -12,7 +12,7 @@ mod line;
 pub mod message;
 pub mod next;
 pub mod no_memory;
-mod parse;
+pub mod parse;
 pub mod show;
 #[cfg(test)]
 mod tests;

@@ -56,6 +56,7 @@ new_storage_view exchange geometry workers =
 abbrev pub AreNew : TableId → Sizes → List WorkerView → Type 0
 AreNew exchange geometry ends = (w : ℕ) (v : WorkerView) → get_elem? ends w ≡ some v → v ≡ new_worker_view exchange geometry w
 
+-- the ends as one call of `make` gives them
 abbrev pub AreMade : ℕ → Sizes → List WorkerView → StorageView → Type 0
 AreMade workers geometry ends storage = (length ends ≡ workers) × AreNew storage.exchange geometry ends
     × (storage ≡ new_storage_view storage.exchange geometry workers)
@@ -84,9 +85,11 @@ pub record IsTold (v : WorkerView) (d : ℕ) (told : List Answered) : Type 0 whe
   pub counted : (d ≡ length (worker_share told v.worker)) ⊎ ((v.said_bye ≡ true) × (d ≡ length v.sent + 1))
   pub back : StartsWith (worker_share told v.worker) v.back
 
+-- told of a history, without an answer
 abbrev pub told_of : WorkerView → ℕ → List Answered → WorkerView
 told_of v d told = record v { seen = told; loads = v.loads ++ d ∷ [] }
 
+-- told of a history, with an answer of it
 abbrev pub given : WorkerView → ℕ → List Answered → Answered → WorkerView
 given v d told a = record v { seen = told; loads = v.loads ++ d ∷ []; back = v.back ++ a ∷ [] }
 
@@ -107,6 +110,7 @@ done_in v w = length (worker_share v.history w) + times w v.byes
 abbrev pub lanes_in_turn : ℕ → ℕ → List ℕ
 lanes_in_turn workers last = range_with_len (last + 1) (workers - (last + 1)) ++ range_with_len 0 (last + 1)
 
+-- the lanes of some looks
 abbrev pub lanes_of : List (ℕ × ℕ) → List ℕ
 lanes_of looks = map (λ (x : ℕ × ℕ). x.0) looks
 

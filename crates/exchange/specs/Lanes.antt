@@ -1,5 +1,7 @@
 -- The rule of the lanes, and what each step tells.
--- Lane w has the words 16 w (posted) and 16 w + 8 (done), each 64 bytes from the next one that is used, so that no two lie in one cache line, and the slots from 64 w on. The message with the number k, from 0 on, uses the slot 64 w + k % 64.
+-- Lane w has the words 16 w (posted) and 16 w + 8 (done), and the slots from 64 w on. The words that are used
+-- lie 64 bytes apart, so that no two share a cache line. The message with the number k, from 0 on, uses the
+-- slot 64 w + k % 64.
 use Rattle.std.specs.Prelude.{◌≡◌, ◌≢◌, ℕ, suc, ◌+◌, ◌*◌, ◌%◌, ◌<◌, ◌≤◌, List, [], ◌∷◌, ◌++◌, map, length, take, slice_index, Option, Some, None, Bool, true, false, ◌==◌, if◌then◌else◌}
 use mathlib.Core.Option.{none, some}
 use mathlib.Core.Option as maybe
@@ -18,17 +20,20 @@ use Rattle.exchange.specs.declared.views.View.TheVariants.{Nobody, Worker, Stora
 use Rattle.exchange.specs.Beginnings.{StartsWith, times}
 use Rattle.proto.specs.History.{worker_share, asked_posted, Legal}
 
+-- what stands in the slots that no seat holds
 abbrev pub Homes : Type 0
 Homes = List (maybe.Option (Option LaneMessage))
 
+-- what a seat knows, and the slots that it holds
 abbrev pub SeatState : Type 0
 SeatState = Me (Option LaneMessage) View
 
--- a worker's messages: its requests, and its Bye as the last one
+-- a bye, where it was said
 abbrev pub bye_at_end : Bool → List LaneMessage
 bye_at_end true = Bye ∷ []
 bye_at_end false = []
 
+-- a worker's messages: its requests, and its bye as the last one
 abbrev pub messages : WorkerState → List LaneMessage
 messages c = map Ask c.sent ++ bye_at_end c.said_bye
 
@@ -37,20 +42,28 @@ abbrev pub open_at : Option (ℕ × LaneMessage) → ℕ → maybe.Option LaneMe
 open_at None w = none
 open_at (Some x) w = if x.0 == w then some x.1 else none
 
+-- 1 where there is a message, else 0
 abbrev pub count_of : maybe.Option LaneMessage → ℕ
 count_of none = 0
 count_of (some m) = 1
 
+-- the slot of the message k of lane w
 abbrev pub slot_of : ℕ → ℕ → ℕ
 slot_of w k = 64 * w + k % 64
 
+-- for each message number what stands in its slot, unless a seat holds that slot
 abbrev pub At : Type 0
 At = ℕ → maybe.Option (maybe.Option (Option LaneMessage))
 
 abbrev pub at_home : Homes → ℕ → At
 at_home homes w = λ k. get_elem? homes (slot_of w k)
 
--- One lane: what the worker knows, its share of the history, whether its Bye was taken, what the storage thread holds of it, its two words and its slots
+-- One lane at any moment, over what the worker knows, its share of the history, how many byes of it were taken,
+-- the message that storage holds of it, its two words, and what stands in its slots. Posted counts the
+-- worker's messages, done the entries and the bye, and at most 64 lie between. The entries are the first of
+-- the requests, and the answers that were taken back are the first of the entries. The answers that weren't
+-- taken back stand in their slots, and so do the messages that storage hasn't taken. All other slots of the
+-- window are empty, but for the one that the worker holds.
 pub record LaneOk (c : WorkerState) (mine : List Answered) (byes : ℕ) (held : maybe.Option LaneMessage) (posted done : ℕ) (at : At) : Type 0 where
   pub posted_is : posted ≡ length (messages c)
   pub done_is : done ≡ length mine + byes
@@ -69,6 +82,7 @@ pub record LaneOk (c : WorkerState) (mine : List Answered) (byes : ℕ) (held : 
   pub requests : (k : ℕ) (m : LaneMessage) → length mine + byes + count_of held ≤ k → get_elem? (messages c) k ≡ some m → at k ≡ some (some (Some m))
   pub frees : (k : ℕ) → length (messages c) ≤ k → k < length c.back + 64 → suc k ≢ c.slot_held → at k ≡ some (some None)
 
+-- lane w of the table
 abbrev pub LaneIs : List ℕ → Homes → StorageState → WorkerState → ℕ → Type 0
 LaneIs words homes d c w = LaneOk c (worker_share d.history w) (times w d.byes) (open_at d.holding w) (slice_index words (16 * w)) (slice_index words (16 * w + 8)) (at_home homes w)
 
@@ -83,6 +97,7 @@ pub record Agree (d : StorageState) (c : WorkerState) : Type 0 where
   pub held : (p : Posted) → d.holding ≡ Some (c.worker, Ask p) → get_elem? c.sent (length (worker_share d.history c.worker)) ≡ some p
   pub all_back : c.said_bye ≡ true → length c.back ≡ length c.sent
 
+-- The view of each seat is what the states say: the first seat is storage's, and then come the workers'.
 module _ (key : LaneKey) (states : ℕ → WorkerState) (storage_state : StorageState) where
   abbrev pub Fits : ℕ → View → Type 0
   Fits j Nobody = Unit {0}
@@ -90,12 +105,16 @@ module _ (key : LaneKey) (states : ℕ → WorkerState) (storage_state : Storage
   Fits j (Storage d) = (j ≡ 0) × (storage_state ≡ d)
   Fits j (Comparing d c) = (j ≡ 0) × (storage_state ≡ d) × Agree d c
 
+-- what a worker knows at first
 abbrev pub first_worker_state : Sizes → ℕ → WorkerState
 first_worker_state g w = record { worker = w; geometry = g; sent = []; said_bye = false; back = []; seen = []; loads = []; slot_held = 0 }
 
+-- what storage knows at first
 abbrev pub first_storage_state : Sizes → StorageState
 first_storage_state g = record { geometry = g; made = 0; taken = []; history = []; byes = []; holding = None; looks = [] }
 
+-- The rule, at every moment and over all words, slots and views: the history is legal, each lane is in order,
+-- each worker has seen a beginning of the history, and the views are what was counted here.
 pub record LanesHold (key : LaneKey) (s : State (Option LaneMessage) View) : Type 0 where
   pub states : ℕ → WorkerState
   pub storage_state : StorageState
@@ -109,5 +128,6 @@ pub record LanesHold (key : LaneKey) (s : State (Option LaneMessage) View) : Typ
   pub count : length s.views ≡ suc storage_state.made
   pub later : (w : ℕ) → storage_state.made ≤ w → states w ≡ first_worker_state key.geometry w
 
+-- the view of the first seat
 abbrev pub opening_view : LaneKey → View
 opening_view t = Storage (first_storage_state t.geometry)

@@ -21,10 +21,12 @@ use Rattle.exchange.specs.Ends.{WorkerView, StorageView, max_posts}
 
 -- The views
 
+-- what a contract sees of a worker's end
 abbrev pub worker_view : TableId → WorkerState → WorkerView
 worker_view z c =
     record { exchange = z; worker = c.worker; geometry = c.geometry; sent = c.sent; said_bye = c.said_bye; back = c.back; seen = c.seen; loads = c.loads }
 
+-- the request that a message of worker w is
 abbrev pub request_of : ℕ → LaneMessage → Option (ℕ × Posted)
 request_of w (Ask p) = Some (w, p)
 request_of w Bye = None
@@ -35,19 +37,23 @@ abbrev pub open_in : Option (ℕ × LaneMessage) → Option (ℕ × Posted)
 open_in None = None
 open_in (Some x) = request_of x.0 x.1
 
+-- what a contract sees of storage's end
 abbrev pub storage_view : TableId → ℕ → ℕ → StorageState → StorageView
 storage_view z workers last d =
     record { exchange = z; workers = workers; geometry = d.geometry; taken = d.taken; open_request = open_in d.holding; history = d.history; byes = d.byes; looks = d.looks; last = last }
 
+-- some sizes, for views that aren't a worker's or storage's
 abbrev pub any_geometry : Sizes
 any_geometry = record { segment_size = 4096; segments = 8 }
 
+-- what the view of a worker's seat says
 abbrev pub worker_state_in : View → WorkerState
 worker_state_in (Worker c) = c
 worker_state_in Nobody = first_worker_state any_geometry 0
 worker_state_in (Storage d) = first_worker_state any_geometry 0
 worker_state_in (Comparing d c) = c
 
+-- what the view of storage's seat says
 abbrev pub storage_state_in : View → StorageState
 storage_state_in (Storage d) = d
 storage_state_in Nobody = first_storage_state any_geometry
@@ -56,6 +62,7 @@ storage_state_in (Comparing d c) = d
 
 -- The table
 
+-- the table has the words and slots of n lanes
 abbrev pub IsSized : TableId → ℕ → Type 0
 IsSized z n = (z.words ≡ 16 * n) × (z.slots ≡ 64 * n)
 
@@ -63,9 +70,11 @@ IsSized z n = (z.words ≡ 16 * n) × (z.slots ≡ 64 * n)
 abbrev pub IsLane : TableId → ℕ → Type 0
 IsLane z w = (16 * w + 8 < z.words) × (64 * w + 63 < z.slots) × (w < 8)
 
+-- a seat at the table
 abbrev pub LaneSeat : Type 0
 LaneSeat = Seat (Option LaneMessage) View
 
+-- a step keeps the table and the seat's number
 abbrev pub SameSeat : LaneSeat → LaneSeat → Type 0
 SameSeat old new = (new.table_id ≡ old.table_id) × (new.id ≡ old.id)
 

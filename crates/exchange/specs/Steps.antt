@@ -15,15 +15,19 @@ use Rattle.exchange.specs.Beginnings.{StartsWith, times}
 use Rattle.proto.specs.History.{worker_share, asked_posted, Legal}
 use Rattle.exchange.specs.Lanes.{SeatState, slot_of, first_worker_state, Agree}
 
+-- what a step tells: the step, the seat before, the word that was found, and the seat after
 abbrev StepTells : Type 1
 StepTells = Step (Option LaneMessage) → SeatState → ℕ → SeatState → Type 0
 
+-- holding the slot of the message before the number k
 abbrev pub holding_slot : WorkerState → ℕ → WorkerState
 holding_slot c k = record c { slot_held = k }
 
+-- with one more request
 abbrev pub sent_on : WorkerState → Posted → WorkerState
 sent_on c p = record c { sent = c.sent ++ p ∷ []; slot_held = 0 }
 
+-- with a bye
 abbrev pub with_bye : WorkerState → WorkerState
 with_bye c = record c { said_bye = true; slot_held = 0 }
 
@@ -31,6 +35,7 @@ with_bye c = record c { said_bye = true; slot_held = 0 }
 abbrev pub learnt_of : WorkerState → List Answered → ℕ → WorkerState
 learnt_of c g n = record c { seen = g; loads = c.loads ++ n ∷ [] }
 
+-- told of g by the done word n, and holding the slot of the answer a, which is the next message's slot too
 abbrev pub took_out : WorkerState → List Answered → ℕ → Answered → WorkerState
 took_out c g n a = record c { seen = g; loads = c.loads ++ n ∷ []; back = c.back ++ a ∷ []; slot_held = suc (length c.back + 64) }
 
@@ -42,6 +47,7 @@ begun st m r m' = (c : WorkerState) → m.0 ≡ Worker c → m' ≡ (Worker (hol
 abbrev pub posted : StepTells
 posted st m r m' = (c : WorkerState) (p : Posted) (k : ℕ) → m ≡ (Worker c, (k, Some (Ask p)) ∷ []) → m' ≡ (Worker (sent_on c p), [])
 
+-- the store of posted, with a bye
 abbrev pub bye_posted : StepTells
 bye_posted st m r m' = (c : WorkerState) (k : ℕ) → m ≡ (Worker c, (k, Some Bye) ∷ []) → m' ≡ (Worker (with_bye c), [])
 
@@ -59,6 +65,7 @@ DoneTells c n cs m' g = Learnt c n g
     × (length c.back < n → length c.back < length c.sent → (a : Answered) × (get_elem? (worker_share g c.worker) (length c.back) ≡ some a) × (m' ≡ (Worker (took_out c g n a), (slot_of c.worker (length c.back), Some (Answer a)) ∷ cs)))
     × ((n ≤ length c.back) ⊎ (length c.sent ≤ length c.back) → (c.back ≡ worker_share g c.worker) × (m' ≡ (Worker (learnt_of c g n), cs)))
 
+-- the load of done
 abbrev pub done_loaded : StepTells
 done_loaded st m n m' = (c : WorkerState) → m.0 ≡ Worker c → (g : List Answered) × DoneTells c n m.1 m' g
 
@@ -70,6 +77,7 @@ slot_returned st m r m' = (c : WorkerState) → m.0 ≡ Worker c → m' ≡ (Wor
 abbrev pub settled : StorageState → ℕ → ℕ
 settled d w = length (worker_share d.history w) + times w d.byes
 
+-- with a look at lane w, whose posted word is n
 abbrev pub looked_at : StorageState → ℕ → ℕ → StorageState
 looked_at d w n = record d { looks = d.looks ++ (w, n) ∷ [] }
 
@@ -79,12 +87,15 @@ request_in w (Ask p) = (w, p) ∷ []
 request_in w Bye = []
 request_in w (Answer a) = []
 
+-- with a look at lane w, and the message x taken from it
 abbrev pub opened : StorageState → ℕ → ℕ → LaneMessage → StorageState
 opened d w n x = record d { looks = d.looks ++ (w, n) ∷ []; holding = Some (w, x); taken = d.taken ++ request_in w x }
 
+-- with an answer to what is held
 abbrev pub replied : StorageState → Answered → StorageState
 replied d a = record d { history = d.history ++ a ∷ []; holding = None }
 
+-- with a bye of worker w
 abbrev pub bye_settled : StorageState → ℕ → StorageState
 bye_settled d w = record d { byes = w ∷ d.byes; holding = None }
 
@@ -92,6 +103,7 @@ bye_settled d w = record d { byes = w ∷ d.byes; holding = None }
 abbrev pub IsSent : StorageState → ℕ → LaneMessage → Type 0
 IsSent d w x = (times w d.byes ≡ 0) × (((p : Posted) × (x ≡ Ask p) × (p.number ≡ suc (length (worker_share d.history w)))) ⊎ (x ≡ Bye))
 
+-- at the load of posted, which found n: no message beyond those settled, or the next message's slot is taken
 abbrev pub PostedTells : StorageState → ℕ → ℕ → List (ℕ × Option LaneMessage) → SeatState → Type 0
 PostedTells d w n cs m' =
     (n ≤ settled d w → m' ≡ (Storage (looked_at d w n), cs))
@@ -132,5 +144,6 @@ comparing Nobody v = Nobody
 comparing (Worker c) v = Worker c
 comparing (Comparing d c) v = Comparing d c
 
+-- what the two find then, and storage goes on alone
 abbrev pub compared : StepTells
 compared st m r m' = (d : StorageState) (c : WorkerState) → m.0 ≡ Comparing d c → Agree d c × (m' ≡ (Storage d, m.1))

@@ -8,6 +8,8 @@ mod rule;
 mod slots;
 mod steps;
 mod storage;
+#[cfg(test)]
+mod tests;
 mod views;
 mod worker;
 
@@ -16,4 +18,4 @@ pub use messages::Taken;
 pub use opening::{MakeFault, make};
 pub use proto::history::{Answered, Posted};
 pub use storage::StorageEnd;
-pub use worker::{MAX_POSTS, SentList, WorkerEnd};
+pub use worker::{MAX_POSTS, SentList, WINDOW, WorkerEnd};

@@ -68,17 +68,23 @@ read_keeps bytes given ms more rs s after r h k = (read_more bytes ms more s aft
 pub settle_keeps : SettleKeeps
 settle_keeps bytes given ms rs r s asked h k =
     let queue : left s.queue (r ∷ []) ≡ left ms (rs ++ r ∷ []) = ap (λ (q : List Message). left q (r ∷ [])) k.queue ∙ sym (left_more ms rs (r ∷ [])) in
-    let one : length (rs ++ r ∷ []) ≡ length rs + 1 = length-append rs (r ∷ []) in
-    (record {
-       pieces = h.pieces; dropped = h.dropped; whole = h.whole; spelled = h.spelled; ends_at_last = h.ends_at_last; ended = h.ended;
-       nothing_dropped = h.nothing_dropped;
-     },
-     record {
-       whole = sym (append_assoc given s.out (said s.queue (r ∷ []))) ∙ ap (λ (x : List ℕ). x ++ said s.queue (r ∷ [])) k.whole
-           ∙ ap (λ (q : List Message). said ms rs ++ said q (r ∷ [])) k.queue ∙ sym (said_more ms rs (r ∷ []));
-       queue = queue;
-       replied = omega (arith, asks-left s.queue (r ∷ []) asked, k.replied, one);
-     })
+    let one : length (rs ++ r ∷ []) ≡ length rs + 1 = length-append rs (r ∷ []) in (
+      record {
+        pieces = h.pieces;
+        dropped = h.dropped;
+        whole = h.whole;
+        spelled = h.spelled;
+        ends_at_last = h.ends_at_last;
+        ended = h.ended;
+        nothing_dropped = h.nothing_dropped;
+      },
+      record {
+        whole = sym (append_assoc given s.out (said s.queue (r ∷ []))) ∙ ap (λ (x : List ℕ). x ++ said s.queue (r ∷ [])) k.whole
+            ∙ ap (λ (q : List Message). said ms rs ++ said q (r ∷ [])) k.queue ∙ sym (said_more ms rs (r ∷ []));
+        queue = queue;
+        replied = omega (arith, asks-left s.queue (r ∷ []) asked, k.replied, one);
+      },
+    )
 
 -- ---- beginnings
 
@@ -87,9 +93,12 @@ whole_ended : (bytes rest : List ℕ) (ms all : List Message) (s : SessionState)
 whole_ended bytes rest ms all s ended h r =
     let has : has_ended ms ≡ true = sym (has_ended_by ms h.ends_at_last) ∙ ap (λ (o : Option EndCause). is_some o) (sym h.ended) ∙ ended in
     let mine : Reads bytes ms (s.unread ++ h.dropped) = record {
-          pieces = h.pieces; whole = h.whole ∙ append_assoc (concat h.pieces) s.unread h.dropped; spelled = h.spelled; ends_at_last = h.ends_at_last;
-          no_more = λ e. absurd (both_ways (has_ended ms) e has);
-        } in
+      pieces = h.pieces;
+      whole = h.whole ∙ append_assoc (concat h.pieces) s.unread h.dropped;
+      spelled = h.spelled;
+      ends_at_last = h.ends_at_last;
+      no_more = λ e. absurd (both_ways (has_ended ms) e has);
+    } in
     (has_one_reading bytes rest (s.unread ++ h.dropped) all ms r mine).0
 
 -- reading goes on behind what was read of a session that hasn't ended
@@ -136,5 +145,5 @@ pub said_begins : SaidBegins
 said_begins given ms more rs others s h = (
   s.out ++ said (left ms rs ++ more) [] ++ said (left (ms ++ more) rs) others,
   said_more (ms ++ more) rs others ∙ ap (λ (x : List ℕ). x ++ said (left (ms ++ more) rs) others) (said-append ms more rs (few ms rs given s h) ∙ ap (λ (x : List ℕ). x ++ said (left ms rs ++ more) []) (sym h.whole))
-  ∙ simp append_assoc,
+      ∙ simp append_assoc,
 )

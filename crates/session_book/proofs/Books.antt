@@ -133,9 +133,9 @@ pub asks_book : (before after : BookState) (session number : ℕ) (s t : Session
 asks_book before after session number s t q r looks looks_after is open_now only greatest unsettled r_is h =
     let within = open_within before session s is open_now in
     let mine : unsettled_in after.unsettled session ≡ unsettled_in before.unsettled session + 1 =
-          rw unsettled (count_more before.unsettled number session session true (eq-eqb session session refl)) in
+    rw unsettled (count_more before.unsettled number session session true (eq-eqb session session refl)) in
     let queued : length (asks t.queue) ≡ unsettled_in after.unsettled session =
-          omega (arith, asks_read s t h.messages h.reading.reads, ap length (h.reading.requests_are ∙ ap request_in r_is), is.queued session s open_now, mine) in
+    omega (arith, asks_read s t h.messages h.reading.reads, ap length (h.reading.requests_are ∙ ap request_in r_is), is.queued session s open_now, mine) in
     stays_book before after session (Some t) is only (omega (arith, greatest, within)) (omega (arith, greatest))
     (λ u e. of_one t u _ (record { asked = begins_read s t h.messages h.reading.reads; queued = queued }) e)
     (λ other apart. rw unsettled (count_more before.unsettled number session other false (ne_eqb session other (λ e. apart (sym e))) ∙ add-zero _))
@@ -157,16 +157,16 @@ pub settles_book : (before after : BookState) (session number : ℕ) (o : Option
     → ((t : SessionState) → o ≡ Some t → begins_asked t.queue ≡ true) → ((t : SessionState) → o ≡ Some t → length (asks t.queue) + 1 ≡ unsettled_in before.unsettled session) → IsBook after
 settles_book before after session number o is only greatest oldest unsettled asked queued =
     let counted : unsettled_in before.unsettled session ≡ unsettled_in after.unsettled session + 1 =
-          first_unsettled before.unsettled number session session true (eq-eqb session session refl) oldest ∙ ap (λ (us : List Unsettled). unsettled_in us session + 1) (sym unsettled) in
+    first_unsettled before.unsettled number session session true (eq-eqb session session refl) oldest ∙ ap (λ (us : List Unsettled). unsettled_in us session + 1) (sym unsettled) in
     let within : session ≤ before.greatest =
-          elim (cases_lt before.greatest session) [
-            | inl above ↦ absurd (omega (arith, is.unsettled_below session above, counted))
-            | inr below ↦ below
-          ] in
+    elim (cases_lt before.greatest session) [
+      | inl above ↦ absurd (omega (arith, is.unsettled_below session above, counted))
+      | inr below ↦ below
+    ] in
     stays_book before after session o is only (omega (arith, greatest, within)) (omega (arith, greatest))
     (λ t e. record { asked = asked t e; queued = omega (arith, queued t e, counted) })
     (λ other apart.
-        rw unsettled (sym (first_unsettled before.unsettled number session other false (ne_eqb session other (λ e. apart (sym e))) oldest ∙ add-zero _)))
+    rw unsettled (sym (first_unsettled before.unsettled number session other false (ne_eqb session other (λ e. apart (sym e))) oldest ∙ add-zero _)))
 
 -- the session of the oldest request has a request in its queue
 pub first_asked : (before : BookState) (session number : ℕ) (s : SessionState) → IsBook before → session_of before session ≡ Some s
@@ -182,7 +182,7 @@ settles_kept before after session number s t reply is open_now only greatest old
     let queue : t.queue ≡ left s.queue (reply ∷ []) = ap (λ (x : SessionState). x.queue) t_is in
     let one : 0 < length (asks s.queue) = first_asked before session number s is open_now oldest in
     let queued : length (asks t.queue) + 1 ≡ unsettled_in before.unsettled session =
-          rw queue (omega (arith, asks-left s.queue (reply ∷ []) one, is.queued session s open_now)) in
+    rw queue (omega (arith, asks-left s.queue (reply ∷ []) one, is.queued session s open_now)) in
     settles_book before after session number (Some t) is only greatest oldest unsettled
     (λ u e. (let u_is : t ≡ u = cc in rw (← u_is) (begins_asked_by t.queue s.queue (reply ∷ []) queue)))
     (λ u e. (let u_is : t ≡ u = cc in rw (← u_is) queued))
@@ -283,6 +283,6 @@ pub refused_ask : (before after now : BookState) (session : ℕ) (s : SessionSta
     → session_of now session ≡ Some s → NextAsk now session s result after
 refused_ask before after now session s result e same failed is sessions unsettled rest open_now =
     let unchanged : after ≡ now =
-          rest ∙ ap (λ (es : List (ℕ × SessionState)). record before { sessions = es; unsettled = after.unsettled }) sessions
-          ∙ ap (λ (us : List Unsettled). record before { unsettled = us }) unsettled ∙ same in
+    rest ∙ ap (λ (es : List (ℕ × SessionState)). record before { sessions = es; unsettled = after.unsettled }) sessions
+    ∙ ap (λ (us : List Unsettled). record before { unsettled = us }) unsettled ∙ same in
     idle_ask now session s result after (ap given_in failed) unchanged (subst (λ (b : BookState). IsBook b) same is) open_now (λ none. absurd cc)

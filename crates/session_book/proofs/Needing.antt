@@ -61,7 +61,7 @@ module _ (b : List ℕ) (need : ℕ) (a : AwaitsData b need) where
   front : a.says.size + 2 ≤ length a.rest → take need b ≡ a.line ++ line_end ++ block ++ last
   front le =
       let whole : length (a.line ++ line_end ++ block ++ last) ≡ need =
-            simp length-append (omega (arith, length_block le, length_last le, a.need_is)) in
+      simp length-append (omega (arith, length_block le, length_last le, a.need_is)) in
       ap (λ (x : List ℕ). take need x) cut ∙ take_at (a.line ++ line_end ++ block ++ last) (drop 2 (drop a.says.size a.rest)) need whole
 
   block_with : (P : StorageLine → List ℕ → List ℕ → Type 0) → a.says.size + 2 ≤ length a.rest → P a.says block last → IsBlockWith P (take need b)
@@ -84,8 +84,8 @@ module _ (b : List ℕ) (need : ℕ) (a : AwaitsData b need) where
   never_there none le =
       none need (Fatal fatal.BadChunk)
       (block_with LacksEnd le
-       (λ ended. none need (Ask (storage_request a.says.command (put_of a.says block)) a.says.quiet)
-        (inr (block_with (MakesRequest _ _) le (record { request_is = refl; quiet_is = refl; ended = ended })))))
+      (λ ended. none need (Ask (storage_request a.says.command (put_of a.says block)) a.says.quiet)
+      (inr (block_with (MakesRequest _ _) le (record { request_is = refl; quiet_is = refl; ended = ended })))))
 
 -- what the parser needs isn't there
 pub unfinished_short : (b : List ℕ) (need : ℕ) → IsUnfinished b need → length b < need

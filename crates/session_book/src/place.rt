@@ -77,7 +77,13 @@ impl Place {
         ensures err { OnErr result (out.new ≡ out.old) }
     {
         match (self.kind, reply) {
-            (Kind::Ask { with_cas, quiet: false }, Some(reply)) => out.show_reply(with_cas, reply),
+            (
+                Kind::Ask {
+                    with_cas,
+                    quiet: false,
+                },
+                Some(reply),
+            ) => out.show_reply(with_cas, reply),
             (Kind::Ask { .. }, _) => Ok(()),
             (Kind::Wrong(kind), _) => out.show(&Message::Wrong(kind), None),
             (Kind::Quit, _) => Ok(()),

@@ -193,7 +193,11 @@ fn read_of(message: Message) -> Read
 }
 
 /// Puts a message behind the queue, or answers it at once where nothing is before it.
-fn put_behind(queue: &mut VecDeque<Place>, out: &mut Buffer, message: &Message) -> Result<(), NoMemory>
+fn put_behind(
+    queue: &mut VecDeque<Place>,
+    out: &mut Buffer,
+    message: &Message,
+) -> Result<(), NoMemory>
     requires { begins_asked queue.old.items ≡ true }
     ensures queue { OnOk result (queue.new.items ≡ left (queue.old.items ++ message.now ∷ []) []) }
     ensures out { OnOk result (out.new ≡ out.old ++ said (queue.old.items ++ message.now ∷ []) []) }
@@ -209,7 +213,11 @@ fn put_behind(queue: &mut VecDeque<Place>, out: &mut Buffer, message: &Message) 
 }
 
 /// Answers the first request of the queue, and the messages up to the next one.
-fn answer_first(queue: &mut VecDeque<Place>, reply: &Reply, out: &mut Buffer) -> Result<(), NoMemory>
+fn answer_first(
+    queue: &mut VecDeque<Place>,
+    reply: &Reply,
+    out: &mut Buffer,
+) -> Result<(), NoMemory>
     requires first { 0 < length queue.old.items }
     requires asked { begins_asked queue.old.items ≡ true }
     ensures queue { OnOk result (queue.new.items ≡ left queue.old.items (reply.now ∷ [])) }

@@ -5,3 +5,5 @@
 pub mod clock;
 pub mod idle;
 pub mod serving;
+#[cfg(test)]
+mod tests;

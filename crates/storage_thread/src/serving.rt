@@ -25,7 +25,7 @@ pub struct StorageReport<C: Clock> {
 }
 
 // Executes the open request, and answers it.
-fn execute<S: StorageEngine, C: Clock>(
+pub(crate) fn execute<S: StorageEngine, C: Clock>(
     store: &mut S,
     clock: &mut C,
     end: &mut StorageEnd,

@@ -11,20 +11,20 @@ use Rattle.session_book.proofs.book.Book.next_ask.Goals as goal
 pub returns-then-len-ge-MAX_UNSETTLED-clause-open : goal.returns-then-len-ge-MAX_UNSETTLED-clause-open
 returns-then-len-ge-MAX_UNSETTLED-clause-open c =
     λ s open_now.
-        idle_ask c.args.self.now c.args.session s (Ok None) c.args.self.now refl refl (subst (λ (b : BookState). IsBook b) c.self.view_is c.self.invariant) open_now
-        (λ e. subst (λ (b : BookState). GivesNone b s) c.self.view_is
-         (elim c.then-len-ge-MAX_UNSETTLED.branch [
-           | then-len-ge-MAX_UNSETTLED-via-then-len-ge-MAX_UNSETTLED w ↦ full (omega (arith, c.len.ensures, w.if-len-ge-MAX_UNSETTLED.true))
-           | then-len-ge-MAX_UNSETTLED-via-else-len-ge-MAX_UNSETTLED+then-self-ge-MAX_POSTS w ↦ spent (omega (arith, w.if-self-ge-MAX_POSTS.true))
-         ]))
+    idle_ask c.args.self.now c.args.session s (Ok None) c.args.self.now refl refl (subst (λ (b : BookState). IsBook b) c.self.view_is c.self.invariant) open_now
+    (λ e. subst (λ (b : BookState). GivesNone b s) c.self.view_is
+    (elim c.then-len-ge-MAX_UNSETTLED.branch [
+      | then-len-ge-MAX_UNSETTLED-via-then-len-ge-MAX_UNSETTLED w ↦ full (omega (arith, c.len.ensures, w.if-len-ge-MAX_UNSETTLED.true))
+      | then-len-ge-MAX_UNSETTLED-via-else-len-ge-MAX_UNSETTLED+then-self-ge-MAX_POSTS w ↦ spent (omega (arith, w.if-self-ge-MAX_POSTS.true))
+    ]))
 
 pub returns-in_err-reserve-clause-open : goal.returns-in_err-reserve-clause-open
 returns-in_err-reserve-clause-open c =
     let p = err_from_is_err_and c.from_residual.result c.from_residual.ensures.1 in
     λ s open_now.
-        refused_ask _ _ c.args.self.now c.args.session s c.from_residual.result p.0 c.self.view_is p.1 c.self.invariant
-        (written_back c.self.inside.sessions (c.get_mut.follows.lender c.in-Some.open.now) c.args.session c.in-Some.open.now c.in-Some.open.now (c.get_mut.follows.holds c.in-Some.open.now) c.in-Some.ensures.value refl)
-        c.reserve.ensures.items refl open_now
+    refused_ask _ _ c.args.self.now c.args.session s c.from_residual.result p.0 c.self.view_is p.1 c.self.invariant
+    (written_back c.self.inside.sessions (c.get_mut.follows.lender c.in-Some.open.now) c.args.session c.in-Some.open.now c.in-Some.open.now (c.get_mut.follows.holds c.in-Some.open.now) c.in-Some.ensures.value refl)
+    c.reserve.ensures.items refl open_now
 
 pub invariant_of-self-in_err-request : goal.invariant_of-self-in_err-request
 invariant_of-self-in_err-request c =
@@ -39,7 +39,7 @@ invariant_of-self-in_default-2 c =
     (written_only c.self.inside.sessions (c.get_mut.follows.lender c.next_ask.new.self) _ _ _ (c.get_mut.follows.holds c.next_ask.new.self) c.in-Some.ensures.value)
     refl c.reserve.ensures.items
     (λ asked. fits_unasked c.in-Some.open.now c.next_ask.new.self c.self.inside.looks c.next_ask.new.looks c.next_ask.result c.next_ask.ensures
-     (ap request_in c.in_ok-request.was ∙ ap (λ (o : Option Request). request_in (Ok o)) c.in_default-2.is))
+    (ap request_in c.in_ok-request.was ∙ ap (λ (o : Option Request). request_in (Ok o)) c.in_default-2.is))
 
 pub invariant_of-self-2 : goal.invariant_of-self-2
 invariant_of-self-2 c =

@@ -28,8 +28,8 @@ invariant_of-self-in-Err c =
     let oldest : slice_get c.self.inside.unsettled.items 0 ≡ Some (record { number = c.args.answered.now.number; session = c.args.answered.now.session }) = search rules in
     settles_book _ _ c.args.answered.now.session c.args.answered.now.number None c.self.invariant
     (only_again c.self.inside.sessions.entries (c.get_mut.follows.lender c.settle.new.self).entries c.remove.new.self.entries c.args.answered.now.session (Some c.settle.new.self) None
-     (written_only c.self.inside.sessions (c.get_mut.follows.lender c.settle.new.self) _ _ _ (c.get_mut.follows.holds c.settle.new.self) c.in-Some.ensures.value)
-     (updated_only (c.get_mut.follows.lender c.settle.new.self) c.remove.new.self c.args.answered.now.session None c.remove.ensures.updates))
+    (written_only c.self.inside.sessions (c.get_mut.follows.lender c.settle.new.self) _ _ _ (c.get_mut.follows.holds c.settle.new.self) c.in-Some.ensures.value)
+    (updated_only (c.get_mut.follows.lender c.settle.new.self) c.remove.new.self c.args.answered.now.session None c.remove.ensures.updates))
     refl oldest c.pop_front.ensures.rest (λ t e. absurd cc) (λ t e. absurd cc)
 
 pub returns-in-Ok : goal.returns-in-Ok

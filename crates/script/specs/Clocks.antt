@@ -1,0 +1,14 @@
+-- Clocks whose answers are known beforehand.
+use Rattle.std.specs.Prelude.{ℕ, ◌+◌, ◌-◌, ◌*◌, ◌^◌, min}
+
+-- the next answer, and how much more each further one is
+pub record Clock : Type 0 where
+  pub next : ℕ
+  pub tick : ℕ
+
+abbrev pub clock_at : ℕ → ℕ → Clock
+clock_at next tick = record { next = next; tick = tick }
+
+-- the answer that comes after so many others; none is above the greatest 64-bit number
+abbrev pub answer_of : Clock → ℕ → ℕ
+answer_of clock n = min (clock.next + clock.tick * n) (2 ^ 64 - 1)

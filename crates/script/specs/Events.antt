@@ -1,0 +1,59 @@
+-- The events of a worker's sessions, and which may follow which.
+use Rattle.std.specs.Prelude.{◌≡◌, ℕ, ◌<◌, ◌≤◌, ◌==◌, Bool, true, false, List, [], IsTrue, fold, flat_map, filter_map, length, slice_index_or, take, if◌then◌else◌, Option, Some, None}
+use Rattle.script.specs.declared.event.ScriptEvent.{ScriptEvent}
+use Rattle.script.specs.declared.event.ScriptEvent.TheVariants.{Open, Send, Gone}
+use Rattle.script.specs.declared.fault.LineFault.{LineFault}
+use Rattle.script.specs.declared.fault.LineFault.TheVariants.{NotAboveLast, NotOpen}
+
+abbrev pub newest_after : ℕ → ScriptEvent → ℕ
+newest_after newest (Open session) = session
+newest_after newest (Send session bytes) = newest
+newest_after newest (Gone session) = newest
+
+-- the number that was opened last, 0 before the first
+abbrev pub newest_of : List ScriptEvent → ℕ
+newest_of events = fold newest_after 0 events
+
+abbrev pub open_after : ℕ → Bool → ScriptEvent → Bool
+open_after session was (Open other) = if other == session then true else was
+open_after session was (Send other bytes) = was
+open_after session was (Gone other) = if other == session then false else was
+
+-- whether the session has begun, and its peer hasn't gone
+abbrev pub is_open : List ScriptEvent → ℕ → Bool
+is_open events session = fold (open_after session) false events
+
+-- A session that begins has a number above each that was opened before. Bytes come, and a peer goes, only
+-- where the session is open.
+abbrev pub MayCome : List ScriptEvent → ScriptEvent → Type 0
+MayCome before (Open session) = newest_of before < session
+MayCome before (Send session bytes) = IsTrue (is_open before session)
+MayCome before (Gone session) = IsTrue (is_open before session)
+
+-- each event may come behind those before it
+abbrev pub IsPlayable : List ScriptEvent → Type 0
+IsPlayable events = (k : ℕ) (d : ScriptEvent) → k < length events → MayCome (take k events) (slice_index_or events k d)
+
+abbrev pub opened_by : ScriptEvent → Option ℕ
+opened_by (Open session) = Some session
+opened_by (Send session bytes) = None
+opened_by (Gone session) = None
+
+-- the sessions that were opened, in order
+abbrev pub opened : List ScriptEvent → List ℕ
+opened events = filter_map opened_by events
+
+abbrev pub sent_by : ℕ → ScriptEvent → List ℕ
+sent_by session (Open other) = []
+sent_by session (Send other bytes) = if other == session then bytes else []
+sent_by session (Gone other) = []
+
+-- the bytes of a session, joined
+abbrev pub sent : List ScriptEvent → ℕ → List ℕ
+sent events session = flat_map (sent_by session) events
+
+-- what is wrong with an event that may not come
+abbrev pub IsOutOfPlace : List ScriptEvent → ScriptEvent → LineFault → Type 0
+IsOutOfPlace before (Open session) fault = (fault ≡ NotAboveLast) × (session ≤ newest_of before)
+IsOutOfPlace before (Send session bytes) fault = (fault ≡ NotOpen) × (is_open before session ≡ false)
+IsOutOfPlace before (Gone session) fault = (fault ≡ NotOpen) × (is_open before session ≡ false)

@@ -1,0 +1,6 @@
+pub mod Lines
+pub mod Events
+pub mod Scripts
+pub mod Clocks
+pub mod Tracking
+pub mod PlainLine

@@ -1,0 +1,11 @@
+-- What is kept beside the events of a worker: the newest session, and the open ones.
+use Rattle.std.specs.Prelude.{◌≡◌, ℕ, List}
+use Rattle.std.specs.Ordering.{nat_cmp}
+use Rattle.std.specs.BTreeSet.{BTreeSet, contains}
+use Rattle.script.specs.declared.event.ScriptEvent.{ScriptEvent}
+use Rattle.script.specs.Events.{newest_of, is_open, IsPlayable}
+
+pub record IsTracked (events : List ScriptEvent) (newest : ℕ) (sessions : BTreeSet ℕ) : Type 0 where
+  pub newest_is : newest ≡ newest_of events
+  pub open_are : (session : ℕ) → contains nat_cmp sessions session ≡ is_open events session
+  pub playable : IsPlayable events

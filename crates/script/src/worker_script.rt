@@ -1,0 +1,112 @@
+//! The events of one worker's sessions.
+
+ghost use Rattle.std.specs.Prelude.{◌≡◌, ℕ, ◌++◌, [], ◌∷◌, MatchOption, OnOk, OnErr};
+ghost use Rattle.std.specs.Ordering.{nat_cmp};
+ghost use Rattle.std.specs.BTreeSet.{contains};
+ghost use Rattle.script.specs.Events.{IsOutOfPlace, IsPlayable, MayCome, newest_after, open_after};
+
+use crate::event::ScriptEvent;
+use crate::fault::LineFault;
+use proto::no_memory::NoMemory;
+use std::alloc::Global;
+use std::collections::BTreeSet;
+use std::marker::Model;
+
+/// Events in order, each of which may come behind those before it.
+#[derive(Drop)]
+pub struct WorkerScript {
+    events: Vec<ScriptEvent>,
+    /// The number that was opened last, 0 before the first.
+    newest: u64,
+    /// The sessions that are open.
+    sessions: BTreeSet<u64>,
+}
+
+impl Model for WorkerScript {
+    ghost use Rattle.std.specs.Prelude.{List};
+    ghost use Rattle.script.specs.declared.event.ScriptEvent.{ScriptEvent};
+    ghost use Rattle.script.specs.Tracking.{IsTracked};
+
+    ghost Value = { List ScriptEvent };
+
+    ghost view = { λ a. a.events.items };
+
+    ghost invariant = { λ a. IsTracked a.events.items a.newest a.sessions };
+}
+
+/// Notes an event: the newest session, and which are open.
+fn track(
+    newest: &mut u64,
+    sessions: &mut BTreeSet<u64>,
+    event: &ScriptEvent,
+) -> Result<(), NoMemory>
+    ensures newest { OnOk result (newest.new ≡ newest_after newest.old event.now) }
+    ensures sessions { OnOk result ((s : ℕ) → contains nat_cmp sessions.new s ≡ open_after s (contains nat_cmp sessions.old s) event.now) }
+    ensures err { OnErr result ((newest.new ≡ newest.old) × ((s : ℕ) → contains nat_cmp sessions.new s ≡ contains nat_cmp sessions.old s)) }
+{
+    match event {
+        ScriptEvent::Open(session) => {
+            sessions.insert(*session)?;
+            *newest = *session;
+        }
+        ScriptEvent::Send(_, _) => {}
+        ScriptEvent::Gone(session) => {
+            sessions.remove(session);
+        }
+    }
+    Ok(())
+}
+
+impl WorkerScript {
+    /// No event yet.
+    pub fn new(alloc: Global) -> Self
+        ensures { result ≡ [] }
+    {
+        WorkerScript {
+            events: Vec::new(alloc),
+            newest: 0,
+            sessions: BTreeSet::new(alloc),
+        }
+    }
+
+    /// Why the event may not come next, if it may not.
+    pub fn fault(&self, event: &ScriptEvent) -> Option<LineFault>
+        ensures { MatchOption result (MayCome self.now event.now) (IsOutOfPlace self.now event.now) }
+    {
+        match event {
+            ScriptEvent::Open(session) => {
+                if *session > self.newest {
+                    None
+                } else {
+                    Some(LineFault::NotAboveLast)
+                }
+            }
+            ScriptEvent::Send(session, _) | ScriptEvent::Gone(session) => {
+                if self.sessions.contains(session) {
+                    None
+                } else {
+                    Some(LineFault::NotOpen)
+                }
+            }
+        }
+    }
+
+    /// Adds the event, or changes nothing.
+    pub fn push(&mut self, event: ScriptEvent) -> Result<(), NoMemory>
+        requires { MayCome self.old event }
+        ensures ok { OnOk result (self.new ≡ self.old ++ event ∷ []) }
+        ensures err { OnErr result (self.new ≡ self.old) }
+    {
+        self.events.reserve(1)?;
+        track(&mut self.newest, &mut self.sessions, &event)?;
+        self.events.push_reserved(event);
+        Ok(())
+    }
+
+    pub fn as_slice(&self) -> &[ScriptEvent]
+        ensures events { result.now ≡ self.now }
+        ensures playable { IsPlayable self.now }
+    {
+        self.events.as_slice()
+    }
+}

@@ -1,0 +1,3 @@
+pub mod Execution
+pub mod Sessions
+pub mod Replays

@@ -1,0 +1,109 @@
+//! A whole run.
+
+ghost use Rattle.std.specs.Prelude.{◌≡◌, ℕ, ◌<◌, ◌++◌, ◌∷◌, [], List, length, map, IfOk, OnOk, slice_index, slice_set};
+ghost use Rattle.proto.specs.Cache.{empty_cache};
+ghost use Rattle.script.specs.declared.event.ScriptEvent.{ScriptEvent};
+ghost use Rattle.script.specs.Events.{IsPlayable, MayCome};
+ghost use Rattle.script.specs.Clocks.{answer_of};
+ghost use Rattle.straight.specs.declared.session.Session.{Session};
+ghost use Rattle.straight.specs.Sessions.{Setup, Feeds};
+ghost use Rattle.straight.specs.Replays.{FeedsAt, IsPlaceOf, IsReplay, IsRising, RunsEvent, numbers_of, output_of};
+
+use crate::executor::Executor;
+use crate::session::Session;
+use proto::byte_string::ByteString;
+use proto::no_memory::NoMemory;
+use script::clock::ScriptClock;
+use script::event::ScriptEvent;
+use segcache::engine::StorageEngine;
+use std::alloc::Global;
+
+/// A session, and all bytes that it was given.
+#[derive(Debug, Drop)]
+pub struct SessionOutput {
+    pub session: u64,
+    pub output: ByteString,
+}
+
+/// The place of the session with this number.
+fn place_of(sessions: &[Session], number: u64) -> Option<usize>
+    requires { IsRising (numbers_of sessions.now) }
+    ensures { IsPlaceOf sessions.now number result }
+{
+    match sessions.binary_search_by_key(&number, |session| session.number) {
+        Ok(at) => Some(at),
+        Err(_) => None,
+    }
+}
+
+/// Feeds the session at a place.
+fn feed_at<E: StorageEngine + Drop>(
+    alloc: Global,
+    executor: &mut Executor<E>,
+    sessions: &mut Vec<Session>,
+    at: usize,
+    piece: &[u8],
+) -> Result<(), NoMemory>
+    requires { at < length sessions.old.items }
+    ensures { OnOk result (FeedsAt sessions.old.items at executor.old piece.now sessions.new.items executor.new) }
+{
+    sessions[at].feed(alloc, executor, piece)
+}
+
+/// Plays the next event.
+fn play<E: StorageEngine + Drop>(
+    alloc: Global,
+    executor: &mut Executor<E>,
+    sessions: &mut Vec<Session>,
+    event: &ScriptEvent,
+) -> Result<(), NoMemory>
+    requires { IsRising (numbers_of sessions.old.items) }
+    ensures { OnOk result (RunsEvent executor.old sessions.old.items event.now executor.new sessions.new.items) }
+{
+    match event {
+        ScriptEvent::Open(number) => sessions.push(Session::new(alloc, *number))?,
+        ScriptEvent::Send(number, bytes) => {
+            if let Some(at) = place_of(sessions.as_slice(), *number) {
+                feed_at(alloc, executor, sessions, at, bytes.as_slice())?;
+            }
+        }
+        ScriptEvent::Gone(_) => {}
+    }
+    Ok(())
+}
+
+/// What the sessions were given.
+fn outputs(alloc: Global, sessions: Vec<Session>) -> Result<Vec<SessionOutput>, NoMemory>
+    ensures { IfOk result (λ given. given.items ≡ map output_of sessions.items) }
+{
+    let mut given = Vec::with_capacity(alloc, sessions.len())?;
+    for session in sessions {
+        given.push(SessionOutput {
+            session: session.number,
+            output: ByteString::from_vec(session.output),
+        })?;
+    }
+    Ok(given)
+}
+
+/// Runs the events of one worker, in order, on one thread: what of a session is whole is executed and
+/// answered before the next event. The store is new. Gives each session that was opened, in order of its
+/// number, with all bytes that it was given.
+pub fn replay_straight<E: StorageEngine + Drop>(
+    alloc: Global,
+    store: E,
+    clock: ScriptClock,
+    events: &[ScriptEvent],
+) -> Result<Vec<SessionOutput>, NoMemory>
+    requires playable { IsPlayable events.now }
+    requires no_entry { E.cache store ≡ empty_cache 0 }
+    requires no_request { E.moment store ≡ 0 }
+    ensures { IfOk result (λ given. IsReplay (E.sizes store) (answer_of clock) events.now given.items) }
+{
+    let mut executor = Executor::new(store, clock);
+    let mut sessions = Vec::new(alloc);
+    for event in events {
+        play(alloc, &mut executor, &mut sessions, event)?;
+    }
+    outputs(alloc, sessions)
+}

@@ -1,0 +1,8 @@
+//! What the program does: the words that it is given, and its subcommands.
+#![tactic(auto)]
+
+pub mod fault;
+pub mod replay;
+#[cfg(test)]
+mod tests;
+pub mod words;

@@ -1,0 +1,141 @@
+//! The words after the program's name.
+
+use clap::{Arg, ArgMatches, Command};
+use std::alloc::{AllocError, Global};
+use thiserror::Error;
+
+/// What `segcached replay` is told.
+#[derive(Debug, Drop, PartialEq, Eq)]
+pub struct Options {
+    /// The path of the script.
+    pub file: String,
+    /// The bytes of a segment, 4,096 to 1,048,576. Whether it is a power of two is tested later.
+    pub segment_size: u64,
+    /// The number of segments, 8 to 65,536.
+    pub segments: u64,
+    /// The clock's first answer, in seconds.
+    pub now: u64,
+    /// How many seconds more each further answer is.
+    pub tick: u64,
+}
+
+/// What the words ask for.
+#[derive(Debug, Drop)]
+pub enum Job {
+    /// To print this text.
+    Help(String),
+    Replay(Options),
+}
+
+/// Why the words ask for nothing.
+#[derive(Debug, Drop, Error)]
+pub enum WordsFault {
+    /// The text to print on standard error, with its line ends.
+    #[error("{0}")]
+    BadWords(String),
+    #[error("out of memory")]
+    NoMemory,
+}
+
+impl From<AllocError> for WordsFault {
+    fn from(_error: AllocError) -> WordsFault {
+        WordsFault::NoMemory
+    }
+}
+
+const REPLAY_HELP: &str = "A script has a line for each event, with single spaces between its words:
+  open W S      session S begins at worker W
+  send W S HEX  its bytes come, in hexadecimal
+  gone W S      its peer has gone
+Workers are counted from 0. A session that begins has a number above those before it, from 1 on.
+
+For each session that was opened, in order, the line `W S HEX` is printed, where HEX is all that the session was given, or `-` where that is nothing.
+
+Exit status: 0 done, 1 a fault (one line on standard error), 2 bad words";
+
+fn segment_size<'a>(alloc: Global) -> Arg<'a> {
+    Arg::new(alloc, "segment-size")
+        .long("segment-size")
+        .value_name("BYTES")
+        .help("Bytes of a segment, a power of two from 4096 to 1048576")
+        .value_parser(clap::value_parser!(u64).range(4096..=1_048_576))
+        .default_value("65536")
+}
+
+fn segments<'a>(alloc: Global) -> Arg<'a> {
+    Arg::new(alloc, "segments")
+        .long("segments")
+        .value_name("COUNT")
+        .help("Number of segments, 8 to 65536")
+        .value_parser(clap::value_parser!(u64).range(8..=65_536))
+        .default_value("64")
+}
+
+fn replay_command<'a>(alloc: Global) -> Result<Command<'a>, AllocError> {
+    let file = Arg::new(alloc, "file")
+        .value_name("FILE")
+        .help("The script")
+        .required(true);
+    let now = Arg::new(alloc, "now")
+        .long("now")
+        .value_name("SECONDS")
+        .help("The clock's first answer")
+        .value_parser(clap::value_parser!(u64))
+        .default_value("1000");
+    let tick = Arg::new(alloc, "tick")
+        .long("tick")
+        .value_name("SECONDS")
+        .help("How much more each further answer of the clock is")
+        .value_parser(clap::value_parser!(u64))
+        .default_value("0");
+    Command::new(alloc, "replay")
+        .about("Runs a script and prints what each session was given")
+        .after_help(REPLAY_HELP)
+        .arg(file)?
+        .arg(segment_size(alloc))?
+        .arg(segments(alloc))?
+        .arg(now)?
+        .arg(tick)
+}
+
+fn command<'a>(alloc: Global) -> Result<Command<'a>, AllocError> {
+    Command::new(alloc, "segcached")
+        .about("A cache server: memcached's text protocol over Segcache's segments")
+        .no_binary_name(true)
+        .subcommand_required(true)
+        .subcommand(replay_command(alloc)?)
+}
+
+/// A number that the words give, or by default.
+fn number(matches: &ArgMatches<'_>, id: &str) -> u64 {
+    matches.get_one::<u64>(id).unwrap_or(0)
+}
+
+fn replay_options(alloc: Global, matches: &ArgMatches<'_>) -> Result<Options, AllocError> {
+    Ok(Options {
+        file: String::from_str(alloc, matches.get_str("file").unwrap_or(""))?,
+        segment_size: number(matches, "segment-size"),
+        segments: number(matches, "segments"),
+        now: number(matches, "now"),
+        tick: number(matches, "tick"),
+    })
+}
+
+/// What the words after the program's name ask for. Words that are bad are answered with the text to print.
+pub fn parse_words(alloc: Global, words: &[String]) -> Result<Job, WordsFault> {
+    let command = command(alloc)?;
+    match command.try_get_matches_from(words) {
+        Ok(matches) => match matches.subcommand() {
+            Some((_, replay)) => Ok(Job::Replay(replay_options(alloc, replay)?)),
+            None => Err(WordsFault::BadWords(String::new(alloc))),
+        },
+        Err(error) => {
+            let text = error.to_string(alloc)?;
+            if error.exit_code() == 0 {
+                Ok(Job::Help(text))
+            } else {
+                Err(WordsFault::BadWords(text))
+            }
+        }
+    }
+}

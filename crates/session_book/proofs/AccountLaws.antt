@@ -1,5 +1,5 @@
 -- What a caller carries over a whole run.
-use Rattle.std.proofs.Common.{◌≡◌, ℕ, ◌+◌, ◌<◌, ◌≤◌, Bool, true, false, List, [], ◌∷◌, ◌++◌, length, Option, Some, None, is_some, refl, sym, ap, ◌∙◌, arith, inl, inr, append_assoc, length-append}
+use Rattle.std.proofs.Common.{◌≡◌, ℕ, ◌+◌, ◌≤◌, true, false, List, [], ◌∷◌, ◌++◌, length, Option, Some, None, is_some, refl, sym, ap, ◌∙◌, arith, inl, inr, append_assoc, length-append}
 use Rattle.std.specs.Prelude.{◌⊎◌}
 use Rattle.std.specs.List.{concat}
 use Rattle.std.proofs.lemmas.List.{append-nil}
@@ -12,7 +12,7 @@ use Rattle.proto.specs.Reading.{EndsAtLast, has_ended, Reads, asks}
 use Rattle.proto.specs.Answers.{said}
 use Rattle.proto.proofs.GrammarLaws.{has_reading, has_one_reading}
 use Rattle.session_book.specs.declared.causes.EndCause.{EndCause}
-use Rattle.session_book.specs.Session.{SessionState, left, ended_by, settled, ReadsOn}
+use Rattle.session_book.specs.Session.{SessionState, left, ended_by, ReadsOn}
 use Rattle.session_book.specs.Accounts.{HasRead, HasSaid, ReadKeeps, SettleKeeps, ReadBegins, ReadIsWhole, SaidBegins}
 use Rattle.session_book.proofs.Answering.{asks-append, said-append, left-append, said_more, left_more, asks-left}
 use Rattle.session_book.proofs.Reading.{SpellEach-append, ended_by-append, not_ended_before, EndsAtLast-append, has_ended_by}

@@ -2,8 +2,8 @@
 use Rattle.std.proofs.Common.{◌≡◌, ℕ, ◌+◌, ◌<◌, ◌≤◌, Bool, true, false, cond, List, [], ◌∷◌, ◌++◌, length, drop, Option, Some, None, Result, Ok, Err, is_some, refl, sym, ap, subst, ◌∙◌, arith, inl, inr, add-zero, zero-add, length-append}
 use Rattle.std.proofs.lemmas.List.{append-nil}
 use Rattle.session_book.proofs.Steps.{reads_nothing}
-use Rattle.std.specs.Prelude.{◌≢◌, count_by, ◌==◌, slice_get}
-use Rattle.std.proofs.lemmas.Bool.{cases_Bool, cases_eq, cases_lt, cases_order, eq-eqb, ne_eqb, both_ways}
+use Rattle.std.specs.Prelude.{◌==◌, slice_get}
+use Rattle.std.proofs.lemmas.Bool.{cases_Bool, cases_eq, cases_lt, cases_order, eq-eqb, ne_eqb}
 use Rattle.std.specs.Prelude.{IsSome}
 use Rattle.std.specs.Ordering.{nat_cmp, is_eq}
 use Rattle.std.specs.declared.cmp.Ordering.TheVariants.{Less, Equal, Greater}
@@ -248,6 +248,7 @@ idle_ask before session s result after none same is open_now cause = record {
     reads = reads_nothing s (is.asked session s open_now);
     ask_at_last = tt;
     requests_are = rw none refl;
+    waits = λ over. refl;
     most_looks = rw same (omega arith);
     no_look = λ short. ap (λ (b : BookState). b.looks) same;
   };

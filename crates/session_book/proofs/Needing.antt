@@ -1,11 +1,10 @@
 -- How many bytes there have to be before a message can be found.
-use Rattle.std.proofs.Common.{◌≡◌, ℕ, ◌+◌, ◌<◌, ◌≤◌, Bool, true, false, List, [], ◌∷◌, ◌++◌, length, take, drop, refl, sym, ap, ◌∙◌, arith, inl, inr, append_assoc, length-append, take_at, take-append-drop}
+use Rattle.std.proofs.Common.{◌≡◌, ℕ, ◌+◌, ◌<◌, ◌≤◌, List, [], ◌++◌, length, take, drop, refl, sym, ap, ◌∙◌, arith, inl, inr, append_assoc, length-append, take_at, take-append-drop}
 use Rattle.std.specs.Prelude.{nat_le}
 use Rattle.std.specs.Bool.{OnFalse}
 use Rattle.std.proofs.lemmas.Bool.{cases_Bool, cases_lt, leb-false}
 use Rattle.std.proofs.lemmas.List.{append-nil, length-take, length-take-le, length-drop}
-use Rattle.proto.specs.declared.message.Message.{Message}
-use Rattle.proto.specs.Grammar.{StorageLine, storage_request, put_of, MakesRequest, LacksEnd, IsBlockWith, Spells, SpellsNone}
+use Rattle.proto.specs.Grammar.{StorageLine, storage_request, put_of, MakesRequest, LacksEnd, IsBlockWith, SpellsNone}
 use Rattle.proto.specs.Lines.{line_end}
 use Rattle.proto.specs.declared.message.Message.TheVariants.{Ask, Fatal}
 use Rattle.proto.specs.declared.message.FatalKind.TheVariants as fatal

@@ -1,5 +1,5 @@
 -- A session's reading, message by message.
-use Rattle.std.proofs.Common.{◌≡◌, ℕ, ◌+◌, ◌<◌, ◌≤◌, Bool, true, false, List, [], ◌∷◌, ◌++◌, length, take, drop, Option, Some, None, Ok, Err, is_some, refl, sym, ap, subst, ◌∙◌, arith, inl, inr, append_assoc, length-append, take-append-drop}
+use Rattle.std.proofs.Common.{◌≡◌, ℕ, ◌+◌, ◌<◌, ◌≤◌, true, false, List, [], ◌∷◌, ◌++◌, length, take, drop, Option, Some, None, Ok, Err, is_some, refl, sym, ap, subst, ◌∙◌, arith, inl, inr, append_assoc, length-append, take-append-drop}
 use Rattle.std.specs.List.{concat}
 use Rattle.std.proofs.lemmas.List.{append-nil}
 use Rattle.std.proofs.lemmas.List.Folds.{concat-append}
@@ -8,11 +8,11 @@ use Rattle.proto.specs.declared.message.Request.{Request}
 use Rattle.proto.specs.declared.message.Message.{Message}
 use Rattle.proto.specs.declared.message.Message.TheVariants.{Ask, Wrong, Quit, Fatal}
 use Rattle.proto.specs.Grammar.{Spells}
-use Rattle.proto.specs.Reading.{asks, EndsAtLast}
+use Rattle.proto.specs.Reading.{asks}
 use Rattle.proto.specs.Answers.{said, is_ask}
-use Rattle.proto.specs.Needs.{IsUnfinished}
 use Rattle.proto.proofs.MessageReader.{spelling_nonempty}
 use Rattle.session_book.specs.declared.causes.EndCause.{EndCause}
+use Rattle.session_book.specs.declared.limits.TheConstants.{MAX_WAITING}
 use Rattle.session_book.specs.declared.session.Read.{Read}
 use Rattle.session_book.specs.Session.{SessionState, left, ended_by, need_after, begins_asked, ReadsOn, AskAtLast, Stops, no_message, IsReady, ReadsAsk, Takes, TakesLocal, TakesAsk, TakesNothing, ReadsOne, read_of}
 use Rattle.proto.specs.declared.no_memory.NoMemory.{NoMemory}
@@ -124,6 +124,7 @@ pub record HasReadLocals (before : SessionState) (looks : ℕ) (now : SessionSta
   pub messages : List Message
   pub reads : ReadsOn before messages now
   pub no_ask : asks messages ≡ []
+  pub waits : MAX_WAITING < length before.out → messages ≡ []
   pub most_looks : looks_now ≤ looks + length messages
   pub nothing : length before.unread < before.need → (now ≡ before) × (looks_now ≡ looks)
 
@@ -154,18 +155,25 @@ too_short before now looks looks_now h ready short =
     let enough : before.need ≤ length before.unread = rw same at ready.enough in
     omega arith
 
+-- nor is one whose output waits
+too_much : (before now : SessionState) (looks looks_now : ℕ) → HasReadLocals before looks now looks_now → IsReady now → MAX_WAITING < length before.out → ⊥
+too_much before now looks looks_now h ready over =
+    let longer : length now.out ≡ length before.out + length (said (before.queue ++ h.messages) []) = ap length h.reads.out ∙ length-append before.out (said (before.queue ++ h.messages) []) in
+    omega (arith, ready.room, longer)
+
 -- a message that is no request was read
 pub reads_local : (before now after : SessionState) (looks looks_now looks_after : ℕ) → HasReadLocals before looks now looks_now → IsReady now → looks_after ≤ looks_now + 1 → TakesLocal now after → HasReadLocals before looks after looks_after
 reads_local before now after looks looks_now looks_after h ready one t = record {
   messages = h.messages ++ t.message ∷ [];
   reads = reads_more before now after h.messages t.message h.reads ready.not_ended t.takes;
   no_ask = rw (asks-append, h.no_ask) (none_asked t.message t.no_ask);
+  waits = λ over. absurd (too_much before now looks looks_now h ready over);
   most_looks = omega (arith, h.most_looks, length-append h.messages (t.message ∷ []));
   nothing = λ short. absurd (too_short before now looks looks_now h ready short);
 }
 
 pub starts_locals : (s : SessionState) (looks : ℕ) → begins_asked s.queue ≡ true → HasReadLocals s looks s looks
-starts_locals s looks asked = record { messages = []; reads = reads_nothing s asked; no_ask = refl; most_looks = omega arith; nothing = λ short. (refl, refl) }
+starts_locals s looks asked = record { messages = []; reads = reads_nothing s asked; no_ask = refl; waits = λ over. refl; most_looks = omega arith; nothing = λ short. (refl, refl) }
 
 -- a request was read
 pub reads_ask : (before now after : SessionState) (looks looks_now looks_after : ℕ) (q : Request) → HasReadLocals before looks now looks_now → IsReady now → looks_after ≤ looks_now + 1 → TakesAsk now q after → ReadsAsk before looks (Ok (Some q)) after looks_after
@@ -175,6 +183,7 @@ reads_ask before now after looks looks_now looks_after q h ready one t = record 
     reads = reads_more before now after h.messages (Ask q t.quiet) h.reads ready.not_ended t.takes;
     ask_at_last = asks_at_last h.messages (Ask q t.quiet) h.no_ask;
     requests_are = rw (asks-append, h.no_ask) refl;
+    waits = λ over. absurd (too_much before now looks looks_now h ready over);
     most_looks = omega (arith, h.most_looks, length-append h.messages (Ask q t.quiet ∷ []));
     no_look = λ short. absurd (too_short before now looks looks_now h ready short);
   };
@@ -189,6 +198,7 @@ reads_none before now after looks looks_now looks_after h ready one t = record {
     reads = reads_no_more before now after h.messages h.reads t;
     ask_at_last = no_asks h.messages h.no_ask;
     requests_are = h.no_ask;
+    waits = h.waits;
     most_looks = omega (arith, h.most_looks);
     no_look = λ short. absurd (too_short before now looks looks_now h ready short);
   };
@@ -203,6 +213,7 @@ reads_stops before now looks looks_now h stops = record {
     reads = h.reads;
     ask_at_last = no_asks h.messages h.no_ask;
     requests_are = h.no_ask;
+    waits = h.waits;
     most_looks = omega (arith, h.most_looks);
     no_look = λ short. (h.nothing short).1;
   };
@@ -217,6 +228,7 @@ reads_refused before now after looks looks_now looks_after no_memory h ready one
     reads = rw same h.reads;
     ask_at_last = no_asks h.messages h.no_ask;
     requests_are = h.no_ask;
+    waits = h.waits;
     most_looks = omega (arith, h.most_looks);
     no_look = λ short. absurd (too_short before now looks looks_now h ready short);
   };

@@ -112,12 +112,13 @@ pub record IsReady (s : SessionState) : Type 0 where
   pub room : length s.out ≤ MAX_WAITING
   pub enough : s.need ≤ length s.unread
 
--- Messages of a session are read, and looks counts the calls of the parser. Only the last message may be a
--- request: these are the requests read.
+-- Messages of a session are read, none where too much output waits, and looks counts the calls of the parser.
+-- Only the last message may be a request: these are the requests read.
 pub record ReadsUpTo (before : SessionState) (looks : ℕ) (messages : List Message) (requests : List Request) (after : SessionState) (looks_after : ℕ) : Type 0 where
   pub reads : ReadsOn before messages after
   pub ask_at_last : AskAtLast messages
   pub requests_are : asks messages ≡ requests
+  pub waits : MAX_WAITING < length before.out → messages ≡ []
   pub most_looks : looks_after ≤ looks + length messages + 1
   pub no_look : length before.unread < before.need → looks_after ≡ looks
 

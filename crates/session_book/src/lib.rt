@@ -9,3 +9,5 @@ pub mod laws;
 pub mod limits;
 mod place;
 mod session;
+#[cfg(test)]
+mod tests;

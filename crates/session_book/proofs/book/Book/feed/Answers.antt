@@ -1,6 +1,4 @@
 use Rattle.std.proofs.Common.{refl, sym}
-use Rattle.session_book.specs.Session.{SessionState}
-use Rattle.session_book.specs.Book.{BookState}
 use Rattle.session_book.proofs.Books.{written_only, written_back, stays_unsettled, same_queue, feed_queue, unfed}
 use Rattle.session_book.proofs.book.Book.feed.Goals as goal
 

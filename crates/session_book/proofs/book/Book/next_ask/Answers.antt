@@ -1,8 +1,8 @@
-use Rattle.std.proofs.Common.{rules, ◌≡◌, ◌+◌, ◌++◌, ◌∷◌, [], List, Some, Ok, None, Option, refl, sym, ap, subst, ◌∙◌, arith}
+use Rattle.std.proofs.Common.{rules, ◌≡◌, ◌+◌, ◌++◌, ◌∷◌, [], List, Ok, None, Option, refl, sym, ap, subst, ◌∙◌, arith}
 use Rattle.std.proofs.lemmas.Result.{err_from_is_err_and}
 use Rattle.proto.specs.declared.message.Request.{Request}
 use Rattle.session_book.specs.declared.causes.Unsettled.{Unsettled}
-use Rattle.session_book.specs.Session.{SessionState, request_in}
+use Rattle.session_book.specs.Session.{request_in}
 use Rattle.session_book.specs.Book.{BookState, IsBook, GivesNone, full, spent}
 use Rattle.session_book.proofs.Books.{written_only, written_back, stays_unsettled, fits_unasked, asks_book, idle_ask, refused_ask}
 use Rattle.session_book.proofs.book.Book.next_ask.Goals.{then-len-ge-MAX_UNSETTLED-via-then-len-ge-MAX_UNSETTLED, then-len-ge-MAX_UNSETTLED-via-else-len-ge-MAX_UNSETTLED+then-self-ge-MAX_POSTS}

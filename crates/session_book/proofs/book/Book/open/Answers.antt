@@ -1,5 +1,5 @@
 use Rattle.std.proofs.Common.{Some, refl, arith}
-use Rattle.session_book.specs.Session.{new_session, SessionState}
+use Rattle.session_book.specs.Session.{new_session}
 use Rattle.session_book.proofs.Books.{updated_only, opens_book, OnlySession}
 use Rattle.session_book.proofs.book.Book.open.Goals as goal
 

@@ -1,6 +1,5 @@
-use Rattle.std.proofs.Common.{◌≡◌, ◌<◌, Some, None, refl, sym, ap, rules}
+use Rattle.std.proofs.Common.{◌≡◌, Some, None, refl, sym, rules}
 use Rattle.std.specs.Prelude.{slice_get}
-use Rattle.session_book.specs.Session.{SessionState}
 use Rattle.session_book.proofs.Books.{written_only, updated_only, closed_only, only_again, first_asked, settles_book, settles_kept, settles_reply}
 use Rattle.session_book.proofs.book.Book.settle_by.Goals as goal
 

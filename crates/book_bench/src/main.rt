@@ -1,0 +1,88 @@
+//! How the time of a book grows with its work: each part is run once, and then with four times the work. What was
+//! done goes to the standard output, the times to the standard error.
+#![tactic(auto)]
+
+use anyhow::{Result, bail};
+use proto::history::Answered;
+use proto::message::{Hits, Reply, Request};
+use session_book::book::Book;
+use session_book::causes::Settled;
+use std::alloc::Global;
+use std::time::Instant;
+
+/// Settles a request with no hit, and gives the output: so many bytes.
+fn answer(alloc: Global, book: &mut Book, session: u64, asked: (Request, u64)) -> Result<usize> {
+    let (request, number) = asked;
+    let settled = book.settle(Answered {
+        worker: 0,
+        session,
+        number,
+        request,
+        moment: 0,
+        reply: Reply::Values(Hits::from_vec(Vec::new(alloc))),
+    });
+    if settled != Settled::Kept {
+        bail!("an answer was not kept");
+    }
+    let n = book.out(session).len();
+    book.gave(session, n);
+    Ok(n)
+}
+
+/// Reads, settles and gives all that a session has.
+fn finish(alloc: Global, book: &mut Book, session: u64) -> Result<usize> {
+    let mut given: usize = 0;
+    for _ in 0..u64::MAX {
+        let Some(asked) = book.next_ask(session)? else {
+            break;
+        };
+        given = given.saturating_add(answer(alloc, book, session, asked)?);
+    }
+    let n = book.out(session).len();
+    book.gave(session, n);
+    Ok(given.saturating_add(n))
+}
+
+/// So many sessions, open at the same time, with one request each.
+fn many_sessions(alloc: Global, sessions: u64) -> Result<usize> {
+    let mut book = Book::new(alloc, 0);
+    for session in 0..sessions {
+        book.open(session + 1)?;
+    }
+    let mut given: usize = 0;
+    for session in 0..sessions {
+        book.feed(session + 1, b"get a\r\n")?;
+        given = given.saturating_add(finish(alloc, &mut book, session + 1)?);
+        book.close(session + 1);
+    }
+    Ok(given)
+}
+
+/// One session with so many pieces unread.
+fn long_input(alloc: Global, piece: &[u8], pieces: u64) -> Result<usize> {
+    let mut book = Book::new(alloc, 0);
+    book.open(1)?;
+    for _ in 0..pieces {
+        book.feed(1, piece)?;
+    }
+    finish(alloc, &mut book, 1)
+}
+
+fn main(rt: HostRuntime) -> Result<()> {
+    let alloc = rt.alloc();
+    for factor in [1, 4] {
+        let start = Instant::now(&rt)?;
+        let given = many_sessions(alloc, 10_000 * factor)?;
+        let time = start.elapsed(&rt)?;
+        println!(rt; "{} sessions: {given} bytes given", 10_000 * factor)?;
+        eprintln!(rt; "{} sessions: {time:?}", 10_000 * factor)?;
+        for piece in ["get a\r\n", "foo\r\n"] {
+            let start = Instant::now(&rt)?;
+            let given = long_input(alloc, piece.as_bytes(), 9_362 * factor)?;
+            let time = start.elapsed(&rt)?;
+            println!(rt; "{} times {piece:?}: {given} bytes given", 9_362 * factor)?;
+            eprintln!(rt; "{} times {piece:?}: {time:?}", 9_362 * factor)?;
+        }
+    }
+    Ok(())
+}

@@ -1,0 +1,116 @@
+//! A book with the requests that it has given, and a store that knows one value.
+
+use crate::book::Book;
+use crate::causes::{EndCause, FeedFault, OpenFault, Settled};
+use proto::byte_string::ByteString;
+use proto::history::{Answered, Posted};
+use proto::message::{Hit, Hits, Reply, Request};
+use proto::no_memory::NoMemory;
+use std::alloc::{AllocError, Global};
+
+#[derive(Drop)]
+pub struct Player {
+    alloc: Global,
+    book: Book,
+    asked: Vec<Posted>,
+    found: Option<&'static str>,
+}
+
+impl Player {
+    pub fn new(alloc: Global, found: Option<&'static str>) -> Self {
+        Player {
+            alloc,
+            book: Book::new(alloc, 0),
+            asked: Vec::new(alloc),
+            found,
+        }
+    }
+
+    pub fn open(&mut self, session: u64) -> Result<(), OpenFault> {
+        self.book.open(session)
+    }
+
+    pub fn feed(&mut self, session: u64, piece: &[u8]) -> Result<(), FeedFault> {
+        self.book.feed(session, piece)
+    }
+
+    /// The number of the session's next request, which is kept.
+    pub fn ask(&mut self, session: u64) -> Result<Option<u64>, NoMemory> {
+        let Some((request, number)) = self.book.next_ask(session)? else {
+            return Ok(None);
+        };
+        self.asked.push(Posted {
+            session,
+            number,
+            request,
+        })?;
+        Ok(Some(number))
+    }
+
+    /// Settles the request at this place among those that weren't settled yet.
+    pub fn settle(&mut self, place: usize) -> Result<Option<Settled>, NoMemory> {
+        if place >= self.asked.len() {
+            return Ok(None);
+        }
+        let posted = self.asked.remove(place);
+        let reply = reply_to(self.alloc, &posted.request, self.found)?;
+        Ok(Some(self.book.settle(answered(posted, reply))))
+    }
+
+    pub fn has_output(&self, session: u64, output: &str) -> bool {
+        self.book.out(session) == output.as_bytes()
+    }
+
+    /// Gives all output of a session, behind what was given before.
+    pub fn give(&mut self, session: u64, given: &mut Vec<u8>) -> Result<(), AllocError> {
+        let out = self.book.out(session);
+        given.extend_from_slice(out)?;
+        let n = out.len();
+        self.book.gave(session, n);
+        Ok(())
+    }
+
+    pub fn finished(&self, session: u64) -> Option<EndCause> {
+        self.book.finished(session)
+    }
+
+    pub fn close(&mut self, session: u64) {
+        self.book.close(session);
+    }
+
+    pub fn looks(&self) -> u64 {
+        self.book.looks()
+    }
+}
+
+fn answered(posted: Posted, reply: Reply) -> Answered {
+    Answered {
+        worker: 0,
+        session: posted.session,
+        number: posted.number,
+        request: posted.request,
+        moment: 1000,
+        reply,
+    }
+}
+
+/// What a store replies in which `a` has this value: Stored to a write.
+fn reply_to(alloc: Global, request: &Request, found: Option<&str>) -> Result<Reply, AllocError> {
+    if !matches!(request, Request::Get { .. }) {
+        return Ok(Reply::Stored);
+    }
+    let mut hits = Vec::new(alloc);
+    if let Some(value) = found {
+        hits.push(hit(alloc, value)?)?;
+    }
+    Ok(Reply::Values(Hits::from_vec(hits)))
+}
+
+fn hit(alloc: Global, value: &str) -> Result<Hit, AllocError> {
+    Ok(Hit {
+        key: ByteString::from_vec(Vec::from_slice(alloc, b"a")?),
+        flags: 0,
+        value: ByteString::from_vec(Vec::from_slice(alloc, value.as_bytes())?),
+        cas: 1,
+    })
+}

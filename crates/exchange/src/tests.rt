@@ -110,15 +110,3 @@ fn one_to_eight_workers(rt: HostRuntime) -> Result<(), Fail> {
     }
     Ok(())
 }
-
-/// Where one growth is refused, `make` says so, and made again it succeeds.
-#[test]
-fn make_again_after_a_refusal(rt: HostRuntime) -> Result<(), Fail> {
-    if let Err(fault) = made(rt.alloc(), 2) {
-        assert_eq!(rt; fault, MakeFault::NoMemory);
-    }
-    let (ends, storage) = made(rt.alloc(), 2)?;
-    assert_eq!(rt; ends.len(), 2);
-    assert_eq!(rt; storage.workers(), 2);
-    Ok(())
-}

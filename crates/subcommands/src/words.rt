@@ -90,6 +90,7 @@ fn replay_command<'a>(alloc: Global) -> Result<Command<'a>, AllocError> {
         .default_value("0");
     Command::new(alloc, "replay")
         .about("Runs a script and prints what each session was given")
+        .override_usage("segcached replay [OPTIONS] <FILE>")
         .after_help(REPLAY_HELP)
         .arg(file)?
         .arg(segment_size(alloc))?

@@ -1,4 +1,4 @@
-use Rattle.std.proofs.Common.{rules, ◌≡◌, List, ◌++◌, length, take, drop, get_or, sym, ap, ◌∙◌, subst}
+use Rattle.std.proofs.Common.{rules, List, length, drop, get_or, sym, ap, ◌∙◌, subst}
 use Rattle.exchange.specs.Ends.{WorkerView, AreTogether}
 use Rattle.storage_thread.specs.Serving.{IsSameExchange}
 use Rattle.storage_thread.proofs.Callers.{AreSame, together, whole}

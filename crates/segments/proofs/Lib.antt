@@ -1,0 +1,10 @@
+pub mod ItemLayout
+pub mod PackingLemmas
+pub mod WalkLemmas
+pub mod LinkLemmas
+pub mod FreeingLemmas
+pub mod PoolLemmas
+pub mod Counting
+pub mod MergeLemmas
+pub mod JudgeLemmas
+pub mod PlanLemmas

@@ -1,0 +1,10 @@
+pub mod Items
+pub mod Pools
+pub mod Changes
+pub mod Merges
+pub mod Filling
+pub mod Shown
+pub mod Packing
+pub mod Inside
+pub mod Walks
+pub mod Choosing

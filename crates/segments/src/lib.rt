@@ -1,0 +1,15 @@
+//! The segments that keep the items: chains by time to live, items appended to the tails, and merges
+//! that make room where no segment is free.
+#![tactic(auto)]
+
+pub mod bucket;
+pub mod item;
+pub mod live;
+pub mod merge;
+pub mod packed;
+pub mod place;
+pub mod pool;
+pub mod segment;
+#[cfg(test)]
+mod tests;
+pub mod walk;

@@ -1,0 +1,50 @@
+-- The book's laws that its proofs don't name.
+use Rattle.std.proofs.Common.{◌≡◌, ℕ, ◌+◌, Bool, true, false, true≢false, cond, List, [], ◌∷◌, ◌++◌, length, take, drop, refl, sym, ap, subst, ◌∙◌, append_assoc, append-nil, take-append-drop, arith, Option, Some, None, is_some}
+use Rattle.std.specs.List.{concat}
+use Rattle.proto.specs.declared.message.Reply.{Reply}
+use Rattle.proto.specs.declared.message.Message.{Message}
+use Rattle.session_book.specs.declared.causes.EndCause.{EndCause}
+use Rattle.session_book.specs.Session.{SessionState, new_session, fed, gave}
+use Rattle.session_book.specs.Accounts.{HasRead, HasSaid, StartsAccounts, FeedKeeps, GiveKeeps}
+
+pub starts_accounts : StartsAccounts
+starts_accounts = (
+  record { pieces = []; dropped = []; whole = refl; spelled = tt; ends_at_last = tt; ended = refl; nothing_dropped = λ e. refl },
+  record { whole = refl; queue = refl; replied = refl },
+)
+
+-- by whether the session has ended
+fed_by : (o : Option EndCause) (bytes piece given : List ℕ) (ms : List Message) (replies : List Reply) (s : SessionState) → s.ended ≡ o → HasRead bytes ms s → HasSaid ms replies given s → HasRead (bytes ++ piece) ms (cond (is_some o) s (record s { unread = s.unread ++ piece })) × HasSaid ms replies given (cond (is_some o) s (record s { unread = s.unread ++ piece }))
+fed_by None bytes piece given ms replies s e h k = (
+  record {
+    pieces = h.pieces;
+    dropped = [];
+    whole = ap (λ (x : List ℕ). x ++ piece) (h.whole ∙ ap (λ (x : List ℕ). (concat h.pieces ++ s.unread) ++ x) (h.nothing_dropped e) ∙ append-nil (concat h.pieces ++ s.unread)) ∙ append_assoc (concat h.pieces) s.unread piece ∙ sym (append-nil (concat h.pieces ++ (s.unread ++ piece)));
+    spelled = h.spelled;
+    ends_at_last = h.ends_at_last;
+    ended = h.ended;
+    nothing_dropped = λ x. refl;
+  },
+  record { whole = k.whole; queue = k.queue; replied = k.replied },
+)
+fed_by (Some c) bytes piece given ms replies s e h k = (
+  record {
+    pieces = h.pieces;
+    dropped = h.dropped ++ piece;
+    whole = ap (λ (x : List ℕ). x ++ piece) h.whole ∙ append_assoc (concat h.pieces ++ s.unread) h.dropped piece;
+    spelled = h.spelled;
+    ends_at_last = h.ends_at_last;
+    ended = h.ended;
+    nothing_dropped = λ x. absurd (true≢false (sym (ap is_some e) ∙ ap is_some x));
+  },
+  k,
+)
+
+pub feed_keeps : FeedKeeps
+feed_keeps bytes piece given ms replies s h k = fed_by s.ended bytes piece given ms replies s refl h k
+
+pub give_keeps : GiveKeeps
+give_keeps bytes given n ms replies s h k = (
+  record { pieces = h.pieces; dropped = h.dropped; whole = h.whole; spelled = h.spelled; ends_at_last = h.ends_at_last; ended = h.ended; nothing_dropped = h.nothing_dropped },
+  record { whole = append_assoc given (take n s.out) (drop n s.out) ∙ ap (λ (x : List ℕ). given ++ x) (take-append-drop n s.out) ∙ k.whole; queue = k.queue; replied = k.replied },
+)

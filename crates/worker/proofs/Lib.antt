@@ -1,0 +1,14 @@
+pub mod Answering
+pub mod Readings
+pub mod Facts
+pub mod BookLaws
+pub mod SessionSteps
+pub mod PlaceLemmas
+pub mod RunViews
+pub mod WorkerSteps
+pub mod PortSteps
+pub mod OutputSteps
+pub mod AskSteps
+pub mod SettleSteps
+pub mod DrainSteps
+pub mod ReportSteps

@@ -1,0 +1,116 @@
+-- What changes at one session leaves what is known of the others.
+use Rattle.std.proofs.Common.{◌≡◌, ◌≢◌, ℕ, ◌+◌, ◌-◌, ◌^◌, ◌≤◌, ◌==◌, Bool, true, false, ◌||◌, cond, eq-eqb, ne_eqb, List, [], ◌∷◌, ◌++◌, length, take, refl, sym, ap, subst, ◌∙◌, append-nil, append_assoc, arith, Option, Some, None}
+use Rattle.std.specs.Prelude.{count_by}
+use Rattle.std.specs.List.{list_any, sum_by}
+use Rattle.std.proofs.lemmas.List.Sums.{sum_by-append}
+use Rattle.proto.specs.declared.history.Posted.{Posted}
+use Rattle.proto.specs.declared.history.Answered.{Answered}
+use Rattle.proto.specs.declared.message.Request.{Request}
+use Rattle.proto.specs.declared.message.Reply.{Reply}
+use Rattle.session_book.specs.declared.causes.EndCause.{EndCause}
+use Rattle.session_book.specs.Session.{SessionState}
+use Rattle.session_book.specs.Book.{BookState, session_of}
+use Rattle.worker.specs.declared.port.PortRecord.{PortRecord}
+use Rattle.worker.specs.declared.port.PortRecord.TheVariants.{Opened, Data, Gone, Ended, Accepted, Shut}
+use Rattle.worker.specs.Ports.{was_opened, has_ended, is_end, opened_count, opens, IsProper, AreProperAfter, AcceptsOnlyOpen}
+use Rattle.worker.specs.Sessions.{PortFacts, port_facts, SessionFacts, asked_by, had_by, cause_of, RunView, facts, IsConsistent, IsClosed}
+use Rattle.worker.specs.Places.{with_cause}
+use Rattle.worker.proofs.Facts.{about, elsewhere, shut_here, gone_here, any_more, any_no, any_yes}
+use Rattle.worker.proofs.PlaceLemmas.{either_way, cause_apart, cause_here}
+use Rattle.worker.proofs.SessionSteps.{Stays, is_closed}
+
+pub facts_equal : (f g : SessionFacts) → f.port ≡ g.port → f.asked ≡ g.asked → f.had ≡ g.had → f.cause ≡ g.cause → f.state ≡ g.state → f.piece ≡ g.piece → f ≡ g
+facts_equal f g p a h c s q = λ i. record { port = p i; asked = a i; had = h i; cause = c i; state = s i; piece = q i }
+
+-- one session changes
+pub change_at : (t : ℕ) (w w' : RunView) → ((s : ℕ) → t ≢ s → facts w' s ≡ facts w s) → IsConsistent (facts w' t) → ((s : ℕ) → t ≢ s → IsConsistent (facts w s)) → (s : ℕ) → IsConsistent (facts w' s)
+change_at t w w' same here h s = either_way t s (λ e. subst (λ k. IsConsistent (facts w' k)) e here) (λ ne. subst IsConsistent (sym (same s ne)) (h s ne))
+
+pub at_other : {A : Type 0} (t s : ℕ) (x y : A) → t ≢ s → cond (s == t) x y ≡ y
+at_other t s x y ne = ap (λ b. cond b x y) (ne_eqb s t (λ e. ne (sym e)))
+
+pub at_same : {A : Type 0} (t : ℕ) (x y : A) → cond (t == t) x y ≡ x
+at_same t x y = ap (λ b. cond b x y) (eq-eqb t t refl)
+
+-- ---- the list as a whole
+
+pub ended_same : (l : List PortRecord) (x : PortRecord) → is_end x ≡ false → has_ended (l ++ x ∷ []) ≡ has_ended l
+ended_same l x e = any_no is_end l x e
+
+pub ended_now : (l : List PortRecord) → has_ended (l ++ Ended ∷ []) ≡ true
+ended_now l = any_yes is_end l Ended refl
+
+pub count_same : (l : List PortRecord) (x : PortRecord) → opens x ≡ false → opened_count (l ++ x ∷ []) ≡ opened_count l
+count_same l x e = let h = sum_by-append (λ (y : PortRecord). cond (opens y) 1 0) l (x ∷ []) in let k : sum_by (λ (y : PortRecord). cond (opens y) 1 0) (x ∷ []) ≡ 0 = ap (λ b. 0 + cond b 1 0) e in omega (arith, h, k)
+
+pub count_more : (l : List PortRecord) (t : ℕ) → opened_count (l ++ Opened t ∷ []) ≡ opened_count l + 1
+count_more l t = let h = sum_by-append (λ (y : PortRecord). cond (opens y) 1 0) l (Opened t ∷ []) in omega (arith, h)
+
+proper_after : (before l : List PortRecord) (x : PortRecord) → AreProperAfter before l → IsProper (before ++ l) x → AreProperAfter before (l ++ x ∷ [])
+proper_after before [] x h k = (subst (λ y. IsProper y x) (append-nil before) k, tt)
+proper_after before (y ∷ l) x h k = (h.0, proper_after (before ++ y ∷ []) l x h.1 (subst (λ z. IsProper z x) (sym (append_assoc before (y ∷ []) l)) k))
+
+pub accepts_more : (l : List PortRecord) (x : PortRecord) → AcceptsOnlyOpen l → IsProper l x → AcceptsOnlyOpen (l ++ x ∷ [])
+accepts_more l x h k = proper_after [] l x h k
+
+-- ---- a session is closed
+
+pub record ClosesIn (w w' : RunView) (t : ℕ) (cause : EndCause) (x : PortRecord) : Type 0 where
+  pub events : w'.events ≡ w.events ++ x ∷ []
+  pub posted : w'.posted ≡ w.posted
+  pub back : w'.back ≡ w.back
+  pub sessions : w'.sessions ≡ with_cause w.sessions t cause
+  pub book : (s : ℕ) → session_of w'.book s ≡ cond (s == t) None (session_of w.book s)
+  pub piece : (s : ℕ) → w'.piece s ≡ cond (s == t) [] (w.piece s)
+
+pub closes_elsewhere : (w w' : RunView) (t : ℕ) (c : EndCause) (x : PortRecord) → ClosesIn w w' t c x → ((s : ℕ) → t ≢ s → about s x ≡ false) → (s : ℕ) → t ≢ s → facts w' s ≡ facts w s
+closes_elsewhere w w' t c x h other s ne =
+    facts_equal (facts w' s) (facts w s)
+    (ap (λ l. port_facts l s) h.events ∙ elsewhere w.events x s (other s ne))
+    (ap (λ l. asked_by l s) h.posted) (ap (λ l. had_by l s) h.back)
+    (ap (λ l. cause_of l s) h.sessions ∙ cause_apart w.sessions s t c ne)
+    (h.book s ∙ at_other t s None (session_of w.book s) ne)
+    (h.piece s ∙ at_other t s [] (w.piece s) ne)
+
+-- of the session itself
+pub record ClosedHere (f g : SessionFacts) (port : PortFacts) (cause : EndCause) : Type 0 where
+  pub port_is : g.port ≡ port
+  pub asked : g.asked ≡ f.asked
+  pub had : g.had ≡ f.had
+  pub cause_is : g.cause ≡ Some cause
+  pub state : g.state ≡ None
+
+closes_here : (w w' : RunView) (t : ℕ) (c old : EndCause) (x : PortRecord) (port : PortFacts) → ClosesIn w w' t c x → port_facts (w.events ++ x ∷ []) t ≡ port → cause_of w.sessions t ≡ Some old → ClosedHere (facts w t) (facts w' t) port c
+closes_here w w' t c old x port h p e = record {
+  port_is = ap (λ l. port_facts l t) h.events ∙ p;
+  asked = ap (λ l. asked_by l t) h.posted;
+  had = ap (λ l. had_by l t) h.back;
+  cause_is = ap (λ l. cause_of l t) h.sessions ∙ cause_here w.sessions t c old e;
+  state = h.book t ∙ at_same t None (session_of w.book t);
+}
+
+pub shuts_here : (w w' : RunView) (t : ℕ) (c old : EndCause) → ClosesIn w w' t c (Shut t) → cause_of w.sessions t ≡ Some old → ClosedHere (facts w t) (facts w' t) (record (port_facts w.events t) { shut = true }) c
+shuts_here w w' t c old h e = closes_here w w' t c old (Shut t) (record (port_facts w.events t) { shut = true }) h (shut_here w.events t) e
+
+pub goes_here : (w w' : RunView) (t : ℕ) (c old : EndCause) → ClosesIn w w' t c (Gone t) → cause_of w.sessions t ≡ Some old → ClosedHere (facts w t) (facts w' t) (record (port_facts w.events t) { gone = true }) c
+goes_here w w' t c old h e = closes_here w w' t c old (Gone t) (record (port_facts w.events t) { gone = true }) h (gone_here w.events t) e
+
+pub stays : (f g : SessionFacts) (port : PortFacts) (c : EndCause) → ClosedHere f g port c → port.fed ≡ f.port.fed → port.given ≡ f.port.given → Stays f g
+stays f g port c h fed given = record {
+  fed = ap (λ (p : PortFacts). p.fed) h.port_is ∙ fed;
+  given = ap (λ (p : PortFacts). p.given) h.port_is ∙ given;
+  asked = h.asked;
+  had = h.had;
+  state = h.state;
+}
+
+-- all are consistent afterwards
+pub close_all : (w w' : RunView) (t : ℕ) (c : EndCause) (x : PortRecord) (port : PortFacts) → ClosesIn w w' t c x → ((s : ℕ) → t ≢ s → about s x ≡ false) → ClosedHere (facts w t) (facts w' t) port c → port.opened ≡ true → IsClosed (facts w' t) c → ((s : ℕ) → t ≢ s → IsConsistent (facts w s)) → (s : ℕ) → IsConsistent (facts w' s)
+close_all w w' t c x port h other k opened closed before =
+    change_at t w w' (closes_elsewhere w w' t c x h other) (is_closed (facts w' t) c (ap (λ (p : PortFacts). p.opened) k.port_is ∙ opened) k.cause_is closed) before
+
+pub apart_shut : (t s : ℕ) → t ≢ s → about s (Shut t) ≡ false
+apart_shut t s ne = ne_eqb t s ne
+
+pub apart_gone : (t s : ℕ) → t ≢ s → about s (Gone t) ≡ false
+apart_gone t s ne = ne_eqb t s ne

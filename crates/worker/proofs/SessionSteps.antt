@@ -1,0 +1,289 @@
+-- What each step leaves of what is known of its session.
+use Rattle.std.proofs.Common.{◌≡◌, ℕ, ◌+◌, ◌<◌, ◌≤◌, ◌⊎◌, inl, inr, Bool, true, false, true≢false, List, [], ◌∷◌, ◌++◌, length, take, refl, sym, ap, subst, ◌∙◌, append_assoc, append-nil, arith, Option, Some, None, is_some}
+use Rattle.std.specs.List.{concat}
+use Rattle.std.proofs.lemmas.List.{length-append}
+use Rattle.proto.specs.declared.message.Request.{Request}
+use Rattle.proto.specs.declared.message.Reply.{Reply}
+use Rattle.proto.specs.declared.message.Message.{Message}
+use Rattle.proto.specs.declared.message.Message.TheVariants.{Ask, Wrong, Quit, Fatal}
+use Rattle.proto.specs.Reading.{asks}
+use Rattle.proto.specs.Answers.{said}
+use Rattle.exchange.specs.Beginnings.{StartsWith}
+use Rattle.session_book.specs.declared.causes.EndCause.{EndCause}
+use Rattle.session_book.specs.declared.causes.EndCause.TheVariants as causes
+use Rattle.session_book.specs.Session.{SessionState, ended_by, new_session, fed, ReadsOn, settled, gave}
+use Rattle.session_book.specs.Accounts.{HasRead, HasSaid}
+use Rattle.worker.specs.Sessions.{SessionFacts, IsUntouched, IsUnopened, IsServed, IsRunning, BeginsWith, IsWhole, IsCaused, IsClosed, IsPlaced, IsKnownAs, IsConsistent}
+use Rattle.worker.proofs.Answering.{said_more, said_all, asks-append, begins_on}
+use Rattle.session_book.proofs.AccountLaws.{read_keeps, settle_keeps}
+use Rattle.worker.proofs.BookLaws.{starts_accounts, feed_keeps, give_keeps}
+
+pub not_both : {A : Type 0} (o : Option A) (x : A) → o ≡ None → o ≡ Some x → ⊥
+not_both o x none some = true≢false (sym (ap is_some some) ∙ ap is_some none)
+
+-- ---- a session that is open in the book is running
+
+pub record Runs (f : SessionFacts) : Type 0 where
+  pub opened : f.port.opened ≡ true
+  pub cause : f.cause ≡ Some causes.Drained
+  pub running : IsRunning f
+
+runs_as : (f : SessionFacts) (s : SessionState) (o : Bool) (c : Option EndCause) → IsKnownAs o c f → f.state ≡ Some s → (o ≡ true) × (c ≡ Some causes.Drained) × IsRunning f
+runs_as f s false c h e = absurd (not_both f.state s h.0.state e)
+runs_as f s true None h e = absurd (not_both f.state s h.state e)
+runs_as f s true (Some causes.Drained) h e = (refl, refl, h)
+runs_as f s true (Some causes.Quit) h e = absurd (not_both f.state s h.state e)
+runs_as f s true (Some causes.Fatal) h e = absurd (not_both f.state s h.state e)
+runs_as f s true (Some causes.Gone) h e = absurd (not_both f.state s h.state e)
+runs_as f s true (Some causes.NoMemory) h e = absurd (not_both f.state s h.state e)
+
+pub runs : (f : SessionFacts) (s : SessionState) → IsConsistent f → f.state ≡ Some s → Runs f
+runs f s h e = let r = runs_as f s f.port.opened f.cause h.known e in record { opened = r.0; cause = r.1; running = r.2 }
+
+-- the same of a session that the port's list has open
+runs_from : (f : SessionFacts) (o : Bool) (c : Option EndCause) → IsKnownAs o c f → o ≡ true → f.port.gone ≡ false → f.port.shut ≡ false → (c ≡ Some causes.Drained) × IsRunning f
+runs_from f false c h o g s = absurd (true≢false (sym o))
+runs_from f true None h o g s = absurd (true≢false (sym h.shut ∙ s))
+runs_from f true (Some causes.Drained) h o g s = (refl, h)
+runs_from f true (Some causes.Quit) h o g s = absurd (true≢false (sym h.caused.0 ∙ s))
+runs_from f true (Some causes.Fatal) h o g s = absurd (true≢false (sym h.caused.0 ∙ s))
+runs_from f true (Some causes.Gone) h o g s = absurd (true≢false (sym h.caused ∙ g))
+runs_from f true (Some causes.NoMemory) h o g s = absurd (true≢false (sym h.caused ∙ s))
+
+pub runs_at_port : (f : SessionFacts) → IsConsistent f → f.port.opened ≡ true → f.port.gone ≡ false → f.port.shut ≡ false → Runs f
+runs_at_port f h o g s = let r = runs_from f f.port.opened f.cause h.known o g s in record { opened = o; cause = r.0; running = r.1 }
+
+-- a session that was never opened
+untouched_as : (f : SessionFacts) (o : Bool) (c : Option EndCause) → IsKnownAs o c f → o ≡ false → IsUntouched f × (c ≡ None)
+untouched_as f false c h e = h
+untouched_as f true c h e = absurd (true≢false e)
+
+pub untouched : (f : SessionFacts) → IsConsistent f → f.port.opened ≡ false → IsUntouched f × (f.cause ≡ None)
+untouched f h e = untouched_as f f.port.opened f.cause h.known e
+
+pub is_running : (f : SessionFacts) → f.port.opened ≡ true → f.cause ≡ Some causes.Drained → IsRunning f → IsConsistent f
+is_running f o c h = record { known = subst (λ b. IsKnownAs b f.cause f) (sym o) (subst (λ k. IsPlaced f k) (sym c) h) }
+
+placed_closed : (f : SessionFacts) (c : EndCause) → IsClosed f c → IsPlaced f (Some c)
+placed_closed f causes.Drained h = absurd h.caused
+placed_closed f causes.Quit h = h
+placed_closed f causes.Fatal h = h
+placed_closed f causes.Gone h = h
+placed_closed f causes.NoMemory h = h
+
+pub is_closed : (f : SessionFacts) (c : EndCause) → f.port.opened ≡ true → f.cause ≡ Some c → IsClosed f c → IsConsistent f
+is_closed f c o e h = record { known = subst (λ b. IsKnownAs b f.cause f) (sym o) (subst (λ k. IsPlaced f k) (sym e) (placed_closed f c h)) }
+
+pub is_unopened : (f : SessionFacts) → f.port.opened ≡ true → f.cause ≡ None → IsUnopened f → IsConsistent f
+is_unopened f o e h = record { known = subst (λ b. IsKnownAs b f.cause f) (sym o) (subst (λ k. IsPlaced f k) (sym e) h) }
+
+-- ---- the accounts of a session
+
+pub served_new : (f : SessionFacts) → f.port.fed ≡ [] → f.port.given ≡ [] → f.had ≡ [] → f.asked ≡ [] → f.piece ≡ [] → IsServed f.piece f new_session
+served_new f fed_is given_is had_is asked_is piece_is = record {
+  bytes = [];
+  messages = [];
+  fed = fed_is ∙ sym piece_is;
+  has_read = starts_accounts.0;
+  has_said = subst (λ (x : List Reply × List ℕ). HasSaid [] x.0 x.1 new_session) (λ i. (sym had_is i, sym given_is i)) starts_accounts.1;
+  asked = asked_is;
+}
+
+-- bytes came, which are held at first
+pub served_came : (f : SessionFacts) (s : SessionState) (held more : List ℕ) → IsServed held f s → IsServed (held ++ more) (record f { port = record f.port { fed = f.port.fed ++ more } }) s
+served_came f s held more h = record {
+  bytes = h.bytes;
+  messages = h.messages;
+  fed = ap (λ (x : List ℕ). x ++ more) h.fed ∙ append_assoc h.bytes held more;
+  has_read = h.has_read;
+  has_said = h.has_said;
+  asked = h.asked;
+}
+
+-- held bytes are fed
+pub served_fed : (f : SessionFacts) (s : SessionState) (held : List ℕ) → IsServed held f s → IsServed [] f (fed s held)
+served_fed f s held h =
+    let k = feed_keeps h.bytes held f.port.given h.messages f.had s h.has_read h.has_said in record {
+      bytes = h.bytes ++ held;
+      messages = h.messages;
+      fed = h.fed ∙ sym (append-nil (h.bytes ++ held));
+      has_read = k.0;
+      has_said = k.1;
+      asked = h.asked;
+    }
+
+-- messages are read, and their requests asked
+pub served_read : (f : SessionFacts) (s after : SessionState) (held : List ℕ) (more : List Message) → ReadsOn s more after → IsServed held f s → IsServed held (record f { asked = f.asked ++ asks more }) after
+served_read f s after held more r h =
+    let k = read_keeps h.bytes f.port.given h.messages more f.had s after r h.has_read h.has_said in record {
+      bytes = h.bytes;
+      messages = h.messages ++ more;
+      fed = h.fed;
+      has_read = k.0;
+      has_said = k.1;
+      asked = ap (λ (x : List Request). x ++ asks more) h.asked ∙ sym (asks-append h.messages more);
+    }
+
+-- a reply is settled
+pub served_settled : (f : SessionFacts) (s : SessionState) (held : List ℕ) (r : Reply) → 0 < length (asks s.queue) → IsServed held f s → IsServed held (record f { had = f.had ++ r ∷ [] }) (settled s r)
+served_settled f s held r some h =
+    let k = settle_keeps h.bytes f.port.given h.messages f.had r s some h.has_read h.has_said in record {
+      bytes = h.bytes;
+      messages = h.messages;
+      fed = h.fed;
+      has_read = k.0;
+      has_said = k.1;
+      asked = h.asked;
+    }
+
+-- output is given
+pub served_gave : (f : SessionFacts) (s : SessionState) (held : List ℕ) (n : ℕ) → IsServed held f s → IsServed held (record f { port = record f.port { given = f.port.given ++ take n s.out } }) (gave s n)
+served_gave f s held n h =
+    let k = give_keeps h.bytes f.port.given n h.messages f.had s h.has_read h.has_said in record {
+      bytes = h.bytes;
+      messages = h.messages;
+      fed = h.fed;
+      has_read = k.0;
+      has_said = k.1;
+      asked = h.asked;
+    }
+
+-- ---- closing
+
+begins : (bytes held total : List ℕ) (ms : List Message) (s : SessionState) → total ≡ bytes ++ held → HasRead bytes ms s → (rest : List ℕ) × BeginsWith total ms rest
+begins bytes held total ms s e h = (
+  (s.unread ++ h.dropped) ++ held,
+  record {
+    pieces = h.pieces;
+    whole = e ∙ ap (λ (x : List ℕ). x ++ held) (h.whole ∙ append_assoc (concat h.pieces) s.unread h.dropped) ∙ append_assoc (concat h.pieces) (s.unread ++ h.dropped) held;
+    spelled = h.spelled;
+    ends_at_last = h.ends_at_last;
+  },
+)
+
+-- the facts of a session that is closed: what came, was given, asked and had stays
+pub record Stays (f g : SessionFacts) : Type 0 where
+  pub fed : g.port.fed ≡ f.port.fed
+  pub given : g.port.given ≡ f.port.given
+  pub asked : g.asked ≡ f.asked
+  pub had : g.had ≡ f.had
+  pub state : g.state ≡ None
+
+closed_as : (f g : SessionFacts) (s : SessionState) (held : List ℕ) (c : EndCause) (h : IsServed held f s) → Stays f g → IsCaused g h.messages c → (g.port.gone ≡ true) ⊎ (g.port.shut ≡ true) → IsClosed g c
+closed_as f g s held c h k caused over =
+    let b = begins h.bytes held g.port.fed h.messages s (k.fed ∙ h.fed) h.has_read in record {
+      messages = h.messages;
+      rest = b.0;
+      read = b.1;
+      asked = k.asked ∙ h.asked;
+      said = (s.out, ap (said h.messages) k.had ∙ sym h.has_said.whole ∙ ap (λ (x : List ℕ). x ++ s.out) (sym k.given));
+      caused = caused;
+      over = over;
+      state = k.state;
+    }
+
+pub closed_gone : (f g : SessionFacts) (s : SessionState) (held : List ℕ) → IsServed held f s → Stays f g → g.port.gone ≡ true → IsClosed g causes.Gone
+closed_gone f g s held h k gone = closed_as f g s held causes.Gone h k gone (inl gone)
+
+pub closed_no_memory : (f g : SessionFacts) (s : SessionState) (held : List ℕ) → IsServed held f s → Stays f g → g.port.shut ≡ true → IsClosed g causes.NoMemory
+closed_no_memory f g s held h k shut = closed_as f g s held causes.NoMemory h k shut (inr shut)
+
+-- the same where one more reply came back, which found no memory
+pub closed_starved : (f g : SessionFacts) (s : SessionState) (held : List ℕ) (r : Reply) → IsServed held f s → Stays (record f { had = f.had ++ r ∷ [] }) g → g.port.shut ≡ true → IsClosed g causes.NoMemory
+closed_starved f g s held r h k shut =
+    let b = begins h.bytes held g.port.fed h.messages s (k.fed ∙ h.fed) h.has_read in
+    let first : StartsWith (said h.messages f.had) f.port.given = (s.out, sym h.has_said.whole) in
+    let more = begins_on f.port.given (said h.messages f.had) (said h.messages (f.had ++ r ∷ [])) first (said_more h.messages f.had (r ∷ [])) in record {
+      messages = h.messages;
+      rest = b.0;
+      read = b.1;
+      asked = k.asked ∙ h.asked;
+      said = (more.0, ap (said h.messages) k.had ∙ more.1 ∙ ap (λ (x : List ℕ). x ++ more.0) (sym k.given));
+      caused = shut;
+      over = inr shut;
+      state = k.state;
+    }
+
+-- what ends a session is Quit or a fatal message
+abbrev IsEnding : Option EndCause → Type 0
+IsEnding o = (o ≡ None) ⊎ (o ≡ Some causes.Quit) ⊎ (o ≡ Some causes.Fatal)
+
+quits : IsEnding (Some causes.Quit)
+quits = inr (inl refl)
+
+fails : IsEnding (Some causes.Fatal)
+fails = inr (inr refl)
+
+ending : (o : Option EndCause) (ms : List Message) → IsEnding o → IsEnding (ended_by o ms)
+ending o [] h = h
+ending o (Ask q quiet ∷ ms) h = ending o ms h
+ending o (Wrong kind ∷ ms) h = ending o ms h
+ending o (Quit ∷ ms) h = ending (Some causes.Quit) ms quits
+ending o (Fatal kind ∷ ms) h = ending (Some causes.Fatal) ms fails
+
+-- all was answered and given: it is closed with what has ended it
+whole_as : (f g : SessionFacts) (s : SessionState) (held : List ℕ) (c : EndCause) (h : IsServed held f s) → Stays f g → s.queue ≡ [] → s.out ≡ [] → s.ended ≡ Some c → IsWhole g h.messages c
+whole_as f g s held c h k queue out ended = (
+  k.given ∙ sym (append-nil f.port.given) ∙ ap (λ (x : List ℕ). f.port.given ++ x) (sym out) ∙ h.has_said.whole ∙ ap (said h.messages) (sym k.had),
+  (let none : length (asks s.queue) ≡ 0 = ap (λ ms. length (asks ms)) queue in let had_is : length g.had ≡ length f.had = ap (length {A = Reply}) k.had in omega (arith, h.has_said.replied)),
+  sym h.has_read.ended ∙ ended,
+)
+
+caused_by : (g : SessionFacts) (ms : List Message) (c : EndCause) → IsEnding (Some c) → g.port.shut ≡ true → IsWhole g ms c → IsCaused g ms c
+caused_by g ms causes.Quit e shut w = (shut, w)
+caused_by g ms causes.Fatal e shut w = (shut, w)
+caused_by g ms causes.Drained (inl e) shut w = cc
+caused_by g ms causes.Drained (inr (inl e)) shut w = cc
+caused_by g ms causes.Drained (inr (inr e)) shut w = cc
+caused_by g ms causes.Gone (inl e) shut w = cc
+caused_by g ms causes.Gone (inr (inl e)) shut w = cc
+caused_by g ms causes.Gone (inr (inr e)) shut w = cc
+caused_by g ms causes.NoMemory (inl e) shut w = cc
+caused_by g ms causes.NoMemory (inr (inl e)) shut w = cc
+caused_by g ms causes.NoMemory (inr (inr e)) shut w = cc
+
+pub closed_finished : (f g : SessionFacts) (s : SessionState) (held : List ℕ) (c : EndCause) → IsServed held f s → Stays f g → s.queue ≡ [] → s.out ≡ [] → s.ended ≡ Some c → g.port.shut ≡ true → IsClosed g c
+closed_finished f g s held c h k queue out ended shut =
+    let is : IsEnding (Some c) = subst IsEnding (sym h.has_read.ended ∙ ended) (ending None h.messages (inl refl)) in
+    closed_as f g s held c h k (caused_by g h.messages c is shut (whole_as f g s held c h k queue out ended)) (inr shut)
+
+-- ---- an answer to a closed session is dropped
+
+caused_more : (f : SessionFacts) (r : Reply) (ms : List Message) (c : EndCause) → IsCaused f ms c → IsCaused (record f { had = f.had ++ r ∷ [] }) ms c
+caused_more f r ms causes.Drained h = h
+caused_more f r ms causes.Quit h = (h.0, (h.1.0 ∙ sym (said_all ms f.had (r ∷ []) h.1.1), omega (arith, h.1.1, length-append f.had (r ∷ [])), h.1.2))
+caused_more f r ms causes.Fatal h = (h.0, (h.1.0 ∙ sym (said_all ms f.had (r ∷ []) h.1.1), omega (arith, h.1.1, length-append f.had (r ∷ [])), h.1.2))
+caused_more f r ms causes.Gone h = h
+caused_more f r ms causes.NoMemory h = h
+
+pub closed_dropped : (f : SessionFacts) (r : Reply) (c : EndCause) → IsClosed f c → IsClosed (record f { had = f.had ++ r ∷ [] }) c
+closed_dropped f r c h = record {
+  messages = h.messages;
+  rest = h.rest;
+  read = h.read;
+  asked = h.asked;
+  said = begins_on f.port.given (said h.messages f.had) (said h.messages (f.had ++ r ∷ [])) h.said (said_more h.messages f.had (r ∷ []));
+  caused = caused_more f r h.messages c h.caused;
+  over = h.over;
+  state = h.state;
+}
+
+dropped_as : (f : SessionFacts) (r : Reply) (o : Bool) (c : Option EndCause) → f.state ≡ None → (f.asked ≡ [] → ⊥) → IsKnownAs o c f → IsKnownAs o c (record f { had = f.had ++ r ∷ [] })
+dropped_as f r false c none some h = absurd (some h.0.asked)
+dropped_as f r true None none some h = absurd (some h.asked)
+dropped_as f r true (Some causes.Drained) none some h = absurd (not_both f.state h.s none h.state)
+dropped_as f r true (Some causes.Quit) none some h = closed_dropped f r causes.Quit h
+dropped_as f r true (Some causes.Fatal) none some h = closed_dropped f r causes.Fatal h
+dropped_as f r true (Some causes.Gone) none some h = closed_dropped f r causes.Gone h
+dropped_as f r true (Some causes.NoMemory) none some h = closed_dropped f r causes.NoMemory h
+
+pub dropped : (f : SessionFacts) (r : Reply) → f.state ≡ None → (f.asked ≡ [] → ⊥) → IsConsistent f → IsConsistent (record f { had = f.had ++ r ∷ [] })
+dropped f r none some h = record { known = dropped_as f r f.port.opened f.cause none some h.known }
+
+-- a session with a place was opened
+placed_opened : (f : SessionFacts) (d : EndCause) (o : Bool) (c : Option EndCause) → IsKnownAs o c f → c ≡ Some d → o ≡ true
+placed_opened f d false c h e = absurd (not_both c d h.1 e)
+placed_opened f d true c h e = refl
+
+pub opened_if_placed : (f : SessionFacts) (d : EndCause) → IsConsistent f → f.cause ≡ Some d → f.port.opened ≡ true
+opened_if_placed f d h e = placed_opened f d f.port.opened f.cause h.known e

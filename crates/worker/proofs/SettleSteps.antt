@@ -1,0 +1,229 @@
+-- What taking an answer and settling it leaves true of a worker.
+use Rattle.std.proofs.Common.{◌≡◌, ◌≢◌, ℕ, zero, suc, ◌+◌, ◌-◌, ◌^◌, ◌<◌, ◌≤◌, ◌==◌, Bool, true, false, true≢false, cond, eq-eqb, ne_eqb, List, [], ◌∷◌, ◌++◌, length, take, drop, min, map, refl, sym, ap, subst, ◌∙◌, append-nil, append_assoc, arith, Option, Some, None, is_some, ◌⊎◌, inl, inr, ⊎_elim, length-append, get_or}
+use Rattle.std.specs.Prelude.{slice_get, IsSome}
+use mathlib.Core.Option.{some}
+use lib.ListN.{get_elem?}
+use Rattle.std.proofs.lemmas.List.{map-append, drop-append-le}
+use Rattle.std.specs.List.{filter}
+use Rattle.std.specs.Option.{option_to_list}
+use Rattle.proto.specs.declared.message.Request.{Request}
+use Rattle.proto.specs.declared.message.Reply.{Reply}
+use Rattle.proto.specs.declared.history.Posted.{Posted}
+use Rattle.proto.specs.declared.history.Answered.{Answered}
+use Rattle.proto.proofs.Options.{some_is}
+use Rattle.proto.specs.History.{asked_posted}
+use Rattle.proto.specs.Reading.{asks}
+use Rattle.exchange.specs.Ends.{WorkerView}
+use Rattle.exchange.specs.Beginnings.{posted_of}
+use Rattle.exchange.proofs.Lists.{take_more}
+use Rattle.session_book.specs.declared.causes.EndCause.{EndCause}
+use Rattle.session_book.specs.declared.causes.EndCause.TheVariants as causes
+use Rattle.session_book.specs.declared.causes.Unsettled.{Unsettled}
+use Rattle.session_book.specs.Session.{SessionState, settled}
+use Rattle.session_book.specs.Book.{BookState, session_of, IsOldest, SettlesOldest, SettlesReply}
+use Rattle.worker.specs.declared.port.PortRecord.{PortRecord}
+use Rattle.worker.specs.declared.port.PortRecord.TheVariants as was
+use Rattle.worker.specs.declared.worker.Worker.{Worker}
+use Rattle.worker.specs.Sessions.{PortFacts, port_facts, SessionFacts, RunView, facts, asked_by, had_by, cause_of, IsConsistent, IsServed}
+use Rattle.worker.specs.Ports.{has_ended, AcceptsOnlyOpen}
+use Rattle.worker.specs.Places.{Rises, piece_of}
+use Rattle.worker.specs.Workers.{posted_by, unsettled_of, IsNumbered, IsSteady, IsCounted, IsTold, run_view, IsServing, IsSameEnd, GoesOn, Shuts}
+use Rattle.worker.proofs.Facts.{had_here, had_elsewhere}
+use Rattle.worker.proofs.SessionSteps.{Runs, runs, is_running, Stays, served_settled, closed_starved, dropped}
+use Rattle.worker.proofs.PlaceLemmas.{rises_with, length-with}
+use Rattle.worker.proofs.RunViews.{facts_equal, change_at, at_other, at_same, ended_same, count_same, accepts_more, ClosesIn, close_all, shuts_here, apart_shut}
+use Rattle.worker.proofs.WorkerSteps.{steady_same, steady_closed, same_end, closes_in, told_shut}
+use Rattle.worker.proofs.OutputSteps.{told_within, others_within}
+use Rattle.worker.proofs.AskSteps.{back_le}
+
+-- ---- lists
+
+some_same : {A : Type 0} (x y : A) → some x ≡ some y → x ≡ y
+some_same x y e = cc
+
+none_behind : (b : Bool) (x : Posted) (l : List Posted) (t : ℕ) → map (λ (y : Posted). y.request) (cond b (x ∷ filter (λ (y : Posted). y.session == t) l) (filter (λ (y : Posted). y.session == t) l)) ≡ [] → asked_by l t ≡ []
+none_behind true x l t e = absurd (cc)
+none_behind false x l t e = e
+
+numbered_as : (end end' : WorkerView) (request : Option Posted) → length end'.sent ≡ length end.sent → IsNumbered end request → IsNumbered end' request
+numbered_as end end' None e h = h
+numbered_as end end' (Some p) e h = omega (arith, e, h)
+
+asked_more : (l : List Answered) (a : Answered) → asked_posted (l ++ a ∷ []) ≡ asked_posted l ++ posted_of a ∷ []
+asked_more [] a = refl
+asked_more (x ∷ l) a = ap (λ (y : List Posted). posted_of x ∷ y) (asked_more l a)
+
+-- the element at a place is the first of the rest
+rest_at : {A : Type 0} (l : List A) (n : ℕ) (x : A) → get_elem? l n ≡ some x → drop n l ≡ x ∷ drop (suc n) l
+rest_at [] n x e = absurd (cc)
+rest_at (y ∷ l) zero x e = let same : y ≡ x = some_same y x e in ap (λ z. z ∷ l) same
+rest_at (y ∷ l) (suc n) x e = rest_at l n x e
+
+some_asked : (l : List Posted) (n t : ℕ) (p : Posted) → get_elem? l n ≡ some p → p.session ≡ t → asked_by l t ≡ [] → ⊥
+some_asked [] n t p e q none = absurd (cc)
+some_asked (x ∷ l) zero t p e q none =
+    let same : x ≡ p = some_same x p e in let here : (x.session == t) ≡ true = eq-eqb x.session t (ap (λ (y : Posted). y.session) same ∙ q) in
+    let bad : x.request ∷ asked_by l t ≡ [] = sym (ap (λ b. map (λ (y : Posted). y.request) (cond b (x ∷ filter (λ (y : Posted). y.session == t) l) (filter (λ (y : Posted). y.session == t) l))) here) ∙ none in absurd (cc)
+some_asked (x ∷ l) (suc n) t p e q none = some_asked l n t p e q (none_behind (x.session == t) x l t none)
+
+-- ---- what was taken
+
+-- the end has taken back the answer a
+pub record TakesBack (end end' : WorkerView) (a : Answered) : Type 0 where
+  pub own : get_elem? end.sent (length end.back) ≡ some (posted_of a)
+  pub sent : end'.sent ≡ end.sent
+  pub running : end'.said_bye ≡ end.said_bye
+  pub back : end'.back ≡ end.back ++ a ∷ []
+  pub same : IsSameEnd end end'
+
+at_append : {A : Type 0} (l m : List A) (n : ℕ) (x : A) → get_elem? l n ≡ some x → get_elem? (l ++ m) n ≡ some x
+at_append [] m n x e = absurd (cc)
+at_append (y ∷ l) m zero x e = e
+at_append (y ∷ l) m (suc n) x e = at_append l m n x e
+
+pub at_posted : (end : WorkerView) (request : Option Posted) (a : Answered) → get_elem? end.sent (length end.back) ≡ some (posted_of a) → get_elem? (posted_by end request) (length end.back) ≡ some (posted_of a)
+at_posted end request a e = at_append end.sent (option_to_list request) (length end.back) (posted_of a) e
+
+-- the answer is that of the book's oldest unsettled request
+pub oldest_first : (end : WorkerView) (request : Option Posted) (book : BookState) (a : Answered) → IsSteady end request book → get_elem? end.sent (length end.back) ≡ some (posted_of a) → book.unsettled ≡ unsettled_of (posted_of a) ∷ map unsettled_of (drop (suc (length end.back)) (posted_by end request))
+oldest_first end request book a h e = h.unsettled ∙ ap (map unsettled_of) (rest_at (posted_by end request) (length end.back) (posted_of a) (at_posted end request a e))
+
+pub is_oldest : (end : WorkerView) (request : Option Posted) (book : BookState) (a : Answered) → IsSteady end request book → get_elem? end.sent (length end.back) ≡ some (posted_of a) → IsOldest book a
+is_oldest end request book a h e = ap (λ (l : List Unsettled). slice_get l 0) (oldest_first end request book a h e)
+
+pub steady_taken : (end end' : WorkerView) (request : Option Posted) (book book' : BookState) (a : Answered) → IsSteady end request book → TakesBack end end' a → book'.posted ≡ book.posted → book'.unsettled ≡ drop 1 book.unsettled → IsSteady end' request book'
+steady_taken end end' request book book' a h k p u =
+    let len : length end'.back ≡ suc (length end.back) = ap (length {A = Answered}) k.back ∙ (let x = length-append end.back (a ∷ []) in omega arith) in
+    let posted : posted_by end' request ≡ posted_by end request = ap (λ (l : List Posted). l ++ option_to_list request) k.sent in record {
+      running = k.running ∙ h.running;
+      posted = p ∙ h.posted ∙ ap (length {A = Posted}) (sym posted);
+      numbered = numbered_as end end' request (ap (length {A = Posted}) k.sent) h.numbered;
+      unsettled = u ∙ ap (drop 1) (oldest_first end request book a h k.own) ∙ (λ i. map unsettled_of (drop (sym len i) (sym posted i)));
+      back = ap asked_posted k.back ∙ asked_more end.back a ∙ ap (λ (l : List Posted). l ++ posted_of a ∷ []) h.back ∙ sym (take_more end.sent (length end.back) (posted_of a) k.own) ∙ (λ i. take (sym len i) (sym k.sent i));
+    }
+
+-- ---- what is told
+
+record TakesIn (v v' : RunView) (a : Answered) (st : Option SessionState) : Type 0 where
+  events : v'.events ≡ v.events
+  posted : v'.posted ≡ v.posted
+  back : v'.back ≡ v.back ++ a ∷ []
+  sessions : v'.sessions ≡ v.sessions
+  book : (k : ℕ) → session_of v'.book k ≡ cond (k == a.session) st (session_of v.book k)
+  piece : v'.piece ≡ v.piece
+
+taken_elsewhere : (v v' : RunView) (a : Answered) (st : Option SessionState) → TakesIn v v' a st → (k : ℕ) → a.session ≢ k → facts v' k ≡ facts v k
+taken_elsewhere v v' a st h k ne =
+    facts_equal (facts v' k) (facts v k) (ap (λ l. port_facts l k) h.events) (λ i. (facts (record v { posted = h.posted i }) k).asked) (ap (λ l. had_by l k) h.back ∙ had_elsewhere v.back a k ne) (λ i. (facts (record v { sessions = h.sessions i }) k).cause) (h.book k ∙ at_other a.session k st (session_of v.book k) ne) (λ i. h.piece i k)
+
+taken_here : (v v' : RunView) (a : Answered) (st : Option SessionState) → TakesIn v v' a st → facts v' a.session ≡ record (facts v a.session) { had = had_by v.back a.session ++ a.reply ∷ []; state = st }
+taken_here v v' a st h =
+    let t = a.session in
+    facts_equal (facts v' t) (record (facts v t) { had = had_by v.back t ++ a.reply ∷ []; state = st }) (ap (λ l. port_facts l t) h.events) (λ i. (facts (record v { posted = h.posted i }) t).asked) (ap (λ l. had_by l t) h.back ∙ had_here v.back a t refl) (λ i. (facts (record v { sessions = h.sessions i }) t).cause) (h.book t ∙ at_same t st (session_of v.book t)) (λ i. h.piece i t)
+
+told_kept : (v v' : RunView) (unopened : ℕ) (ended : Bool) (a : Answered) (s : SessionState) → IsTold v unopened ended → session_of v.book a.session ≡ Some s → 0 < length (asks s.queue) → TakesIn v v' a (Some (settled s a.reply)) → IsTold v' unopened ended
+told_kept v v' unopened ended a s h open_is has k =
+    let t = a.session in
+    let run = runs (facts v t) s (h.each t) open_is in
+    let same : s ≡ run.running.s = some_is s run.running.s (sym open_is ∙ run.running.state) in
+    let was_served : IsServed (v.piece t) (facts v t) s = subst (λ (x : SessionState). IsServed (v.piece t) (facts v t) x) (sym same) run.running.served in
+    let served = served_settled (facts v t) s (v.piece t) a.reply has was_served in
+    let f' = record (facts v t) { had = had_by v.back t ++ a.reply ∷ []; state = Some (settled s a.reply) } in
+    let now : IsConsistent f' = is_running f' run.opened run.cause (record { gone = run.running.gone; shut = run.running.shut; s = settled s a.reply; state = refl; served = record { bytes = served.bytes; messages = served.messages; fed = served.fed; has_read = served.has_read; has_said = served.has_said; asked = served.asked } }) in
+    told_within v v' unopened ended h k.events k.sessions (change_at t v v' (taken_elsewhere v v' a (Some (settled s a.reply)) k) (subst IsConsistent (sym (taken_here v v' a (Some (settled s a.reply)) k)) now) (λ j ne. h.each j))
+
+told_dropped : (v v' : RunView) (unopened : ℕ) (ended : Bool) (a : Answered) → IsTold v unopened ended → session_of v.book a.session ≡ None → (asked_by v.posted a.session ≡ [] → ⊥) → TakesIn v v' a None → IsTold v' unopened ended
+told_dropped v v' unopened ended a h closed has k =
+    let t = a.session in
+    let now = dropped (facts v t) a.reply closed has (h.each t) in
+    let here : facts v' t ≡ record (facts v t) { had = had_by v.back t ++ a.reply ∷ [] } = taken_here v v' a None k ∙ ap (λ (o : Option SessionState). record (facts v t) { had = had_by v.back t ++ a.reply ∷ []; state = o }) (sym closed) in
+    told_within v v' unopened ended h k.events k.sessions (change_at t v v' (taken_elsewhere v v' a None k) (subst IsConsistent (sym here) now) (λ j ne. h.each j))
+
+-- ---- the worker after an answer
+
+-- but for the end and the book
+pub record KeepsRest {P : Type 0} (old new : Worker P) : Type 0 where
+  pub port : new.port ≡ old.port
+  pub request : new.request ≡ old.request
+  pub pieces : new.pieces ≡ old.pieces
+  pub sessions : new.sessions ≡ old.sessions
+  pub unopened : new.unopened ≡ old.unopened
+  pub strangers : new.strangers ≡ old.strangers
+  pub ended : new.ended ≡ old.ended
+
+taken_in : {P : Type 0} (events : P → List PortRecord) (old new : Worker P) (a : Answered) (st : Option SessionState) → KeepsRest old new → TakesBack old.worker_end new.worker_end a → ((k : ℕ) → session_of new.book k ≡ cond (k == a.session) st (session_of old.book k)) → TakesIn (run_view events old) (run_view events new) a st
+taken_in events old new a st k b book = record {
+  events = ap events k.port;
+  posted = λ i. b.sent i ++ option_to_list (k.request i);
+  back = b.back;
+  sessions = λ i. (k.sessions i).items;
+  book = book;
+  piece = λ i. piece_of (k.pieces i);
+}
+
+answer_goes_on : {P : Type 0} (tells : P → Bool) (events : P → List PortRecord) (old new : Worker P) (a : Answered) → KeepsRest old new → TakesBack old.worker_end new.worker_end a → IsServing tells events old → new.book.posted ≡ old.book.posted → new.book.unsettled ≡ drop 1 old.book.unsettled → (IsTold (run_view events old) old.unopened old.ended → IsTold (run_view events new) old.unopened old.ended) → GoesOn tells events old new
+answer_goes_on tells events old new a k b h p u told = record {
+  tells_as = ap tells k.port;
+  same_end = b.same;
+  serving = record {
+    steady = subst (λ (r : Option Posted). IsSteady new.worker_end r new.book) (sym k.request) (steady_taken old.worker_end new.worker_end old.request old.book new.book a h.steady b p u);
+    strangers = k.strangers ∙ h.strangers;
+    told = λ e. subst (λ (y : ℕ × Bool). IsTold (run_view events new) y.0 y.1) (λ i. (sym k.unopened i, sym k.ended i)) (told (h.told (sym (ap tells k.port) ∙ e)));
+  };
+}
+
+pub kept_goes_on : {P : Type 0} (tells : P → Bool) (events : P → List PortRecord) (old new : Worker P) (a : Answered) → KeepsRest old new → TakesBack old.worker_end new.worker_end a → IsServing tells events old → SettlesReply old.book new.book a → GoesOn tells events old new
+kept_goes_on tells events old new a k b h r =
+    answer_goes_on tells events old new a k b h (ap (λ (x : BookState). x.posted) r.settles.rest) (ap (λ (x : BookState). x.unsettled) r.settles.rest)
+    (λ told. told_kept (run_view events old) (run_view events new) old.unopened old.ended a r.s told r.was_open r.unsettled (taken_in events old new a (Some (settled r.s a.reply)) k b r.settles.only_at))
+
+pub dropped_goes_on : {P : Type 0} (tells : P → Bool) (events : P → List PortRecord) (old new : Worker P) (a : Answered) → KeepsRest old new → TakesBack old.worker_end new.worker_end a → IsServing tells events old → session_of old.book a.session ≡ None → SettlesOldest old.book new.book a None → GoesOn tells events old new
+dropped_goes_on tells events old new a k b h closed r =
+    answer_goes_on tells events old new a k b h (ap (λ (x : BookState). x.posted) r.rest) (ap (λ (x : BookState). x.unsettled) r.rest)
+    (λ told.
+    told_dropped (run_view events old) (run_view events new) old.unopened old.ended a told closed
+    (some_asked (posted_by old.worker_end old.request) (length old.worker_end.back) a.session (posted_of a) (at_posted old.worker_end old.request a b.own) refl) (taken_in events old new a None k b r.only_at))
+
+told_starved : (v u v' : RunView) (unopened : ℕ) (ended : Bool) (a : Answered) (s : SessionState) → IsTold v unopened ended → session_of v.book a.session ≡ Some s → TakesIn v u a None → ClosesIn u v' a.session causes.NoMemory (was.Shut a.session) → IsTold v' unopened ended
+told_starved v u v' unopened ended a s h open_is k c =
+    let t = a.session in
+    let run = runs (facts v t) s (h.each t) open_is in
+    let cause : cause_of u.sessions t ≡ Some causes.Drained = (λ i. cause_of (k.sessions i) t) ∙ run.cause in
+    let here = shuts_here u v' t causes.NoMemory causes.Drained c cause in
+    let port_same : port_facts u.events t ≡ port_facts v.events t = ap (λ l. port_facts l t) k.events in
+    let f = record (facts v t) { had = had_by v.back t ++ a.reply ∷ [] } in
+    let st : Stays f (facts v' t) = record {
+      fed = ap (λ (p : PortFacts). p.fed) here.port_is ∙ ap (λ (p : PortFacts). p.fed) port_same;
+      given = ap (λ (p : PortFacts). p.given) here.port_is ∙ ap (λ (p : PortFacts). p.given) port_same;
+      asked = here.asked ∙ (λ i. asked_by (k.posted i) t);
+      had = here.had ∙ ap (λ l. had_by l t) k.back ∙ had_here v.back a t refl;
+      state = here.state;
+    } in
+    let closed = closed_starved (facts v t) (facts v' t) run.running.s (v.piece t) a.reply run.running.served st (ap (λ (p : PortFacts). p.shut) here.port_is) in
+    let before : (j : ℕ) → t ≢ j → IsConsistent (facts u j) = λ j ne. subst IsConsistent (sym (taken_elsewhere v u a None k j ne)) (h.each j) in
+    let l = u.events in let len = length-with u.sessions t causes.NoMemory in let one = count_same l (was.Shut t) refl in record {
+      each = close_all u v' t causes.NoMemory (was.Shut t) (record (port_facts l t) { shut = true }) c (apart_shut t) here (ap (λ (p : PortFacts). p.opened) port_same ∙ run.opened) closed before;
+      rising = subst Rises (sym c.sessions) (rises_with u.sessions t causes.NoMemory (subst Rises (sym k.sessions) h.rising));
+      counted = subst (λ (y : List PortRecord × List (ℕ × EndCause)). IsCounted y.0 y.1 unopened) (λ i. (sym c.events i, sym c.sessions i))
+          (subst (λ (y : ℕ × ℕ). (y.1 ≤ y.0) × (unopened ≡ min (y.0 - y.1) (2 ^ 64 - 1))) (λ i. (sym one i, sym len i))
+          (subst (λ (y : List PortRecord × List (ℕ × EndCause)). IsCounted y.0 y.1 unopened) (λ i. (sym k.events i, sym k.sessions i)) h.counted));
+      at_end = ap has_ended c.events ∙ ended_same l (was.Shut t) refl ∙ ap has_ended k.events ∙ h.at_end;
+      accepts = subst AcceptsOnlyOpen (sym c.events) (accepts_more l (was.Shut t) (subst AcceptsOnlyOpen (sym k.events) h.accepts) tt);
+    }
+
+pub starved_goes_on : {P : Type 0} (tells : P → Bool) (events : P → List PortRecord) (old mid new : Worker P) (a : Answered) (s : SessionState) → KeepsRest old mid → TakesBack old.worker_end mid.worker_end a → IsServing tells events old → session_of old.book a.session ≡ Some s → SettlesOldest old.book mid.book a None → Shuts tells events mid new a.session causes.NoMemory → GoesOn tells events old new
+starved_goes_on tells events old mid new a s k b h open_is r c =
+    let steady : IsSteady mid.worker_end mid.request mid.book = subst (λ (q : Option Posted). IsSteady mid.worker_end q mid.book) (sym k.request) (steady_taken old.worker_end mid.worker_end old.request old.book mid.book a h.steady b (ap (λ (x : BookState). x.posted) r.rest) (ap (λ (x : BookState). x.unsettled) r.rest)) in
+    let same = same_end mid new c.closes.end in record {
+      tells_as = c.tells_as ∙ ap tells k.port;
+      same_end = record { exchange = same.exchange ∙ b.same.exchange; worker = same.worker ∙ b.same.worker };
+      serving = record {
+        steady = steady_closed mid new a.session causes.NoMemory c.closes steady;
+        strangers = c.closes.strangers ∙ k.strangers ∙ h.strangers;
+        told = λ e.
+            let mid_tells = sym c.tells_as ∙ e in let e' = sym (ap tells k.port) ∙ mid_tells in let was_told = h.told e' in
+            let rising : Rises mid.sessions.items = subst Rises (λ i. (sym k.sessions i).items) was_told.rising in
+            subst (λ (y : ℕ × Bool). IsTold (run_view events new) y.0 y.1) (λ i. (sym (c.closes.unopened ∙ k.unopened) i, sym (c.closes.ended ∙ k.ended) i))
+            (told_starved (run_view events old) (run_view events mid) (run_view events new) old.unopened old.ended a s was_told open_is (taken_in events old mid a None k b r.only_at) (closes_in events mid new a.session causes.NoMemory (was.Shut a.session) c.closes rising (c.port mid_tells)));
+      };
+    }

@@ -1,0 +1,37 @@
+use Rattle.std.proofs.Common.{◌≡◌, ℕ, ◌+◌, ◌<◌, List, length, get_or, refl, sym, ap, subst, ◌∙◌, arith}
+use Rattle.std.proofs.lemmas.List.{get_or_default}
+use Rattle.exchange.specs.Ends.{WorkerView}
+use Rattle.session_book.specs.declared.limits.TheConstants.{MAX_POSTS}
+use Rattle.session_book.specs.declared.causes.EndCause.{EndCause}
+use Rattle.worker.specs.Places.{piece_of}
+use Rattle.worker.proofs.AskSteps.{goes_on_trans}
+use Rattle.worker.proofs.DrainSteps.{EmptiedBelow, emptied_more}
+use Rattle.worker.proofs.run.has_drained.Goals as goal
+
+pub loop-place-preserved : goal.loop-place-preserved
+loop-place-preserved g c =
+    let i = c.loop-place.invariant in let e = c.is_emptied.ensures in let yes = c.if-not-is_emptied.false in let still = e.still yes in
+    let w = c.loop-place.worker in let new = c.is_emptied.new.worker in let xs = w.sessions.items in let x = c.index.result.now in let n = c.loop-place.place in
+    let lt : n < length xs = omega (arith, ap (length {A = ℕ × EndCause}) i.sessions, c.len-place-end.ensures, c.loop-place-test.true) in
+    let same : new.sessions.items ≡ xs = λ j. (still.sessions j).items in record {
+      goes_on = goes_on_trans g.P.Port.tells g.P.Port.events c.args.worker.now w new i.goes_on e.goes_on;
+      request = still.request ∙ i.request;
+      back = ap (λ (v : WorkerView). length v.back) still.end ∙ i.back ∙ sym (ap (λ (v : WorkerView). length v.sent) still.end);
+      few = subst (λ (v : WorkerView). length v.sent < MAX_POSTS) (sym still.end) i.few;
+      pieces = λ s. ap (λ p. piece_of p s) still.pieces ∙ i.pieces s;
+      ended = still.ended ∙ i.ended;
+      sessions = same ∙ i.sessions;
+      emptied = subst (λ (ys : List (ℕ × EndCause)). EmptiedBelow new.book ys (n + 1)) (sym same)
+          (emptied_more w.book new.book xs n x.0 x.1 i.emptied (λ d. get_or_default xs n d x lt ∙ sym c.index.ensures) still.others (e.emptied yes));
+    }
+
+pub returns-clause-drained : goal.returns-clause-drained
+returns-clause-drained g c =
+    λ done.
+    let i = c.loop-place.invariant in record {
+      ended = i.ended;
+      request = i.request;
+      back = i.back;
+      pieces = i.pieces;
+      emptied = λ k d lt e s q. i.emptied k d (omega (arith, lt, ap (length {A = ℕ × EndCause}) i.sessions, c.len-place-end.ensures, c.loop-place-test.false)) e s q;
+    }

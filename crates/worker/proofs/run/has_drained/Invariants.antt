@@ -1,0 +1,18 @@
+use Rattle.std.proofs.Common.{◌≡◌, ℕ, ◌<◌, List, [], length, true, None}
+use Rattle.session_book.specs.declared.limits.TheConstants.{MAX_POSTS}
+use Rattle.worker.specs.Places.{piece_of}
+use Rattle.worker.specs.Workers.{GoesOn}
+use Rattle.worker.proofs.DrainSteps.{EmptiedBelow}
+use Rattle.worker.proofs.run.has_drained.Given as goal
+
+abbrev pub invariant-loop-place : goal.invariant-loop-place
+invariant-loop-place g l = record {
+  goes_on : GoesOn g.P.Port.tells g.P.Port.events l.fn.worker l.worker;
+  request : l.worker.request ≡ None;
+  back : length l.worker.worker_end.back ≡ length l.worker.worker_end.sent;
+  few : length l.worker.worker_end.sent < MAX_POSTS;
+  pieces : (s : ℕ) → piece_of l.worker.pieces s ≡ [];
+  ended : l.worker.ended ≡ true;
+  sessions : l.worker.sessions.items ≡ l.initial.worker.sessions.items;
+  emptied : EmptiedBelow l.worker.book l.worker.sessions.items l.place;
+}

@@ -1,0 +1,152 @@
+-- What a worker knows of one session while it runs.
+use Rattle.std.specs.Prelude.{◌≡◌, ℕ, ◌≤◌, ◌⊎◌, ⊤, Bool, true, false, List, [], ◌∷◌, ◌++◌, length, Option, Some, None, ◌==◌, if◌then◌else◌, map, filter}
+use Rattle.std.specs.List.{concat}
+use Rattle.proto.specs.declared.message.Request.{Request}
+use Rattle.proto.specs.declared.message.Reply.{Reply}
+use Rattle.proto.specs.declared.message.Message.{Message}
+use Rattle.proto.specs.declared.history.Posted.{Posted}
+use Rattle.proto.specs.declared.history.Answered.{Answered}
+use Rattle.proto.specs.Reading.{SpellEach, EndsAtLast, asks}
+use Rattle.proto.specs.Answers.{said}
+use Rattle.exchange.specs.Beginnings.{StartsWith}
+use Rattle.session_book.specs.declared.causes.EndCause.{EndCause}
+use Rattle.session_book.specs.declared.causes.EndCause.TheVariants as causes
+use Rattle.session_book.specs.Session.{SessionState, ended_by}
+use Rattle.session_book.specs.Book.{BookState, session_of}
+use Rattle.session_book.specs.Accounts.{HasRead, HasSaid}
+use Rattle.worker.specs.declared.port.PortRecord.{PortRecord}
+use Rattle.worker.specs.Ports.{fed, given, was_opened, has_gone, was_shut}
+
+-- what the port's list says of a session
+pub record PortFacts : Type 0 where
+  pub opened : Bool
+  pub gone : Bool
+  pub shut : Bool
+  pub fed : List ℕ
+  pub given : List ℕ
+
+abbrev pub port_facts : List PortRecord → ℕ → PortFacts
+port_facts events s =
+    record { opened = was_opened s events; gone = has_gone s events; shut = was_shut s events; fed = fed s events; given = given s events }
+
+-- the requests that were posted for a session
+abbrev pub asked_by : List Posted → ℕ → List Request
+asked_by posted s = map (λ (p : Posted). p.request) (filter (λ (p : Posted). p.session == s) posted)
+
+-- the replies that came back for a session
+abbrev pub had_by : List Answered → ℕ → List Reply
+had_by back s = map (λ (a : Answered). a.reply) (filter (λ (a : Answered). a.session == s) back)
+
+-- the cause that stands at a session's place in the report
+abbrev pub cause_of : List (ℕ × EndCause) → ℕ → Option EndCause
+cause_of [] s = None
+cause_of (e ∷ sessions) s = if e.0 == s then Some e.1 else cause_of sessions s
+
+-- What is known of a session: what the port's list says of it; the requests that were posted for it, or are
+-- held to be; the replies that came back; its place in the report; its state in the book, while it is open;
+-- and the piece of input that is held until it fits.
+pub record SessionFacts : Type 0 where
+  pub port : PortFacts
+  pub asked : List Request
+  pub had : List Reply
+  pub cause : Option EndCause
+  pub state : Option SessionState
+  pub piece : List ℕ
+
+-- nothing came of the session and nothing was done for it
+pub record IsUntouched (f : SessionFacts) : Type 0 where
+  pub fed : f.port.fed ≡ []
+  pub given : f.port.given ≡ []
+  pub gone : f.port.gone ≡ false
+  pub shut : f.port.shut ≡ false
+  pub asked : f.asked ≡ []
+  pub had : f.had ≡ []
+  pub state : f.state ≡ None
+  pub piece : f.piece ≡ []
+
+-- the session was shut at once, as there was no room for it
+pub record IsUnopened (f : SessionFacts) : Type 0 where
+  pub given : f.port.given ≡ []
+  pub shut : f.port.shut ≡ true
+  pub asked : f.asked ≡ []
+  pub state : f.state ≡ None
+
+-- The session was fed all bytes that came, but for those held back; messages were read and asked, and their
+-- answers given or put out, as its state says.
+pub record IsServed (held : List ℕ) (f : SessionFacts) (s : SessionState) : Type 0 where
+  pub bytes : List ℕ
+  pub messages : List Message
+  pub fed : f.port.fed ≡ bytes ++ held
+  pub has_read : HasRead bytes messages s
+  pub has_said : HasSaid messages f.had f.port.given s
+  pub asked : f.asked ≡ asks messages
+
+-- the session is open at the port and in the book
+pub record IsRunning (f : SessionFacts) : Type 0 where
+  pub gone : f.port.gone ≡ false
+  pub shut : f.port.shut ≡ false
+  pub s : SessionState
+  pub state : f.state ≡ Some s
+  pub served : IsServed f.piece f s
+
+-- b begins with spellings of the messages, and rest is behind them
+pub record BeginsWith (b : List ℕ) (messages : List Message) (rest : List ℕ) : Type 0 where
+  pub pieces : List (List ℕ)
+  pub whole : b ≡ concat pieces ++ rest
+  pub spelled : SpellEach pieces messages
+  pub ends_at_last : EndsAtLast messages
+
+-- all was answered and given before the session was shut with a cause that it read itself
+abbrev pub IsWhole : SessionFacts → List Message → EndCause → Type 0
+IsWhole f messages cause =
+    (f.port.given ≡ said messages f.had) × (length (asks messages) ≤ length f.had) × (ended_by None messages ≡ Some cause)
+
+-- why the session was closed
+abbrev pub IsCaused : SessionFacts → List Message → EndCause → Type 0
+IsCaused f messages causes.Drained = ⊥
+IsCaused f messages causes.Quit = (f.port.shut ≡ true) × IsWhole f messages causes.Quit
+IsCaused f messages causes.Fatal = (f.port.shut ≡ true) × IsWhole f messages causes.Fatal
+IsCaused f messages causes.Gone = f.port.gone ≡ true
+IsCaused f messages causes.NoMemory = f.port.shut ≡ true
+
+-- the session is closed: some first messages were read and asked, and a beginning of their answers was given
+pub record IsClosed (f : SessionFacts) (cause : EndCause) : Type 0 where
+  pub messages : List Message
+  pub rest : List ℕ
+  pub read : BeginsWith f.port.fed messages rest
+  pub asked : f.asked ≡ asks messages
+  pub said : StartsWith (said messages f.had) f.port.given
+  pub caused : IsCaused f messages cause
+  pub over : (f.port.gone ≡ true) ⊎ (f.port.shut ≡ true)
+  pub state : f.state ≡ None
+
+-- what is known of a session, by whether it was opened and by its place in the report
+abbrev pub IsPlaced : SessionFacts → Option EndCause → Type 0
+IsPlaced f None = IsUnopened f
+IsPlaced f (Some causes.Drained) = IsRunning f
+IsPlaced f (Some causes.Quit) = IsClosed f causes.Quit
+IsPlaced f (Some causes.Fatal) = IsClosed f causes.Fatal
+IsPlaced f (Some causes.Gone) = IsClosed f causes.Gone
+IsPlaced f (Some causes.NoMemory) = IsClosed f causes.NoMemory
+
+abbrev pub IsKnownAs : Bool → Option EndCause → SessionFacts → Type 0
+IsKnownAs false cause f = IsUntouched f × (cause ≡ None)
+IsKnownAs true cause f = IsPlaced f cause
+
+pub record IsConsistent (f : SessionFacts) : Type 0 where
+  pub known : IsKnownAs f.port.opened f.cause f
+
+-- What the facts of all sessions are read from: the port's list, the requests posted, or held to be, the answers
+-- that came back, the report, the book, and the pieces of input that are held.
+pub record RunView : Type 0 where
+  pub events : List PortRecord
+  pub posted : List Posted
+  pub back : List Answered
+  pub sessions : List (ℕ × EndCause)
+  pub book : BookState
+  pub piece : ℕ → List ℕ
+
+-- what is known of a session
+abbrev pub facts : RunView → ℕ → SessionFacts
+facts v s =
+    record { port = port_facts v.events s; asked = asked_by v.posted s; had = had_by v.back s; cause = cause_of v.sessions s; state = session_of v.book s; piece = v.piece s }

@@ -1,0 +1,176 @@
+-- What stays true of a worker while it runs.
+use Rattle.std.specs.Prelude.{◌≡◌, ℕ, ◌+◌, ◌-◌, ◌^◌, ◌<◌, ◌≤◌, slice_index_or, ◌⊎◌, ⊤, Bool, true, false, List, [], ◌∷◌, ◌++◌, length, map, take, drop, min, Option, Some, None, ◌==◌, if◌then◌else◌}
+use Rattle.std.specs.Option.{option_to_list, option_map}
+use Rattle.proto.specs.declared.history.Posted.{Posted}
+use Rattle.proto.specs.declared.history.Answered.{Answered}
+use Rattle.proto.specs.History.{asked_posted}
+use Rattle.exchange.specs.Ends.{WorkerView}
+use Rattle.session_book.specs.declared.causes.EndCause.{EndCause}
+use Rattle.session_book.specs.declared.causes.Unsettled.{Unsettled}
+use Rattle.session_book.specs.declared.causes.EndCause.TheVariants as causes
+use Rattle.session_book.specs.Session.{SessionState, new_session, fed, finished_by, Stops}
+use Rattle.session_book.specs.Book.{BookState, session_of, Changes, OnlyAt, GivesNone}
+use Rattle.worker.specs.declared.port.PortRecord.{PortRecord}
+use Rattle.worker.specs.declared.port.PortRecord.TheVariants as was
+use Rattle.worker.specs.declared.worker.Worker.{Worker}
+use Rattle.worker.specs.Ports.{has_ended, opened_count, is_open, AcceptsOnlyOpen}
+use Rattle.worker.specs.Sessions.{RunView, facts, IsConsistent}
+use Rattle.worker.specs.Places.{Rises, with_cause, piece_of}
+
+-- the requests that were sent, and the one that is held
+abbrev pub posted_by : WorkerView → Option Posted → List Posted
+posted_by end request = end.sent ++ option_to_list request
+
+-- a held request has the number after those that were sent
+abbrev pub IsNumbered : WorkerView → Option Posted → Type 0
+IsNumbered end None = ⊤
+IsNumbered end (Some p) = p.number ≡ length end.sent + 1
+
+abbrev pub unsettled_of : Posted → Unsettled
+unsettled_of p = record { number = p.number; session = p.session }
+
+-- The end and the book agree: the book's unsettled requests are those posted that didn't come back.
+pub record IsSteady (end : WorkerView) (request : Option Posted) (book : BookState) : Type 0 where
+  pub running : end.said_bye ≡ false
+  pub posted : book.posted ≡ length (posted_by end request)
+  pub numbered : IsNumbered end request
+  pub unsettled : book.unsettled ≡ map unsettled_of (drop (length end.back) (posted_by end request))
+  pub back : asked_posted end.back ≡ take (length end.back) end.sent
+
+-- the sessions in the report and those unopened are those that the list opens; the count stays at the greatest
+-- number
+abbrev pub IsCounted : List PortRecord → List (ℕ × EndCause) → ℕ → Type 0
+IsCounted events sessions unopened =
+    (length sessions ≤ opened_count events) × (unopened ≡ min (opened_count events - length sessions) (2 ^ 64 - 1))
+
+-- All that is known where the port tells its list.
+pub record IsTold (v : RunView) (unopened : ℕ) (ended : Bool) : Type 0 where
+  pub each : (s : ℕ) → IsConsistent (facts v s)
+  pub rising : Rises v.sessions
+  pub counted : IsCounted v.events v.sessions unopened
+  pub at_end : has_ended v.events ≡ ended
+  pub accepts : AcceptsOnlyOpen v.events
+
+abbrev pub run_view : {P : Type 0} → (P → List PortRecord) → Worker P → RunView
+run_view events w =
+    record { events = events w.port; posted = posted_by w.worker_end w.request; back = w.worker_end.back; sessions = w.sessions.items; book = w.book; piece = piece_of w.pieces }
+
+-- what stays true of a worker over a port
+pub record IsServing {P : Type 0} (tells : P → Bool) (events : P → List PortRecord) (w : Worker P) : Type 0 where
+  pub steady : IsSteady w.worker_end w.request w.book
+  pub strangers : w.strangers ≡ 0
+  pub told : tells w.port ≡ true → IsTold (run_view events w) w.unopened w.ended
+
+-- it is the same end, later
+pub record IsSameEnd (old new : WorkerView) : Type 0 where
+  pub exchange : new.exchange ≡ old.exchange
+  pub worker : new.worker ≡ old.worker
+
+-- the worker went on
+pub record GoesOn {P : Type 0} (tells : P → Bool) (events : P → List PortRecord) (old new : Worker P) : Type 0 where
+  pub tells_as : tells new.port ≡ tells old.port
+  pub same_end : IsSameEnd old.worker_end new.worker_end
+  pub serving : IsServing tells events new
+
+-- Of a worker only the port and what it knows of this session change: it is no longer in the book, no piece of it
+-- is held, and the cause stands at its place.
+pub record Closes {P : Type 0} (old new : Worker P) (session : ℕ) (cause : EndCause) : Type 0 where
+  pub end : new.worker_end ≡ old.worker_end
+  pub request : new.request ≡ old.request
+  pub book : Changes old.book new.book session None
+  pub pieces : (s : ℕ) → piece_of new.pieces s ≡ (if s == session then [] else piece_of old.pieces s)
+  pub sessions : Rises old.sessions.items → new.sessions.items ≡ with_cause old.sessions.items session cause
+  pub unopened : new.unopened ≡ old.unopened
+  pub strangers : new.strangers ≡ old.strangers
+  pub ended : new.ended ≡ old.ended
+
+-- the session is shut at the port, and closed
+pub record Shuts {P : Type 0} (tells : P → Bool) (events : P → List PortRecord) (old new : Worker P) (session : ℕ) (cause : EndCause) : Type 0 where
+  pub tells_as : tells new.port ≡ tells old.port
+  pub port : tells old.port ≡ true → events new.port ≡ events old.port ++ was.Shut session ∷ []
+  pub closes : Closes old new session cause
+
+-- the session is in the book, so it is open at a port that tells
+abbrev pub IsOpenAt : {P : Type 0} → (P → Bool) → (P → List PortRecord) → P → ℕ → Type 0
+IsOpenAt tells events port session = tells port ≡ true → is_open session (events port) ≡ true
+
+-- A session was just opened: it has a place in the report and is in the book; or it is shut and counted.
+pub record Admits {P : Type 0} (tells : P → Bool) (events : P → List PortRecord) (old new : Worker P) (session : ℕ) : Type 0 where
+  pub port : new.port ≡ old.port
+  pub sessions : new.sessions.items ≡ old.sessions.items ++ (session, causes.Drained) ∷ []
+  pub book : OnlyAt old.book new.book session (Some new_session)
+  pub counts : (new.book.posted ≡ old.book.posted) × (new.book.unsettled ≡ old.book.unsettled)
+  pub unopened : new.unopened ≡ old.unopened
+
+pub record Refuses {P : Type 0} (tells : P → Bool) (events : P → List PortRecord) (old new : Worker P) (session : ℕ) : Type 0 where
+  pub tells_as : tells new.port ≡ tells old.port
+  pub port : tells old.port ≡ true → events new.port ≡ events old.port ++ was.Shut session ∷ []
+  pub sessions : new.sessions.items ≡ old.sessions.items
+  pub book : new.book ≡ old.book
+  pub unopened : new.unopened ≡ min (old.unopened + 1) (2 ^ 64 - 1)
+
+-- what doesn't change when a session is opened
+pub record SameRest {P : Type 0} (old new : Worker P) : Type 0 where
+  pub end : new.worker_end ≡ old.worker_end
+  pub request : new.request ≡ old.request
+  pub pieces : new.pieces ≡ old.pieces
+  pub strangers : new.strangers ≡ old.strangers
+  pub ended : new.ended ≡ old.ended
+
+-- the rest of the worker
+pub record Leaves {P : Type 0} (old new : Worker P) : Type 0 where
+  pub end : new.worker_end ≡ old.worker_end
+  pub request : new.request ≡ old.request
+  pub sessions : new.sessions.items ≡ old.sessions.items
+  pub unopened : new.unopened ≡ old.unopened
+  pub strangers : new.strangers ≡ old.strangers
+  pub ended : new.ended ≡ old.ended
+
+-- the piece is held, and nothing else changes but for a pause
+pub record Holds {P : Type 0} (tells : P → Bool) (events : P → List PortRecord) (old : Worker P) (session : ℕ) (bytes : List ℕ) (new : Worker P) : Type 0 where
+  pub book : new.book ≡ old.book
+  pub tells_as : tells new.port ≡ tells old.port
+  pub port : tells old.port ≡ true → events new.port ≡ events old.port
+  pub pieces : (t : ℕ) → piece_of new.pieces t ≡ (if t == session then bytes else piece_of old.pieces t)
+  pub leaves : Leaves old new
+
+-- A piece of input came: it is fed, or held, or its session is shut for want of memory; a session that isn't
+-- open drops it.
+pub data Receives {P : Type 0} (tells : P → Bool) (events : P → List PortRecord) (old : Worker P) (session : ℕ) (bytes : List ℕ) (new : Worker P) : Type 0 where
+  feeds : piece_of old.pieces session ≡ [] → Changes old.book new.book session (option_map (λ s. fed s bytes) (session_of old.book session)) → new.port ≡ old.port → new.pieces ≡ old.pieces → Leaves old new → Receives tells events old session bytes new
+  holds : piece_of old.pieces session ≡ [] → Holds tells events old session bytes new → Receives tells events old session bytes new
+  shuts : Shuts tells events old new session causes.NoMemory → Receives tells events old session bytes new
+  drops : session_of old.book session ≡ None → new.book ≡ old.book → new.port ≡ old.port → new.pieces ≡ old.pieces → Leaves old new → Receives tells events old session bytes new
+
+-- The session was asked and gave no request; nothing else of the worker changed but what was read of it.
+pub record IsQuiet {P : Type 0} (old new : Worker P) (session : ℕ) : Type 0 where
+  pub end : new.worker_end ≡ old.worker_end
+  pub request : new.request ≡ old.request
+  pub pieces : new.pieces ≡ old.pieces
+  pub sessions : new.sessions ≡ old.sessions
+  pub ended : new.ended ≡ old.ended
+  pub others : (s : ℕ) → (s ≡ session → ⊥) → session_of new.book s ≡ session_of old.book s
+  pub here : (s : SessionState) → session_of new.book session ≡ Some s → GivesNone old.book s
+
+-- nothing of the worker changes but what the book has of this session, where it is still open
+pub record IsStill {P : Type 0} (old new : Worker P) (session : ℕ) (cause : EndCause) : Type 0 where
+  pub end : new.worker_end ≡ old.worker_end
+  pub request : new.request ≡ old.request
+  pub pieces : new.pieces ≡ old.pieces
+  pub sessions : new.sessions ≡ old.sessions
+  pub ended : new.ended ≡ old.ended
+  pub others : (s : ℕ) → (s ≡ session → cause ≡ causes.Drained → ⊥) → session_of new.book s ≡ session_of old.book s
+
+-- the session has no output, hasn't finished, and reads no further
+pub record IsEmptied (s : SessionState) : Type 0 where
+  pub out : s.out ≡ []
+  pub unfinished : finished_by s ≡ None
+  pub stops : Stops s
+
+-- nothing is held or outstanding, and each session that is still open is emptied
+pub record IsDrained {P : Type 0} (w : Worker P) : Type 0 where
+  pub ended : w.ended ≡ true
+  pub request : w.request ≡ None
+  pub back : length w.worker_end.back ≡ length w.worker_end.sent
+  pub pieces : (s : ℕ) → piece_of w.pieces s ≡ []
+  pub emptied : (k : ℕ) (d : ℕ × EndCause) → k < length w.sessions.items → (slice_index_or w.sessions.items k d).1 ≡ causes.Drained → (s : SessionState) → session_of w.book (slice_index_or w.sessions.items k d).0 ≡ Some s → IsEmptied s

@@ -1,7 +1,7 @@
 -- The plain reader of a line finds what the line says, and nothing where it says nothing.
-use Rattle.std.proofs.Common.{◌≡◌, ℕ, ◌^◌, ◌<◌, Bool, true, false, cond, eqb, not, List, [], ◌∷◌, length, Option, Some, None, Ok, Result, refl, sym, ap, subst, ◌∙◌, arith, inl, inr, lt-ltb, lit≤}
-use Rattle.std.specs.Prelude.{◌⊎◌, bytes_eq, codes, decimal, nat_lt, MatchOption}
-use Rattle.std.specs.List.{AllPass, All}
+use Rattle.std.proofs.Common.{◌≡◌, ℕ, ◌^◌, ◌<◌, true, false, cond, eqb, not, List, [], ◌∷◌, length, Option, Some, None, Ok, Result, refl, sym, ap, subst, ◌∙◌, arith, inl, inr, lt-ltb, lit≤}
+use Rattle.std.specs.Prelude.{bytes_eq, codes, decimal, nat_lt, MatchOption}
+use Rattle.std.specs.List.{AllPass}
 use Rattle.std.specs.Result.{result_ok}
 use Rattle.std.proofs.lemmas.Bool.{eqb-false, not-true, false≢true, ne_eqb, ltb-true as lt_from_test}
 use Rattle.std.proofs.lemmas.List.Elements.{All-head, All-tail}

@@ -1,13 +1,13 @@
 -- Segments without a live item become free, one after the other.
 use Rattle.std.proofs.Common.{◌≡◌, ℕ, zero, suc, ◌+◌, ◌<◌, ◌≤◌, Bool, true, false, cond, List, [], ◌∷◌, ◌++◌, length, get_or, take, Option, Some, None, refl, sym, ap, subst, ◌∙◌, arith, add-one, append-nil, append_assoc}
-use Rattle.std.specs.Prelude.{filter, not, nat_lt, if◌then◌else◌, All, count_by, replicate}
-use Rattle.std.specs.List.{list_any, fold}
+use Rattle.std.specs.Prelude.{filter, not, nat_lt, if◌then◌else◌, All, count_by}
+use Rattle.std.specs.List.{list_any}
 use Rattle.std.proofs.Math.ListN.{set}
-use Rattle.std.proofs.lemmas.List.{length-map, length-set, length-append}
+use Rattle.std.proofs.lemmas.List.{length-append}
 use Rattle.std.proofs.lemmas.List.Elements.{filter_more}
 use Rattle.std.proofs.lemmas.List.Sums.{fold_push, count_by_more_yes, count_by_more_no, count_by-le-length, length-filter}
 use Rattle.std.proofs.lemmas.List.{length-take}
-use Rattle.std.proofs.lemmas.Bool.{eq-eqb, lt-ltb, le-ltb}
+use Rattle.std.proofs.lemmas.Bool.{eq-eqb, lt-ltb}
 use Rattle.proto.specs.Sizes.{Sizes}
 use Rattle.segments.specs.declared.segment.Segment.{Segment}
 use Rattle.segments.specs.declared.segment.Opening.{Opening}
@@ -16,7 +16,7 @@ use Rattle.segments.specs.Inside.{used_of, shown, IsKept, alive, dead_in}
 use Rattle.segments.specs.Merges.{without_segments}
 use Rattle.std.specs.Prelude.{is_some}
 use Rattle.segments.specs.Inside.{is_used_at, IsLinked}
-use Rattle.segments.proofs.LinkLemmas.{shown_at, without_at, times-append, times-filter, filter_same, kept_order}
+use Rattle.segments.proofs.LinkLemmas.{shown_at, without_at, times-filter, filter_same, kept_order}
 
 -- the number at a place stands once more in the list than before that place
 pub times_before : (xs : List ℕ) (i d : ℕ) → i < length xs → times (get_or xs i d) (take i xs) + 1 ≤ times (get_or xs i d) xs

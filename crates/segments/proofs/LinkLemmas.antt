@@ -1,6 +1,6 @@
 -- The order of segments, the free list and the tails.
-use Rattle.std.proofs.Common.{◌≡◌, ℕ, zero, suc, ◌+◌, ◌-◌, ◌<◌, ◌≤◌, Bool, true, false, cond, eqb, ltb, List, [], ◌∷◌, ◌++◌, length, get_or, take, drop, map, Option, Some, None, refl, sym, ap, subst, ◌∙◌, arith, inl, inr, add-one, append-nil}
-use Rattle.std.specs.Prelude.{filter, slice_index_or, is_some, nat_lt, not, ◌==◌, if◌then◌else◌, All, option_map}
+use Rattle.std.proofs.Common.{◌≡◌, ℕ, zero, suc, ◌+◌, ◌<◌, ◌≤◌, Bool, true, false, cond, eqb, ltb, List, [], ◌∷◌, ◌++◌, length, get_or, take, Option, Some, None, refl, sym, ap, subst, ◌∙◌, arith, inl, inr, add-one, append-nil}
+use Rattle.std.specs.Prelude.{filter, is_some, nat_lt, not, ◌==◌, if◌then◌else◌, All, option_map}
 use Rattle.std.specs.List.{last_or, range_with_len}
 use Rattle.std.specs.Prelude.{replicate}
 use Rattle.std.proofs.lemmas.Bool.{cases_order}
@@ -8,14 +8,14 @@ use Rattle.std.proofs.lemmas.List.{length-replicate}
 use Rattle.segments.proofs.Counting.{range_more}
 use Rattle.std.specs.Option.{option_map_or}
 use Rattle.std.proofs.Math.ListN.{set}
-use Rattle.std.proofs.lemmas.List.{get_or-map, get_or-set_same, get_or-set_other, length-set, length-append, length-map, get_or_past}
+use Rattle.std.proofs.lemmas.List.{get_or-map, get_or-set_same, get_or-set_other, length-set, length-append, get_or_past}
 use Rattle.std.proofs.lemmas.Option.{none-some}
 use Rattle.std.proofs.lemmas.List.Elements.{filter_more, filter-append, filter_agree}
-use Rattle.std.proofs.lemmas.Bool.{cases_lt, cases_Bool, cases_eq, eq-eqb, ne_eqb, eqb-true, eqb-false, lt-ltb, le-ltb, false≢true}
+use Rattle.std.proofs.lemmas.Bool.{cases_lt, cases_Bool, cases_eq, eq-eqb, ne_eqb, eqb-true, lt-ltb, le-ltb, false≢true}
 use Rattle.segments.specs.declared.segment.Segment.{Segment}
 use Rattle.segments.specs.declared.segment.Opening.{Opening}
 use Rattle.segments.specs.Pools.{Used, times, bucket_count}
-use Rattle.segments.specs.Inside.{used, used_of, shown, is_of, is_used_at, IsLinked, IsKept, IsDated, alive, dead_in}
+use Rattle.segments.specs.Inside.{used, used_of, shown, is_of, is_used_at, IsLinked}
 use Rattle.segments.specs.Merges.{without_segments}
 
 -- ---- the last of a list

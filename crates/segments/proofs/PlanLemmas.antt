@@ -1,23 +1,23 @@
 -- The merge that comes next: its segments, and what becomes of their live items.
-use Rattle.std.proofs.Common.{◌≡◌, ℕ, zero, suc, ◌+◌, ◌-◌, ◌*◌, ◌/◌, ◌%◌, ◌<◌, ◌≤◌, Bool, true, false, cond, eqb, ltb, leb, List, [], ◌∷◌, ◌++◌, length, get_or, take, drop, map, Option, Some, None, refl, sym, ap, subst, ◌∙◌, arith, inl, inr, add-one, append-nil, append_assoc}
-use Rattle.std.specs.Prelude.{filter, All, take_while, if◌then◌else◌, sum_by, not, ◌&&◌, ◌||◌, IsTrue, IsFalse, filter_map, is_some, option_map, nat_le}
+use Rattle.std.proofs.Common.{◌≡◌, ℕ, zero, suc, ◌+◌, ◌-◌, ◌%◌, ◌<◌, ◌≤◌, Bool, true, false, cond, eqb, leb, List, [], ◌∷◌, ◌++◌, length, get_or, take, map, Option, Some, None, refl, sym, ap, subst, ◌∙◌, arith, inl, inr, add-one, append_assoc}
+use Rattle.std.specs.Prelude.{filter, All, take_while, if◌then◌else◌, not, ◌&&◌, IsTrue, is_some, option_map}
 use Rattle.std.specs.List.{last_or}
-use Rattle.std.proofs.lemmas.List.{take_all, take-take, length-take, length-take-le, length-map, map-append}
+use Rattle.std.proofs.lemmas.List.{take_all, take-take, length-take, length-take-le, map-append}
 use Rattle.std.proofs.lemmas.List.Sums.{take_while-cons, sum_by-cons}
 use Rattle.std.proofs.lemmas.List.Elements.{All-cons, All-nil, All-take, All-filter, All-append, All-head, All-tail}
-use Rattle.std.proofs.lemmas.Bool.{cases_Bool, cases_lt, cases_eq, le-leb, lt-leb, false≢true}
+use Rattle.std.proofs.lemmas.Bool.{cases_lt, le-leb, lt-leb}
 use Rattle.std.proofs.lemmas.Option.{none-some}
 use Rattle.segments.specs.declared.place.Place.{Place}
 use Rattle.segments.specs.declared.place.Move.{Move}
 use Rattle.segments.specs.declared.merge.Candidate.{Candidate}
 use Rattle.segments.specs.Items.{Item, item_size, size_of_all, item_at, halved}
-use Rattle.segments.specs.Pools.{PoolState, Plan, Used, Standing, Liveness, lasting, bucket_count, segment_at, item_in, items_of, deadline_in, standing, standing_from, chain, live_standing}
+use Rattle.segments.specs.Pools.{PoolState, Used, Standing, Liveness, lasting, bucket_count, segment_at, item_in, items_of, deadline_in, standing_from, chain}
 use Rattle.std.specs.List.{prefix_len, cons_option}
 use Rattle.std.proofs.lemmas.List.Sums.{sum_by_push}
 use Rattle.segments.specs.Inside.{is_of, IsSound}
 use Rattle.segments.specs.Merges.{kept_items}
 use Rattle.segments.proofs.WalkLemmas.{item_behind}
-use Rattle.segments.specs.Merges.{outranks, Judged, kept_size, AreJudged, moves_into, opened_at, front_of, front, qualifies, distance, IsNext, NoneQualifies, merged_segments, live_items, IsJudged, moved, carried_items, first_of_list, IsPlan}
+use Rattle.segments.specs.Merges.{outranks, Judged, kept_size, AreJudged, moves_into, opened_at, front_of, front, distance, IsNext, NoneQualifies, merged_segments, live_items, carried_items, first_of_list, IsPlan}
 use Rattle.segments.specs.Choosing.{opened_in, same_opening, untailed, front_in, front_at, live_at, live_in, candidate_of, plain, ranks_above, weight, AreChosen, moves_for, IsNextIn, NoneIn}
 
 -- ---- the bucket that comes next

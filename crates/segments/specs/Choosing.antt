@@ -1,5 +1,5 @@
 -- The candidates of a merge: the live items of the segments that become one.
-use Rattle.std.specs.Prelude.{◌≡◌, ℕ, ◌+◌, ◌-◌, ◌<◌, ◌≤◌, ⊤, Bool, false, not, ◌&&◌, ◌||◌, List, [], ◌∷◌, ◌++◌, map, length, take, filter, take_while, sum_by, nat_le, nat_lt, ◌==◌, slice_index_or, if◌then◌else◌, Option, Some, None}
+use Rattle.std.specs.Prelude.{◌≡◌, ℕ, ◌+◌, ◌-◌, ◌<◌, ◌≤◌, ⊤, Bool, false, not, ◌&&◌, ◌||◌, List, [], ◌∷◌, ◌++◌, length, take, filter, take_while, sum_by, nat_le, nat_lt, ◌==◌, slice_index_or, if◌then◌else◌, Option, Some, None}
 use Rattle.std.specs.List.{last_or}
 use Rattle.std.specs.Option.{option_map_or}
 use Rattle.segments.specs.declared.merge.Candidate.{Candidate}

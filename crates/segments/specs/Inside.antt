@@ -1,5 +1,5 @@
 -- The pool that the fields of a `Pool` stand for.
-use Rattle.std.specs.Prelude.{◌≡◌, ℕ, ◌+◌, ◌*◌, ◌/◌, ◌<◌, ◌≤◌, ◌^◌, Bool, false, not, List, [], length, map, filter, nat_lt, ◌==◌, Option, Some, None, option_map, vec_capacity, vec_len, IsTrue, All, is_some, slice_index_or, if◌then◌else◌}
+use Rattle.std.specs.Prelude.{◌≡◌, ℕ, ◌+◌, ◌*◌, ◌/◌, ◌<◌, ◌≤◌, ◌^◌, Bool, false, not, List, [], length, map, filter, nat_lt, ◌==◌, Option, Some, None, option_map, vec_capacity, IsTrue, All, is_some, slice_index_or, if◌then◌else◌}
 use Rattle.std.specs.List.{last_or, list_any}
 use Rattle.std.specs.Option.{option_map_or}
 use Rattle.proto.specs.Sizes.{Sizes, IsGeometry}

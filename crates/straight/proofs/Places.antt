@@ -1,7 +1,6 @@
 -- The place of a session, by a binary search.
-use Rattle.std.proofs.Common.{◌≡◌, ℕ, zero, suc, ◌<◌, ◌≤◌, List, [], ◌∷◌, length, get_or, Result, Ok, Err, refl, sym, ap, ◌∙◌, arith, inl, inr}
-use Rattle.std.specs.Prelude.{All, MatchResult}
-use Rattle.std.specs.List.{HoldsAt, AllWithin}
+use Rattle.std.proofs.Common.{◌≡◌, ℕ, zero, suc, ◌<◌, ◌≤◌, List, [], ◌∷◌, length, get_or, Err, refl, sym, arith, inl, inr}
+use Rattle.std.specs.List.{HoldsAt}
 use Rattle.std.specs.List.Sorted.{IsBinarySearchResult, IsNonDecreasingBy}
 use Rattle.std.specs.Ordering.{nat_cmp, ordering_index}
 use Rattle.std.specs.declared.cmp.Ordering.{Ordering}

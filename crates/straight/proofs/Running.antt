@@ -1,8 +1,8 @@
 -- One more event of a run.
-use Rattle.std.proofs.Common.{◌≡◌, ℕ, zero, suc, ◌+◌, ◌<◌, ◌≤◌, Bool, true, false, cond, eqb, List, [], ◌∷◌, ◌++◌, length, take, get_or, set, map, refl, sym, ap, subst, ◌∙◌, arith, inl, inr, length-append, append_assoc}
-use Rattle.std.specs.Prelude.{All, Contains, flat_map, filter_map, ◌≢◌}
+use Rattle.std.proofs.Common.{◌≡◌, ℕ, zero, suc, ◌<◌, ◌≤◌, Bool, true, false, cond, eqb, List, [], ◌∷◌, ◌++◌, length, take, get_or, set, map, refl, sym, ap, subst, ◌∙◌, arith, inl, inr, length-append}
+use Rattle.std.specs.Prelude.{All, Contains, filter_map, ◌≢◌}
 use Rattle.std.specs.List.{AllByRecursion}
-use Rattle.std.proofs.lemmas.Bool.{cases_lt, cases_eq, eq-eqb, ne_eqb, both_ways, false≢true}
+use Rattle.std.proofs.lemmas.Bool.{cases_lt, cases_eq, eq-eqb, ne_eqb, both_ways}
 use Rattle.std.proofs.lemmas.Grind.{flat_map-append}
 use Rattle.std.proofs.lemmas.List.{append-nil, map-append, length-map, length-take, get_or-map, get_or_append_left, get_or-set_same, get_or-set_other}
 use Rattle.std.proofs.Math.ListN.{length-set}
@@ -19,10 +19,10 @@ use Rattle.script.specs.Events.{newest_after, newest_of, open_after, is_open, Ma
 use Rattle.script.proofs.TrackLemmas.{newest_more, open_more}
 use Rattle.straight.specs.declared.session.Session.{Session}
 use Rattle.straight.specs.Execution.{Execution}
-use Rattle.straight.specs.Sessions.{Setup, LedTo, IsOf, GoesOn, IsServed, ServedBy, Feeds, IsNew}
+use Rattle.straight.specs.Sessions.{Setup, IsOf, GoesOn, IsServed, IsNew}
 use Rattle.straight.specs.declared.replay.SessionOutput.{SessionOutput}
 use Rattle.straight.specs.Replays.{IsAnsweredIn, IsAmong, IsReplay, numbers_of, IsRising, IsFresh, HasRun, FeedsAt, output_of}
-use Rattle.straight.proofs.Histories.{share-append, share_goes_on}
+use Rattle.straight.proofs.Histories.{share_goes_on}
 
 -- ---- what one more event adds
 

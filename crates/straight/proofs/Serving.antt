@@ -1,6 +1,5 @@
 -- What a session was served, message by message.
-use Rattle.std.proofs.Common.{◌≡◌, ℕ, ◌+◌, ◌-◌, ◌<◌, ◌≤◌, Bool, true, false, List, [], ◌∷◌, ◌++◌, length, take, drop, map, Option, Some, None, refl, sym, ap, subst, ◌∙◌, arith, append_assoc, length-append}
-use Rattle.std.specs.List.{concat}
+use Rattle.std.proofs.Common.{◌≡◌, ℕ, ◌+◌, ◌-◌, ◌<◌, ◌≤◌, Bool, true, false, List, [], ◌∷◌, ◌++◌, length, take, drop, Some, None, refl, sym, ap, subst, ◌∙◌, arith, append_assoc}
 use Rattle.std.proofs.Math.Seq.{take-add}
 use Rattle.std.proofs.lemmas.Bool.{both_ways}
 use Rattle.std.proofs.lemmas.List.{append-nil, map-append, length-map, length-take, length-drop, take_all, take-append-drop}
@@ -12,9 +11,9 @@ use Rattle.proto.specs.declared.history.Answered.{Answered}
 use Rattle.proto.specs.Grammar.{Spells, SpellsNone}
 use Rattle.proto.specs.Reading.{ends_session, asks}
 use Rattle.proto.specs.Answers.{answer, is_ask, said}
-use Rattle.proto.specs.History.{session_share, had, asked}
-use Rattle.straight.specs.Execution.{Execution, Executes, Answers}
-use Rattle.straight.specs.Sessions.{Setup, LedTo, IsAnswered, GoesOn, LedOnTo, AnswersNext, AnswersAll, IsServed, ServedBy, Feeds}
+use Rattle.proto.specs.History.{session_share, had}
+use Rattle.straight.specs.Execution.{Execution, Answers}
+use Rattle.straight.specs.Sessions.{Setup, LedTo, IsAnswered, GoesOn, LedOnTo, AnswersNext, AnswersAll, Feeds}
 use Rattle.straight.specs.declared.session.Session.{Session}
 use Rattle.proto.proofs.MessageReader.{spelling_nonempty}
 use Rattle.straight.proofs.MessageLists.{concat_more, spell_more, ends_more, ended_more, asks-append, said_ask, said_other, asks_other}

@@ -1,5 +1,5 @@
 -- What a run of one worker's events gives.
-use Rattle.std.specs.Prelude.{◌≡◌, ℕ, ◌<◌, ◌≤◌, ◌++◌, ◌≢◌, Bool, false, List, [], ◌∷◌, length, map, slice_index, slice_index_or, slice_set, Contains, All, MatchOption, Option}
+use Rattle.std.specs.Prelude.{◌≡◌, ℕ, ◌<◌, ◌≤◌, ◌++◌, ◌≢◌, false, List, [], ◌∷◌, length, map, slice_index, slice_index_or, slice_set, Contains, All, MatchOption, Option}
 use Rattle.std.specs.List.{AllByRecursion}
 use Rattle.proto.specs.declared.message.Message.{Message}
 use Rattle.proto.specs.declared.history.Answered.{Answered}

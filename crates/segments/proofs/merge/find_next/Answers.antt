@@ -1,5 +1,5 @@
-use Rattle.std.proofs.Common.{◌≡◌, ◌+◌, ◌%◌, ◌<◌, ◌≤◌, length, get_or, filter, Bool, None, Some, Option, ℕ, sym, ap, subst, ◌∙◌, arith, refl, vec_capacity}
-use Rattle.segments.specs.Inside.{shown, is_of}
+use Rattle.std.proofs.Common.{◌≡◌, ◌+◌, ◌%◌, ◌<◌, length, get_or, None, sym, ap, ◌∙◌, arith, vec_capacity}
+use Rattle.segments.specs.Inside.{shown}
 use Rattle.segments.specs.Choosing.{front_at}
 use Rattle.segments.proofs.LinkLemmas.{is_none_by}
 use Rattle.segments.proofs.PlanLemmas.{next_more, no_chain}

@@ -1,10 +1,9 @@
-use Rattle.std.proofs.Common.{◌≡◌, ◌+◌, ◌<◌, ◌≤◌, ◌++◌, refl, sym, ap, subst, ◌∙◌, arith, take, get_or, length, true, false}
+use Rattle.std.proofs.Common.{◌≡◌, ◌++◌, refl, sym, subst, ◌∙◌, arith, get_or}
 use Rattle.std.specs.Prelude.{not, count_by}
 use Rattle.std.proofs.lemmas.List.{take_all}
-use Rattle.std.proofs.lemmas.Bool.{not-true}
 use Rattle.segments.specs.Inside.{shown, alive, dead_in, IsKept}
 use Rattle.segments.specs.Merges.{without_segments}
-use Rattle.segments.proofs.FreeingLemmas.{IsFreeing, freeing_none, freeing_long, next_alive, freeing_alive, freeing_dead}
+use Rattle.segments.proofs.FreeingLemmas.{freeing_none, freeing_long, next_alive, freeing_alive, freeing_dead}
 use Rattle.segments.proofs.PoolLemmas.{kept_dated}
 use Rattle.segments.proofs.segment.free_dead.Goals as goal
 use Rattle.segments.proofs.segment.free_dead.Goals.{then-not-has_live, else-not-has_live}

@@ -1,6 +1,4 @@
 use Rattle.std.proofs.Common.{rules}
-use Rattle.std.specs.List.Sorted.{IsBinarySearchResult}
-use Rattle.std.specs.Ordering.{nat_cmp}
 use Rattle.std.proofs.lemmas.List.Sorted.{answers_always}
 use Rattle.straight.specs.declared.session.Session.{Session}
 use Rattle.straight.proofs.Places.{place_found, place_none}

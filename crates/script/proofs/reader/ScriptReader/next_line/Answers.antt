@@ -2,7 +2,7 @@ use Rattle.std.proofs.Common.{◌≡◌, ◌+◌, length, refl, sym, ap, ◌∙�
 use Rattle.std.proofs.Math.ListN.{length-set}
 use Rattle.std.proofs.lemmas.List.{with_items_is}
 use Rattle.script.specs.Lines.{lines_of}
-use Rattle.script.specs.Scripts.{Position, NextHasFault, ReadsLine}
+use Rattle.script.specs.Scripts.{Position, NextHasFault}
 use Rattle.script.proofs.reader.ScriptReader.next_line.Goals as goal
 
 pub returns-in-Err-clause-fault : goal.returns-in-Err-clause-fault

@@ -1,4 +1,4 @@
-use Rattle.std.proofs.Common.{◌≡◌, length, List, Option, None, refl, sym, ap, ◌∙◌}
+use Rattle.std.proofs.Common.{List, Option, None, refl, sym, ap, ◌∙◌}
 use Rattle.std.proofs.lemmas.List.{length-set}
 use Rattle.std.proofs.lemmas.List.Elements.{All-set}
 use Rattle.std.proofs.lemmas.Option.{none-some}
@@ -8,7 +8,7 @@ use Rattle.segments.specs.Pools.{Used}
 use Rattle.segments.specs.Inside.{IsKept}
 use Rattle.segments.specs.Changes.{added, with_item}
 use Rattle.segments.specs.declared.segment.Segment.{Segment}
-use Rattle.segments.proofs.PoolLemmas.{IsOpen, adding, kept_one, add_kept, add_shown, linked_items, changed_shown, items_shown}
+use Rattle.segments.proofs.PoolLemmas.{adding, kept_one, add_kept, add_shown, linked_items, changed_shown, items_shown}
 use Rattle.segments.proofs.pool.Pool.add.Goals as goal
 
 pub invariant_of-self : goal.invariant_of-self

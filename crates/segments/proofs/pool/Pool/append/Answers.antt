@@ -1,14 +1,9 @@
-use Rattle.std.proofs.Common.{◌≡◌, ℕ, ◌+◌, ◌≤◌, ◌/◌, ◌++◌, [], ◌∷◌, Option, Some, None, sym, ap, ◌∙◌, inl, inr, refl}
-use Rattle.std.specs.Prelude.{option_map, option_and_then}
+use Rattle.std.proofs.Common.{◌≡◌, Some, sym, ap, ◌∙◌, inl, inr}
 use Rattle.std.specs.Result.{result_ok}
-use Rattle.std.proofs.Math.ListN.{set}
-use Rattle.std.proofs.lemmas.List.{set-set}
 use Rattle.std.proofs.lemmas.Option.{MatchOption-at_some}
-use Rattle.segments.specs.Items.{Item, item_size, size_of_all, IsStorable}
+use Rattle.segments.specs.Items.{item_size}
 use Rattle.segments.specs.Shown.{item_of}
-use Rattle.segments.specs.declared.place.Place.{Place}
-use Rattle.segments.specs.Pools.{PoolState, Used, segment_at, items_of}
-use Rattle.segments.specs.Changes.{added, with_item, open_tail, HasRoom, IsFull, IsOpened, IsAddedToTail, IsAddedToFree}
+use Rattle.segments.specs.Changes.{IsFull, IsOpened}
 use Rattle.segments.proofs.PoolLemmas.{tail_room, opened_room, added_to_tail, added_to_free}
 use Rattle.segments.proofs.pool.Pool.append.Goals as goal
 use Rattle.segments.proofs.pool.Pool.append.Goals.{in-Some, in-None+in_ok-number-in-None}

@@ -1,14 +1,14 @@
-use Rattle.std.proofs.Common.{◌≡◌, ℕ, ◌+◌, ◌<◌, ◌≤◌, ◌++◌, [], ◌∷◌, length, List, Option, Some, None, refl, sym, ap, subst, ◌∙◌, arith}
-use Rattle.std.specs.Prelude.{IsSome, filter, All}
+use Rattle.std.proofs.Common.{◌≡◌, ℕ, ◌<◌, [], ◌∷◌, length, List, Option, None, refl, sym, ap, subst, ◌∙◌, arith}
+use Rattle.std.specs.Prelude.{filter, All}
 use Rattle.std.proofs.Math.ListN.{set}
 use Rattle.std.proofs.lemmas.List.Elements.{All-filter}
 use Rattle.std.proofs.lemmas.Option.{none-some}
-use Rattle.segments.specs.Pools.{Used, PoolState, segment_at, bucket_count}
-use Rattle.segments.specs.Inside.{pool_of, shown, is_used_at, IsDated}
+use Rattle.segments.specs.Pools.{Used, bucket_count}
+use Rattle.segments.specs.Inside.{shown, is_used_at, IsDated}
 use Rattle.segments.specs.Changes.{cleared}
 use Rattle.segments.specs.declared.segment.Segment.{Segment}
 use Rattle.segments.proofs.LinkLemmas.{AreTails, one_few, without_one}
-use Rattle.segments.proofs.PoolLemmas.{IsClearing, clearing, order_inside, all_dated, dropped}
+use Rattle.segments.proofs.PoolLemmas.{clearing, order_inside, all_dated, dropped}
 use Rattle.segments.proofs.pool.Pool.clear.Goals as goal
 
 pub free_one-requires-clause-in_range : goal.free_one-requires-clause-in_range

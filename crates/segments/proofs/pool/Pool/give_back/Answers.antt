@@ -1,9 +1,9 @@
-use Rattle.std.proofs.Common.{◌≡◌, ℕ, ◌+◌, ◌<◌, ◌≤◌, ◌++◌, [], ◌∷◌, length, List, Option, Some, None, refl, sym, ap, subst, ◌∙◌, arith}
+use Rattle.std.proofs.Common.{◌≡◌, ℕ, ◌<◌, ◌≤◌, ◌++◌, length, List, Option, None, sym, ap, subst, ◌∙◌, arith}
 use Rattle.std.specs.Prelude.{filter, All, not, count_by}
 use Rattle.std.proofs.lemmas.List.Elements.{All-filter}
 use Rattle.std.proofs.lemmas.Option.{none-some}
-use Rattle.segments.specs.Pools.{Used, PoolState, has_live, bucket_count, times}
-use Rattle.segments.specs.Inside.{pool_of, shown, is_used_at, IsDated, dead_in, alive}
+use Rattle.segments.specs.Pools.{bucket_count, times}
+use Rattle.segments.specs.Inside.{shown, is_used_at, IsDated, dead_in, alive}
 use Rattle.segments.specs.Merges.{without_segments}
 use Rattle.segments.specs.Changes.{IsGivenBack, dead_segments}
 use Rattle.segments.specs.declared.segment.Segment.{Segment}

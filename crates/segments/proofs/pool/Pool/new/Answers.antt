@@ -1,11 +1,11 @@
-use Rattle.std.proofs.Common.{◌≡◌, ◌+◌, ◌*◌, ◌/◌, ◌<◌, ◌≤◌, [], length, List, Option, Some, None, ℕ, refl, sym, ap, subst, ◌∙◌, arith}
-use Rattle.std.specs.Prelude.{replicate, vec_capacity, vec_len}
+use Rattle.std.proofs.Common.{◌≡◌, length, List, Option, None, ℕ, ap, ◌∙◌, arith}
+use Rattle.std.specs.Prelude.{replicate}
 use Rattle.std.specs.List.{range_with_len}
 use Rattle.std.proofs.lemmas.List.{length-replicate}
 use Rattle.std.proofs.lemmas.List.Elements.{All-replicate}
 use Rattle.std.proofs.lemmas.Option.{none-some}
-use Rattle.segments.specs.Pools.{Used, bucket_count}
-use Rattle.segments.specs.Inside.{IsKept, IsLinked, free_segment, shown, HasMergeRoom}
+use Rattle.segments.specs.Pools.{Used}
+use Rattle.segments.specs.Inside.{IsKept, free_segment, shown}
 use Rattle.segments.specs.Changes.{new_pool}
 use Rattle.segments.proofs.LinkLemmas.{linked_new}
 use Rattle.segments.proofs.PoolLemmas.{free_kept, shown_free}

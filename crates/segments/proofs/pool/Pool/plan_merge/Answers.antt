@@ -1,11 +1,11 @@
-use Rattle.std.proofs.Common.{◌≡◌, ◌*◌, ◌/◌, ◌<◌, ◌≤◌, [], length, map, get_or, List, Option, Some, None, true, ℕ, refl, sym, ap, subst, ◌∙◌, arith}
-use Rattle.std.specs.Prelude.{All, vec_len}
+use Rattle.std.proofs.Common.{◌≡◌, ◌<◌, ◌≤◌, [], length, map, List, Some, true, ℕ, sym, ap, subst, ◌∙◌, arith}
+use Rattle.std.specs.Prelude.{All}
 use Rattle.std.proofs.lemmas.List.{length-map}
 use Rattle.std.proofs.lemmas.Option.{same_Some}
 use Rattle.segments.specs.Pools.{PoolState, Plan}
 use Rattle.segments.specs.Inside.{pool_of, shown, IsSound, IsKept}
-use Rattle.segments.specs.Merges.{IsPlan, NoneQualifies, planned, unplanned, first_of_list}
-use Rattle.segments.specs.Choosing.{IsNextIn, NoneIn, AreChosen, weight, plain, candidate_of, live_in, moves_for, front_at}
+use Rattle.segments.specs.Merges.{IsPlan, NoneQualifies, planned, unplanned}
+use Rattle.segments.specs.Choosing.{IsNextIn, NoneIn, AreChosen, weight, plain, candidate_of, live_in, moves_for}
 use Rattle.segments.proofs.PoolLemmas.{order_inside}
 use Rattle.segments.proofs.PlanLemmas.{none_is, planned_is, planned_sound, plain_from, first_is, All-front}
 use Rattle.segments.proofs.pool.Pool.plan_merge.Goals as goal

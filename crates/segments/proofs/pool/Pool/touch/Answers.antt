@@ -1,4 +1,4 @@
-use Rattle.std.proofs.Common.{◌≡◌, length, List, Option, None, refl, sym, ap, ◌∙◌}
+use Rattle.std.proofs.Common.{List, Option, None, refl, ap, ◌∙◌}
 use Rattle.std.proofs.lemmas.List.{length-set}
 use Rattle.std.proofs.lemmas.List.Elements.{All-set}
 use Rattle.std.proofs.lemmas.Option.{none-some}
@@ -6,7 +6,7 @@ use Rattle.segments.specs.Pools.{Used}
 use Rattle.segments.specs.Inside.{IsKept}
 use Rattle.segments.specs.Changes.{touched, read_in}
 use Rattle.segments.specs.declared.segment.Segment.{Segment}
-use Rattle.segments.proofs.PoolLemmas.{IsOpen, touching, kept_one, read_kept, read_shown, linked_items, changed_shown}
+use Rattle.segments.proofs.PoolLemmas.{touching, kept_one, read_kept, read_shown, linked_items, changed_shown}
 use Rattle.segments.proofs.pool.Pool.touch.Goals as goal
 
 pub invariant_of-self : goal.invariant_of-self

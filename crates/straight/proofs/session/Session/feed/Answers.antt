@@ -1,4 +1,4 @@
-use Rattle.std.proofs.Common.{◌≡◌, ◌++◌, refl, sym, ◌∙◌, drop, arith}
+use Rattle.std.proofs.Common.{◌≡◌, refl, ◌∙◌, arith}
 use Rattle.straight.proofs.Serving.{behind, fed_going}
 use Rattle.straight.proofs.session.Session.feed.Goals as goal
 

@@ -1,7 +1,6 @@
 -- What reading a session up to its next request leaves true of a worker.
-use Rattle.std.proofs.Common.{◌≡◌, ◌≢◌, ℕ, ◌+◌, ◌-◌, ◌^◌, ◌<◌, ◌≤◌, ◌==◌, Bool, true, false, true≢false, cond, List, [], ◌∷◌, ◌++◌, length, take, drop, min, map, refl, sym, ap, subst, ◌∙◌, append-nil, append_assoc, arith, Option, Some, None, is_some, ◌⊎◌, inl, inr, ⊎_elim, Result, Ok, Err, length-append, get_or}
+use Rattle.std.proofs.Common.{◌≡◌, ◌≢◌, ℕ, ◌+◌, ◌≤◌, ◌==◌, Bool, cond, List, [], ◌∷◌, ◌++◌, length, take, drop, map, refl, sym, ap, subst, ◌∙◌, append-nil, arith, Option, Some, None, Result, Ok, length-append, get_or}
 use Rattle.std.proofs.lemmas.List.{map-append, length-take, drop-append-le}
-use Rattle.std.specs.Option.{option_to_list}
 use Rattle.proto.specs.declared.message.Request.{Request}
 use Rattle.proto.specs.declared.message.Message.{Message}
 use Rattle.proto.proofs.Options.{some_is}
@@ -10,23 +9,20 @@ use Rattle.proto.specs.declared.history.Posted.{Posted}
 use Rattle.proto.specs.declared.history.Answered.{Answered}
 use Rattle.proto.specs.History.{asked_posted}
 use Rattle.proto.specs.Reading.{asks}
-use Rattle.proto.specs.Grammar.{SpellsNone}
 use Rattle.exchange.specs.Ends.{WorkerView}
-use Rattle.session_book.specs.declared.causes.EndCause.{EndCause}
-use Rattle.session_book.specs.declared.causes.EndCause.TheVariants as causes
 use Rattle.session_book.specs.declared.causes.Unsettled.{Unsettled}
 use Rattle.session_book.specs.Session.{SessionState, ReadsOn}
 use Rattle.session_book.specs.Book.{BookState, session_of, NextAsk, GivesNone, given_in, OnlyAt, unsettled_of as unsettled_at}
 use Rattle.worker.specs.declared.port.PortRecord.{PortRecord}
 use Rattle.worker.specs.declared.worker.Worker.{Worker}
-use Rattle.worker.specs.Sessions.{PortFacts, port_facts, SessionFacts, RunView, facts, asked_by, IsConsistent, IsServed}
+use Rattle.worker.specs.Sessions.{port_facts, RunView, facts, asked_by, IsConsistent}
 use Rattle.worker.specs.Places.{piece_of}
-use Rattle.worker.specs.Workers.{posted_by, unsettled_of, IsNumbered, IsSteady, IsTold, run_view, IsServing, IsSameEnd, GoesOn, Shuts}
+use Rattle.worker.specs.Workers.{posted_by, unsettled_of, IsSteady, IsTold, run_view, IsServing, GoesOn}
 use Rattle.worker.proofs.Facts.{asked_here, asked_elsewhere}
-use Rattle.worker.proofs.SessionSteps.{not_both, Runs, runs, is_running, served_read}
+use Rattle.worker.proofs.SessionSteps.{not_both, runs, is_running, served_read}
 use Rattle.worker.proofs.RunViews.{facts_equal, change_at, at_other, at_same}
-use Rattle.worker.proofs.WorkerSteps.{steady_same, same_end, no_memory_goes_on}
-use Rattle.worker.proofs.OutputSteps.{told_within, others_within}
+use Rattle.worker.proofs.WorkerSteps.{steady_same, same_end}
+use Rattle.worker.proofs.OutputSteps.{told_within}
 
 pub goes_on_trans : {P : Type 0} (tells : P → Bool) (events : P → List PortRecord) (a b c : Worker P) → GoesOn tells events a b → GoesOn tells events b c → GoesOn tells events a c
 goes_on_trans tells events a b c h k = record {

@@ -1,10 +1,10 @@
 -- The book's laws that its proofs don't name.
-use Rattle.std.proofs.Common.{◌≡◌, ℕ, ◌+◌, Bool, true, false, true≢false, cond, List, [], ◌∷◌, ◌++◌, length, take, drop, refl, sym, ap, subst, ◌∙◌, append_assoc, append-nil, take-append-drop, arith, Option, Some, None, is_some}
+use Rattle.std.proofs.Common.{◌≡◌, ℕ, true≢false, cond, List, [], ◌++◌, take, drop, refl, sym, ap, ◌∙◌, append_assoc, append-nil, take-append-drop, Option, Some, None, is_some}
 use Rattle.std.specs.List.{concat}
 use Rattle.proto.specs.declared.message.Reply.{Reply}
 use Rattle.proto.specs.declared.message.Message.{Message}
 use Rattle.session_book.specs.declared.causes.EndCause.{EndCause}
-use Rattle.session_book.specs.Session.{SessionState, new_session, fed, gave}
+use Rattle.session_book.specs.Session.{SessionState}
 use Rattle.session_book.specs.Accounts.{HasRead, HasSaid, StartsAccounts, FeedKeeps, GiveKeeps}
 
 pub starts_accounts : StartsAccounts

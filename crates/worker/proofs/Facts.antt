@@ -1,19 +1,16 @@
 -- How the facts of a session grow with the lists that they are read from.
-use Rattle.std.proofs.Common.{◌≡◌, ◌≢◌, ℕ, ◌==◌, Bool, true, false, ◌||◌, cond, eq-eqb, ne_eqb, List, [], ◌∷◌, ◌++◌, map, refl, sym, ap, ◌∙◌, append-nil, Option, Some, None}
+use Rattle.std.proofs.Common.{◌≡◌, ◌≢◌, ℕ, ◌==◌, Bool, true, false, ◌||◌, cond, eq-eqb, ne_eqb, List, [], ◌∷◌, ◌++◌, map, refl, ap, ◌∙◌, append-nil}
 use Rattle.std.specs.List.{filter, list_any, flat_map}
 use Rattle.std.proofs.lemmas.List.{map-append}
 use Rattle.std.proofs.lemmas.Grind.{flat_map-append}
 use Rattle.std.proofs.lemmas.List.Folds.{list_any-append}
 use Rattle.std.proofs.lemmas.List.Elements.{filter-append}
-use Rattle.proto.specs.declared.message.Request.{Request}
-use Rattle.proto.specs.declared.message.Reply.{Reply}
 use Rattle.proto.specs.declared.history.Posted.{Posted}
 use Rattle.proto.specs.declared.history.Answered.{Answered}
-use Rattle.session_book.specs.declared.causes.EndCause.{EndCause}
 use Rattle.worker.specs.declared.port.PortRecord.{PortRecord}
 use Rattle.worker.specs.declared.port.PortRecord.TheVariants.{Opened, Data, Gone, Ended, Accepted, Shut}
 use Rattle.worker.specs.Ports.{fed, fed_by, given, given_by, was_opened, is_opening, has_gone, is_leaving, was_shut, is_shutting}
-use Rattle.worker.specs.Sessions.{PortFacts, port_facts, asked_by, had_by, cause_of}
+use Rattle.worker.specs.Sessions.{PortFacts, port_facts, asked_by, had_by}
 
 or_false : (b : Bool) → (b || false) ≡ b
 or_false true = refl

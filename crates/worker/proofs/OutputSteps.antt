@@ -1,24 +1,24 @@
 -- What giving output, feeding a held piece and closing leave true of a worker.
-use Rattle.std.proofs.Common.{◌≡◌, ◌≢◌, ℕ, ◌+◌, ◌-◌, ◌^◌, ◌<◌, ◌≤◌, ◌==◌, Bool, true, false, true≢false, cond, eq-eqb, ne_eqb, List, [], ◌∷◌, ◌++◌, length, take, drop, min, map, refl, sym, ap, subst, ◌∙◌, append-nil, append_assoc, arith, Option, Some, None, is_some, ◌⊎◌, inl, inr, ⊎_elim, Result, Ok, Err, unwrap_or}
-use Rattle.std.specs.Option.{option_to_list, option_map}
+use Rattle.std.proofs.Common.{◌≡◌, ◌≢◌, ℕ, ◌-◌, ◌^◌, ◌≤◌, ◌==◌, Bool, true, cond, eq-eqb, ne_eqb, List, [], ◌∷◌, ◌++◌, length, take, min, refl, sym, ap, subst, ◌∙◌, append-nil, Option, Some, None, Ok, unwrap_or}
+use Rattle.std.specs.Option.{option_map}
 use Rattle.proto.specs.declared.history.Posted.{Posted}
 use Rattle.exchange.specs.Ends.{WorkerView}
 use Rattle.session_book.specs.declared.causes.EndCause.{EndCause}
 use Rattle.session_book.specs.declared.causes.EndCause.TheVariants as causes
 use Rattle.session_book.specs.Session.{SessionState, fed, gave}
-use Rattle.session_book.specs.Book.{BookState, session_of, out_of, Changes, OnlyAt}
+use Rattle.session_book.specs.Book.{session_of, out_of}
 use Rattle.worker.specs.declared.port.PortRecord.{PortRecord}
 use Rattle.worker.specs.declared.port.PortRecord.TheVariants as was
 use Rattle.worker.specs.declared.worker.Worker.{Worker}
 use Rattle.worker.specs.Ports.{is_open, give_records, has_ended, opened_count, AcceptsOnlyOpen}
-use Rattle.worker.specs.Sessions.{PortFacts, port_facts, SessionFacts, RunView, facts, IsConsistent, IsServed}
-use Rattle.worker.specs.Places.{Rises, piece_of}
-use Rattle.worker.specs.Workers.{posted_by, IsSteady, IsCounted, IsTold, run_view, IsServing, IsSameEnd, GoesOn, Closes, Leaves}
+use Rattle.worker.specs.Sessions.{port_facts, RunView, facts, IsConsistent, IsServed}
+use Rattle.worker.specs.Places.{Rises}
+use Rattle.worker.specs.Workers.{posted_by, IsSteady, IsCounted, IsTold, run_view, IsServing, GoesOn, Closes, Leaves}
 use Rattle.worker.proofs.PlaceLemmas.{either_way}
-use Rattle.worker.proofs.Facts.{about, elsewhere, gone_here, accepted_here}
-use Rattle.worker.proofs.SessionSteps.{Runs, runs, served_fed, served_gave}
-use Rattle.worker.proofs.RunViews.{facts_equal, change_at, at_other, at_same, ended_same, count_same, accepts_more, ClosesIn}
-use Rattle.worker.proofs.WorkerSteps.{steady_same, steady_closed, same_end, told_gone, told_open, told_same, others_same, fact_at, running_on}
+use Rattle.worker.proofs.Facts.{elsewhere, accepted_here}
+use Rattle.worker.proofs.SessionSteps.{runs, served_fed, served_gave}
+use Rattle.worker.proofs.RunViews.{facts_equal, change_at, at_other, at_same, ended_same, count_same, accepts_more}
+use Rattle.worker.proofs.WorkerSteps.{steady_same, steady_closed, same_end, told_gone, told_open, fact_at, running_on}
 
 -- ---- a held piece is fed
 

@@ -1,28 +1,27 @@
 -- What an event of the port leaves true of a worker.
-use Rattle.std.proofs.Common.{◌≡◌, ◌≢◌, ℕ, ◌+◌, ◌-◌, ◌^◌, ◌<◌, ◌≤◌, ◌==◌, Bool, true, false, true≢false, ◌||◌, ◌&&◌, not, cond, eq-eqb, ne_eqb, List, [], ◌∷◌, ◌++◌, length, take, drop, min, map, refl, sym, ap, subst, ◌∙◌, append-nil, append_assoc, arith, Option, Some, None, is_some, ◌⊎◌, inl, inr, ⊎_elim}
+use Rattle.std.proofs.Common.{◌≡◌, ◌≢◌, ℕ, ◌+◌, ◌-◌, ◌^◌, ◌<◌, ◌≤◌, ◌==◌, Bool, true, false, true≢false, ◌||◌, ◌&&◌, not, cond, ne_eqb, List, [], ◌∷◌, ◌++◌, length, min, refl, sym, ap, subst, ◌∙◌, arith, Option, Some, None, is_some, ◌⊎◌, ⊎_elim}
 use Rattle.std.proofs.lemmas.List.{length-append}
-use Rattle.std.specs.Option.{option_to_list, option_map, option_and_then}
+use Rattle.std.specs.Option.{option_and_then}
 use Rattle.proto.specs.declared.history.Posted.{Posted}
 use Rattle.proto.proofs.Options.{some_is}
 use Rattle.exchange.specs.Ends.{WorkerView}
 use Rattle.session_book.specs.declared.causes.EndCause.{EndCause}
 use Rattle.session_book.specs.declared.causes.EndCause.TheVariants as causes
-use Rattle.session_book.specs.Session.{SessionState, new_session, fed, finished_by}
-use Rattle.session_book.specs.Book.{BookState, session_of, Changes, OnlyAt}
+use Rattle.session_book.specs.Session.{SessionState, new_session, finished_by}
+use Rattle.session_book.specs.Book.{BookState, session_of}
 use Rattle.worker.specs.declared.port.PortRecord.{PortRecord}
 use Rattle.worker.specs.declared.port.PortRecord.TheVariants as was
-use Rattle.worker.specs.declared.port.PortEvent.{PortEvent}
 use Rattle.worker.specs.declared.port.PortEvent.TheVariants as event
 use Rattle.worker.specs.declared.worker.Worker.{Worker}
-use Rattle.worker.specs.Ports.{is_open, was_opened, has_gone, was_shut, has_ended, opened_count, AcceptsOnlyOpen, MayCome}
-use Rattle.worker.specs.Sessions.{PortFacts, port_facts, SessionFacts, RunView, facts, cause_of, IsConsistent, IsRunning, IsServed}
-use Rattle.worker.specs.Places.{Rises, with_cause, piece_of}
-use Rattle.worker.specs.Workers.{posted_by, IsSteady, IsCounted, IsTold, run_view, IsServing, IsSameEnd, GoesOn, Closes, Shuts, Leaves, Holds, Receives, feeds, holds, shuts, drops, Admits, Refuses, SameRest}
+use Rattle.worker.specs.Ports.{is_open, was_opened, has_ended, AcceptsOnlyOpen, MayCome}
+use Rattle.worker.specs.Sessions.{PortFacts, port_facts, RunView, facts, cause_of, IsConsistent}
+use Rattle.worker.specs.Places.{Rises, piece_of}
+use Rattle.worker.specs.Workers.{posted_by, IsSteady, IsCounted, IsTold, run_view, IsServing, GoesOn, Closes, Shuts, Leaves, Receives, feeds, holds, shuts, drops, Admits, Refuses, SameRest}
 use Rattle.worker.proofs.PlaceLemmas.{rises_more, rises_with, length-with, cause_more, cause_new}
-use Rattle.worker.proofs.Facts.{about, elsewhere, opened_here, fed_here, gone_here, shut_here}
-use Rattle.worker.proofs.SessionSteps.{Stays, served_came, closed_no_memory, Runs, runs, runs_at_port, untouched, is_running, is_unopened, served_new, opened_if_placed}
+use Rattle.worker.proofs.Facts.{elsewhere, opened_here, fed_here, shut_here}
+use Rattle.worker.proofs.SessionSteps.{Stays, served_came, closed_no_memory, runs, runs_at_port, untouched, is_running, is_unopened, served_new, opened_if_placed}
 use Rattle.worker.proofs.RunViews.{facts_equal, change_at, at_other, at_same, ended_same, ended_now, count_same, count_more, accepts_more, ClosesIn, shuts_here, close_all, apart_shut}
-use Rattle.worker.proofs.WorkerSteps.{steady_same, same_end, told_finished, told_no_memory, told_gone, closes_in, steady_closed, shut_goes_on, told_fed, told_held, told_open, open_here}
+use Rattle.worker.proofs.WorkerSteps.{steady_same, same_end, told_finished, told_gone, closes_in, steady_closed, shut_goes_on, told_fed, told_held, open_here}
 
 bool_false : (b : Bool) → (b ≡ true → ⊥) → b ≡ false
 bool_false true h = absurd (h refl)

@@ -1,11 +1,10 @@
 -- What was read is the beginning of each reading.
-use Rattle.std.proofs.Common.{◌≡◌, ℕ, ◌≤◌, Bool, true, false, List, [], ◌∷◌, ◌++◌, length, refl, sym, ap, ◌∙◌, append_assoc, append-nil, arith, inl, inr}
+use Rattle.std.proofs.Common.{◌≡◌, ℕ, false, List, [], ◌∷◌, ◌++◌, refl, sym, ap, ◌∙◌, append_assoc, append-nil, inl, inr}
 use Rattle.std.specs.List.{concat}
 use Rattle.std.proofs.lemmas.Bool.{cases_Bool, both_ways}
 use Rattle.proto.specs.declared.message.Message.{Message}
-use Rattle.proto.specs.Grammar.{Spells, SpellsNone}
-use Rattle.proto.specs.Reading.{ends_session, SpellEach, EndsAtLast, has_ended, Reads}
-use Rattle.proto.specs.Laws.{HasReading, HasOneReading}
+use Rattle.proto.specs.Grammar.{SpellsNone}
+use Rattle.proto.specs.Reading.{SpellEach, EndsAtLast, has_ended, Reads}
 use Rattle.proto.proofs.GrammarLaws.{has_reading, has_one_reading}
 use Rattle.worker.specs.Sessions.{BeginsWith}
 

@@ -1,5 +1,5 @@
 -- What a worker that has drained reports.
-use Rattle.std.proofs.Common.{◌≡◌, ◌≢◌, ℕ, zero, suc, ◌+◌, ◌-◌, ◌<◌, ◌≤◌, ◌==◌, ◌&&◌, Bool, true, false, true≢false, cond, eq-eqb, ne_eqb, List, [], ◌∷◌, ◌++◌, length, take, drop, min, map, refl, sym, ap, subst, ◌∙◌, append-nil, append_assoc, arith, Option, Some, None, is_some, ◌⊎◌, inl, inr, ⊎_elim, get_or, length-append}
+use Rattle.std.proofs.Common.{◌≡◌, ◌≢◌, ℕ, suc, ◌<◌, ◌==◌, ◌&&◌, Bool, true, false, true≢false, cond, eq-eqb, ne_eqb, List, [], ◌∷◌, ◌++◌, length, map, refl, sym, ap, subst, ◌∙◌, append-nil, arith, Option, Some, None, is_some, get_or}
 use Rattle.std.specs.Prelude.{IsSome}
 use Rattle.std.specs.List.{filter, concat}
 use Rattle.proto.specs.declared.message.Request.{Request}
@@ -10,25 +10,22 @@ use Rattle.proto.specs.declared.history.Posted.{Posted}
 use Rattle.proto.specs.declared.history.Answered.{Answered}
 use Rattle.proto.specs.History.{worker_share, session_share, asked_posted, asked, had}
 use Rattle.proto.specs.Grammar.{SpellsNone}
-use Rattle.proto.specs.Reading.{Reads, asks, has_ended, EndsAtLast, ends_session}
+use Rattle.proto.specs.Reading.{Reads, asks, has_ended, EndsAtLast}
 use Rattle.proto.specs.Answers.{said}
 use Rattle.exchange.specs.Beginnings.{StartsWith, posted_of}
 use Rattle.exchange.specs.Ends.{WorkerView}
 use Rattle.session_book.specs.declared.causes.EndCause.{EndCause}
 use Rattle.session_book.specs.declared.causes.EndCause.TheVariants as causes
-use Rattle.session_book.specs.declared.limits.TheConstants.{MAX_WAITING}
 use Rattle.session_book.specs.Session.{SessionState, left, ended_by, finished_by, Stops, ended, waiting, no_message}
-use Rattle.session_book.specs.Book.{BookState, session_of}
-use Rattle.session_book.specs.Accounts.{HasRead, HasSaid}
-use Rattle.worker.specs.declared.port.PortRecord.{PortRecord}
+use Rattle.session_book.specs.Book.{session_of}
 use Rattle.worker.specs.Ports.{fed, given}
-use Rattle.worker.specs.Sessions.{SessionFacts, RunView, facts, asked_by, had_by, cause_of, IsConsistent, IsKnownAs, IsPlaced, IsClosed, IsCaused, IsRunning, IsServed, IsUnopened, IsUntouched, BeginsWith, IsWhole}
+use Rattle.worker.specs.Sessions.{SessionFacts, RunView, facts, asked_by, had_by, cause_of, IsKnownAs, IsPlaced, IsClosed, IsRunning, IsServed, BeginsWith}
 use Rattle.worker.specs.Workers.{IsEmptied, IsTold}
-use Rattle.worker.specs.Reports.{IsReported, IsAnswered, IsCauseOf, SessionHolds, is_complete}
+use Rattle.worker.specs.Reports.{IsReported, IsCauseOf, is_complete}
 use Rattle.worker.proofs.Answering.{said_further, asks-append, begins_on}
 use Rattle.worker.proofs.Readings.{same_reading, first_of_reading}
 use Rattle.worker.proofs.PlaceLemmas.{either_way}
-use Rattle.worker.proofs.SessionSteps.{not_both, Runs, runs}
+use Rattle.worker.proofs.SessionSteps.{not_both}
 
 -- ---- the share of a session
 

@@ -1,21 +1,15 @@
 -- What changes at one session leaves what is known of the others.
-use Rattle.std.proofs.Common.{◌≡◌, ◌≢◌, ℕ, ◌+◌, ◌-◌, ◌^◌, ◌≤◌, ◌==◌, Bool, true, false, ◌||◌, cond, eq-eqb, ne_eqb, List, [], ◌∷◌, ◌++◌, length, take, refl, sym, ap, subst, ◌∙◌, append-nil, append_assoc, arith, Option, Some, None}
-use Rattle.std.specs.Prelude.{count_by}
-use Rattle.std.specs.List.{list_any, sum_by}
+use Rattle.std.proofs.Common.{◌≡◌, ◌≢◌, ℕ, ◌+◌, ◌==◌, true, false, cond, eq-eqb, ne_eqb, List, [], ◌∷◌, ◌++◌, refl, sym, ap, subst, ◌∙◌, append-nil, append_assoc, arith, Some, None}
+use Rattle.std.specs.List.{sum_by}
 use Rattle.std.proofs.lemmas.List.Sums.{sum_by-append}
-use Rattle.proto.specs.declared.history.Posted.{Posted}
-use Rattle.proto.specs.declared.history.Answered.{Answered}
-use Rattle.proto.specs.declared.message.Request.{Request}
-use Rattle.proto.specs.declared.message.Reply.{Reply}
 use Rattle.session_book.specs.declared.causes.EndCause.{EndCause}
-use Rattle.session_book.specs.Session.{SessionState}
-use Rattle.session_book.specs.Book.{BookState, session_of}
+use Rattle.session_book.specs.Book.{session_of}
 use Rattle.worker.specs.declared.port.PortRecord.{PortRecord}
-use Rattle.worker.specs.declared.port.PortRecord.TheVariants.{Opened, Data, Gone, Ended, Accepted, Shut}
-use Rattle.worker.specs.Ports.{was_opened, has_ended, is_end, opened_count, opens, IsProper, AreProperAfter, AcceptsOnlyOpen}
+use Rattle.worker.specs.declared.port.PortRecord.TheVariants.{Opened, Gone, Ended, Shut}
+use Rattle.worker.specs.Ports.{has_ended, is_end, opened_count, opens, IsProper, AreProperAfter, AcceptsOnlyOpen}
 use Rattle.worker.specs.Sessions.{PortFacts, port_facts, SessionFacts, asked_by, had_by, cause_of, RunView, facts, IsConsistent, IsClosed}
 use Rattle.worker.specs.Places.{with_cause}
-use Rattle.worker.proofs.Facts.{about, elsewhere, shut_here, gone_here, any_more, any_no, any_yes}
+use Rattle.worker.proofs.Facts.{about, elsewhere, shut_here, gone_here, any_no, any_yes}
 use Rattle.worker.proofs.PlaceLemmas.{either_way, cause_apart, cause_here}
 use Rattle.worker.proofs.SessionSteps.{Stays, is_closed}
 

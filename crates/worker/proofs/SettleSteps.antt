@@ -1,13 +1,10 @@
 -- What taking an answer and settling it leaves true of a worker.
-use Rattle.std.proofs.Common.{◌≡◌, ◌≢◌, ℕ, zero, suc, ◌+◌, ◌-◌, ◌^◌, ◌<◌, ◌≤◌, ◌==◌, Bool, true, false, true≢false, cond, eq-eqb, ne_eqb, List, [], ◌∷◌, ◌++◌, length, take, drop, min, map, refl, sym, ap, subst, ◌∙◌, append-nil, append_assoc, arith, Option, Some, None, is_some, ◌⊎◌, inl, inr, ⊎_elim, length-append, get_or}
-use Rattle.std.specs.Prelude.{slice_get, IsSome}
+use Rattle.std.proofs.Common.{◌≡◌, ◌≢◌, ℕ, zero, suc, ◌-◌, ◌^◌, ◌<◌, ◌≤◌, ◌==◌, Bool, true, false, cond, eq-eqb, List, [], ◌∷◌, ◌++◌, length, take, drop, min, map, refl, sym, ap, subst, ◌∙◌, arith, Option, Some, None, length-append}
+use Rattle.std.specs.Prelude.{slice_get}
 use mathlib.Core.Option.{some}
 use lib.ListN.{get_elem?}
-use Rattle.std.proofs.lemmas.List.{map-append, drop-append-le}
 use Rattle.std.specs.List.{filter}
 use Rattle.std.specs.Option.{option_to_list}
-use Rattle.proto.specs.declared.message.Request.{Request}
-use Rattle.proto.specs.declared.message.Reply.{Reply}
 use Rattle.proto.specs.declared.history.Posted.{Posted}
 use Rattle.proto.specs.declared.history.Answered.{Answered}
 use Rattle.proto.proofs.Options.{some_is}
@@ -24,17 +21,16 @@ use Rattle.session_book.specs.Book.{BookState, session_of, IsOldest, SettlesOlde
 use Rattle.worker.specs.declared.port.PortRecord.{PortRecord}
 use Rattle.worker.specs.declared.port.PortRecord.TheVariants as was
 use Rattle.worker.specs.declared.worker.Worker.{Worker}
-use Rattle.worker.specs.Sessions.{PortFacts, port_facts, SessionFacts, RunView, facts, asked_by, had_by, cause_of, IsConsistent, IsServed}
+use Rattle.worker.specs.Sessions.{PortFacts, port_facts, RunView, facts, asked_by, had_by, cause_of, IsConsistent, IsServed}
 use Rattle.worker.specs.Ports.{has_ended, AcceptsOnlyOpen}
 use Rattle.worker.specs.Places.{Rises, piece_of}
 use Rattle.worker.specs.Workers.{posted_by, unsettled_of, IsNumbered, IsSteady, IsCounted, IsTold, run_view, IsServing, IsSameEnd, GoesOn, Shuts}
 use Rattle.worker.proofs.Facts.{had_here, had_elsewhere}
-use Rattle.worker.proofs.SessionSteps.{Runs, runs, is_running, Stays, served_settled, closed_starved, dropped}
+use Rattle.worker.proofs.SessionSteps.{runs, is_running, Stays, served_settled, closed_starved, dropped}
 use Rattle.worker.proofs.PlaceLemmas.{rises_with, length-with}
 use Rattle.worker.proofs.RunViews.{facts_equal, change_at, at_other, at_same, ended_same, count_same, accepts_more, ClosesIn, close_all, shuts_here, apart_shut}
-use Rattle.worker.proofs.WorkerSteps.{steady_same, steady_closed, same_end, closes_in, told_shut}
-use Rattle.worker.proofs.OutputSteps.{told_within, others_within}
-use Rattle.worker.proofs.AskSteps.{back_le}
+use Rattle.worker.proofs.WorkerSteps.{steady_closed, same_end, closes_in}
+use Rattle.worker.proofs.OutputSteps.{told_within}
 
 -- ---- lists
 

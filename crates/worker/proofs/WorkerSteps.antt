@@ -1,24 +1,23 @@
 -- What each step of a worker leaves true.
-use Rattle.std.proofs.Common.{◌≡◌, ◌≢◌, ℕ, ◌+◌, ◌-◌, ◌^◌, ◌<◌, ◌≤◌, ◌==◌, Bool, true, false, true≢false, ◌||◌, ◌&&◌, not, cond, eq-eqb, ne_eqb, List, [], ◌∷◌, ◌++◌, length, take, drop, min, map, refl, sym, ap, subst, ◌∙◌, append-nil, append_assoc, arith, Option, Some, None, is_some, ◌⊎◌, inl, inr, ⊎_elim}
-use Rattle.std.specs.Option.{option_to_list, option_map}
+use Rattle.std.proofs.Common.{◌≡◌, ◌≢◌, ℕ, ◌-◌, ◌^◌, ◌≤◌, ◌==◌, Bool, true, false, true≢false, ◌||◌, ◌&&◌, not, cond, ne_eqb, List, [], ◌∷◌, ◌++◌, length, min, refl, sym, ap, subst, ◌∙◌, Option, Some}
+use Rattle.std.specs.Option.{option_map}
 use Rattle.proto.specs.declared.history.Posted.{Posted}
-use Rattle.proto.specs.declared.history.Answered.{Answered}
 use Rattle.exchange.specs.Ends.{WorkerView}
 use Rattle.session_book.specs.declared.causes.EndCause.{EndCause}
 use Rattle.session_book.specs.declared.causes.EndCause.TheVariants as causes
-use Rattle.session_book.specs.Session.{SessionState, new_session, fed, gave}
-use Rattle.session_book.specs.Book.{BookState, session_of, Changes, OnlyAt}
+use Rattle.session_book.specs.Session.{SessionState, fed}
+use Rattle.session_book.specs.Book.{BookState, session_of}
 use Rattle.worker.specs.declared.port.PortRecord.{PortRecord}
 use Rattle.worker.specs.declared.port.PortRecord.TheVariants as was
 use Rattle.worker.specs.declared.worker.Worker.{Worker}
-use Rattle.worker.specs.Ports.{is_open, was_opened, has_gone, was_shut, has_ended, opened_count, IsProper, AcceptsOnlyOpen, MayCome}
-use Rattle.worker.specs.Sessions.{PortFacts, port_facts, SessionFacts, RunView, facts, asked_by, had_by, cause_of, IsConsistent, IsRunning, IsServed, IsClosed, IsUntouched, IsUnopened}
-use Rattle.worker.specs.Places.{Rises, with_cause, piece_of}
-use Rattle.worker.specs.Workers.{posted_by, IsSteady, IsCounted, IsTold, run_view, IsServing, IsSameEnd, GoesOn, Closes, Shuts, Leaves, Holds, Receives, feeds, holds, shuts, drops, Admits, Refuses, SameRest}
-use Rattle.worker.proofs.PlaceLemmas.{either_way, rises_with, rises_more, length-with, cause_more, cause_new}
-use Rattle.worker.proofs.Facts.{about, elsewhere, opened_here, fed_here, gone_here, shut_here, accepted_here}
-use Rattle.worker.proofs.SessionSteps.{Runs, runs, runs_at_port, untouched, is_running, is_unopened, is_closed, Stays, closed_gone, closed_no_memory, closed_finished, served_new, served_came, served_fed, served_gave}
-use Rattle.worker.proofs.RunViews.{facts_equal, change_at, at_other, at_same, ended_same, ended_now, count_same, count_more, accepts_more, ClosesIn, ClosedHere, closes_elsewhere, shuts_here, goes_here, stays, close_all, apart_shut, apart_gone}
+use Rattle.worker.specs.Ports.{is_open, was_opened, has_gone, was_shut, has_ended, opened_count, IsProper, AcceptsOnlyOpen}
+use Rattle.worker.specs.Sessions.{PortFacts, port_facts, SessionFacts, RunView, facts, asked_by, had_by, cause_of, IsConsistent, IsServed, IsClosed}
+use Rattle.worker.specs.Places.{Rises}
+use Rattle.worker.specs.Workers.{posted_by, IsSteady, IsCounted, IsTold, run_view, IsServing, IsSameEnd, GoesOn, Closes, Shuts}
+use Rattle.worker.proofs.PlaceLemmas.{rises_with, length-with}
+use Rattle.worker.proofs.Facts.{about, elsewhere, fed_here}
+use Rattle.worker.proofs.SessionSteps.{Runs, runs, runs_at_port, is_running, closed_gone, closed_no_memory, closed_finished, served_came, served_fed}
+use Rattle.worker.proofs.RunViews.{facts_equal, change_at, at_other, at_same, ended_same, count_same, accepts_more, ClosesIn, shuts_here, goes_here, stays, close_all, apart_shut, apart_gone}
 
 -- what the list has open was opened, and is neither gone nor shut
 pub open_parts : (o g s : Bool) → (o && not (g || s)) ≡ true → (o ≡ true) × (g ≡ false) × (s ≡ false)

@@ -1,5 +1,5 @@
 -- The places of sessions in the report, and the pieces of input that are held.
-use Rattle.std.specs.Prelude.{◌≡◌, ℕ, ◌<◌, ◌≤◌, ⊤, length, slice_index_or, List, [], ◌∷◌, ◌==◌, if◌then◌else◌, unwrap_or, map}
+use Rattle.std.specs.Prelude.{ℕ, ◌<◌, ◌≤◌, ⊤, length, slice_index_or, List, [], ◌∷◌, ◌==◌, if◌then◌else◌, unwrap_or, map}
 use Rattle.std.specs.Ordering.{nat_cmp}
 use Rattle.std.specs.BTreeMap.{get, BTreeMap}
 use Rattle.session_book.specs.declared.causes.EndCause.{EndCause}

@@ -1,4 +1,4 @@
-use Rattle.std.proofs.Common.{◌≡◌, ℕ, ◌<◌, List, [], length, true, None}
+use Rattle.std.proofs.Common.{◌≡◌, ℕ, ◌<◌, [], length, true, None}
 use Rattle.session_book.specs.declared.limits.TheConstants.{MAX_POSTS}
 use Rattle.worker.specs.Places.{piece_of}
 use Rattle.worker.specs.Workers.{GoesOn}

@@ -1,4 +1,3 @@
-use Rattle.std.proofs.Common.{◌≡◌}
 use Rattle.worker.specs.Workers.{GoesOn}
 use Rattle.worker.proofs.run.run_worker.Given as goal
 

@@ -1,10 +1,8 @@
-use Rattle.std.proofs.Common.{◌≡◌, ℕ, List, [], refl, sym, ap, subst, ◌∙◌, Option, Some, None, Ok, Err}
-use Rattle.session_book.specs.declared.causes.EndCause.TheVariants as causes
-use Rattle.session_book.specs.Book.{BookState, session_of, NextAsk, given_in}
+use Rattle.std.proofs.Common.{refl, ap, subst, ◌∙◌, Some, Ok}
+use Rattle.session_book.specs.Book.{session_of, NextAsk, given_in}
 use Rattle.worker.proofs.WorkerSteps.{no_memory_goes_on}
 use Rattle.worker.proofs.OutputSteps.{some_known}
 use Rattle.worker.proofs.RunViews.{at_same}
-use Rattle.proto.specs.declared.no_memory.NoMemory.{NoMemory}
 use Rattle.worker.proofs.AskSteps.{quiet_elsewhere, quiet_here, quiet_goes_on, none_goes_on, one_goes_on, goes_on_trans}
 use Rattle.worker.proofs.worker.Worker.ask.Goals as goal
 

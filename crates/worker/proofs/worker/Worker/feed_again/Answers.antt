@@ -1,9 +1,7 @@
-use Rattle.std.proofs.Common.{◌≡◌, ℕ, List, refl, sym, ap, subst, ◌∙◌, Option, Some, None}
+use Rattle.std.proofs.Common.{◌≡◌, ℕ, List, refl, sym, ap, subst, ◌∙◌}
 use Rattle.std.specs.Option.{option_map}
 use Rattle.std.specs.Ordering.{nat_cmp}
 use Rattle.std.specs.BTreeMap.{get}
-use Rattle.session_book.specs.declared.causes.FeedFault.{FeedFault}
-use Rattle.session_book.specs.declared.causes.FeedFault.TheVariants as faults
 use Rattle.session_book.specs.declared.causes.EndCause.TheVariants.{NoMemory}
 use Rattle.session_book.specs.Session.{SessionState, fed}
 use Rattle.session_book.specs.Book.{BookState, session_of, Changes}

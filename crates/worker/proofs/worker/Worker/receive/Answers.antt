@@ -1,9 +1,9 @@
-use Rattle.std.proofs.Common.{◌≡◌, ℕ, Bool, true, false, true≢false, List, [], refl, sym, ap, subst, ◌∙◌, Option, Some, None, is_some, unwrap_or, ⊎_elim}
+use Rattle.std.proofs.Common.{◌≡◌, ℕ, false, true≢false, List, [], refl, sym, subst, ◌∙◌, Option, Some, None, is_some, unwrap_or, ⊎_elim}
 use Rattle.std.specs.Option.{option_map}
 use Rattle.session_book.specs.Session.{fed}
 use Rattle.session_book.specs.declared.causes.EndCause.TheVariants.{NoMemory}
 use Rattle.session_book.specs.Book.{BookState, session_of, Changes}
-use Rattle.worker.specs.Workers.{Holds, Shuts, Receives, feeds, holds, shuts}
+use Rattle.worker.specs.Workers.{Holds, Shuts, feeds, holds, shuts}
 use Rattle.worker.proofs.worker.Worker.receive.Goals as goal
 
 none_held : (o : Option (List ℕ)) → is_some o ≡ false → unwrap_or o [] ≡ []

@@ -1,9 +1,9 @@
-use Rattle.std.proofs.Common.{◌≡◌, ℕ, refl, sym, ap, subst, ◌∙◌, Option, Some, None}
+use Rattle.std.proofs.Common.{◌≡◌, refl, sym, ap, Option, Some, None}
 use Rattle.std.specs.Prelude.{IsSome}
 use Rattle.exchange.specs.Ends.{WorkerView, Takes}
 use Rattle.session_book.specs.Session.{SessionState}
-use Rattle.session_book.specs.Book.{BookState, session_of}
-use Rattle.worker.proofs.SettleSteps.{TakesBack, KeepsRest, is_oldest, kept_goes_on, dropped_goes_on, starved_goes_on}
+use Rattle.session_book.specs.Book.{session_of}
+use Rattle.worker.proofs.SettleSteps.{TakesBack, is_oldest, kept_goes_on, dropped_goes_on, starved_goes_on}
 use Rattle.worker.proofs.worker.Worker.settle_next.Goals as goal
 use mathlib.Core.Option.{some}
 use lib.ListN.{get_elem?}

@@ -1,5 +1,4 @@
-use Rattle.std.proofs.Common.{◌≡◌, ℕ, Bool, true, List, sym, ap, ◌∙◌, refl}
-use Rattle.worker.specs.Sessions.{facts}
+use Rattle.std.proofs.Common.{sym, ◌∙◌, refl}
 use Rattle.worker.specs.Workers.{run_view}
 use Rattle.worker.proofs.PortSteps.{opened_goes_on, opened_is_open, received_goes_on, gone_goes_on, ended_goes_on}
 use Rattle.worker.proofs.worker.Worker.take_event.Goals as goal

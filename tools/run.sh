@@ -6,7 +6,7 @@ log=$(mktemp)
 trap 'rm -f "$log"' EXIT
 
 echo "Proving and building segcached ..."
-(cd crates/segcached && rt run) >"$log" 2>&1 || {
+(cd crates/segcached && rt run -- --help) >"$log" 2>&1 || {
   tail -n 20 "$log"
   exit 1
 }

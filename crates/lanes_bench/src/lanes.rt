@@ -77,3 +77,26 @@ pub fn run<R: Threads + Wait + time::Clock + Sync>(
     );
     start.elapsed(rt).ok()
 }
+
+/// Lets the storage thread wait so many seconds for a worker that posts nothing.
+pub fn wait<R: Threads + Wait + time::Clock + Sync>(
+    rt: &R,
+    alloc: Global,
+    seconds: u64,
+) -> Option<()> {
+    let geometry = Geometry::new(4096, 8).ok()?;
+    let (mut ends, storage) = make(alloc, 1, geometry).ok()?;
+    let mut end = ends.pop()?;
+    let store = Store::new(alloc, geometry);
+    thread::join(
+        rt,
+        move || run_storage(rt, store, Stopped, storage),
+        || {
+            thread::sleep(rt, Duration::from_secs(seconds));
+            if !end.said_bye() && end.outstanding() == 0 {
+                end.bye();
+            }
+        },
+    );
+    Some(())
+}

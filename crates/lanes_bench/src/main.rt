@@ -1,5 +1,6 @@
 //! Messages a second through the lanes, beside plain queues that do the same hand-over. The figures go to standard
-//! error, since they differ from run to run. `lanes_bench N` hands over N requests a run.
+//! error, since they differ from run to run. `lanes_bench N` hands over N requests a run; `lanes_bench idle N` lets the
+//! storage thread wait N seconds for nothing, to be timed from outside.
 #![tactic(auto)]
 
 mod lanes;
@@ -14,10 +15,14 @@ use std::time::Duration;
 /// all are handed over.
 const FEW: u64 = 4_000;
 
-/// The number in the first word, if there is one.
-fn asked<R: Env + AllocGlobal>(rt: &R) -> Option<u64> {
-    let word = env::args(rt).ok()?.nth(1)?;
-    word.as_str().parse::<u64>().ok()
+/// The word at this place, from 1 on.
+fn word<R: Env + AllocGlobal>(rt: &R, place: usize) -> Option<String> {
+    env::args(rt).ok()?.nth(place)
+}
+
+/// The number in the word at this place.
+fn number<R: Env + AllocGlobal>(rt: &R, place: usize) -> Option<u64> {
+    word(rt, place)?.as_str().parse::<u64>().ok()
 }
 
 fn per_second(messages: u64, elapsed: Option<Duration>) -> u64 {
@@ -33,7 +38,11 @@ fn per_second(messages: u64, elapsed: Option<Duration>) -> u64 {
 }
 
 fn main(rt: HostRuntime) -> ExitCode {
-    let messages = asked(&rt).unwrap_or(FEW);
+    if word(&rt, 1).is_some_and(|word| word.as_str() == "idle") {
+        let _ = lanes::wait(&rt, rt.alloc(), number(&rt, 2).unwrap_or(1));
+        return ExitCode::SUCCESS;
+    }
+    let messages = number(&rt, 1).unwrap_or(FEW);
     for workers in [1, 2, 4] {
         for window in [1, 64] {
             let each = messages / workers as u64;

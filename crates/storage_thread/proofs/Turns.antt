@@ -1,7 +1,7 @@
 -- What one turn of the storage thread keeps.
 use Rattle.std.proofs.Common.{◌≡◌, ◌≢◌, ℕ, zero, suc, ◌+◌, ◌<◌, ◌≤◌, List, [], ◌∷◌, ◌++◌, map, length, Some, None, Bool, cond, refl, sym, ap, ◌∙◌, subst, arith, length-append, append_assoc, eq-eqb, ne_eqb}
 use Rattle.std.specs.List.{All}
-use Rattle.std.proofs.lemmas.List.Elements.{All-nil, All-cons, All-head, All-tail}
+use Rattle.std.proofs.lemmas.List.Elements.{All-nil, All-cons, All-head, All-tail, All-append}
 use mathlib.Core.Logic.{dite}
 use mathlib.Core.List.{map-append}
 use native.Mathlib.Decide.{ℕ_discrete}
@@ -23,6 +23,7 @@ serving_first v c m u c_is m_is = record {
   taken = u.0 ∙ sym (ap (map taken_as) u.2);
   reaches = subst (λ (z : List Answered × Cache × ℕ). Reaches v.geometry z.0 z.1 z.2) (λ i. (sym u.2 i, sym c_is i, sym m_is i))
       record { caches = []; chain = tt; cache_is = refl; moments_are = tt; moment_is = refl; small = omega arith; numbers = λ w. tt };
+  known = subst (All (λ (e : Answered). e.worker < v.workers)) (sym u.2) (All-nil (λ (e : Answered). e.worker < v.workers));
   inside = subst (All (λ w. w < v.workers)) (sym u.3) (All-nil (λ w. w < v.workers));
   once = λ w. subst (λ (l : List ℕ). times w l ≤ 1) (sym u.3) (omega arith);
 }
@@ -42,6 +43,7 @@ module _ (old now new : StorageView) (c : Cache) (m : ℕ) (r : IsServing old no
     shut = ap (λ (z : StorageView). z.open_request) whole ∙ r.shut;
     taken = subst (λ (z : StorageView). z.taken ≡ map taken_as z.history) (sym whole) r.taken;
     reaches = subst (λ (z : StorageView). Reaches z.geometry z.history c m) (sym whole) r.reaches;
+    known = subst (λ (z : StorageView). All (λ (e : Answered). e.worker < z.workers) z.history) (sym whole) r.known;
     inside = subst (λ (z : StorageView). All (λ w. w < z.workers) z.byes) (sym whole) r.inside;
     once = λ v. subst (λ (z : StorageView). times v z.byes ≤ 1) (sym whole) (r.once v);
   }
@@ -53,6 +55,7 @@ module _ (old now new : StorageView) (c : Cache) (m : ℕ) (r : IsServing old no
     shut = ap (λ (z : StorageView). z.open_request) whole ∙ r.shut;
     taken = subst (λ (z : StorageView). z.taken ≡ map taken_as z.history) (sym whole) r.taken;
     reaches = subst (λ (z : StorageView). Reaches z.geometry z.history c m) (sym whole) r.reaches;
+    known = subst (λ (z : StorageView). All (λ (e : Answered). e.worker < z.workers) z.history) (sym whole) r.known;
     inside = subst (λ (z : StorageView). All (λ w. w < z.workers) z.byes) (sym whole) (All-cons (λ w. w < now.workers) f.lane now.byes f.inside r.inside);
     once = λ v. subst (λ (z : StorageView). times v z.byes ≤ 1) (sym whole) (one_more f.lane v now.byes f.is_next.1 (r.once v));
   }
@@ -91,6 +94,9 @@ module _ (now mid : StorageView) (w : ℕ) (p : Posted) (f : FindsOne now mid (A
       taken = ap (λ (z : StorageView). z.taken) whole ∙ (ap (λ (l : List (ℕ × Posted)). l ++ (f.lane, p) ∷ []) r.taken
           ∙ ((λ i. map taken_as now.history ++ (sym (a.1 ∙ f.is_next.0) i, sym a.2 i) ∷ []) ∙ (sym (map-append taken_as now.history (a.0 ∷ [])) ∙ ap (λ (z : StorageView). map taken_as z.history) (sym whole))));
       reaches = reaches;
+      known = subst (λ (z : StorageView). All (λ (e : Answered). e.worker < z.workers) z.history) (sym whole)
+          (All-append (λ (e : Answered). e.worker < now.workers) now.history (a.0 ∷ []) r.known
+          (All-cons (λ (e : Answered). e.worker < now.workers) a.0 [] (subst (λ (k : ℕ). k < now.workers) (sym (a.1 ∙ f.is_next.0)) f.inside) (All-nil (λ (e : Answered). e.worker < now.workers))));
       inside = subst (λ (z : StorageView). All (λ w. w < z.workers) z.byes) (sym whole) r.inside;
       once = λ v. subst (λ (z : StorageView). times v z.byes ≤ 1) (sym whole) (r.once v);
     }

@@ -71,5 +71,6 @@ pub record IsServing (old new : StorageView) (cache : Cache) (moment : ℕ) : Ty
   pub shut : new.open_request ≡ None
   pub taken : new.taken ≡ map taken_as new.history
   pub reaches : Reaches new.geometry new.history cache moment
+  pub known : All (λ (e : Answered). e.worker < new.workers) new.history
   pub inside : All (λ w. w < new.workers) new.byes
   pub once : (w : ℕ) → times w new.byes ≤ 1

@@ -1,6 +1,6 @@
 //! The loop of the storage thread.
 
-ghost use Rattle.std.specs.Prelude.{◌≡◌, ℕ, ◌+◌, ◌-◌, ◌^◌, ◌<◌, ◌≤◌, ◌++◌, [], ◌∷◌, map, min, length, Some, None, true};
+ghost use Rattle.std.specs.Prelude.{◌≡◌, ℕ, ◌+◌, ◌-◌, ◌^◌, ◌<◌, ◌≤◌, ◌++◌, [], ◌∷◌, map, min, length, All, Some, None, true};
 ghost use Rattle.proto.specs.Cache.{empty_cache};
 ghost use Rattle.proto.specs.History.{max_moment, worker_share, Legal};
 ghost use Rattle.storage_thread.specs.Serving.{moment_after, IsTimed, taken_as, SaidBye, IsUnused, IsSameExchange, Reaches, IsAnswered};
@@ -77,6 +77,7 @@ pub fn run_storage<R: Wait + time::Clock, S: StorageEngine + Drop, C: Clock>(
     ensures same { IsSameExchange storage_end result.storage_end }
     ensures legal { Legal storage_end.geometry result.storage_end.history }
     ensures once_in_order { (result.storage_end.taken ≡ map taken_as result.storage_end.history) × (result.storage_end.open_request ≡ None) }
+    ensures inside { All (λ e. e.worker < storage_end.workers) result.storage_end.history }
     ensures bye { SaidBye result.storage_end }
     ensures tells { C.tells result.clock ≡ C.tells clock }
     ensures moments { C.tells clock ≡ true → IsTimed (C.answers clock) (C.answers result.clock) result.storage_end.history }

@@ -1,4 +1,4 @@
-use Rattle.std.proofs.Common.{rules, arith, ℕ, ◌∙◌}
+use Rattle.std.proofs.Common.{rules, arith, ℕ, ◌<◌, All, subst, ◌∙◌}
 use Rattle.proto.specs.declared.history.Posted.{Posted}
 use Rattle.exchange.specs.Ends.{StorageView}
 use Rattle.storage_thread.proofs.Turns.{longer, same_sizes, same_byes, same_workers, serving_asked, timed_asked, all_said}
@@ -21,3 +21,6 @@ loop-preserved-in-Some-Asked g c = let i = c.loop.invariant in let f = rw c.in-S
 
 pub returns-then-left-eq0-clause-bye : goal.returns-then-left-eq0-clause-bye
 returns-then-left-eq0-clause-bye g c = let i = c.loop.invariant in let all = i.4 in all_said _ _ _ _ i.2 (search rules)
+
+pub returns-then-left-eq0-clause-inside : goal.returns-then-left-eq0-clause-inside
+returns-then-left-eq0-clause-inside g c = let i = c.loop.invariant in subst (λ n. All (λ e. e.worker < n) c.loop.end.history) i.2.same.1 i.2.known

@@ -1,0 +1,15 @@
+use Rattle.std.proofs.Common.{◌≡◌, [], ◌++◌, All, map, ◌+◌, ◌≤◌, vec_len, vec_capacity}
+use Rattle.group.specs.Threads.{IsFresh, IsSilent}
+use Rattle.group.proofs.threads.start_workers.Given as goal
+
+abbrev pub invariant-loop-end : goal.invariant-loop-end
+invariant-loop-end g l = record {
+  ended : l.yielded ++ l.end-iterator.rest.items ≡ l.fn.ends.items;
+  ported : map (λ h. h.promise.port.value) l.handles.items ++ l.ports.rest.items ≡ l.fn.ports.items;
+  lengths : l.ports.rest.len ≡ l.end-iterator.rest.len;
+  silent : All (IsSilent g.P.Port.tells g.P.Port.events) l.ports.rest.items;
+  fresh : All IsFresh l.end-iterator.rest.items;
+  started : All (λ h. h.promise.start.now.id ≡ l.fn.start.id) l.handles.items;
+  ends : map (λ h. h.promise.end.value) l.handles.items ≡ l.yielded;
+  room : vec_len l.handles + l.end-iterator.rest.len ≤ vec_capacity l.handles;
+}

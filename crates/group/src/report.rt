@@ -1,0 +1,38 @@
+//! What a group is given, and what it leaves.
+
+use exchange::{Gathered, SentList};
+use proto::geometry::Geometry;
+use session_book::causes::EndCause;
+
+/// What a group runs for.
+#[derive(Clone, Copy, Debug)]
+pub struct Config {
+    /// The sizes of the cache that the storage thread owns.
+    pub geometry: Geometry,
+}
+
+/// What a group leaves of one worker.
+#[derive(Drop)]
+pub struct GroupWorker<P> {
+    pub port: P,
+    /// The requests that it sent, for clauses alone: it has no bytes.
+    pub sent: SentList,
+    /// The sessions that were opened, by rising numbers, and why each ended.
+    pub sessions: Vec<(u64, EndCause)>,
+    /// Sessions that were shut at once, as they found no room. It stays at the greatest number.
+    pub unopened: u64,
+    /// Answers that no session waited for.
+    pub strangers: u64,
+}
+
+/// What a group leaves: its workers in the order of the ports, the clock, and how many requests were executed, sent
+/// and taken back.
+#[derive(Drop)]
+pub struct GroupReport<P, C> {
+    pub workers: Vec<GroupWorker<P>>,
+    pub clock: C,
+    /// It stays at the greatest number.
+    pub executed: u64,
+    /// By the number of the worker.
+    pub gathered: Gathered,
+}

@@ -1,0 +1,173 @@
+//! A whole run of a group.
+ghost use Rattle.std.specs.Prelude.{◌≡◌, ℕ, ◌≤◌, ◌≢◌, ◌⊎◌, List, [], All, IfOk, IfErr, MatchResult, vec_len, vec_capacity};
+ghost use Rattle.proto.specs.Sizes.{Sizes};
+ghost use Rattle.exchange.specs.Ends.{AreTogether, IsCount};
+ghost use Rattle.group.specs.declared.fault.GroupFault.TheVariants.{BadConfig};
+ghost use Rattle.group.specs.Threads.{IsSilent, AreJoined, IsStored, ends_of, workers_of};
+ghost use Rattle.group.specs.Headline.{IsRun};
+
+use crate::fault::GroupFault;
+use crate::report::{Config, GroupReport, GroupWorker};
+use crate::start::tell;
+use crate::threads::{join_storage, join_workers, start_storage, start_workers};
+use exchange::{WorkerEnd, gather, make};
+use segcache::plain::Store;
+use std::alloc::Global;
+use std::sync::{OnceLock, Wait};
+use std::thread::{Scope, Threads};
+use std::{thread, time};
+use storage_thread::clock::Clock;
+use storage_thread::serving::StorageReport;
+use worker::gate::Gate;
+use worker::port::Port;
+use worker::report::WorkerReport;
+
+/// The most workers of a group.
+pub const MAX_WORKERS: usize = 8;
+
+/// Parts the reports: what the group says of each worker, and the ends. The lists have room for them.
+fn part<P: Port>(
+    reports: Vec<WorkerReport<P>>,
+    mut workers: Vec<GroupWorker<P>>,
+    mut ends: Vec<WorkerEnd>,
+) -> (Vec<GroupWorker<P>>, Vec<WorkerEnd>)
+    requires workers { (workers.items ≡ []) × (vec_len reports ≤ vec_capacity workers) }
+    requires ends { (ends.items ≡ []) × (vec_len reports ≤ vec_capacity ends) }
+    ensures { (result.0.items ≡ workers_of reports.items) × (result.1.items ≡ ends_of reports.items) }
+{
+    for report in reports {
+        let WorkerReport {
+            port,
+            worker_end,
+            sessions,
+            unopened,
+            strangers,
+        } = report;
+        let sent = worker_end.sent_list();
+        workers.push_reserved(GroupWorker {
+            port,
+            sent,
+            sessions,
+            unopened,
+            strangers,
+        });
+        ends.push_reserved(worker_end);
+    }
+    (workers, ends)
+}
+
+/// Gathers the ends, which are of one exchange. The lists have room for what is left.
+fn finish<P: Port, C: Clock>(
+    reports: Vec<WorkerReport<P>>,
+    storage: StorageReport<C>,
+    workers: Vec<GroupWorker<P>>,
+    ends: Vec<WorkerEnd>,
+) -> GroupReport<P, C>
+    requires workers { (workers.items ≡ []) × (vec_len reports ≤ vec_capacity workers) }
+    requires ends { (ends.items ≡ []) × (vec_len reports ≤ vec_capacity ends) }
+    requires together { AreTogether (ends_of reports.items) storage.storage_end }
+    ensures { (sizes : Sizes) (ports : List P) (clock : C) → IsStored C.tells C.answers sizes ports clock storage → AreJoined P.tells P.events sizes storage.storage_end ports reports.items → IsRun P.tells P.events C.tells C.answers sizes ports clock result }
+{
+    let (workers, ends) = part(reports, workers, ends);
+    let StorageReport {
+        clock,
+        storage_end,
+        executed,
+    } = storage;
+    let gathered = gather(ends, storage_end);
+    GroupReport {
+        workers,
+        clock,
+        executed,
+        gathered,
+    }
+}
+
+/// Makes the ends and all room that joining needs, starts the threads, and joins them.
+fn run_in<
+    's,
+    'e,
+    P: Port + Send + 's,
+    C: Clock + Send + 's,
+    G: Gate + Sync,
+    R: Threads + Wait + time::Clock + Sync,
+>(
+    rt: &'s R,
+    alloc: Global,
+    scope: &'s Scope<'s, &'e ()>,
+    start: &'s OnceLock<bool>,
+    ports: Vec<P>,
+    config: Config,
+    clock: C,
+    gate: &'s G,
+) -> Result<GroupReport<P, C>, GroupFault>
+    requires ports { All (IsSilent P.tells P.events) ports.items }
+    requires count { IsCount (vec_len ports) }
+    ensures run { IfOk result (λ report. IsRun P.tells P.events C.tells C.answers config.geometry ports.items clock report) }
+    ensures fault { IfErr result (λ fault. fault ≢ BadConfig) }
+{
+    let count = ports.len();
+    let (ends, storage_end) = make(alloc, count, config.geometry)?;
+    let handles = Vec::with_capacity(alloc, count)?;
+    let reports = Vec::with_capacity(alloc, count)?;
+    let workers = Vec::with_capacity(alloc, count)?;
+    let ends_left = Vec::with_capacity(alloc, count)?;
+    let store = Store::new(alloc, config.geometry);
+    let storage = start_storage(rt, scope, start, store, clock, storage_end)?;
+    match start_workers(rt, alloc, scope, start, ports, ends, gate, handles) {
+        Ok(handles) => {
+            let told = tell(rt, start, true);
+            if !*start.value(&told) {
+                return Err(GroupFault::NoThread);
+            }
+            let reports = join_workers(rt, &told, handles, reports);
+            let storage = join_storage(rt, &told, storage);
+            Ok(finish(reports, storage, workers, ends_left))
+        }
+        Err(fault) => {
+            tell(rt, start, false);
+            Err(fault)
+        }
+    }
+}
+
+/// Runs a worker for each port, and one storage thread over a new cache, each in a thread of its own, until all
+/// ports have ended and all was answered and given.
+///
+/// # Errors
+///
+/// BadConfig exactly where the number of ports isn't 1 to 8; NoMemory where a growth was refused at the start, where
+/// all room for joining and gathering is made too; NoThread where a thread couldn't be started. After each of them
+/// the threads that were started have ended, no event was taken and no request executed; ports and clock are dropped.
+pub fn run_group<
+    P: Port + Send,
+    C: Clock + Send,
+    G: Gate + Sync,
+    R: Threads + Wait + time::Clock + Sync,
+>(
+    rt: &R,
+    alloc: Global,
+    ports: Vec<P>,
+    config: Config,
+    clock: C,
+    gate: &G,
+) -> Result<GroupReport<P, C>, GroupFault>
+    requires ports { All (IsSilent P.tells P.events) ports.items }
+    ensures run { IfOk result (λ report. IsRun P.tells P.events C.tells C.answers config.geometry ports.items clock report) }
+    ensures count { MatchResult result (λ _. IsCount (vec_len ports)) (λ fault. (IsCount (vec_len ports) × (fault ≢ BadConfig)) ⊎ ((¬ (IsCount (vec_len ports))) × (fault ≡ BadConfig))) }
+{
+    if ports.is_empty() || ports.len() > MAX_WORKERS {
+        return Err(GroupFault::BadConfig);
+    }
+    let lock = OnceLock::new();
+    let start = &lock;
+    thread::scope(
+        thread::scope_env(),
+        rt,
+        move |scope| -> Result<GroupReport<P, C>, GroupFault>
+            requires { All (IsSilent P.tells P.events) ports.items × IsCount (vec_len ports) }
+            ensures run { IfOk result (λ report. IsRun P.tells P.events C.tells C.answers config.geometry ports.items clock report) }
+            ensures fault { IfErr result (λ fault. fault ≢ BadConfig) }
+        { run_in(rt, alloc, scope, start, ports, config, clock, gate) },
+    )
+}

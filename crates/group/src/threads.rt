@@ -1,0 +1,232 @@
+//! The threads of a group: each waits for the start, and promises what it leaves.
+ghost use Rattle.std.specs.Prelude.{◌≡◌, ℕ, ◌≤◌, [], true, None, All, IfOk, IfErr, map, length, vec_len, vec_capacity};
+ghost use Rattle.proto.specs.Cache.{empty_cache};
+ghost use Rattle.worker.specs.declared.report.WorkerReport.{WorkerReport};
+ghost use Rattle.storage_thread.specs.Serving.{IsUnused};
+ghost use Rattle.exchange.specs.Ends.{WorkerView};
+ghost use Rattle.group.specs.declared.fault.GroupFault.TheVariants.{NoThread};
+ghost use Rattle.group.specs.Threads.{IsFinished, IsFresh, IsSilent, KeepsWorker, KeepsStorage, AreEach};
+
+use crate::fault::GroupFault;
+use crate::start::{Finished, hear};
+use exchange::{StorageEnd, WorkerEnd};
+use segcache::plain::Store;
+use std::alloc::Global;
+use std::snapshot::Snapshot;
+use std::sync::{OnceLock, OnceToken, Wait};
+use std::thread::{Promise, PromisedHandle, Scope, Threads};
+use std::time;
+use storage_thread::clock::Clock;
+use storage_thread::serving::{StorageReport, run_storage};
+use worker::gate::Gate;
+use worker::port::Port;
+use worker::report::WorkerReport;
+use worker::run::run_worker;
+
+/// What a worker's thread promises: what it leaves of the port and the end that it was given, if it was told to begin.
+#[derive(Drop)]
+pub struct WorkerPromise<'a, P> {
+    pub start: &'a OnceLock<bool>,
+    pub port: Snapshot<P>,
+    pub end: Snapshot<WorkerEnd>,
+}
+
+impl<'a, P: Port> Promise<Finished<'a, WorkerReport<P>>> for WorkerPromise<'a, P> {
+    ghost use Rattle.group.specs.Threads.{IsFinished, KeepsWorker};
+
+    ghost kept_by = { λ p r. IsFinished p.start.now.id (KeepsWorker P.tells P.events p.port.value p.end.value) r };
+}
+
+/// What the storage thread promises: what it leaves of the clock and the end that it was given, if it was told to begin.
+#[derive(Drop)]
+pub struct StoragePromise<'a, C> {
+    pub start: &'a OnceLock<bool>,
+    pub clock: Snapshot<C>,
+    pub end: Snapshot<StorageEnd>,
+}
+
+impl<'a, C: Clock> Promise<Finished<'a, StorageReport<C>>> for StoragePromise<'a, C> {
+    ghost use Rattle.group.specs.Threads.{IsFinished, KeepsStorage};
+
+    ghost kept_by = { λ p r. IsFinished p.start.now.id (KeepsStorage C.tells C.answers p.clock.value p.end.value) r };
+}
+
+pub type WorkerHandle<'a, P> = PromisedHandle<Finished<'a, WorkerReport<P>>, WorkerPromise<'a, P>>;
+
+pub type StorageHandle<'a, C> = PromisedHandle<
+    Finished<'a, StorageReport<C>>,
+    StoragePromise<'a, C>,
+>;
+
+/// Runs a worker once it is told to begin.
+fn work<'a, P: Port, G: Gate, R: Wait>(
+    rt: &R,
+    alloc: Global,
+    start: &'a OnceLock<bool>,
+    port: P,
+    end: WorkerEnd,
+    gate: &G,
+) -> Finished<'a, WorkerReport<P>>
+    requires port { IsSilent P.tells P.events port }
+    requires fresh { IsFresh end }
+    ensures { IsFinished start.now.id (KeepsWorker P.tells P.events port end) result }
+{
+    let told = hear(rt, start);
+    let ran = if *start.value(&told) {
+        Some(run_worker(rt, alloc, port, end, gate))
+    } else {
+        None
+    };
+    Finished { told, ran }
+}
+
+/// Runs the storage loop once it is told to begin.
+fn serve<'a, C: Clock, R: Wait + time::Clock>(
+    rt: &R,
+    start: &'a OnceLock<bool>,
+    store: Store,
+    clock: C,
+    end: StorageEnd,
+) -> Finished<'a, StorageReport<C>>
+    requires empty { store ≡ record { sizes = end.geometry; cache = empty_cache 0; moment = 0 } }
+    requires unused { IsUnused end }
+    ensures { IsFinished start.now.id (KeepsStorage C.tells C.answers clock end) result }
+{
+    let told = hear(rt, start);
+    let ran = if *start.value(&told) {
+        Some(run_storage(rt, store, clock, end))
+    } else {
+        None
+    };
+    Finished { told, ran }
+}
+
+/// Starts the storage thread.
+pub fn start_storage<'s, 'e, C: Clock + Send + 's, R: Threads + Wait + time::Clock + Sync>(
+    rt: &'s R,
+    scope: &'s Scope<'s, &'e ()>,
+    start: &'s OnceLock<bool>,
+    store: Store,
+    clock: C,
+    end: StorageEnd,
+) -> Result<StorageHandle<'s, C>, GroupFault>
+    requires empty { store ≡ record { sizes = end.geometry; cache = empty_cache 0; moment = 0 } }
+    requires unused { IsUnused end }
+    ensures fault { IfErr result (λ fault. fault ≡ NoThread) }
+    ensures start { IfOk result (λ h. h.promise.start.now.id ≡ start.now.id) }
+    ensures given { IfOk result (λ h. (h.promise.clock.value ≡ clock) × (h.promise.end.value ≡ end)) }
+{
+    let promise = StoragePromise {
+        start,
+        clock: Snapshot::of(&clock),
+        end: Snapshot::of(&end),
+    };
+    match scope.spawn_with(promise, move || serve(rt, start, store, clock, end)) {
+        Ok(handle) => Ok(handle),
+        Err(_) => Err(GroupFault::NoThread),
+    }
+}
+
+/// Starts the thread of one worker.
+fn start_worker<'s, 'e, P: Port + Send + 's, G: Gate + Sync, R: Threads + Wait + Sync>(
+    rt: &'s R,
+    alloc: Global,
+    scope: &'s Scope<'s, &'e ()>,
+    start: &'s OnceLock<bool>,
+    port: P,
+    end: WorkerEnd,
+    gate: &'s G,
+) -> Result<WorkerHandle<'s, P>, GroupFault>
+    requires port { IsSilent P.tells P.events port }
+    requires fresh { IsFresh end }
+    ensures fault { IfErr result (λ fault. fault ≡ NoThread) }
+    ensures start { IfOk result (λ h. h.promise.start.now.id ≡ start.now.id) }
+    ensures given { IfOk result (λ h. (h.promise.port.value ≡ port) × (h.promise.end.value ≡ end)) }
+{
+    let promise = WorkerPromise {
+        start,
+        port: Snapshot::of(&port),
+        end: Snapshot::of(&end),
+    };
+    match scope.spawn_with(promise, move || work(rt, alloc, start, port, end, gate)) {
+        Ok(handle) => Ok(handle),
+        Err(_) => Err(GroupFault::NoThread),
+    }
+}
+
+/// Starts a thread for each port, with the end at its place. The list of handles has room for them.
+pub fn start_workers<'s, 'e, P: Port + Send + 's, G: Gate + Sync, R: Threads + Wait + Sync>(
+    rt: &'s R,
+    alloc: Global,
+    scope: &'s Scope<'s, &'e ()>,
+    start: &'s OnceLock<bool>,
+    ports: Vec<P>,
+    ends: Vec<WorkerEnd>,
+    gate: &'s G,
+    mut handles: Vec<WorkerHandle<'s, P>>,
+) -> Result<Vec<WorkerHandle<'s, P>>, GroupFault>
+    requires ports { All (IsSilent P.tells P.events) ports.items }
+    requires ends { All IsFresh ends.items }
+    requires lengths { vec_len ports ≡ vec_len ends }
+    requires room { (handles.items ≡ []) × (vec_len ends ≤ vec_capacity handles) }
+    ensures fault { IfErr result (λ fault. fault ≡ NoThread) }
+    ensures start { IfOk result (λ v. All (λ h. h.promise.start.now.id ≡ start.now.id) v.items) }
+    ensures ports { IfOk result (λ v. map (λ h. h.promise.port.value) v.items ≡ ports.items) }
+    ensures ends { IfOk result (λ v. map (λ h. h.promise.end.value) v.items ≡ ends.items) }
+{
+    let mut ports = ports.into_iter();
+    for end in ends {
+        let Some(port) = ports.next() else {
+            unreachable!()
+        };
+        let handle = start_worker(rt, alloc, scope, start, port, end, gate)?;
+        handles.push_reserved(handle);
+    }
+    Ok(handles)
+}
+
+/// What the storage thread leaves, which was told to begin.
+pub fn join_storage<'s, C: Clock, R: Threads>(
+    rt: &R,
+    told: &OnceToken<'s, bool>,
+    handle: StorageHandle<'s, C>,
+) -> StorageReport<C>
+    requires began { (told.now.of ≡ handle.promise.start.now.id) × (told.now.value ≡ true) }
+    ensures { KeepsStorage C.tells C.answers handle.entry.promise.clock.value handle.entry.promise.end.value result }
+{
+    let finished = handle.join(rt);
+    finished.told.agrees(told);
+    finished.ran.unwrap()
+}
+
+/// What a worker's thread leaves, which was told to begin.
+fn join_worker<'s, P: Port, R: Threads>(
+    rt: &R,
+    told: &OnceToken<'s, bool>,
+    handle: WorkerHandle<'s, P>,
+) -> WorkerReport<P>
+    requires began { (told.now.of ≡ handle.promise.start.now.id) × (told.now.value ≡ true) }
+    ensures { KeepsWorker P.tells P.events handle.entry.promise.port.value handle.entry.promise.end.value result }
+{
+    let finished = handle.join(rt);
+    finished.told.agrees(told);
+    finished.ran.unwrap()
+}
+
+/// What the workers' threads leave, in order, which were told to begin. The list of reports has room for them.
+pub fn join_workers<'s, P: Port, R: Threads>(
+    rt: &R,
+    told: &OnceToken<'s, bool>,
+    handles: Vec<WorkerHandle<'s, P>>,
+    mut reports: Vec<WorkerReport<P>>,
+) -> Vec<WorkerReport<P>>
+    requires began { All (λ h. told.now.of ≡ h.promise.start.now.id) handles.items × (told.now.value ≡ true) }
+    requires room { (reports.items ≡ []) × (vec_len handles ≤ vec_capacity reports) }
+    ensures { AreEach (λ h r. KeepsWorker P.tells P.events h.promise.port.value h.promise.end.value r) handles.entry.items result.items }
+{
+    for handle in handles {
+        let report = join_worker(rt, told, handle);
+        reports.push_reserved(report);
+    }
+    reports
+}

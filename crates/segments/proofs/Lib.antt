@@ -8,3 +8,6 @@ pub mod Counting
 pub mod MergeLemmas
 pub mod JudgeLemmas
 pub mod PlanLemmas
+pub mod CarryLemmas
+pub mod MergingLemmas
+pub mod StartLemmas

@@ -1,23 +1,21 @@
 -- The merge that comes next: its segments, and what becomes of their live items.
 use Rattle.std.proofs.Common.{◌≡◌, ℕ, zero, suc, ◌+◌, ◌-◌, ◌%◌, ◌<◌, ◌≤◌, Bool, true, false, cond, eqb, leb, List, [], ◌∷◌, ◌++◌, length, get_or, take, map, Option, Some, None, refl, sym, ap, subst, ◌∙◌, arith, inl, inr, add-one, append_assoc}
 use Rattle.std.specs.Prelude.{filter, All, take_while, if◌then◌else◌, not, ◌&&◌, IsTrue, is_some, option_map}
-use Rattle.std.specs.List.{last_or}
 use Rattle.std.proofs.lemmas.List.{take_all, take-take, length-take, length-take-le, map-append}
 use Rattle.std.proofs.lemmas.List.Sums.{take_while-cons, sum_by-cons}
 use Rattle.std.proofs.lemmas.List.Elements.{All-cons, All-nil, All-take, All-filter, All-append, All-head, All-tail}
-use Rattle.std.proofs.lemmas.Bool.{cases_lt, le-leb, lt-leb}
-use Rattle.std.proofs.lemmas.Option.{none-some}
+use Rattle.std.proofs.lemmas.Bool.{cases_lt, le-leb, lt-leb, leb-true}
 use Rattle.segments.specs.declared.place.Place.{Place}
 use Rattle.segments.specs.declared.place.Move.{Move}
 use Rattle.segments.specs.declared.merge.Candidate.{Candidate}
 use Rattle.segments.specs.Items.{Item, item_size, size_of_all, item_at, halved}
-use Rattle.segments.specs.Pools.{PoolState, Used, Standing, Liveness, lasting, bucket_count, segment_at, item_in, items_of, deadline_in, standing_from, chain}
+use Rattle.segments.specs.Pools.{PoolState, Plan, Used, Standing, Liveness, lasting, bucket_count, segment_at, item_in, items_of, deadline_in, standing_from, chain}
 use Rattle.std.specs.List.{prefix_len, cons_option}
 use Rattle.std.proofs.lemmas.List.Sums.{sum_by_push}
 use Rattle.segments.specs.Inside.{is_of, IsSound}
 use Rattle.segments.specs.Merges.{kept_items}
 use Rattle.segments.proofs.WalkLemmas.{item_behind}
-use Rattle.segments.specs.Merges.{outranks, Judged, kept_size, AreJudged, moves_into, opened_at, front_of, front, distance, IsNext, NoneQualifies, merged_segments, live_items, carried_items, first_of_list, IsPlan}
+use Rattle.segments.specs.Merges.{outranks, Judged, kept_size, AreJudged, moves_into, opened_at, front_of, front, distance, IsNext, NoneQualifies, merged_segments, live_items, carried_items, carried_out, planned, merged_into, first_of_list, IsPlan, IsMerged}
 use Rattle.segments.specs.Choosing.{opened_in, same_opening, untailed, front_in, front_at, live_at, live_in, candidate_of, plain, ranks_above, weight, AreChosen, moves_for, IsNextIn, NoneIn}
 
 -- ---- the bucket that comes next
@@ -40,21 +38,6 @@ next_more us order cursor d small before here b below near =
           let e : distance cursor b ≡ d = omega arith in
           subst (λ n. length (front_at us order n) < 2) (sym (bucket_of_distance cursor b d small below e)) here
     ]
-
-last_of_some : (x : ℕ) (xs : List ℕ) → last_or (Some x) xs ≡ None → ⊥
-last_of_some x [] e = none-some x (sym e)
-last_of_some x (y ∷ xs) e = last_of_some y xs e
-
-none_left : (xs : List ℕ) → last_or None xs ≡ None → xs ≡ []
-none_left [] e = refl
-none_left (x ∷ xs) e = absurd (last_of_some x xs e)
-
-no_front : (us : List (Option Used)) (b : ℕ) (l : Bool) → length (if l then untailed (take 5 []) else same_opening us (untailed (take 5 []))) < 2
-no_front us b true = omega arith
-no_front us b false = omega arith
-
-pub no_chain : (us : List (Option Used)) (order : List ℕ) (b : ℕ) → last_or None (filter (is_of us b) order) ≡ None → length (front_at us order b) < 2
-no_chain us order b e = subst (λ xs. length (front_in us b xs) < 2) (sym (none_left (filter (is_of us b) order) e)) (no_front us b (eqb b lasting))
 
 -- ---- the segments that are merged
 
@@ -361,3 +344,24 @@ plain_from standings listed chosen e f = f ∙ ap (map plain) e ∙ plain_twice 
 pub first_is : (xs : List ℕ) (n : ℕ) → 2 ≤ length xs → n ≡ get_or xs 0 n → n ≡ first_of_list xs
 first_is [] n some e = absurd (omega (arith, some))
 first_is (x ∷ xs) n some e = e
+
+-- ---- a plan that is carried out
+
+merged_same : (p : PoolState) (plan : Plan) (b : ℕ) (numbers : List ℕ) (items : List Item) → 1 ≤ length numbers → merged_into (planned p plan) b numbers items ≡ merged_into p b numbers items
+merged_same p plan b [] items some = absurd (omega (arith, some))
+merged_same p plan b (n ∷ numbers) items some = refl
+
+pub plan_merged : (lives : Liveness) (p : PoolState) (plan : Plan) → IsPlan lives p plan → IsMerged lives p (carried_out (planned p plan) plan)
+plan_merged lives p plan h =
+    let numbers = merged_segments p plan.bucket in
+    let found = judged_found p h.judged (subst (All (λ s. item_in p s.place ≡ Some s.item)) (sym (h.is_judged.all_live ∙ live_is lives p numbers)) (live_found lives p numbers)) in
+    let carried : carried_items p plan.moves ≡ kept_items h.judged = ap (carried_items p) h.moves_are ∙ carried_are p (first_of_list numbers) 0 h.judged found in
+    let long = leb-true 2 (length (front p plan.bucket)) h.next.qualifying in
+    let four = length-take 4 (front p plan.bucket) in
+    record {
+      bucket = plan.bucket;
+      next = h.next;
+      judged = h.judged;
+      is_judged = h.is_judged;
+      after_is = merged_same p plan plan.bucket numbers (carried_items p plan.moves) (omega (arith, long, four)) ∙ ap (merged_into p plan.bucket numbers) carried;
+    }

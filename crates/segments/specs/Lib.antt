@@ -7,4 +7,7 @@ pub mod Shown
 pub mod Packing
 pub mod Inside
 pub mod Walks
+pub mod Carrying
 pub mod Choosing
+pub mod Starts
+pub mod Laws

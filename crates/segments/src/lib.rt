@@ -3,7 +3,9 @@
 #![tactic(auto)]
 
 pub mod bucket;
+pub mod carry;
 pub mod item;
+pub mod laws;
 pub mod live;
 pub mod merge;
 pub mod packed;

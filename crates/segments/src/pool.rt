@@ -7,17 +7,20 @@ ghost use Rattle.segments.specs.Items.{IsStorable, item_size, size_of_all};
 ghost use Rattle.segments.specs.Shown.{item_of};
 ghost use Rattle.proto.specs.Sizes.{item_limit, sizes_of};
 ghost use Rattle.segments.specs.Inside.{used_of, IsDated, free_segment};
-ghost use Rattle.segments.specs.Pools.{bucket_count, items_of, standing, deadline_in, standing_from, Plan, segment_at, item_in, deadline_at, oldest};
+ghost use Rattle.segments.specs.Pools.{IsPool, bucket_count, items_of, standing, deadline_in, standing_from, Plan, segment_at, item_in, deadline_at, oldest};
 ghost use Rattle.segments.specs.Changes.{open_tail, IsFull, IsOpened, HasRoom, added, new_pool, IsAddedToTail, IsAddedToFree, HasNoRoom, touched, IsGivenBack, dead_segments, cleared};
 ghost use Rattle.segments.specs.Merges.{IsPlan, NoneQualifies, carried_out, planned, unplanned, planned_moves};
 
 use crate::bucket::BUCKETS;
+use crate::carry::{carry, replace};
 use crate::item::{ItemRef, size_of};
 use crate::live::Live;
-use crate::merge::{Candidate, MERGED, Rank, choose, find_next, list_candidates, list_moves};
+use crate::merge::{
+    Candidate, MERGED, Rank, Start, choose, find_next, list_candidates, list_moves,
+};
 use crate::packed::Packed;
 use crate::place::{Move, Place};
-use crate::segment::{Opening, Segment, find_tails, free_dead, free_one, keep_used};
+use crate::segment::{Opening, Segment, find_tails, free_all, free_dead, free_one, keep_used};
 use crate::walk::Walk;
 use proto::geometry::Geometry;
 use proto::no_memory::NoMemory;
@@ -42,6 +45,8 @@ pub struct Pool {
     /// The last segment of each bucket's chain.
     tails: Vec<Option<u32>>,
     cursor: usize,
+    /// How each bucket's chain starts, noted where a merge is looked for.
+    starts: Vec<Start>,
     /// The bucket of the merge that was planned.
     planned: Option<usize>,
     moves: Vec<Move>,
@@ -107,6 +112,14 @@ fn no_tails(alloc: Global, count: usize) -> Result<Vec<Option<u32>>, NoMemory>
 }
 
 impl Pool {
+    /// The sizes of the pool.
+    pub fn geometry(&self) -> Geometry
+        ensures sizes { result ≡ self.now.sizes }
+        ensures pool { IsPool self.now }
+    {
+        self.geometry
+    }
+
     /// The item at a place.
     pub fn item<'a>(&'a self, place: Place) -> ItemRef<'a>
         requires { IsSome (item_in self.now place) }
@@ -149,6 +162,7 @@ impl Pool {
             order: Vec::with_capacity(alloc, count as usize)?,
             tails: no_tails(alloc, BUCKETS)?,
             cursor: 0,
+            starts: vec![in alloc; Start::Empty; BUCKETS]?,
             planned: None,
             moves: Vec::with_capacity(alloc, room)?,
             merged: Vec::with_capacity(alloc, MERGED + 1)?,
@@ -262,8 +276,8 @@ impl Pool {
         self.planned = None;
         let Some(bucket) = find_next(
             &mut self.merged,
+            &mut self.starts,
             self.cursor,
-            &self.tails,
             &self.order,
             &self.segments,
         ) else {
@@ -278,6 +292,20 @@ impl Pool {
         list_moves(&mut self.moves, &self.candidates, self.merged[0]);
         self.planned = Some(bucket);
         true
+    }
+
+    /// Carries out the merge that was planned.
+    pub fn merge_next(&mut self)
+        requires { IsSome self.old.plan }
+        ensures { IfSome self.old.plan (λ plan. self.new ≡ carried_out self.old plan) }
+    {
+        let bucket = self.planned.unwrap();
+        carry(&mut self.spare, &self.moves, &self.segments);
+        replace(&mut self.segments, self.merged[0], &mut self.spare);
+        free_all(&mut self.segments, &mut self.free, &self.merged[1..]);
+        keep_used(&mut self.order, &self.segments);
+        self.cursor = (bucket + 1) % BUCKETS;
+        self.planned = None;
     }
 
     /// The items of a segment in order, dead ones included.

@@ -104,6 +104,21 @@ pub fn free_one(segments: &mut Vec<Segment>, free: &mut Vec<u32>, number: u32)
     free.push_reserved(number);
 }
 
+/// Makes the segments free.
+pub fn free_all(segments: &mut Vec<Segment>, free: &mut Vec<u32>, numbers: &[u32])
+    requires in_range { All (λ n. n < length segments.old.items) numbers.now }
+    requires room { vec_len free.old + length numbers.now ≤ vec_capacity free.old }
+    ensures len { length segments.new.items ≡ length segments.old.items }
+    ensures kept { (sizes : Sizes) → All (IsKept sizes) segments.old.items → All (IsKept sizes) segments.new.items }
+    ensures shown { shown segments.new.items ≡ without_segments (shown segments.old.items) numbers.now }
+    ensures free { free.new.items ≡ free.old.items ++ numbers.now }
+    ensures capacity { vec_capacity free.new ≡ vec_capacity free.old }
+{
+    for number in numbers {
+        free_one(segments, free, *number);
+    }
+}
+
 /// Makes each segment of the order free that has no live item, and counts them.
 pub fn free_dead<L: Live>(
     segments: &mut Vec<Segment>,

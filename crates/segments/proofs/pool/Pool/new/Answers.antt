@@ -36,6 +36,7 @@ invariant_of-result c =
         rank_room = (let h = c.in_ok-with_capacity-5.ensures.capacity in omega (arith, h, size));
         merged_room = (let h = c.in_ok-with_capacity-3.ensures.capacity in omega (arith, h));
         spare_sized = ap (λ p. p.size) c.in_ok-new.ensures ∙ size;
+        start_count = c.in_ok-vec.ensures.len;
       };
       sound = λ b h. absurd (none-some b h);
     }

@@ -43,3 +43,9 @@ all_more P [] x all one zero d lt = one
 all_more P [] x all one (suc k) d lt = absurd (omega arith)
 all_more P (y ∷ xs) x all one zero d lt = all 0 d (omega arith)
 all_more P (y ∷ xs) x all one (suc k) d lt = all_more P xs x (λ j e below. all (suc j) e (omega arith)) one k d (omega arith)
+
+-- the element at a place
+pub at_or : {A : Type 0} (l : List A) (k : ℕ) (d : A) → k < length l → get_elem? l k ≡ some (get_or l k d)
+at_or [] k d low = absurd (omega arith)
+at_or (x ∷ l) zero d low = refl
+at_or (x ∷ l) (suc k) d low = at_or l k d (omega arith)

@@ -25,7 +25,7 @@ use Rattle.group.specs.declared.report.GroupWorker.{GroupWorker}
 use Rattle.group.specs.declared.report.GroupReport.{GroupReport}
 use Rattle.group.specs.Threads.{AreJoined, AreEach, IsFresh, IsStored, KeepsWorker, KeepsStorage, ends_of, worker_of, workers_of}
 use Rattle.group.specs.Headline.{IsServed, IsWorkerOf, IsRun}
-use Rattle.group.proofs.Places.{at_map, at_mapped}
+use Rattle.group.proofs.Places.{at_map, at_mapped, at_or}
 
 module _ {P : Type 0} (tells : P → Bool) (events : P → List PortRecord) where
   module _ (sizes : Sizes) (storage : StorageView) (ports : List P) (reports : List (WorkerReport P)) (joined : AreJoined tells events sizes storage ports reports) where
@@ -126,11 +126,6 @@ module _ {P : Type 0} (tells : P → Bool) (events : P → List PortRecord) wher
     clock_same = ap clock_tells clock_is ∙ stored.tells_same;
     moments = λ t. subst (λ (c : C). IsTimed (answers clock) (answers c) storage.storage_end.history) (sym clock_is) (stored.moments t);
   }
-
-at_or : {A : Type 0} (l : List A) (k : ℕ) (d : A) → k < length l → get_elem? l k ≡ some (slice_index_or l k d)
-at_or [] k d low = absurd (omega arith)
-at_or (x ∷ l) zero d low = refl
-at_or (x ∷ l) (suc k) d low = at_or l k d (omega arith)
 
 -- ends as they are made have sent nothing
 pub fresh_ends : (n : ℕ) (g : Sizes) (ends : List WorkerView) (s : StorageView) → AreMade n g ends s → All IsFresh ends

@@ -8,8 +8,6 @@ mod rule;
 mod slots;
 mod steps;
 mod storage;
-#[cfg(test)]
-mod tests;
 mod views;
 mod worker;
 

@@ -14,7 +14,5 @@ pub mod next;
 pub mod no_memory;
 pub mod parse;
 pub mod show;
-#[cfg(test)]
-mod tests;
 pub mod view;
 pub mod words;

@@ -7,5 +7,3 @@ pub mod entry;
 pub mod number;
 pub mod plain;
 pub mod size;
-#[cfg(test)]
-mod tests;

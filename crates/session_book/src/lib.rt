@@ -9,5 +9,3 @@ pub mod laws;
 pub mod limits;
 mod place;
 mod session;
-#[cfg(test)]
-mod tests;

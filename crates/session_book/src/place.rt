@@ -76,18 +76,21 @@ impl Place {
         ensures ok { OnOk result (out.new ≡ out.old ++ answer self.now (option_copied reply.entry)) }
         ensures err { OnErr result (out.new ≡ out.old) }
     {
-        match (self.kind, reply) {
+        let message = match (self.kind, reply) {
             (
                 Kind::Ask {
                     with_cas,
                     quiet: false,
                 },
                 Some(reply),
-            ) => out.show_reply(with_cas, reply),
-            (Kind::Ask { .. }, _) => Ok(()),
-            (Kind::Wrong(kind), _) => out.show(&Message::Wrong(kind), None),
-            (Kind::Quit, _) => Ok(()),
-            (Kind::Fatal(kind), _) => out.show(&Message::Fatal(kind), None),
-        }
+            ) => return out.show_reply(with_cas, reply),
+            (Kind::Ask { .. } | Kind::Quit, _) => return Ok(()),
+            (Kind::Wrong(kind), _) => Message::Wrong(kind),
+            (Kind::Fatal(kind), _) => Message::Fatal(kind),
+        };
+        let shown = out.show(&message, None);
+        // A call drops it, and not each path of this function: that keeps the proof short.
+        drop(message);
+        shown
     }
 }

@@ -1,10 +1,69 @@
 //! However the bytes are cut, and whenever answers come and output is given, what is given is the same.
 
-use super::player::Player;
-use super::{ROWS, Row};
-use crate::causes::EndCause;
+use crate::player::Player;
+use session_book::causes::EndCause;
 use std::alloc::Global;
 use std::test::Fail;
+
+/// A session's bytes, the value that a `get` of it finds under `a`, its output, and how it ends.
+#[derive(Drop)]
+struct Row {
+    input: &'static str,
+    found: Option<&'static str>,
+    output: &'static str,
+    ends: Option<EndCause>,
+}
+
+const ROWS: [Row; 8] = [
+    Row {
+        input: "set a 0 0 1\r\nx\r\nget a\r\n",
+        found: Some("x"),
+        output: "STORED\r\nVALUE a 0 1\r\nx\r\nEND\r\n",
+        ends: None,
+    },
+    Row {
+        input: "set a 0 0 7\r\nget b\r\n\r\nget a\r\n",
+        found: Some("get b\r\n"),
+        output: "STORED\r\nVALUE a 0 7\r\nget b\r\n\r\nEND\r\n",
+        ends: None,
+    },
+    Row {
+        input: "foo\r\n\r\nget a\r\n",
+        found: None,
+        output: "ERROR\r\nERROR\r\nEND\r\n",
+        ends: None,
+    },
+    Row {
+        input: "get a\r\nfoo\r\n",
+        found: None,
+        output: "END\r\nERROR\r\n",
+        ends: None,
+    },
+    Row {
+        input: "set a 0 0 1 noreply\r\nx\r\nset a 0 0 1\r\ny\r\nquit\r\nget a\r\n",
+        found: Some("y"),
+        output: "STORED\r\n",
+        ends: Some(EndCause::Quit),
+    },
+    Row {
+        input: "set a 0 0 2\r\nxyz\r\nget a\r\n",
+        found: None,
+        output: "CLIENT_ERROR bad data chunk\r\n",
+        ends: Some(EndCause::Fatal),
+    },
+    Row {
+        input: "get\r\nget \r\nquit \r\n get a\r\nGET a\r\n",
+        found: None,
+        output: "CLIENT_ERROR bad command line format\r\nCLIENT_ERROR bad command line format\r\nCLIENT_ERROR bad command line format\r\nERROR\r\nERROR\r\n",
+        ends: None,
+    },
+    Row {
+        input: "gets a\r\nfoo\r\nget a\r\nset a 0 0 131073\r\n",
+        found: Some("x"),
+        output: "VALUE a 0 1 1\r\nx\r\nEND\r\nERROR\r\nVALUE a 0 1\r\nx\r\nEND\r\nSERVER_ERROR object too large for cache\r\n",
+        ends: Some(EndCause::Fatal),
+    },
+];
 
 /// The next of a list of numbers that look random.
 fn scrambled(seed: u64) -> u64 {

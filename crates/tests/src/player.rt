@@ -1,11 +1,11 @@
 //! A book with the requests that it has given, and a store that knows one value.
 
-use crate::book::Book;
-use crate::causes::{EndCause, FeedFault, OpenFault, Settled};
 use proto::byte_string::ByteString;
 use proto::history::{Answered, Posted};
 use proto::message::{Hit, Hits, Reply, Request};
 use proto::no_memory::NoMemory;
+use session_book::book::Book;
+use session_book::causes::{EndCause, FeedFault, OpenFault, Settled};
 use std::alloc::{AllocError, Global};
 
 #[derive(Drop)]

@@ -1,4 +1,8 @@
-use crate::{MakeFault, Posted, StorageEnd, Taken, WorkerEnd, make};
+//! How many requests a lane holds, whose turn it is, and what is refused.
+
+ghost use Rattle.std.specs.Prelude.{◌≡◌, None};
+
+use exchange::{MakeFault, Posted, StorageEnd, Taken, WorkerEnd, make};
 use proto::byte_string::ByteString;
 use proto::geometry::Geometry;
 use proto::message::Request;
@@ -38,6 +42,20 @@ fn ask(alloc: Global, end: &mut WorkerEnd) -> Result<bool, Fail> {
     }
 }
 
+/// The lane of the next message, and whether it is a request; a bye else.
+fn next_of(storage: &mut StorageEnd) -> Option<(usize, bool)>
+    requires { storage.old.open_request ≡ None }
+{
+    match storage.next() {
+        Some(Taken::Asked { worker, posted }) => {
+            drop(posted);
+            Some((worker, true))
+        }
+        Some(Taken::Bye { worker }) => Some((worker, false)),
+        None => None,
+    }
+}
+
 #[test]
 fn the_65th_request_is_handed_back(rt: HostRuntime) -> Result<(), Fail> {
     let (mut ends, _storage) = made(rt.alloc(), 1)?;
@@ -62,13 +80,13 @@ fn nothing_is_posted_after_bye(rt: HostRuntime) -> Result<(), Fail> {
         panic!(rt; "no end")
     };
     assert!(rt; !storage.is_open());
-    assert!(rt; storage.next().is_none());
+    assert_eq!(rt; next_of(&mut storage), None);
     if !end.said_bye() && end.outstanding() == 0 {
         end.bye();
     }
     assert!(rt; !ask(rt.alloc(), &mut end)?);
     assert!(rt; !storage.is_open());
-    assert!(rt; matches!(storage.next(), Some(Taken::Bye { worker: 1 })));
+    assert_eq!(rt; next_of(&mut storage), Some((1, false)));
     Ok(())
 }
 
@@ -80,15 +98,7 @@ fn lanes_are_looked_at_in_turn(rt: HostRuntime) -> Result<(), Fail> {
         assert!(rt; ask(rt.alloc(), end)?);
     }
     assert!(rt; !storage.is_open());
-    assert!(rt;
-        matches!(
-            storage.next(),
-            Some(Taken::Asked {
-                worker: 0,
-                posted: _
-            })
-        )
-    );
+    assert_eq!(rt; next_of(&mut storage), Some((0, true)));
     assert!(rt; storage.is_open());
     Ok(())
 }

@@ -1,15 +1,14 @@
-//! Bytes through `next_message` and `show`, as a table of inputs and outcomes, and the sizes at their limits.
+//! Bytes through `next_message` and `show`, as a table of inputs and outcomes.
 
 ghost use Rattle.std.specs.Prelude.{◌≡◌, is_some};
 ghost use Rattle.proto.specs.Answers.{is_ask};
 
-use crate::byte_string::{ByteString, Keys};
-use crate::geometry::Geometry;
-use crate::head::View;
-use crate::message::{Hit, Hits, Message, Next, Reply, Request};
-use crate::next::next_message;
-use crate::show::show;
-use crate::view::next_view;
+use proto::byte_string::{ByteString, Keys};
+use proto::head::View;
+use proto::message::{Hit, Hits, Message, Next, Reply, Request};
+use proto::next::next_message;
+use proto::show::show;
+use proto::view::next_view;
 use std::alloc::{AllocError, Global};
 use std::process::Abort;
 use std::test::Fail;
@@ -175,15 +174,27 @@ fn shown(alloc: Global, message: &Message, reply: Option<&Reply>) -> Result<Vec<
     Ok(out)
 }
 
+/// The input is read, or answered, as these bytes.
+fn check_bytes(rt: &impl Abort, given: &[u8], wanted: &[u8], input: &[u8]) {
+    assert_eq!(rt; given, wanted, "at {input:?}");
+}
+
+/// The answer to a request that is given this reply.
+fn request_answer(alloc: Global, message: &Message, reply: &Reply) -> Result<Vec<u8>, Fail> {
+    match message {
+        Message::Ask(..) => shown(alloc, message, Some(reply)),
+        Message::Wrong(_) | Message::Fatal(_) | Message::Quit => Err(Fail::from("a request")),
+    }
+}
+
 fn check_request(rt: &impl Abort, alloc: Global, row: &(&[u8], Given, &[u8])) -> Result<(), Fail> {
     let (input, given, answer) = row;
-    let message = whole(rt, alloc, input)?.ok_or("a message")?;
     let reply = reply_of(alloc, *given)?;
-    let Message::Ask(request, quiet) = message else {
-        return Err(Fail::from("a request"));
-    };
-    let out = shown(alloc, &Message::Ask(request, quiet), Some(&reply))?;
-    assert_eq!(rt; out.as_slice(), *answer, "the answer at {input:?}");
+    let message = whole(rt, alloc, input)?.ok_or("a message")?;
+    let out = request_answer(alloc, &message, &reply);
+    drop(message);
+    drop(reply);
+    check_bytes(rt, out?.as_slice(), answer, input);
     begins_with_nothing(rt, alloc, input)
 }
 
@@ -205,19 +216,19 @@ fn requests_are_read_and_answered(rt: HostRuntime) -> Result<(), Fail> {
 
 /// The answer to a message that isn't a request.
 fn local_answer(alloc: Global, message: Message) -> Result<Vec<u8>, Fail> {
-    match message {
+    let out = match &message {
         Message::Ask(..) => Err(Fail::from("no request")),
-        Message::Wrong(kind) => shown(alloc, &Message::Wrong(kind), None),
-        Message::Fatal(kind) => shown(alloc, &Message::Fatal(kind), None),
-        Message::Quit => shown(alloc, &Message::Quit, None),
-    }
+        Message::Wrong(_) | Message::Fatal(_) | Message::Quit => shown(alloc, &message, None),
+    };
+    drop(message);
+    out
 }
 
 fn check_faults(rt: &impl Abort, alloc: Global, rows: &[(&[u8], &[u8])]) -> Result<(), Fail> {
     for (input, answer) in rows {
         let message = whole(rt, alloc, input)?.ok_or("a message")?;
         let out = local_answer(alloc, message)?;
-        assert_eq!(rt; out.as_slice(), *answer, "the answer at {input:?}");
+        check_bytes(rt, out.as_slice(), answer, input);
         begins_with_nothing(rt, alloc, input)?;
     }
     Ok(())
@@ -258,7 +269,7 @@ fn check_long_line(
     };
     assert_eq!(rt; n, 2048, "{count} letters");
     let out = local_answer(alloc, message)?;
-    assert_eq!(rt; out.as_slice(), answer, "{count} letters");
+    check_bytes(rt, out.as_slice(), answer, input.as_slice());
     Ok(())
 }
 
@@ -292,11 +303,11 @@ fn check_cas(rt: &impl Abort, alloc: Global, request: Request) -> Result<(), Fai
     let Request::Cas(put, unique) = request else {
         return Err(Fail::from("a cas"));
     };
-    assert_eq!(rt; put.key.as_slice(), b"key".as_slice());
     assert_eq!(rt; (put.flags, put.exptime, unique), (7, -5, u64::MAX));
-    assert_eq!(rt; put.value.as_slice(), b"a\r\n".as_slice());
-    let copy = put.key.try_clone(alloc)?;
-    assert_eq!(rt; copy.into_vec().as_slice(), b"key".as_slice());
+    check_bytes(rt, put.key.as_slice(), b"key", b"cas");
+    check_bytes(rt, put.value.as_slice(), b"a\r\n", b"cas");
+    let copy = put.key.try_clone(alloc)?.into_vec();
+    check_bytes(rt, copy.as_slice(), b"key", b"cas");
     Ok(())
 }
 
@@ -325,28 +336,4 @@ fn noreply_is_a_key_of_gets(rt: HostRuntime) -> Result<(), Fail> {
         Some(Message::Ask(request, false)) => check_gets(&rt, request),
         _ => Err(Fail::from("a request that isn't quiet")),
     }
-}
-
-fn check_sizes(rt: &impl Abort, sizes: &[(u32, u32)], good: bool) {
-    for (size, segments) in sizes {
-        let made = Geometry::new(*size, *segments);
-        assert_eq!(rt; made.is_ok(), good, "{size} by {segments}");
-    }
-}
-
-#[test]
-fn sizes_are_within_their_limits(rt: HostRuntime) -> Result<(), Fail> {
-    check_sizes(&rt, &[(4096, 8), (1_048_576, 65_536), (65_536, 64)], true);
-    check_sizes(&rt, &[(4095, 8), (2048, 8), (4096, 7), (0, 0)], false);
-    check_sizes(&rt, &[(2_097_152, 8), (65_536, 65_537), (12_288, 8)], false);
-    let geometry = Geometry::new(4096, 9)?;
-    assert_eq!(rt;
-        (
-            geometry.segment_size(),
-            geometry.segments(),
-            geometry.item_limit()
-        ),
-        (4096, 9, 512)
-    );
-    Ok(())
 }

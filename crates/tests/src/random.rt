@@ -1,11 +1,11 @@
 //! Random requests, which the store is to answer as the list does.
 
-use super::list_cache::ListCache;
-use crate::plain::Store;
+use crate::list_cache::ListCache;
 use proto::byte_string::{ByteString, Keys};
 use proto::geometry::Geometry;
 use proto::message::{Message, Put, Request};
 use proto::show::show;
+use segcache::plain::Store;
 use std::alloc::{AllocError, Global};
 use std::test::Fail;
 

@@ -1,0 +1,23 @@
+//! Tests of the libraries below the worker: messages, stores, books and lanes.
+#![tactic(auto)]
+
+#[cfg(test)]
+mod book;
+#[cfg(test)]
+mod cuttings;
+#[cfg(test)]
+mod lanes;
+#[cfg(test)]
+mod list_cache;
+#[cfg(test)]
+mod messages;
+#[cfg(test)]
+mod player;
+#[cfg(test)]
+mod random;
+#[cfg(test)]
+mod session;
+#[cfg(test)]
+mod sizes;
+#[cfg(test)]
+mod store;

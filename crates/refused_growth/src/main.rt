@@ -1,4 +1,5 @@
-//! What each layer does where a growth is refused: the same call made again gives what it would have given.
+//! What each layer does where a growth is refused: the same call made again gives what it would have given. A
+//! worker answers with want of memory or names the session that it shut for it, and serves the others.
 //! It is run once for each request for memory, which is refused in that run alone, and each run must write the
 //! same text.
 #![tactic(auto)]
@@ -6,27 +7,35 @@
 mod book;
 mod lanes;
 mod plain_store;
+mod pools;
 mod protocol;
+mod quiet_port;
+mod workers;
 
 use std::process::ExitCode;
 
-/// Writes whether a layer did as it does without a refusal.
-fn report(rt: &impl Print, layer: &str, held: bool) -> bool {
-    let outcome = if held {
-        "as without a refusal"
-    } else {
-        "DIFFERS"
-    };
+/// What a layer does whose call can be made again.
+const REPEATED: &str = "as without a refusal";
+
+/// What a worker does.
+const NAMED: &str = "each session answered, or named as refused";
+
+/// Writes whether a layer did so.
+fn report(rt: &impl Print, layer: &str, promise: &str, held: bool) -> bool {
+    let outcome = if held { promise } else { "DIFFERS" };
     println!(rt; "{layer}: {outcome}").is_ok() && held
 }
 
 fn main(rt: HostRuntime) -> ExitCode {
     let alloc = rt.alloc();
-    let messages = report(&rt, "messages", protocol::is_repeatable(alloc));
-    let requests = report(&rt, "requests", plain_store::is_repeatable(&rt));
-    let exchange = report(&rt, "lanes", lanes::is_repeatable(alloc));
-    let sessions = report(&rt, "sessions", book::is_repeatable(alloc));
-    if messages && requests && exchange && sessions {
+    let messages = report(&rt, "messages", REPEATED, protocol::is_repeatable(alloc));
+    let requests = report(&rt, "requests", REPEATED, plain_store::is_repeatable(&rt));
+    let exchange = report(&rt, "lanes", REPEATED, lanes::is_repeatable(alloc));
+    let sessions = report(&rt, "sessions", REPEATED, book::is_repeatable(alloc));
+    let segments = report(&rt, "pools", REPEATED, pools::is_repeatable(alloc));
+    let serving = report(&rt, "workers", NAMED, workers::is_named(&rt, alloc));
+    let repeated = messages && requests && exchange && sessions && segments;
+    if repeated && serving {
         ExitCode::SUCCESS
     } else {
         ExitCode::FAILURE

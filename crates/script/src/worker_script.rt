@@ -109,4 +109,11 @@ impl WorkerScript {
     {
         self.events.as_slice()
     }
+    /// The events, in order.
+    pub fn into_events(self) -> Vec<ScriptEvent>
+        ensures events { result.items ≡ self }
+        ensures playable { IsPlayable self }
+    {
+        self.events
+    }
 }

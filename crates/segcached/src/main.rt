@@ -19,7 +19,7 @@ fn replay_file(rt: &HostRuntime, options: &Options) -> Result<(), Fault> {
         Err(error) => return Err(cannot_read(alloc, options, &error)),
     };
     let mut out = BufWriter::new(alloc, io::writer(rt)).map_err(|_| Fault::NoMemory)?;
-    replay(alloc, options, geometry, script, &mut out)
+    replay(rt, alloc, options, geometry, script, &mut out)
 }
 
 /// Does the job, and answers the exit status.

@@ -1,24 +1,57 @@
 -- What `segcached replay` prints for a script.
-use Rattle.std.specs.Prelude.{◌≡◌, ℕ, List, ◌++◌, ◌==◌, length, codes, decimal, flat_map, if◌then◌else◌}
+use Rattle.std.specs.Prelude.{◌≡◌, ℕ, ◌+◌, true, List, [], ◌∷◌, ◌++◌, ◌==◌, length, codes, decimal, flat_map, map, if◌then◌else◌}
 use Rattle.hex.specs.Hex.{encode_lower}
 use Rattle.proto.specs.Sizes.{Sizes}
-use Rattle.script.specs.Clocks.{Clock, answer_of}
-use Rattle.script.specs.Scripts.{Workers, events_at, AreEventsOf}
-use Rattle.straight.specs.declared.replay.SessionOutput.{SessionOutput}
-use Rattle.straight.specs.Replays.{IsReplay}
+use Rattle.script.specs.declared.event.ScriptEvent.{ScriptEvent}
+use Rattle.script.specs.Clocks.{Clock}
+use Rattle.script.specs.Scripts.{Workers, AreEventsOf}
+use Rattle.worker.specs.declared.port.PortRecord.{PortRecord}
+use Rattle.worker.specs.Ports.{given}
+use Rattle.clocks.specs.declared.told_clock.ToldClock.{ToldClock}
+use Rattle.clocks.specs.Answers.{listed}
+use Rattle.script_port.specs.Events.{is_playable}
+use Rattle.script_port.specs.Records.{opened}
+use Rattle.script_port.specs.States.{PortState}
+use Rattle.group.specs.declared.report.GroupWorker.{GroupWorker}
+use Rattle.group.specs.declared.report.GroupReport.{GroupReport}
+use Rattle.group.specs.Threads.{AreEach}
+use Rattle.group.specs.Headline.{IsRun}
 
 -- the bytes in hexadecimal, or a dash where there are none
 abbrev pub shown : List ℕ → List ℕ
 shown bytes = if length bytes == 0 then codes "-" else encode_lower bytes
 
--- the line of a session of worker 0
-abbrev pub line_of : SessionOutput → List ℕ
-line_of given = codes "0 " ++ decimal given.session ++ codes " " ++ shown given.output ++ codes "\n"
+-- the line of a worker's session that was given these bytes
+abbrev pub line_of : ℕ → ℕ → List ℕ → List ℕ
+line_of worker session bytes = decimal worker ++ codes " " ++ decimal session ++ codes " " ++ shown bytes ++ codes "\n"
 
--- The script has these events for one worker. They were run, and what each session was given is printed.
-pub record IsPrinted (sizes : Sizes) (clock : Clock) (text printed : List ℕ) : Type 0 where
-  pub workers : Workers
-  pub read : AreEventsOf 1 text workers
-  pub given : List SessionOutput
-  pub run : IsReplay sizes (answer_of clock) (events_at workers 0) given
-  pub printed_is : printed ≡ flat_map line_of given
+-- the lines of a worker's sessions, in the order in which they were opened
+abbrev pub lines_of : ℕ → List PortRecord → List ℕ
+lines_of worker events = flat_map (λ (session : ℕ). line_of worker session (given session events)) (opened events)
+
+-- the lines of the workers from this one on
+abbrev pub lines_from : ℕ → List (List PortRecord) → List ℕ
+lines_from worker [] = []
+lines_from worker (events ∷ more) = lines_of worker events ++ lines_from (worker + 1) more
+
+abbrev pub events_of : GroupWorker PortState → List PortRecord
+events_of worker = worker.port.records
+
+-- a port that tells, with all these events left to play, and with these faults
+abbrev pub IsPort : ℕ → ℕ → List ScriptEvent → PortState → Type 0
+IsPort accept fail_give events port =
+    (is_playable events ≡ true)
+    × (port ≡ record { script = events; left = events; sessions = []; records = []; accept = accept; fail_give = fail_give })
+
+-- The script has these events for so many workers. A group of them ran over ports with these events, and over a new
+-- clock; and what each session was given is printed, in order of worker and session.
+pub record IsPrinted (sizes : Sizes) (clock : Clock) (workers accept fail_give : ℕ) (text printed : List ℕ) : Type 0 where
+  pub scripts : Workers
+  pub read : AreEventsOf workers text scripts
+  pub ports : List PortState
+  pub ports_are : AreEach (IsPort accept fail_give) scripts ports
+  pub told : ToldClock
+  pub told_is : (told.clock ≡ clock) × (listed told.answers ≡ [])
+  pub report : GroupReport PortState ToldClock
+  pub run : IsRun (λ p. is_playable p.script) (λ p. p.records) (λ _. true) (λ c. listed c.answers) sizes ports told report
+  pub printed_is : printed ≡ lines_from 0 (map events_of report.workers.items)

@@ -1,8 +1,9 @@
 //! Why the program failed.
 
+use group::fault::GroupFault;
 use proto::no_memory::NoMemory;
 use script::fault::ScriptFault;
-use std::alloc::AllocError;
+use std::alloc::{AllocError, AllocFailed};
 use thiserror::Error;
 
 /// A fault; its text is the line that the program prints. They are tested in this order.
@@ -15,6 +16,11 @@ pub enum Fault {
     CannotRead(String),
     #[error("fault: {0}")]
     Script(ScriptFault),
+    /// The number of workers isn't 1 to 8; the program's words never ask for it.
+    #[error("fault: bad number of workers")]
+    BadWorkers,
+    #[error("fault: cannot start a thread")]
+    NoThread,
     #[error("fault: cannot write")]
     CannotWrite,
     #[error("fault: out of memory")]
@@ -30,5 +36,21 @@ impl From<NoMemory> for Fault {
 impl From<AllocError> for Fault {
     fn from(_error: AllocError) -> Fault {
         Fault::NoMemory
+    }
+}
+
+impl<T: Drop> From<AllocFailed<T>> for Fault {
+    fn from(_failed: AllocFailed<T>) -> Fault {
+        Fault::NoMemory
+    }
+}
+
+impl From<GroupFault> for Fault {
+    fn from(fault: GroupFault) -> Fault {
+        match fault {
+            GroupFault::BadConfig => Fault::BadWorkers,
+            GroupFault::NoMemory => Fault::NoMemory,
+            GroupFault::NoThread => Fault::NoThread,
+        }
     }
 }

@@ -3,6 +3,4 @@
 
 pub mod fault;
 pub mod replay;
-#[cfg(test)]
-mod tests;
 pub mod words;

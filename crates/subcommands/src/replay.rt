@@ -1,20 +1,28 @@
 //! `segcached replay`.
 
-ghost use Rattle.std.specs.Prelude.{◌≡◌, ℕ, List, IfOk, OnOk, IfSome, flat_map, take};
+ghost use Rattle.std.specs.Prelude.{◌≡◌, ℕ, List, IfOk, OnOk, IfSome, map, take};
 ghost use Rattle.std.specs.String.{string_bytes};
 ghost use Rattle.std.specs.Io.KnownBytes.{Appends};
 ghost use Rattle.script.specs.Clocks.{clock_at};
-ghost use Rattle.subcommands.specs.Printed.{shown, line_of, IsPrinted};
+ghost use Rattle.group.specs.Threads.{AreEach};
+ghost use Rattle.subcommands.specs.Printed.{shown, line_of, lines_of, lines_from, events_of, IsPort, IsPrinted};
 
 use crate::fault::Fault;
 use crate::words::Options;
+use clocks::told_clock::ToldClock;
+use gates::open::OpenGate;
+use group::report::{Config, GroupWorker};
+use group::run::run_group;
 use proto::geometry::Geometry;
 use script::clock::ScriptClock;
 use script::reader::read_script;
-use segcache::plain::Store;
+use script::worker_script::WorkerScript;
+use script_port::port::ScriptPort;
 use std::alloc::{AllocError, Global};
 use std::io::{self, ErrorKind, Read, Write};
-use straight::replay::{SessionOutput, replay_straight};
+use std::sync::Wait;
+use std::thread::Threads;
+use std::time;
 
 /// One byte more than a script may have.
 const TOO_MANY: u64 = 16_777_217;
@@ -71,26 +79,47 @@ fn shown(alloc: Global, bytes: &[u8]) -> Result<String, AllocError>
 }
 
 /// The line of a session: its worker, its number and the bytes that it was given.
-fn line(alloc: Global, given: &SessionOutput) -> Result<String, AllocError>
-    ensures { IfOk result (λ text. string_bytes text ≡ line_of given.now) }
+fn line(alloc: Global, worker: usize, session: u64, given: &[u8]) -> Result<String, AllocError>
+    ensures { IfOk result (λ text. string_bytes text ≡ line_of worker session given.now) }
 {
-    let mut text = String::from_str(alloc, "0 ")?;
-    text.push_str(given.session.to_string(alloc)?.as_str())?;
+    let mut text = worker.to_string(alloc)?;
     text.push_str(" ")?;
-    text.push_str(shown(alloc, given.output.as_slice())?.as_str())?;
+    text.push_str(session.to_string(alloc)?.as_str())?;
+    text.push_str(" ")?;
+    text.push_str(shown(alloc, given)?.as_str())?;
     text.push_str("\n")?;
     Ok(text)
 }
 
-/// Writes the line of each session.
-fn write_lines<W: Write>(alloc: Global, out: &mut W, all: &[SessionOutput]) -> Result<(), Fault>
-    ensures { OnOk result (Appends (W.contents out.old) (W.contents out.new) (flat_map line_of all.now)) }
+/// Writes the line of each session of a worker.
+fn write_worker<W: Write>(
+    alloc: Global,
+    out: &mut W,
+    worker: usize,
+    port: &ScriptPort,
+) -> Result<(), Fault>
+    ensures { OnOk result (Appends (W.contents out.old) (W.contents out.new) (lines_of worker port.now.records)) }
 {
-    for given in all {
-        let line = line(alloc, given)?;
+    for session in port.sessions() {
+        let number = session.number();
+        let line = line(alloc, worker, number, port.given(number))?;
         if out.write_all(line.as_bytes()).is_err() {
             return Err(Fault::CannotWrite);
         }
+    }
+    Ok(())
+}
+
+/// Writes the lines of all workers, in their order.
+fn write_lines<W: Write>(
+    alloc: Global,
+    out: &mut W,
+    workers: &[GroupWorker<ScriptPort>],
+) -> Result<(), Fault>
+    ensures { OnOk result (Appends (W.contents out.old) (W.contents out.new) (lines_from 0 (map events_of workers.now))) }
+{
+    for worker in 0..workers.len() {
+        write_worker(alloc, out, worker, &workers[worker].port)?;
     }
     if out.flush().is_err() {
         return Err(Fault::CannotWrite);
@@ -98,9 +127,26 @@ fn write_lines<W: Write>(alloc: Global, out: &mut W, all: &[SessionOutput]) -> R
     Ok(())
 }
 
-/// Reads the script, runs it, and prints what each session was given: its worker, its number and the
-/// bytes, a line each. What was printed before a fault stays printed.
-pub fn replay<R: Read + Drop, W: Write>(
+/// A port for the events of each worker, with the faults that the options ask for.
+fn ports_of(
+    alloc: Global,
+    options: &Options,
+    scripts: Vec<WorkerScript>,
+) -> Result<Vec<ScriptPort>, Fault>
+    ensures { IfOk result (λ ports. AreEach (IsPort options.entry.now.accept options.entry.now.fail_give) scripts.items ports.items) }
+{
+    let mut ports = Vec::with_capacity(alloc, scripts.len())?;
+    for script in scripts {
+        let port = ScriptPort::new(alloc, script.into_events());
+        ports.push(port.with_faults(options.accept as usize, options.fail_give))?;
+    }
+    Ok(ports)
+}
+
+/// Reads the script, runs a group of workers over it, and prints what each session was given: its worker, its number
+/// and the bytes, a line each, in order of worker and session. What was printed before a fault stays printed.
+pub fn replay<H: Threads + Wait + time::Clock + Sync, R: Read + Drop, W: Write>(
+    rt: &H,
     alloc: Global,
     options: &Options,
     geometry: Geometry,
@@ -108,17 +154,16 @@ pub fn replay<R: Read + Drop, W: Write>(
     out: &mut W,
 ) -> Result<(), Fault>
     ensures { OnOk result (IfSome (R.remaining script) (λ text. (printed : List ℕ)
-        × IsPrinted geometry (clock_at options.entry.now.now options.entry.now.tick) text printed
+        × IsPrinted geometry (clock_at options.entry.now.now options.entry.now.tick) options.entry.now.workers options.entry.now.accept options.entry.now.fail_give text printed
         × Appends (W.contents out.old) (W.contents out.new) printed)) }
 {
     let bytes = script_bytes(alloc, options, script)?;
-    let workers = match read_script(alloc, bytes.as_slice(), 1) {
-        Ok(workers) => workers,
+    let scripts = match read_script(alloc, bytes.as_slice(), options.workers as usize) {
+        Ok(scripts) => scripts,
         Err(fault) => return Err(Fault::Script(fault)),
     };
-    let worker = &workers[0];
-    let store = Store::new(alloc, geometry);
-    let clock = ScriptClock::new(options.now, options.tick);
-    let outputs = replay_straight(alloc, store, clock, worker.as_slice())?;
-    write_lines(alloc, out, outputs.as_slice())
+    let ports = ports_of(alloc, options, scripts)?;
+    let clock = ToldClock::new(ScriptClock::new(options.now, options.tick));
+    let report = run_group(rt, alloc, ports, Config { geometry }, clock, &OpenGate)?;
+    write_lines(alloc, out, report.workers.as_slice())
 }

@@ -9,6 +9,8 @@ use thiserror::Error;
 pub struct Options {
     /// The path of the script.
     pub file: String,
+    /// How many workers run, 1 to 8.
+    pub workers: u64,
     /// The bytes of a segment, 4,096 to 1,048,576. Whether it is a power of two is tested later.
     pub segment_size: u64,
     /// The number of segments, 8 to 65,536.
@@ -17,6 +19,10 @@ pub struct Options {
     pub now: u64,
     /// How many seconds more each further answer is.
     pub tick: u64,
+    /// How many bytes a port accepts at once, 1 to 65,536; 0 is any number.
+    pub accept: u64,
+    /// Which give of each worker's port finds its peer gone, counted from 1; 0 is none.
+    pub fail_give: u64,
 }
 
 /// What the words ask for.
@@ -47,9 +53,9 @@ const REPLAY_HELP: &str = "A script has a line for each event, with single space
   open W S      session S begins at worker W
   send W S HEX  its bytes come, in hexadecimal
   gone W S      its peer has gone
-Workers are counted from 0. A session that begins has a number above those before it, from 1 on.
+Workers are counted from 0. A session that begins has a number above those before it at its worker, from 1 on.
 
-For each session that was opened, in order, the line `W S HEX` is printed, where HEX is all that the session was given, or `-` where that is nothing.
+For each session that was opened, in order of worker and session, the line `W S HEX` is printed, where HEX is all that the session was given, or `-` where that is nothing.
 
 Exit status: 0 done, 1 a fault (one line on standard error), 2 bad words";
 
@@ -71,32 +77,66 @@ fn segments<'a>(alloc: Global) -> Arg<'a> {
         .default_value("64")
 }
 
+fn workers<'a>(alloc: Global) -> Arg<'a> {
+    Arg::new(alloc, "workers")
+        .long("workers")
+        .value_name("COUNT")
+        .help("Number of worker threads, 1 to 8")
+        .value_parser(clap::value_parser!(u64).range(1..=8))
+        .default_value("1")
+}
+
+fn accept<'a>(alloc: Global) -> Arg<'a> {
+    Arg::new(alloc, "accept")
+        .long("accept")
+        .value_name("BYTES")
+        .help("Each give accepts at most so many bytes, 1 to 65536")
+        .value_parser(clap::value_parser!(u64).range(1..=65_536))
+}
+
+fn fail_give<'a>(alloc: Global) -> Arg<'a> {
+    Arg::new(alloc, "fail-give")
+        .long("fail-give")
+        .value_name("N")
+        .help("At each worker the Nth give finds its peer gone")
+        .value_parser(clap::value_parser!(u64).range(1..))
+}
+
+fn now<'a>(alloc: Global) -> Arg<'a> {
+    Arg::new(alloc, "now")
+        .long("now")
+        .value_name("SECONDS")
+        .help("The clock's first answer")
+        .value_parser(clap::value_parser!(u64))
+        .default_value("1000")
+}
+
+fn tick<'a>(alloc: Global) -> Arg<'a> {
+    Arg::new(alloc, "tick")
+        .long("tick")
+        .value_name("SECONDS")
+        .help("How much more each further answer of the clock is")
+        .value_parser(clap::value_parser!(u64))
+        .default_value("0")
+}
+
 fn replay_command<'a>(alloc: Global) -> Result<Command<'a>, AllocError> {
     let file = Arg::new(alloc, "file")
         .value_name("FILE")
         .help("The script")
         .required(true);
-    let now = Arg::new(alloc, "now")
-        .long("now")
-        .value_name("SECONDS")
-        .help("The clock's first answer")
-        .value_parser(clap::value_parser!(u64))
-        .default_value("1000");
-    let tick = Arg::new(alloc, "tick")
-        .long("tick")
-        .value_name("SECONDS")
-        .help("How much more each further answer of the clock is")
-        .value_parser(clap::value_parser!(u64))
-        .default_value("0");
     Command::new(alloc, "replay")
         .about("Runs a script and prints what each session was given")
         .override_usage("segcached replay [OPTIONS] <FILE>")
         .after_help(REPLAY_HELP)
         .arg(file)?
+        .arg(workers(alloc))?
         .arg(segment_size(alloc))?
         .arg(segments(alloc))?
-        .arg(now)?
-        .arg(tick)
+        .arg(now(alloc))?
+        .arg(tick(alloc))?
+        .arg(accept(alloc))?
+        .arg(fail_give(alloc))
 }
 
 fn command<'a>(alloc: Global) -> Result<Command<'a>, AllocError> {
@@ -107,7 +147,7 @@ fn command<'a>(alloc: Global) -> Result<Command<'a>, AllocError> {
         .subcommand(replay_command(alloc)?)
 }
 
-/// A number that the words give, or by default.
+/// A number that the words give, or by default; 0 where there is neither.
 fn number(matches: &ArgMatches<'_>, id: &str) -> u64 {
     matches.get_one::<u64>(id).unwrap_or(0)
 }
@@ -115,10 +155,13 @@ fn number(matches: &ArgMatches<'_>, id: &str) -> u64 {
 fn replay_options(alloc: Global, matches: &ArgMatches<'_>) -> Result<Options, AllocError> {
     Ok(Options {
         file: String::from_str(alloc, matches.get_str("file").unwrap_or(""))?,
+        workers: number(matches, "workers"),
         segment_size: number(matches, "segment-size"),
         segments: number(matches, "segments"),
         now: number(matches, "now"),
         tick: number(matches, "tick"),
+        accept: number(matches, "accept"),
+        fail_give: number(matches, "fail-give"),
     })
 }
 

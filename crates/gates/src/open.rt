@@ -1,0 +1,15 @@
+//! A gate that is always open.
+
+use worker::gate::Gate;
+
+/// Lets every request pass.
+#[derive(Clone, Copy, Debug)]
+pub struct OpenGate;
+
+impl Gate for OpenGate {
+    fn may_post(&self, _worker: usize, _number: u64) -> bool {
+        true
+    }
+
+    fn answered(&self, _worker: usize, _number: u64) {}
+}

@@ -1,0 +1,103 @@
+//! A port and a clock that count how often they are asked.
+
+use bytes::Bytes;
+use std::alloc::Global;
+use std::sync::atomic::{AtomicU64, Ordering};
+use storage_thread::clock::Clock;
+use worker::port::{Gone, Port, PortEvent};
+
+/// How often the ports and the clock of a run were asked.
+#[derive(Drop)]
+pub(crate) struct Counters {
+    events: AtomicU64,
+    moments: AtomicU64,
+}
+
+impl Counters {
+    pub(crate) fn new() -> Counters {
+        Counters {
+            events: AtomicU64::new(0),
+            moments: AtomicU64::new(0),
+        }
+    }
+
+    /// How often a port was asked for an event, and the clock for the moment.
+    pub(crate) fn asked(&self) -> (u64, u64) {
+        (
+            self.events.load(Ordering::SeqCst),
+            self.moments.load(Ordering::SeqCst),
+        )
+    }
+}
+
+/// Opens session 1, sends it some bytes, and ends. It keeps what is given.
+#[derive(Drop)]
+pub(crate) struct TestPort<'a> {
+    counters: &'a Counters,
+    input: Option<Bytes>,
+    is_open: bool,
+    pub(crate) given: Vec<u8>,
+}
+
+impl<'a> TestPort<'a> {
+    pub(crate) fn new(alloc: Global, counters: &'a Counters, input: Bytes) -> TestPort<'a> {
+        TestPort {
+            counters,
+            input: Some(input),
+            is_open: false,
+            given: Vec::new(alloc),
+        }
+    }
+}
+
+impl Port for TestPort<'_> {
+    ghost use Rattle.std.specs.Prelude.{false, []};
+
+    ghost tells = { λ _. false };
+
+    ghost events = { λ _. [] };
+
+    fn next(&mut self) -> PortEvent {
+        self.counters.events.fetch_add(1, Ordering::SeqCst);
+        if !self.is_open {
+            self.is_open = true;
+            return PortEvent::Opened(1);
+        }
+        match self.input.take() {
+            Some(bytes) => PortEvent::Data(1, bytes),
+            None => PortEvent::Ended,
+        }
+    }
+
+    fn give(&mut self, _session: u64, bytes: &[u8]) -> Result<usize, Gone> {
+        match self.given.extend_from_slice(bytes) {
+            Ok(()) => Ok(bytes.len()),
+            Err(_) => Ok(0),
+        }
+    }
+
+    fn pause(&mut self, _session: u64) {}
+
+    fn resume(&mut self, _session: u64) {}
+
+    fn shut(&mut self, _session: u64) {}
+}
+
+/// It is 1000 at all times.
+#[derive(Drop)]
+pub(crate) struct TestClock<'a> {
+    pub(crate) counters: &'a Counters,
+}
+
+impl Clock for TestClock<'_> {
+    ghost use Rattle.std.specs.Prelude.{false, []};
+
+    ghost tells = { λ _. false };
+
+    ghost answers = { λ _. [] };
+
+    fn now(&mut self) -> u64 {
+        self.counters.moments.fetch_add(1, Ordering::SeqCst);
+        1000
+    }
+}

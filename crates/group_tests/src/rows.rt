@@ -1,0 +1,111 @@
+//! Runs of whole groups.
+
+use crate::meeting::{Meeting, MeetingClock};
+use crate::ports::{Counters, TestClock, TestPort};
+use crate::running::{are_complete, default_config, ports_of};
+use crate::second_gate::SecondGate;
+use bytes::Bytes;
+use gates::hold::HoldGate;
+use gates::open::OpenGate;
+use group::fault::GroupFault;
+use group::run::run_group;
+use std::alloc::Global;
+use std::test::Fail;
+
+const KEYS: &[u8] = b"abcdefghi";
+
+#[test]
+fn no_port_and_nine_ports_are_refused(rt: HostRuntime) {
+    let alloc: Global = rt.alloc();
+    let counters = Counters::new();
+    for count in [0, 9] {
+        let ports = ports_of(&rt, alloc, &counters, &KEYS[..count]);
+        let clock = TestClock {
+            counters: &counters,
+        };
+        match run_group(&rt, alloc, ports, default_config(&rt), clock, &OpenGate) {
+            Err(GroupFault::BadConfig) => {}
+            _ => panic!(rt; "{count} ports ran"),
+        }
+    }
+    assert_eq!(rt; counters.asked(), (0, 0));
+}
+
+#[test]
+fn one_worker_drains(rt: HostRuntime) {
+    let alloc: Global = rt.alloc();
+    let counters = Counters::new();
+    let ports = ports_of(&rt, alloc, &counters, b"a");
+    let clock = TestClock {
+        counters: &counters,
+    };
+    let report = run_group(&rt, alloc, ports, default_config(&rt), clock, &OpenGate).expect(
+        &rt, "a run",
+    );
+    assert!(rt; are_complete(&rt, alloc, report.workers.as_slice(), b"a"));
+    assert_eq!(rt; report.executed, 2);
+    assert_eq!(rt; counters.asked().1, 2);
+}
+
+#[test]
+fn two_workers_wait_for_each_other(rt: HostRuntime) {
+    let alloc: Global = rt.alloc();
+    let counters = Counters::new();
+    let gate = HoldGate::new();
+    let ports = ports_of(&rt, alloc, &counters, b"ab");
+    let clock = TestClock {
+        counters: &counters,
+    };
+    let report = run_group(&rt, alloc, ports, default_config(&rt), clock, &gate).expect(
+        &rt, "a run",
+    );
+    assert!(rt; are_complete(&rt, alloc, report.workers.as_slice(), b"ab"));
+    assert!(rt; !gate.spent());
+    assert_eq!(rt; report.executed, 4);
+    assert_eq!(rt; report.gathered.sent, [2, 2, 0, 0, 0, 0, 0, 0]);
+    assert_eq!(rt; report.gathered.back, [2, 2, 0, 0, 0, 0, 0, 0]);
+}
+
+#[test]
+fn all_apart(rt: HostRuntime) {
+    let alloc: Global = rt.alloc();
+    let counters = Counters::new();
+    let meeting = Meeting::new();
+    let keys = &KEYS[..8];
+    let ports = ports_of(&rt, alloc, &counters, keys);
+    let clock = MeetingClock { meeting: &meeting };
+    let report = run_group(&rt, alloc, ports, default_config(&rt), clock, &meeting).expect(
+        &rt, "a run",
+    );
+    assert_eq!(rt; meeting.given_up(), 0);
+    assert!(rt; are_complete(&rt, alloc, report.workers.as_slice(), keys));
+    assert_eq!(rt; report.executed, 16);
+}
+
+#[test]
+fn two_workers_see_one_cache(rt: HostRuntime) -> Result<(), Fail> {
+    let alloc: Global = rt.alloc();
+    let counters = Counters::new();
+    let gate = SecondGate::new();
+    let ports = vec![in alloc;
+        TestPort::new(
+            alloc,
+            &counters,
+            Bytes::from_static(b"set a 0 0 1\r\nx\r\n")
+        ),
+        TestPort::new(alloc, &counters, Bytes::from_static(b"get a\r\n")),
+    ]?;
+    let clock = TestClock {
+        counters: &counters,
+    };
+    let report = run_group(&rt, alloc, ports, default_config(&rt), clock, &gate).expect(
+        &rt, "a run",
+    );
+    let [first, second] = report.workers.as_slice() else {
+        panic!(rt; "two workers")
+    };
+    let wanted: &[u8] = b"VALUE a 0 1\r\nx\r\nEND\r\n";
+    assert!(rt; first.port.given.as_slice() == b"STORED\r\n".as_slice());
+    assert!(rt; second.port.given.as_slice() == wanted);
+    Ok(())
+}

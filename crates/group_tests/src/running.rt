@@ -1,0 +1,66 @@
+//! Ports with their bytes, and what a group's workers were given.
+
+use crate::ports::{Counters, TestPort};
+use bytes::Bytes;
+use group::report::{Config, GroupWorker};
+use proto::geometry::Geometry;
+use session_book::causes::EndCause;
+use std::alloc::Global;
+use std::process::Abort;
+
+/// Stores one byte under the key `a` and asks for it.
+pub(crate) const INPUT: &[u8] = b"set a 0 0 1\r\nx\r\nget a\r\n";
+
+/// What is answered.
+pub(crate) const OUTPUT: &[u8] = b"STORED\r\nVALUE a 0 1\r\nx\r\nEND\r\n";
+
+/// The bytes with this key in place of `a`.
+pub(crate) fn with_key<R: Abort>(rt: &R, alloc: Global, bytes: &[u8], key: u8) -> Vec<u8> {
+    let mut all = Vec::new(alloc);
+    for byte in bytes {
+        let byte = if *byte == b'a' { key } else { *byte };
+        all.push(byte).expect(rt, "memory");
+    }
+    all
+}
+
+/// A port for each key, whose session 1 sends these bytes with the key in place of `a`.
+pub(crate) fn ports_of<'a, R: Abort>(
+    rt: &R,
+    alloc: Global,
+    counters: &'a Counters,
+    keys: &[u8],
+) -> Vec<TestPort<'a>> {
+    let mut ports = Vec::new(alloc);
+    for key in keys {
+        let bytes = with_key(rt, alloc, INPUT, *key);
+        let input = Bytes::copy_from_slice(alloc, bytes.as_slice()).expect(rt, "memory");
+        ports
+            .push(TestPort::new(alloc, counters, input))
+            .expect(rt, "memory");
+    }
+    ports
+}
+
+pub(crate) fn default_config<R: Abort>(rt: &R) -> Config {
+    Config {
+        geometry: Geometry::new(65_536, 64).expect(rt, "a geometry"),
+    }
+}
+
+/// Each worker opened session 1 alone, which drained, and was given the whole output for its key.
+pub(crate) fn are_complete<R: Abort>(
+    rt: &R,
+    alloc: Global,
+    workers: &[GroupWorker<TestPort<'_>>],
+    keys: &[u8],
+) -> bool {
+    for (worker, key) in workers.iter().zip(keys.iter()) {
+        let wanted = with_key(rt, alloc, OUTPUT, *key);
+        let has_drained = worker.sessions.as_slice() == [(1, EndCause::Drained)].as_slice();
+        if !has_drained || worker.port.given.as_slice() != wanted.as_slice() {
+            return false;
+        }
+    }
+    workers.len() == keys.len()
+}

@@ -1,0 +1,59 @@
+//! A pool is made after a refusal, and each of its segments is free.
+
+ghost use Rattle.std.specs.Prelude.{◌≡◌, ◌<◌, IfSome};
+ghost use Rattle.segments.specs.Pools.{bucket_count};
+
+use proto::geometry::Geometry;
+use segments::item::{ItemRef, size_of};
+use segments::pool::Pool;
+use std::alloc::Global;
+
+/// The pool, where it is made at the first or the second try.
+#[tactic(auto, unfolding(segments::specs::Changes::new_pool))]
+fn make(alloc: Global, geometry: Geometry) -> Option<Pool>
+    ensures { IfSome result (λ p. p.sizes ≡ geometry) }
+{
+    for _ in 0..2 {
+        if let Ok(pool) = Pool::new(alloc, geometry) {
+            return Some(pool);
+        }
+    }
+    None
+}
+
+/// Whether an item finds room in the bucket.
+fn finds_room(pool: &mut Pool, geometry: Geometry, bucket: usize) -> bool
+    requires bucket { bucket < bucket_count }
+    requires sizes { pool.old.sizes ≡ geometry }
+    ensures { pool.new.sizes ≡ geometry }
+{
+    let item = ItemRef {
+        key: b"key",
+        value: b"value",
+        flags: 0,
+        deadline: None,
+        cas: 1,
+        reads: 0,
+    };
+    size_of(item) <= geometry.item_limit() && pool.append(bucket, 0, item).is_ok()
+}
+
+/// Whether eight segments are made at the first or the second try, and all are free: no segment is in a chain,
+/// eight buckets find room for an item, and a ninth one finds none.
+pub fn is_repeatable(alloc: Global) -> bool {
+    let Ok(geometry) = Geometry::new(4096, 8) else {
+        return false;
+    };
+    let Some(mut pool) = make(alloc, geometry) else {
+        return false;
+    };
+    if pool.oldest().is_some() {
+        return false;
+    }
+    for bucket in 0..8 {
+        if !finds_room(&mut pool, geometry, bucket) {
+            return false;
+        }
+    }
+    !finds_room(&mut pool, geometry, 8)
+}

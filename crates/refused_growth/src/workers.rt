@@ -1,0 +1,143 @@
+//! A worker and a storage thread serve two sessions, where one growth is refused.
+
+ghost use Rattle.std.specs.Prelude.{◌≡◌, [], IfSome, false};
+ghost use Rattle.proto.specs.Cache.{empty_cache};
+ghost use Rattle.storage_thread.specs.Serving.{IsUnused};
+
+use crate::quiet_port::QuietPort;
+use exchange::{StorageEnd, WorkerEnd, make};
+use proto::geometry::Geometry;
+use segcache::plain::Store;
+use session_book::causes::EndCause;
+use std::alloc::Global;
+use std::sync::Wait;
+use std::thread::Threads;
+use std::{thread, time};
+use storage_thread::clock::Clock;
+use storage_thread::serving::run_storage;
+use worker::gate::Gate;
+use worker::report::WorkerReport;
+use worker::run::run_worker;
+
+const INPUTS: [&[u8]; 2] = [
+    b"set a 0 0 1\r\nx\r\nget a\r\nfoo\r\n",
+    b"get b\r\ndelete c\r\n",
+];
+
+/// What session 1 is given: all as it is without a refusal, or one request was answered with want of memory.
+const FIRST_OUTPUTS: [&[u8]; 3] = [
+    b"STORED\r\nVALUE a 0 1\r\nx\r\nEND\r\nERROR\r\n",
+    b"STORED\r\nSERVER_ERROR out of memory\r\nERROR\r\n",
+    b"SERVER_ERROR out of memory\r\nEND\r\nERROR\r\n",
+];
+
+/// What session 2 is given. Its requests take no memory in the store.
+const SECOND_OUTPUTS: [&[u8]; 1] = [b"END\r\nNOT_FOUND\r\n"];
+
+/// It is 1000 at all times.
+#[derive(Drop)]
+struct SteadyClock;
+
+impl Clock for SteadyClock {
+    ghost use Rattle.std.specs.Prelude.{false, []};
+
+    ghost tells = { λ _. false };
+
+    ghost answers = { λ _. [] };
+
+    fn now(&mut self) -> u64 {
+        1000
+    }
+}
+
+/// Always lets pass.
+struct OpenGate;
+
+impl Gate for OpenGate {
+    fn may_post(&self, _worker: usize, _number: u64) -> bool {
+        true
+    }
+
+    fn answered(&self, _worker: usize, _number: u64) {}
+}
+
+/// The ends of an exchange of one worker, and an empty store.
+fn made(alloc: Global) -> Option<(WorkerEnd, StorageEnd, Store)>
+    ensures worker { IfSome result (λ r. (r.0.sent ≡ []) × (r.0.back ≡ []) × (r.0.said_bye ≡ false)) }
+    ensures storage { IfSome result (λ r. IsUnused r.1) }
+    ensures store { IfSome result (λ r. r.2 ≡ record { sizes = r.1.geometry; cache = empty_cache 0; moment = 0 }) }
+{
+    let Ok(geometry) = Geometry::new(65_536, 64) else {
+        return None;
+    };
+    let Ok((mut ends, storage)) = make(alloc, 1, geometry) else {
+        return None;
+    };
+    let end = ends.pop()?;
+    Some((end, storage, Store::new(alloc, geometry)))
+}
+
+/// The worker's report, where the exchange was made and the thread was started.
+fn run<R>(rt: &R, alloc: Global) -> Option<WorkerReport<QuietPort>>
+where
+    R: Threads + Wait + time::Clock + Copy + Drop + Send + Sync + 'static,
+{
+    let handle = *rt;
+    let (end, storage_end, store) = made(alloc)?;
+    let child = thread::spawn(
+        rt,
+        move || run_storage(&handle, store, SteadyClock, storage_end),
+    )
+    .ok()?;
+    let report = run_worker(rt, alloc, QuietPort::new(INPUTS), end, &OpenGate);
+    child.join(rt);
+    Some(report)
+}
+
+fn cause_of(sessions: &[(u64, EndCause)], session: u64) -> Option<EndCause> {
+    for entry in sessions {
+        if entry.0 == session {
+            return Some(entry.1);
+        }
+    }
+    None
+}
+
+/// Whether the output is one of these, or the beginning of one where the session was named as shut for want of memory.
+fn is_allowed(cause: Option<EndCause>, output: &[u8], outputs: &[&[u8]]) -> bool {
+    match cause {
+        Some(EndCause::Drained) => outputs.iter().any(|whole| *whole == output),
+        Some(EndCause::NoMemory) => outputs.iter().any(|whole| whole.starts_with(output)),
+        Some(_) => false,
+        None => output.is_empty(),
+    }
+}
+
+/// Whether each session came to an end that is allowed, and one of them to that which it has without a refusal.
+fn is_served(report: &WorkerReport<QuietPort>) -> bool {
+    let first_cause = cause_of(report.sessions.as_slice(), 1);
+    let second_cause = cause_of(report.sessions.as_slice(), 2);
+    let first = report.port.first.bytes();
+    let second = report.port.second.bytes();
+    let left_out = u64::from(first_cause.is_none()) + u64::from(second_cause.is_none());
+    let is_first_whole = first_cause == Some(EndCause::Drained) && first == FIRST_OUTPUTS[0];
+    let is_second_whole = second_cause == Some(EndCause::Drained) && second == SECOND_OUTPUTS[0];
+    is_allowed(first_cause, first, &FIRST_OUTPUTS)
+        && is_allowed(second_cause, second, &SECOND_OUTPUTS)
+        && report.unopened == left_out
+        && report.strangers == 0
+        && (is_first_whole || is_second_whole)
+}
+
+/// Whether the sessions are served so, at the second try where the first was refused at its start.
+pub fn is_named<R>(rt: &R, alloc: Global) -> bool
+where
+    R: Threads + Wait + time::Clock + Copy + Drop + Send + Sync + 'static,
+{
+    for _ in 0..2 {
+        if let Some(report) = run(rt, alloc) {
+            return is_served(&report);
+        }
+    }
+    false
+}

@@ -1,0 +1,4 @@
+pub mod SessionLemmas
+pub mod EventLemmas
+pub mod PlayerLemmas
+pub mod StepLemmas

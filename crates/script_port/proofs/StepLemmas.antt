@@ -1,0 +1,386 @@
+-- What playing one event leaves consistent, and what it tells.
+use Rattle.std.proofs.Common.{◌≡◌, ℕ, ◌+◌, ◌*◌, ◌<◌, ◌≤◌, ◌==◌, nat_lt, Bool, true, false, true≢false, not, ◌&&◌, ◌||◌, cond, eq-eqb, ne_eqb, List, [], ◌∷◌, ◌++◌, length, get_or, drop, take, length-append, OnSome, refl, sym, ap, subst, ◌∙◌, arith, Option, Some, None, append-nil, append_assoc}
+use Rattle.std.specs.List.{remove, insert, position}
+use Rattle.std.proofs.Math.Seq.{get_or-append_seam}
+use Rattle.std.proofs.lemmas.List.{map-append, length-take}
+use Rattle.std.proofs.lemmas.List.Elements.{filter-append}
+use Rattle.std.proofs.lemmas.List.Sums.{sum_by-append}
+use Rattle.script.specs.declared.event.ScriptEvent.{ScriptEvent}
+use Rattle.script.specs.declared.event.ScriptEvent.TheVariants.{Open, Send, Gone}
+use Rattle.script.specs.Events.{open_after}
+use Rattle.worker.specs.declared.port.PortRecord.{PortRecord}
+use Rattle.worker.specs.declared.port.PortRecord.TheVariants as was
+use Rattle.worker.specs.declared.port.PortEvent.TheVariants as event
+use Rattle.worker.specs.Ports.{has_ended, was_opened}
+use Rattle.worker.specs.Ports as list
+use Rattle.worker.specs.Sessions.{PortFacts, port_facts}
+use Rattle.worker.proofs.Facts.{opened_here, fed_here}
+use Rattle.worker.proofs.RunViews.{ended_same}
+use Rattle.script_port.specs.declared.player.Player.{Player}
+use Rattle.script_port.specs.declared.stage.Stage.TheVariants.{Playing, Paused, Closed}
+use Rattle.script_port.specs.declared.stage.Stage.{Stage}
+use Rattle.script_port.specs.Events.{session_of, without, send_after, plays_from, is_playable}
+use Rattle.script_port.specs.Sessions.{SessionState, numbers, newest, entry_of, is_some_and, is_closed, is_waiting, was_closed, is_open, is_paused, open_count}
+use Rattle.script_port.specs.Records.{opened}
+use Rattle.script_port.specs.Players.{is_left, is_ready, events_left, state_of, Agrees, IsConsistent, IsFirst, TellsNext, Closes}
+use Rattle.script_port.proofs.SessionLemmas.{either_way, entry_behind, newest_more}
+use Rattle.script_port.proofs.EventLemmas.{bool_cases, lt_true, true_lt, false_lt, TakenOut, send_again, found_first}
+use Rattle.script_port.proofs.PlayerLemmas.{option_cases, open_entry, around, each_step, opened_one, opened_more, plays_along, left_same, agrees_fed}
+
+-- ---- an event is taken away
+
+seam_length : (xs : List ScriptEvent) (e : ScriptEvent) (ys : List ScriptEvent) → length xs < length (xs ++ e ∷ ys)
+seam_length xs e ys = let k = length-append xs (e ∷ ys) in omega (arith, k)
+
+remove_seam : (xs : List ScriptEvent) (e : ScriptEvent) (ys : List ScriptEvent) → remove (xs ++ e ∷ ys) (length xs) ≡ xs ++ ys
+remove_seam [] e ys = refl
+remove_seam (x ∷ xs) e ys = ap (λ (l : List ScriptEvent). x ∷ l) (remove_seam xs e ys)
+
+some_of : (P : Type 0) (o : Option ScriptEvent) (x : ScriptEvent) → o ≡ Some x → OnSome o P → P
+some_of P (Some y) x e h = h
+some_of P None x e h = absurd (cc)
+
+pub removed_at : (old new : List ScriptEvent) (o : Option ScriptEvent) (before : List ScriptEvent) (e : ScriptEvent) (after : List ScriptEvent) (at : ℕ) → old ≡ before ++ e ∷ after → length before ≡ at
+    → OnSome o (new ≡ remove old at) → (at < length old → o ≡ Some (get_or old at e)) → new ≡ before ++ after
+removed_at old new o before e after at old_is at_is removed found =
+    let lt : at < length old = subst (λ (l : List ScriptEvent). at < length l) (sym old_is) (subst (λ (n : ℕ). n < length (before ++ e ∷ after)) at_is (seam_length before e after)) in
+    some_of (new ≡ remove old at) o (get_or old at e) (found lt) removed ∙ (λ i. remove (old_is i) (sym at_is i)) ∙ remove_seam before e after
+
+-- ---- a session is opened
+
+abbrev pub fresh : ℕ → SessionState
+fresh s = record { number = s; stage = Playing; output = [] }
+
+pub record OpensTo (p q : Player) (s : ℕ) (before after : List ScriptEvent) : Type 0 where
+  pub newer : newest p.sessions < s
+  pub sessions_are : q.sessions ≡ p.sessions ++ fresh s ∷ []
+  pub records_are : q.records.entries ≡ p.records.entries ++ was.Opened s ∷ []
+  pub promised_is : q.records.promised ≡ p.records.promised + 2
+  pub ended_is : q.ended ≡ p.ended
+  pub script_is : q.script ≡ p.script
+  pub accept_is : q.accept ≡ p.accept
+  pub fail_is : q.fail_give ≡ p.fail_give
+  pub events_are : q.events.items ≡ before ++ after
+
+none_yet : (p : Player) (s : ℕ) → IsConsistent p → newest p.sessions < s → entry_of p.sessions s ≡ None
+none_yet p s k lt = option_cases (entry_of p.sessions s) (λ x e. let le = k.rising s x e in absurd (omega (arith, le, lt))) (λ e. e)
+
+entry_add : (ss : List SessionState) (x : SessionState) → entry_of ss x.number ≡ None → entry_of (ss ++ x ∷ []) x.number ≡ Some x
+entry_add [] x e = ap (λ b. cond b (Some x) None) (eq-eqb x.number x.number refl)
+entry_add (y ∷ ss) x e =
+    either_way y.number x.number
+    (λ eq. let q : Some y ≡ None = ap (λ b. cond b (Some y) (entry_of ss x.number)) (sym (eq-eqb y.number x.number eq)) ∙ e in absurd (cc))
+    (λ ne.
+    ap (λ b. cond b (Some y) (entry_of (ss ++ x ∷ []) x.number)) (ne_eqb y.number x.number ne)
+    ∙ entry_add ss x (ap (λ b. cond b (Some y) (entry_of ss x.number)) (sym (ne_eqb y.number x.number ne)) ∙ e))
+
+-- a test that a new session fails is as it was
+test_added : (p : SessionState → Bool) (ss : List SessionState) (s : ℕ) → entry_of ss s ≡ None → p (fresh s) ≡ false → (t : ℕ) → is_some_and p (entry_of (ss ++ fresh s ∷ []) t) ≡ is_some_and p (entry_of ss t)
+test_added p ss s none failed t =
+    either_way t s
+    (λ eq.
+    ap (λ (u : ℕ). is_some_and p (entry_of (ss ++ fresh s ∷ []) u)) eq ∙ ap (is_some_and p) (entry_add ss (fresh s) none) ∙ failed
+    ∙ sym (ap (λ (u : ℕ). is_some_and p (entry_of ss u)) eq ∙ ap (is_some_and p) none))
+    (λ ne. ap (is_some_and p) (entry_behind ss (fresh s) t (λ e. ne (sym e))))
+
+open_added : (ss : List SessionState) (s : ℕ) → entry_of ss s ≡ None → (t : ℕ) → is_open (ss ++ fresh s ∷ []) t ≡ open_after t (is_open ss t) (Open s)
+open_added ss s none t =
+    either_way t s
+    (λ eq.
+    ap (is_open (ss ++ fresh s ∷ [])) eq ∙ ap (is_some_and (λ (x : SessionState). not (is_closed x.stage))) (entry_add ss (fresh s) none)
+    ∙ sym (ap (λ b. cond b true (is_open ss t)) (eq-eqb s t (sym eq))))
+    (λ ne.
+    ap (is_some_and (λ (x : SessionState). not (is_closed x.stage))) (entry_behind ss (fresh s) t (λ e. ne (sym e)))
+    ∙ sym (ap (λ b. cond b true (is_open ss t)) (ne_eqb s t (λ e. ne (sym e)))))
+
+agrees_opened : (l : List PortRecord) (s : ℕ) → Agrees None (port_facts l s) → Agrees (Some (fresh s)) (port_facts (l ++ was.Opened s ∷ []) s)
+agrees_opened l s h = subst (Agrees (Some (fresh s))) (sym (opened_here l s)) (refl, (λ i. h.1 i || h.2 i), h.3)
+
+pub open_consistent : (p q : Player) (at s : ℕ) (k : IsConsistent p) (f : IsFirst p at (Open s)) → OpensTo p q s f.before f.after → IsConsistent q
+open_consistent p q at s k f o =
+    let ss = p.sessions in let ss' = ss ++ fresh s ∷ [] in let l = p.records.entries in
+    let none = none_yet p s k o.newer in
+    let each = each_step ss ss' l q.records.entries (was.Opened s) s k.each o.records_are (λ t ne. ne_eqb s t (λ e. ne (sym e))) (λ t ne. entry_behind ss (fresh s) t (λ e. ne (sym e)))
+    (subst (λ (e : Option SessionState). Agrees e (port_facts (l ++ was.Opened s ∷ []) s)) (sym (entry_add ss (fresh s) none)) (agrees_opened l s (subst (λ (e : Option SessionState). Agrees e (port_facts l s)) none (k.each s)))) in
+    let newest_is : newest ss' ≡ s = newest_more 0 ss (fresh s) in
+    let r = around p at (Open s) k f in
+    let count = sum_by-append (λ (x : SessionState). cond (is_closed x.stage) 0 1) ss (fresh s ∷ []) in
+    record {
+      each = λ t. subst (λ (l : List SessionState). Agrees (entry_of l t) (port_facts q.records.entries t)) (sym o.sessions_are) (each t);
+      opened_are = ap numbers o.sessions_are ∙ map-append (λ (x : SessionState). x.number) ss (fresh s ∷ []) ∙ ap (λ (n : List ℕ). n ++ s ∷ []) k.opened_are ∙ sym (opened_one l q.records.entries s o.records_are);
+      rising = λ t x e.
+          subst (λ (m : List SessionState). t ≤ newest m) (sym o.sessions_are) (subst (λ (n : ℕ). t ≤ n) (sym newest_is)
+          (either_way t s (λ eq. omega (arith, eq)) (λ ne. let le = k.rising t x (sym (entry_behind ss (fresh s) t (λ e. ne (sym e))) ∙ ap (λ (m : List SessionState). entry_of m t) (sym o.sessions_are) ∙ e) in omega (arith, le, o.newer))));
+      promised = subst (λ (m : List SessionState). 2 * open_count m ≤ q.records.promised) (sym o.sessions_are) (omega (arith, count, k.promised, o.promised_is));
+      at_end = ap has_ended o.records_are ∙ ended_same l (was.Opened s) refl ∙ k.at_end ∙ sym o.ended_is;
+      plays = λ tells.
+          let told = ap (λ sn. is_playable sn.value.items) (sym o.script_is) ∙ tells in
+          (λ i. plays_from (newest (o.sessions_are i)) (is_open (o.sessions_are i)) (events_left (o.sessions_are i) (o.events_are i)))
+          ∙ plays_along s (newest ss') (λ t. open_after t (is_open ss t) (Open s)) (is_open ss') (events_left ss f.before ++ events_left ss f.after) (events_left ss' (f.before ++ f.after))
+          newest_is (open_added ss s none)
+          (left_same ss ss' (f.before ++ f.after) (test_added (λ (x : SessionState). is_closed x.stage) ss s none refl) ∙ filter-append (is_left ss) f.before f.after)
+          ((r.taken told).rest_plays);
+    }
+
+not_opened : (o : Option SessionState) (f : PortFacts) → Agrees o f → f.opened ≡ true → (x : SessionState) × (o ≡ Some x)
+not_opened (Some x) f h e = (x, refl)
+not_opened None f h e = absurd (true≢false (sym e ∙ h.0))
+
+pub old_sessions : (p : Player) → IsConsistent p → (t : ℕ) → was_opened t p.records.entries ≡ true → t ≤ newest p.sessions
+old_sessions p k t e = let x = not_opened (entry_of p.sessions t) (port_facts p.records.entries t) (k.each t) e in k.rising t x.0 x.1
+
+pub open_told : (p q : Player) (at s : ℕ) (k : IsConsistent p) (f : IsFirst p at (Open s)) → OpensTo p q s f.before f.after → p.ended ≡ false → is_playable p.script.value.items ≡ true → TellsNext (state_of p) (event.Opened s) (state_of q)
+open_told p q at s k f o running tells =
+    let ss = p.sessions in let ss' = ss ++ fresh s ∷ [] in
+    let none = none_yet p s k o.newer in
+    let r = around p at (Open s) k f in
+    let left : events_left q.sessions q.events.items ≡ events_left ss f.before ++ events_left ss f.after =
+    (λ i. events_left (o.sessions_are i) (o.events_are i)) ∙ left_same ss ss' (f.before ++ f.after) (test_added (λ (x : SessionState). is_closed x.stage) ss s none refl) ∙ filter-append (is_left ss) f.before f.after in
+    record {
+      records_are = o.records_are;
+      may = (omega (arith, o.newer), (λ t e. let le = old_sessions p k t e in omega (arith, le, o.newer)), k.at_end ∙ running);
+      plays = record {
+        before = events_left ss f.before;
+        after = events_left ss f.after;
+        old_is = r.left_is;
+        held = r.held;
+        free = r.free;
+        left_is = left ∙ ap (λ (l : List ScriptEvent). l ++ events_left ss f.after) (sym (append-nil (events_left ss f.before)));
+      };
+      goes_on = (
+        ap (λ sn. sn.value.items) o.script_is,
+        o.accept_is,
+        o.fail_is,
+        (λ t. ap (λ (m : List SessionState). is_paused m t) o.sessions_are ∙ test_added (λ (x : SessionState). is_waiting x.stage) ss s none refl t),
+      );
+    }
+
+-- ---- the next piece of a send
+
+pub record SendsTo (p q : Player) (s : ℕ) (bytes : List ℕ) (before after : List ScriptEvent) : Type 0 where
+  pub sessions_are : q.sessions ≡ p.sessions
+  pub records_are : q.records.entries ≡ p.records.entries ++ was.Data s (take 16384 bytes) ∷ []
+  pub promised_is : q.records.promised ≡ p.records.promised
+  pub ended_is : q.ended ≡ p.ended
+  pub script_is : q.script ≡ p.script
+  pub accept_is : q.accept ≡ p.accept
+  pub fail_is : q.fail_give ≡ p.fail_give
+  pub events_are : q.events.items ≡ before ++ send_after s bytes ++ after
+
+rest_left : (ss : List SessionState) (s : ℕ) (bytes : List ℕ) → is_left ss (Send s bytes) ≡ true → events_left ss (send_after s bytes) ≡ send_after s bytes
+rest_left ss s bytes stays =
+    bool_cases (nat_lt 16384 (length bytes))
+    (λ more.
+    let e : send_after s bytes ≡ Send s (drop 16384 bytes) ∷ [] = ap (λ b. cond b (Send s (drop 16384 bytes) ∷ []) []) more in
+    ap (events_left ss) e ∙ ap (λ b. cond b (Send s (drop 16384 bytes) ∷ []) []) stays ∙ sym e)
+    (λ last. let e : send_after s bytes ≡ [] = ap (λ b. cond b (Send s (drop 16384 bytes) ∷ []) []) last in ap (events_left ss) e ∙ sym e)
+
+left_around : (ss : List SessionState) (xs ys zs : List ScriptEvent) → events_left ss (xs ++ ys ++ zs) ≡ events_left ss xs ++ events_left ss ys ++ events_left ss zs
+left_around ss xs ys zs = filter-append (is_left ss) (xs ++ ys) zs ∙ ap (λ (l : List ScriptEvent). l ++ events_left ss zs) (filter-append (is_left ss) xs ys)
+
+send_left : (p q : Player) (s : ℕ) (bytes : List ℕ) (before after : List ScriptEvent) → SendsTo p q s bytes before after → is_left p.sessions (Send s bytes) ≡ true
+    → events_left q.sessions q.events.items ≡ events_left p.sessions before ++ send_after s bytes ++ events_left p.sessions after
+send_left p q s bytes before after o stays =
+    let ss = p.sessions in
+    (λ i. events_left (o.sessions_are i) (o.events_are i)) ∙ left_around ss before (send_after s bytes) after ∙ ap (λ (l : List ScriptEvent). events_left ss before ++ l ++ events_left ss after) (rest_left ss s bytes stays)
+
+rest_plays : (n : ℕ) (o : ℕ → Bool) (xs : List ScriptEvent) (s : ℕ) (bytes : List ℕ) (ys : List ScriptEvent) → plays_from n o (xs ++ Send s bytes ∷ ys) ≡ true → TakenOut n o (Send s bytes) (xs ++ ys) → plays_from n o (xs ++ send_after s bytes ++ ys) ≡ true
+rest_plays n o xs s bytes ys whole taken =
+    bool_cases (nat_lt 16384 (length bytes))
+    (λ more.
+    let rest = drop 16384 bytes in
+    let e : send_after s bytes ≡ Send s rest ∷ [] = ap (λ b. cond b (Send s rest ∷ []) []) more in
+    ap (λ (l : List ScriptEvent). plays_from n o (xs ++ l ++ ys)) e ∙ ap (plays_from n o) (append_assoc xs (Send s rest ∷ []) ys) ∙ sym (send_again n o xs s bytes rest ys) ∙ whole)
+    (λ last.
+    let e : send_after s bytes ≡ [] = ap (λ b. cond b (Send s (drop 16384 bytes) ∷ []) []) last in
+    ap (λ (l : List ScriptEvent). plays_from n o (xs ++ l ++ ys)) e ∙ ap (λ (l : List ScriptEvent). plays_from n o (l ++ ys)) (append-nil xs) ∙ taken.rest_plays)
+
+pub send_consistent : (p q : Player) (at s : ℕ) (bytes : List ℕ) (k : IsConsistent p) (f : IsFirst p at (Send s bytes)) → SendsTo p q s bytes f.before f.after → IsConsistent q
+send_consistent p q at s bytes k f o =
+    let ss = p.sessions in let l = p.records.entries in let x = was.Data s (take 16384 bytes) in
+    let r = around p at (Send s bytes) k f in
+    let here = subst (Agrees (entry_of ss s)) (sym (fed_here l s (take 16384 bytes))) (agrees_fed (entry_of ss s) (port_facts l s) (list.fed s l ++ take 16384 bytes) (k.each s)) in
+    let each = each_step ss ss l q.records.entries x s k.each o.records_are (λ t ne. ne_eqb s t (λ e. ne (sym e))) (λ t ne. refl) here in
+    record {
+      each = λ t. subst (λ (m : List SessionState). Agrees (entry_of m t) (port_facts q.records.entries t)) (sym o.sessions_are) (each t);
+      opened_are = ap numbers o.sessions_are ∙ k.opened_are ∙ sym (opened_more l q.records.entries x o.records_are refl);
+      rising = λ t y e. subst (λ (m : List SessionState). t ≤ newest m) (sym o.sessions_are) (k.rising t y (ap (λ (m : List SessionState). entry_of m t) (sym o.sessions_are) ∙ e));
+      promised = subst (λ (m : List SessionState). 2 * open_count m ≤ q.records.promised) (sym o.sessions_are) (omega (arith, k.promised, o.promised_is));
+      at_end = ap has_ended o.records_are ∙ ended_same l x refl ∙ k.at_end ∙ sym o.ended_is;
+      plays = λ tells.
+          let told = ap (λ sn. is_playable sn.value.items) (sym o.script_is) ∙ tells in
+          (λ i. plays_from (newest (o.sessions_are i)) (is_open (o.sessions_are i)) (send_left p q s bytes f.before f.after o r.is_left_too i))
+          ∙ rest_plays (newest ss) (is_open ss) (events_left ss f.before) s bytes (events_left ss f.after) (ap (plays_from (newest ss) (is_open ss)) (sym r.left_is) ∙ k.plays told) (r.taken told);
+    }
+
+-- an open session is open in the list too
+pub open_in_list : (p : Player) (s : ℕ) → IsConsistent p → is_open p.sessions s ≡ true → list.is_open s p.records.entries ≡ true
+open_in_list p s k e =
+    let x = open_entry p.sessions s e in
+    let h : Agrees (Some x.0) (port_facts p.records.entries s) = subst (λ (o : Option SessionState). Agrees o (port_facts p.records.entries s)) x.1 (k.each s) in
+    (λ i. h.0 i && not (h.1 i)) ∙ ap not x.2
+
+short_take : (n : ℕ) (xs : List ℕ) → length (take n xs) ≤ n
+short_take n xs = omega (arith, length-take n xs)
+
+pub send_told : (p q : Player) (at s : ℕ) (bytes : List ℕ) (k : IsConsistent p) (f : IsFirst p at (Send s bytes)) → SendsTo p q s bytes f.before f.after → p.ended ≡ false → is_playable p.script.value.items ≡ true
+    → TellsNext (state_of p) (event.Data s (take 16384 bytes)) (state_of q)
+send_told p q at s bytes k f o running tells =
+    let ss = p.sessions in
+    let r = around p at (Send s bytes) k f in record {
+      records_are = o.records_are;
+      may = (open_in_list p s k ((r.taken tells).may), short_take 16384 bytes, k.at_end ∙ running);
+      plays = (
+        bytes,
+        refl,
+        record {
+          before = events_left ss f.before;
+          after = events_left ss f.after;
+          old_is = r.left_is;
+          held = r.held;
+          free = r.free;
+          left_is = send_left p q s bytes f.before f.after o r.is_left_too;
+        },
+      );
+      goes_on = (ap (λ sn. sn.value.items) o.script_is, o.accept_is, o.fail_is, (λ t. ap (λ (m : List SessionState). is_paused m t) o.sessions_are));
+    }
+
+-- ---- the peer has gone
+
+closed_stage : (g : Stage) → is_closed g ≡ true → is_waiting g ≡ false
+closed_stage Playing e = refl
+closed_stage Paused e = absurd (true≢false (sym e))
+closed_stage Closed e = refl
+
+closed_waits : (o : Option SessionState) → is_some_and (λ (x : SessionState). is_closed x.stage) o ≡ true → is_some_and (λ (x : SessionState). is_waiting x.stage) o ≡ false
+closed_waits None e = refl
+closed_waits (Some x) e = closed_stage x.stage e
+
+pub record GoesTo (m q : Player) (before after : List ScriptEvent) : Type 0 where
+  pub q_is : q ≡ record m { events = q.events }
+  pub events_are : q.events.items ≡ before ++ after
+
+-- the event of a session that was just closed is taken away
+dead_left : (ss : List SessionState) (s : ℕ) (xs ys : List ScriptEvent) → was_closed ss s ≡ true → events_left ss (xs ++ ys) ≡ events_left ss (xs ++ Gone s ∷ ys)
+dead_left ss s xs ys dead =
+    filter-append (is_left ss) xs ys
+    ∙ sym (filter-append (is_left ss) xs (Gone s ∷ ys) ∙ ap (λ b. events_left ss xs ++ cond (not b) (Gone s ∷ events_left ss ys) (events_left ss ys)) dead)
+
+without_gone : (s : ℕ) (xs ys : List ScriptEvent) → without s (xs ++ Gone s ∷ ys) ≡ without s (xs ++ ys)
+without_gone s xs ys =
+    filter-append (λ (e : ScriptEvent). not (session_of e == s)) xs (Gone s ∷ ys)
+    ∙ ap (λ b. without s xs ++ cond (not b) (Gone s ∷ without s ys) (without s ys)) (eq-eqb s s refl)
+    ∙ sym (filter-append (λ (e : ScriptEvent). not (session_of e == s)) xs ys)
+
+gone_left : (p m q : Player) (at s : ℕ) (f : IsFirst p at (Gone s)) → Closes p s (was.Gone s) m → GoesTo m q f.before f.after → events_left m.sessions q.events.items ≡ events_left m.sessions m.events.items
+gone_left p m q at s f c g =
+    ap (events_left m.sessions) g.events_are ∙ dead_left m.sessions s f.before f.after c.closed ∙ ap (events_left m.sessions) (sym f.events_are ∙ ap (λ d. d.items) (sym c.events_are))
+
+pub gone_consistent : (p m q : Player) (at s : ℕ) (f : IsFirst p at (Gone s)) → Closes p s (was.Gone s) m → GoesTo m q f.before f.after → IsConsistent m → IsConsistent q
+gone_consistent p m q at s f c g k =
+    subst IsConsistent (sym g.q_is) (record {
+      each = k.each;
+      opened_are = k.opened_are;
+      rising = k.rising;
+      promised = k.promised;
+      at_end = k.at_end;
+      plays = λ tells. ap (plays_from (newest m.sessions) (is_open m.sessions)) (gone_left p m q at s f c g) ∙ k.plays tells;
+    })
+
+pub gone_told : (p m q : Player) (at s : ℕ) (k : IsConsistent p) (f : IsFirst p at (Gone s)) → Closes p s (was.Gone s) m → GoesTo m q f.before f.after → p.ended ≡ false → is_playable p.script.value.items ≡ true
+    → TellsNext (state_of p) (event.Gone s) (state_of q)
+gone_told p m q at s k f c g running tells =
+    let ss = p.sessions in
+    let r = around p at (Gone s) k f in
+    let L1 = events_left ss f.before in let L2 = events_left ss f.after in
+    let none : L1 ++ [] ++ L2 ≡ L1 ++ L2 = ap (λ (l : List ScriptEvent). l ++ L2) (append-nil L1) in
+    subst (λ (z : Player). TellsNext (state_of p) (event.Gone s) (state_of z)) (sym g.q_is) (record {
+      records_are = c.records_are;
+      may = (open_in_list p s k ((r.taken tells).may), k.at_end ∙ running);
+      plays = (
+        L1 ++ [] ++ L2,
+        record { before = L1; after = L2; old_is = r.left_is; held = r.held; free = r.free; left_is = refl },
+        gone_left p m q at s f c g ∙ c.shuts.left ∙ ap (without s) r.left_is ∙ without_gone s L1 L2 ∙ ap (without s) (sym none),
+      );
+      goes_on = (
+        c.shuts.faults.0,
+        c.shuts.faults.1,
+        c.shuts.faults.2,
+        (λ t. either_way t s
+            (λ eq. ap (is_paused m.sessions) eq ∙ closed_waits (entry_of m.sessions s) c.closed ∙ sym (ap (is_paused ss) eq ∙ r.free))
+            (λ ne. c.shuts.others t ne)),
+      );
+    })
+
+-- ---- where the port doesn't tell
+
+-- nothing but the events changes
+pub odd_consistent : (p q : Player) → IsConsistent p → q.sessions ≡ p.sessions → q.records.entries ≡ p.records.entries → q.records.promised ≡ p.records.promised → q.ended ≡ p.ended → q.script ≡ p.script → (is_playable p.script.value.items ≡ true → ⊥) → IsConsistent q
+odd_consistent p q k sessions_are records_are promised_is ended_is script_is silent = record {
+  each = λ t. subst (λ (m : List SessionState). Agrees (entry_of m t) (port_facts q.records.entries t)) (sym sessions_are) (subst (λ (l : List PortRecord). Agrees (entry_of p.sessions t) (port_facts l t)) (sym records_are) (k.each t));
+  opened_are = ap numbers sessions_are ∙ k.opened_are ∙ sym (ap opened records_are);
+  rising = λ t y e. subst (λ (m : List SessionState). t ≤ newest m) (sym sessions_are) (k.rising t y (ap (λ (m : List SessionState). entry_of m t) (sym sessions_are) ∙ e));
+  promised = subst (λ (m : List SessionState). 2 * open_count m ≤ q.records.promised) (sym sessions_are) (omega (arith, k.promised, promised_is));
+  at_end = ap has_ended records_are ∙ k.at_end ∙ sym ended_is;
+  plays = λ tells. absurd (silent (ap (λ sn. is_playable sn.value.items) (sym script_is) ∙ tells));
+}
+
+-- a session that opens is new, and one of which something comes is open
+pub opens_new : (p : Player) (at s : ℕ) → IsConsistent p → IsFirst p at (Open s) → is_playable p.script.value.items ≡ true → newest p.sessions < s
+opens_new p at s k f tells = lt_true (newest p.sessions) s (((around p at (Open s) k f).taken tells).may)
+
+pub sends_open : (p : Player) (at s : ℕ) (bytes : List ℕ) → IsConsistent p → IsFirst p at (Send s bytes) → is_playable p.script.value.items ≡ true → is_open p.sessions s ≡ true
+sends_open p at s bytes k f tells = ((around p at (Send s bytes) k f).taken tells).may
+
+pub goes_open : (p : Player) (at s : ℕ) → IsConsistent p → IsFirst p at (Gone s) → is_playable p.script.value.items ≡ true → is_open p.sessions s ≡ true
+goes_open p at s k f tells = ((around p at (Gone s) k f).taken tells).may
+
+-- ---- the first event that may be played now
+
+pub first_at : (p : Player) (at : ℕ) (e : ScriptEvent) → position (is_ready p.sessions) p.events.items ≡ Some at → e ≡ get_or p.events.items at e → IsFirst p at e
+first_at p at e found e_is =
+    let r = found_first (is_ready p.sessions) p.events.items at found in
+    let same : e ≡ r.e = e_is ∙ (λ i. get_or (r.is i) (sym r.at_is i) e) ∙ get_or-append_seam r.before r.e r.after e in
+    record {
+      before = r.before;
+      after = r.after;
+      events_are = r.is ∙ ap (λ (x : ScriptEvent). r.before ++ x ∷ r.after) (sym same);
+      at_is = r.at_is;
+      unready = r.fails;
+      ready = ap (is_ready p.sessions) same ∙ r.passes;
+    }
+
+-- ---- a piece is taken off
+
+insert_seam : (xs : List ScriptEvent) (e : ScriptEvent) (ys : List ScriptEvent) → insert (xs ++ ys) (length xs) e ≡ xs ++ e ∷ ys
+insert_seam [] e ys = refl
+insert_seam (x ∷ xs) e ys = ap (λ (l : List ScriptEvent). x ∷ l) (insert_seam xs e ys)
+
+pub item_is : (old : List ScriptEvent) (before : List ScriptEvent) (e : ScriptEvent) (after : List ScriptEvent) (at : ℕ) (o : Option ScriptEvent) (y : ScriptEvent) → old ≡ before ++ e ∷ after → length before ≡ at → (at < length old → o ≡ Some (get_or old at e)) → o ≡ Some y → y ≡ e
+item_is old before e after at o y old_is at_is found y_is =
+    let lt : at < length old = subst (λ (l : List ScriptEvent). at < length l) (sym old_is) (subst (λ (n : ℕ). n < length (before ++ e ∷ after)) at_is (seam_length before e after)) in
+    let whole : Some y ≡ Some (get_or old at e) = sym y_is ∙ found lt in
+    let same : y ≡ get_or old at e = cc in
+    same ∙ (λ i. get_or (old_is i) (sym at_is i) e) ∙ get_or-append_seam before e after e
+
+pub inserted_at : (mid new before : List ScriptEvent) (e : ScriptEvent) (after : List ScriptEvent) (at : ℕ) → mid ≡ before ++ after → length before ≡ at → new ≡ insert mid at e → new ≡ before ++ e ∷ after
+inserted_at mid new before e after at mid_is at_is new_is = new_is ∙ (λ i. insert (mid_is i) (sym at_is i) e) ∙ insert_seam before e after
+
+pub long_rest : (s : ℕ) (bytes : List ℕ) (before after : List ScriptEvent) → 16384 < length bytes → before ++ Send s (drop 16384 bytes) ∷ after ≡ before ++ send_after s bytes ++ after
+long_rest s bytes before after lt =
+    sym (ap (λ b. before ++ cond b (Send s (drop 16384 bytes) ∷ []) [] ++ after) (true_lt 16384 (length bytes) lt) ∙ append_assoc before (Send s (drop 16384 bytes) ∷ []) after)
+
+pub short_rest : (s : ℕ) (bytes : List ℕ) (before after : List ScriptEvent) → length bytes ≤ 16384 → before ++ after ≡ before ++ send_after s bytes ++ after
+short_rest s bytes before after le =
+    sym (ap (λ b. before ++ cond b (Send s (drop 16384 bytes) ∷ []) [] ++ after) (false_lt 16384 (length bytes) le) ∙ ap (λ (l : List ScriptEvent). l ++ after) (append-nil before))
+
+-- ---- closed sessions' events in front
+
+pub left_pop : (ss : List SessionState) (xs : List ScriptEvent) (e : ScriptEvent) → 0 < length xs → e ≡ get_or xs 0 e → is_left ss e ≡ false → events_left ss (drop 1 xs) ≡ events_left ss xs
+left_pop ss [] e lt e_is dead = absurd (omega arith)
+left_pop ss (x ∷ xs) e lt e_is dead = sym (ap (λ b. cond b (x ∷ events_left ss xs) (events_left ss xs)) (sym (ap (is_left ss) e_is) ∙ dead))
+
+pub left_front : (ss : List SessionState) (xs : List ScriptEvent) (e : ScriptEvent) → 0 < length xs → e ≡ get_or xs 0 e → is_left ss e ≡ true → events_left ss xs ≡ [] → ⊥
+left_front ss [] e lt e_is alive none = absurd (omega arith)
+left_front ss (x ∷ xs) e lt e_is alive none =
+    let q : x ∷ events_left ss xs ≡ [] = sym (ap (λ b. cond b (x ∷ events_left ss xs) (events_left ss xs)) (sym (ap (is_left ss) e_is) ∙ alive)) ∙ none in cc

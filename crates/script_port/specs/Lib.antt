@@ -1,0 +1,5 @@
+pub mod Events
+pub mod Sessions
+pub mod Records
+pub mod States
+pub mod Players

@@ -1,0 +1,108 @@
+-- How the events that are left, the sessions and the list of events fit together.
+use Rattle.std.specs.Prelude.{◌≡◌, ℕ, ◌*◌, ◌≤◌, ◌⊎◌, Bool, true, false, not, ◌&&◌, ◌||◌, List, [], ◌∷◌, ◌++◌, length, filter, Option, Some, None, Result}
+use Rattle.std.specs.List.{AllByRecursion}
+use Rattle.script.specs.declared.event.ScriptEvent.{ScriptEvent}
+use Rattle.script.specs.declared.event.ScriptEvent.TheVariants as script
+use Rattle.worker.specs.declared.port.PortRecord.{PortRecord}
+use Rattle.worker.specs.declared.port.PortRecord.TheVariants as was
+use Rattle.worker.specs.declared.port.PortEvent.{PortEvent}
+use Rattle.worker.specs.declared.port.Gone.{Gone}
+use Rattle.worker.specs.Ports.{has_ended}
+use Rattle.worker.specs.Ports as list
+use Rattle.worker.specs.Sessions.{PortFacts, port_facts}
+use Rattle.script_port.specs.declared.player.Player.{Player}
+use Rattle.script_port.specs.Events.{session_of, send_after, plays_from, is_playable}
+use Rattle.script_port.specs.Sessions.{SessionState, numbers, newest, entry_of, is_closed, was_closed, is_open, is_paused, open_count}
+use Rattle.script_port.specs.Records.{opened}
+use Rattle.script_port.specs.States.{PortState, Plays, GoesOn, Shuts, Gives, Fails, count_down}
+
+abbrev pub is_left : List SessionState → ScriptEvent → Bool
+is_left sessions e = not (was_closed sessions (session_of e))
+
+-- the events of the sessions that are neither gone nor shut
+abbrev pub events_left : List SessionState → List ScriptEvent → List ScriptEvent
+events_left sessions events = filter (is_left sessions) events
+
+abbrev pub is_ready : List SessionState → ScriptEvent → Bool
+is_ready sessions e = is_left sessions e && not (is_paused sessions (session_of e))
+
+abbrev pub state_of : Player → PortState
+state_of p = record {
+  script = p.script.value.items;
+  left = events_left p.sessions p.events.items;
+  sessions = p.sessions;
+  records = p.records.entries;
+  accept = p.accept;
+  fail_give = p.fail_give;
+}
+
+-- what the list says of a session that isn't there, or is
+abbrev pub Agrees : Option SessionState → PortFacts → Type 0
+Agrees None f = (f.opened ≡ false) × (f.gone ≡ false) × (f.shut ≡ false) × (f.given ≡ [])
+Agrees (Some x) f = (f.opened ≡ true) × ((f.gone || f.shut) ≡ is_closed x.stage) × (f.given ≡ x.output)
+
+pub record IsConsistent (p : Player) : Type 0 where
+  pub each : (s : ℕ) → Agrees (entry_of p.sessions s) (port_facts p.records.entries s)
+  pub opened_are : numbers p.sessions ≡ opened p.records.entries
+  pub rising : (s : ℕ) (x : SessionState) → entry_of p.sessions s ≡ Some x → s ≤ newest p.sessions
+  pub promised : 2 * open_count p.sessions ≤ p.records.promised
+  pub at_end : has_ended p.records.entries ≡ p.ended
+  pub plays : is_playable p.script.value.items ≡ true → plays_from (newest p.sessions) (is_open p.sessions) (events_left p.sessions p.events.items) ≡ true
+
+-- the event at this place is the first that may be played now
+pub record IsFirst (p : Player) (at : ℕ) (e : ScriptEvent) : Type 0 where
+  pub before : List ScriptEvent
+  pub after : List ScriptEvent
+  pub events_are : p.events.items ≡ before ++ e ∷ after
+  pub at_is : length before ≡ at
+  pub unready : AllByRecursion (λ (x : ScriptEvent). is_ready p.sessions x ≡ false) before
+  pub ready : is_ready p.sessions e ≡ true
+
+-- a send loses its next piece
+abbrev pub TakesPiece : List ScriptEvent → ℕ → List ScriptEvent → Type 0
+TakesPiece old at new =
+    (before after : List ScriptEvent) (s : ℕ) (bytes : List ℕ) → old ≡ before ++ script.Send s bytes ∷ after
+    → length before ≡ at → new ≡ before ++ send_after s bytes ++ after
+
+-- where the port tells, an event came as it may
+pub record TellsNext (old : PortState) (result : PortEvent) (new : PortState) : Type 0 where
+  pub records_are : new.records ≡ old.records ++ list.event_records result
+  pub may : list.MayCome old.records result
+  pub plays : Plays old result new
+  pub goes_on : GoesOn old new
+
+abbrev pub Played : Player → PortEvent → Player → Type 0
+Played old result new = is_playable old.script.value.items ≡ true → TellsNext (state_of old) result (state_of new)
+
+-- a record with which a session ends
+abbrev pub EndsSession : ℕ → PortRecord → Type 0
+EndsSession s entry = (entry ≡ was.Gone s) ⊎ (entry ≡ was.Shut s)
+
+-- a session is closed with this record
+pub record Closes (old : Player) (s : ℕ) (entry : PortRecord) (new : Player) : Type 0 where
+  pub records_are : new.records.entries ≡ old.records.entries ++ entry ∷ []
+  pub shuts : Shuts (state_of old) s (state_of new)
+  pub closed : was_closed new.sessions s ≡ true
+  pub events_are : new.events ≡ old.events
+  pub ended_is : new.ended ≡ old.ended
+
+-- bytes that were accepted are kept
+pub record Keeps (old : Player) (s : ℕ) (bytes : List ℕ) (new : Player) : Type 0 where
+  pub was_open : is_open old.sessions s ≡ true
+  pub records_are : new.records.entries ≡ old.records.entries ++ was.Accepted s bytes ∷ []
+  pub state_is : state_of new ≡ record (state_of old) { sessions = new.sessions; records = new.records.entries }
+  pub held : (t : ℕ) → is_paused new.sessions t ≡ is_paused old.sessions t
+
+abbrev pub SamePlayer : Player → Player → Type 0
+SamePlayer old new = (state_of new ≡ state_of old) × (new.script ≡ old.script)
+
+-- the offer is counted, and said to fail or not
+pub record CountsOffer (old : Player) (bytes : List ℕ) (new : Player) (fails : Bool) : Type 0 where
+  pub rest : new ≡ record old { fail_give = new.fail_give }
+  pub count : new.fail_give ≡ count_down old.fail_give bytes
+  pub failed : fails ≡ true → Fails (state_of old) bytes
+  pub passed : fails ≡ false → Fails (state_of old) bytes → ⊥
+
+pub record GivesAs (old : Player) (s : ℕ) (bytes : List ℕ) (result : Result ℕ Gone) (new : Player) : Type 0 where
+  pub records_are : new.records.entries ≡ old.records.entries ++ list.give_records s bytes result
+  pub gives : Gives (state_of old) s bytes result (state_of new)

@@ -1,0 +1,91 @@
+-- What a port has still to play, and what its calls change of that.
+use Rattle.std.specs.Prelude.{◌≡◌, ◌≢◌, ℕ, ◌-◌, ◌<◌, ◌≤◌, Bool, true, false, List, [], ◌∷◌, ◌++◌, length, take, Result, Ok, Err}
+use Rattle.std.specs.List.{AllByRecursion}
+use Rattle.script.specs.declared.event.ScriptEvent.{ScriptEvent}
+use Rattle.script.specs.declared.event.ScriptEvent.TheVariants as script
+use Rattle.worker.specs.declared.port.PortEvent.{PortEvent}
+use Rattle.worker.specs.declared.port.PortEvent.TheVariants as event
+use Rattle.worker.specs.declared.port.PortRecord.{PortRecord}
+use Rattle.worker.specs.declared.port.Gone.{Gone}
+use Rattle.script_port.specs.Events.{session_of, without, send_after}
+use Rattle.script_port.specs.Sessions.{SessionState, is_paused}
+
+-- The script that was handed in, the events of it that are left, the sessions that were opened, the list of the
+-- port's events, the most bytes that a `give` accepts, and the number of the `give` from now that fails; 0 is
+-- none for either.
+pub record PortState : Type 0 where
+  pub script : List ScriptEvent
+  pub left : List ScriptEvent
+  pub sessions : List SessionState
+  pub records : List PortRecord
+  pub accept : ℕ
+  pub fail_give : ℕ
+
+abbrev pub is_held : PortState → ℕ → Bool
+is_held port session = is_paused port.sessions session
+
+-- nothing is paused or resumed, but for what becomes of this session
+abbrev pub KeepsOthers : ℕ → PortState → PortState → Type 0
+KeepsOthers session old new = (t : ℕ) → t ≢ session → is_held new t ≡ is_held old t
+
+-- the first event left whose session isn't paused is this one; behind the call this stands in its place
+pub record Takes (old : PortState) (e : ScriptEvent) (rest : List ScriptEvent) (left : List ScriptEvent) : Type 0 where
+  pub before : List ScriptEvent
+  pub after : List ScriptEvent
+  pub old_is : old.left ≡ before ++ e ∷ after
+  pub held : AllByRecursion (λ (x : ScriptEvent). is_held old (session_of x) ≡ true) before
+  pub free : is_held old (session_of e) ≡ false
+  pub left_is : left ≡ before ++ rest ++ after
+
+-- The next event: the first one left whose session isn't paused, of a send its next piece. Behind Gone no event
+-- of the session is left.
+abbrev pub Plays : PortState → PortEvent → PortState → Type 0
+Plays old (event.Opened s) new = Takes old (script.Open s) [] new.left
+Plays old (event.Data s piece) new =
+    (bytes : List ℕ) × (piece ≡ take 16384 bytes) × Takes old (script.Send s bytes) (send_after s bytes) new.left
+Plays old (event.Gone s) new =
+    (left : List ScriptEvent) × Takes old (script.Gone s) [] left × (new.left ≡ without s left)
+Plays old event.Idle new = new ≡ old
+Plays old event.Ended new = (old.left ≡ []) × (new.left ≡ [])
+
+-- neither the script nor the faults change, and nothing is paused or resumed
+abbrev pub GoesOn : PortState → PortState → Type 0
+GoesOn old new = (new.script ≡ old.script) × (new.accept ≡ old.accept) × (new.fail_give ≡ old.fail_give)
+    × ((t : ℕ) → is_held new t ≡ is_held old t)
+
+-- the count of offers of at least one byte, until the one that fails
+abbrev pub count_down : ℕ → List ℕ → ℕ
+count_down n [] = n
+count_down n (x ∷ bytes) = n - 1
+
+-- the offer of at least one byte that fails
+abbrev pub Fails : PortState → List ℕ → Type 0
+Fails port bytes = (port.fail_give ≡ 1) × (0 < length bytes)
+
+-- A `give`: it fails exactly at the offer that was said to, and the session's events that are left are dropped.
+-- Else it accepts no more bytes than was said.
+abbrev pub Gives : PortState → ℕ → List ℕ → Result ℕ Gone → PortState → Type 0
+Gives old s bytes (Err e) new = Fails old bytes × (new.left ≡ without s old.left) × KeepsOthers s old new
+Gives old s bytes (Ok n) new =
+    (Fails old bytes → ⊥) × (0 < old.accept → n ≤ old.accept) × (new.left ≡ old.left)
+    × ((t : ℕ) → is_held new t ≡ is_held old t)
+
+abbrev pub CountsGive : PortState → List ℕ → PortState → Type 0
+CountsGive old bytes new =
+    (new.script ≡ old.script) × (new.accept ≡ old.accept) × (new.fail_give ≡ count_down old.fail_give bytes)
+
+-- the session is paused, or resumed, and nothing else changes
+pub record SetsHeld (old : PortState) (s : ℕ) (held : Bool) (new : PortState) : Type 0 where
+  pub rest : new ≡ record old { sessions = new.sessions }
+  pub here : is_held new s ≡ held
+  pub others : KeepsOthers s old new
+
+-- the session's events that are left are dropped
+pub record Shuts (old : PortState) (s : ℕ) (new : PortState) : Type 0 where
+  pub left : new.left ≡ without s old.left
+  pub others : KeepsOthers s old new
+  pub faults : (new.script ≡ old.script) × (new.accept ≡ old.accept) × (new.fail_give ≡ old.fail_give)
+
+-- a port of which nothing was asked yet
+abbrev pub IsNewPort : List ScriptEvent → PortState → Type 0
+IsNewPort events port = port ≡ record { script = events; left = events; sessions = []; records = []; accept = 0; fail_give = 0 }

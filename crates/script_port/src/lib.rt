@@ -1,0 +1,8 @@
+//! A port that plays a script.
+#![tactic(auto)]
+
+mod player;
+pub mod port;
+mod records;
+pub mod sessions;
+mod stage;

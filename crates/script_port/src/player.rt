@@ -1,0 +1,348 @@
+//! What a port that plays a script holds, and its steps.
+
+ghost use Rattle.std.specs.Prelude.{◌≡◌, ℕ, ◌+◌, ◌-◌, ◌<◌, ◌≤◌, ◌==◌, List, [], ◌∷◌, ◌++◌, length, take, true, false, Some, None, IfOk};
+ghost use Rattle.std.specs.List.{position};
+ghost use Rattle.script.specs.declared.event.ScriptEvent.TheVariants as script;
+ghost use Rattle.script_port.specs.Events.{session_of, is_playable};
+ghost use Rattle.script_port.specs.Sessions.{is_closed, is_waiting};
+ghost use Rattle.script_port.specs.Sessions as sessions;
+ghost use Rattle.script_port.specs.Players.{is_left, is_ready, events_left, state_of, IsConsistent, IsFirst, Played, Closes, EndsSession, Keeps, SamePlayer, CountsOffer, GivesAs, TakesPiece};
+ghost use Rattle.script_port.specs.States.{IsNewPort, CountsGive, SetsHeld};
+ghost use Rattle.worker.specs.Ports.{given};
+
+use crate::records::Records;
+use crate::sessions::Sessions;
+use crate::stage::Stage;
+use bytes::Bytes;
+use script::event::ScriptEvent;
+use std::alloc::{AllocError, Global};
+use std::collections::VecDeque;
+use std::snapshot::Snapshot;
+use worker::port::{Gone, PortEvent, PortRecord};
+
+/// The most bytes of a piece of input.
+const PIECE: usize = 16_384;
+
+#[derive(Drop)]
+pub(crate) struct Player {
+    pub(crate) alloc: Global,
+    /// The script that was handed in.
+    pub(crate) script: Snapshot<Vec<ScriptEvent>>,
+    /// The events that weren't played yet, those of closed sessions included.
+    pub(crate) events: VecDeque<ScriptEvent>,
+    pub(crate) sessions: Sessions,
+    pub(crate) records: Records,
+    /// The most bytes that a `give` accepts, or 0.
+    pub(crate) accept: usize,
+    /// The number of the `give` from now that fails, or 0.
+    pub(crate) fail_give: u64,
+    pub(crate) ended: bool,
+}
+
+// The session that an event is of.
+fn session_of(event: &ScriptEvent) -> u64
+    ensures { result ≡ session_of event.now }
+{
+    match event {
+        ScriptEvent::Open(session) => *session,
+        ScriptEvent::Send(session, _) => *session,
+        ScriptEvent::Gone(session) => *session,
+    }
+}
+
+// Whether the event's session is neither gone nor shut.
+fn is_left(sessions: &Sessions, event: &ScriptEvent) -> bool
+    ensures { result ≡ is_left sessions.now event.now }
+{
+    match sessions.get(session_of(event)) {
+        Some(session) => !session.stage().is_closed(),
+        None => true,
+    }
+}
+
+// Whether it may be played now.
+fn is_ready(sessions: &Sessions, event: &ScriptEvent) -> bool
+    ensures { result ≡ is_ready sessions.now event.now }
+{
+    match sessions.get(session_of(event)) {
+        Some(session) => !session.stage().is_closed() && !session.stage().is_paused(),
+        None => true,
+    }
+}
+
+// Drops the events of closed sessions that stand in front.
+fn drop_closed(sessions: &Sessions, events: &mut VecDeque<ScriptEvent>)
+    ensures left { events_left sessions.now events.new.items ≡ events_left sessions.now events.old.items }
+    ensures front { events_left sessions.now events.new.items ≡ [] → events.new.items ≡ [] }
+{
+    while let Some(event) = events.front() {
+        if is_left(sessions, event) {
+            return;
+        }
+        events.pop_front();
+    }
+}
+
+// The place of the first event that may be played now.
+fn first_ready(sessions: &Sessions, events: &VecDeque<ScriptEvent>) -> Option<usize>
+    ensures { result ≡ position (is_ready sessions.now) events.now.items }
+{
+    events.iter().position(|event| is_ready(sessions, event))
+}
+
+// The next piece of a send, and a copy of it for the list of events.
+fn next_piece(bytes: &Bytes) -> Result<(Bytes, Bytes), AllocError>
+    ensures { IfOk result (λ r. (r.0 ≡ take 16384 bytes.now) × (r.1 ≡ take 16384 bytes.now)) }
+{
+    let piece = bytes.slice(0..bytes.len().min(PIECE))?;
+    let copy = piece.clone()?;
+    Ok((piece, copy))
+}
+
+// Takes the next piece off a send, and the send away with its last piece.
+fn take_piece(events: &mut VecDeque<ScriptEvent>, at: usize)
+    requires { at < length events.old.items }
+    ensures { TakesPiece events.old.items at events.new.items }
+{
+    let Some(ScriptEvent::Send(session, mut bytes)) = events.remove(at) else {
+        return;
+    };
+    if bytes.len() > PIECE {
+        bytes.advance(PIECE);
+        if events
+            .insert(at, ScriptEvent::Send(session, bytes))
+            .is_err()
+        {
+            unreachable!()
+        }
+    }
+}
+
+impl Player {
+    pub(crate) fn new(alloc: Global, events: Vec<ScriptEvent>) -> Player
+        ensures consistent { IsConsistent result }
+        ensures fresh { IsNewPort events.items (state_of result) }
+    {
+        let script = Snapshot::of(&events);
+        Player {
+            alloc,
+            script,
+            events: VecDeque::from_vec(events),
+            sessions: Sessions::new(alloc),
+            records: Records::new(alloc),
+            accept: 0,
+            fail_give: 0,
+            ended: false,
+        }
+    }
+
+    /// The bytes given to a session.
+    pub(crate) fn given(&self, session: u64) -> &[u8]
+        requires { IsConsistent self.now }
+        ensures { result.now ≡ given session self.now.records.entries }
+    {
+        match self.sessions.get(session) {
+            Some(session) => session.given(),
+            None => &[],
+        }
+    }
+
+    // Begins a session. Its two places for the end are taken here.
+    fn open(&mut self, at: usize, session: u64) -> PortEvent
+        requires consistent { IsConsistent self.old }
+        requires running { self.old.ended ≡ false }
+        requires first { IsFirst self.old at (script.Open session) }
+        ensures consistent { IsConsistent self.new }
+        ensures script { self.new.script ≡ self.old.script }
+        ensures played { Played self.old result self.new }
+    {
+        if session <= self.sessions.newest() {
+            self.events.remove(at);
+            return PortEvent::Opened(session);
+        }
+        if self.records.reserve(3).is_err() || self.sessions.open(session).is_err() {
+            return PortEvent::Idle;
+        }
+        self.records.write(PortRecord::Opened(session));
+        self.records.promise();
+        self.events.remove(at);
+        PortEvent::Opened(session)
+    }
+
+    // Gives the next piece of a send.
+    fn send(&mut self, at: usize, session: u64, piece: Bytes, copy: Bytes) -> PortEvent
+        requires consistent { IsConsistent self.old }
+        requires running { self.old.ended ≡ false }
+        requires first { (bytes : List ℕ) × IsFirst self.old at (script.Send session bytes) × (piece ≡ take 16384 bytes) × (copy ≡ take 16384 bytes) }
+        ensures consistent { IsConsistent self.new }
+        ensures script { self.new.script ≡ self.old.script }
+        ensures played { Played self.old result self.new }
+    {
+        if self.records.reserve(1).is_err() {
+            return PortEvent::Idle;
+        }
+        self.records.write(PortRecord::Data(session, copy));
+        take_piece(&mut self.events, at);
+        PortEvent::Data(session, piece)
+    }
+
+    // Ends a session whose peer has gone.
+    fn go(&mut self, at: usize, session: u64) -> PortEvent
+        requires consistent { IsConsistent self.old }
+        requires running { self.old.ended ≡ false }
+        requires first { IsFirst self.old at (script.Gone session) }
+        ensures consistent { IsConsistent self.new }
+        ensures script { self.new.script ≡ self.old.script }
+        ensures played { Played self.old result self.new }
+    {
+        self.close(session, PortRecord::Gone(session));
+        self.events.remove(at);
+        PortEvent::Gone(session)
+    }
+
+    // Plays the event at this place.
+    fn play(&mut self, at: usize) -> PortEvent
+        requires consistent { IsConsistent self.old }
+        requires running { self.old.ended ≡ false }
+        requires first { position (is_ready self.old.sessions) self.old.events.items ≡ Some at }
+        ensures consistent { IsConsistent self.new }
+        ensures script { self.new.script ≡ self.old.script }
+        ensures played { Played self.old result self.new }
+    {
+        match self.events.get(at) {
+            Some(ScriptEvent::Open(session)) => {
+                let session = *session;
+                self.open(at, session)
+            }
+            Some(ScriptEvent::Send(session, bytes)) => {
+                let session = *session;
+                match next_piece(bytes) {
+                    Ok((piece, copy)) => self.send(at, session, piece, copy),
+                    Err(_) => PortEvent::Idle,
+                }
+            }
+            Some(ScriptEvent::Gone(session)) => {
+                let session = *session;
+                self.go(at, session)
+            }
+            None => PortEvent::Idle,
+        }
+    }
+
+    // Ends the port, as no event is left.
+    fn end(&mut self) -> PortEvent
+        requires consistent { IsConsistent self.old }
+        requires running { self.old.ended ≡ false }
+        requires none { self.old.events.items ≡ [] }
+        ensures consistent { IsConsistent self.new }
+        ensures script { self.new.script ≡ self.old.script }
+        ensures played { Played self.old result self.new }
+    {
+        if self.records.reserve(1).is_err() {
+            return PortEvent::Idle;
+        }
+        self.records.write(PortRecord::Ended);
+        self.ended = true;
+        PortEvent::Ended
+    }
+
+    /// The first event left whose session isn't paused, of a send its next piece. `Idle` where there is none, once
+    /// `Ended` was given, and where no memory is found.
+    pub(crate) fn next(&mut self) -> PortEvent
+        requires consistent { IsConsistent self.old }
+        ensures consistent { IsConsistent self.new }
+        ensures script { self.new.script ≡ self.old.script }
+        ensures played { Played self.old result self.new }
+    {
+        if self.ended {
+            return PortEvent::Idle;
+        }
+        drop_closed(&self.sessions, &mut self.events);
+        match first_ready(&self.sessions, &self.events) {
+            Some(at) => self.play(at),
+            None => {
+                if self.events.is_empty() {
+                    self.end()
+                } else {
+                    PortEvent::Idle
+                }
+            }
+        }
+    }
+
+    /// Ends an open session with this entry, in a place that was taken when it began. Its events are left no more.
+    pub(crate) fn close(&mut self, session: u64, entry: PortRecord)
+        requires consistent { IsConsistent self.old }
+        requires ends { EndsSession session entry }
+        ensures consistent { IsConsistent self.new }
+        ensures script { self.new.script ≡ self.old.script }
+        ensures closes { sessions.is_open self.old.sessions session ≡ true → Closes self.old session entry self.new }
+        ensures same { sessions.is_open self.old.sessions session ≡ false → self.new ≡ self.old }
+    {
+        if self.sessions.change(session, Stage::Closed) {
+            self.records.write_promised(entry);
+        }
+    }
+
+    /// Pauses or resumes an open session.
+    pub(crate) fn hold(&mut self, session: u64, stage: Stage)
+        requires consistent { IsConsistent self.old }
+        requires stage { is_closed stage ≡ false }
+        ensures consistent { IsConsistent self.new }
+        ensures script { self.new.script ≡ self.old.script }
+        ensures records { self.new.records ≡ self.old.records }
+        ensures held { sessions.is_open self.old.sessions session ≡ true → SetsHeld (state_of self.old) session (is_waiting stage) (state_of self.new) }
+    {
+        self.sessions.change(session, stage);
+    }
+
+    // Keeps bytes that a session is given. False where there is no memory, and then nothing changes.
+    fn keep(&mut self, session: u64, bytes: &[u8]) -> bool
+        requires consistent { IsConsistent self.old }
+        ensures consistent { IsConsistent self.new }
+        ensures kept { result ≡ true → Keeps self.old session bytes.now self.new }
+        ensures same { result ≡ false → SamePlayer self.old self.new }
+    {
+        let Ok(copy) = Bytes::copy_from_slice(self.alloc, bytes) else {
+            return false;
+        };
+        if self.records.reserve(1).is_err() || self.sessions.accept(session, bytes).is_err() {
+            return false;
+        }
+        self.records.write(PortRecord::Accepted(session, copy));
+        true
+    }
+
+    // Whether this offer is the one that fails.
+    fn fails(&mut self, bytes: &[u8]) -> bool
+        ensures { CountsOffer self.old bytes.now self.new result }
+    {
+        if bytes.is_empty() || self.fail_give == 0 {
+            return false;
+        }
+        self.fail_give -= 1;
+        self.fail_give == 0
+    }
+
+    /// Offers bytes to a session.
+    pub(crate) fn give(&mut self, session: u64, bytes: &[u8]) -> Result<usize, Gone>
+        requires consistent { IsConsistent self.old }
+        ensures consistent { IsConsistent self.new }
+        ensures within { IfOk result (λ n. n ≤ length bytes.now) }
+        ensures counts { CountsGive (state_of self.old) bytes.now (state_of self.new) }
+        ensures given { sessions.is_open self.old.sessions session ≡ true → GivesAs self.old session bytes.now result self.new }
+    {
+        if self.fails(bytes) {
+            self.close(session, PortRecord::Gone(session));
+            return Err(Gone);
+        }
+        let mut most = bytes.len();
+        if self.accept > 0 {
+            most = most.min(self.accept);
+        }
+        if most > 0 && self.keep(session, &bytes[..most]) {
+            return Ok(most);
+        }
+        Ok(0)
+    }
+}

@@ -1,0 +1,130 @@
+//! A port that plays a script.
+
+ghost use Rattle.std.specs.Prelude.{◌≡◌, ℕ, ◌++◌, [], ◌∷◌, ◌≤◌, ◌↔◌, length, true, false, IfOk};
+ghost use Rattle.script.specs.Events.{IsPlayable};
+ghost use Rattle.worker.specs.declared.port.PortRecord.TheVariants.{Shut};
+ghost use Rattle.worker.specs.Ports.{event_records, give_records, is_open, MayCome, given};
+ghost use Rattle.script_port.specs.Events.{is_playable};
+ghost use Rattle.script_port.specs.Sessions.{numbers};
+ghost use Rattle.script_port.specs.Records.{opened};
+ghost use Rattle.script_port.specs.States.{Plays, Gives, GoesOn, CountsGive, SetsHeld, Shuts, IsNewPort};
+
+use crate::player::Player;
+use crate::sessions::Session;
+use crate::stage::Stage;
+use script::event::ScriptEvent;
+use std::alloc::Global;
+use std::marker::Model;
+use worker::port::{Gone, Port, PortEvent, PortRecord};
+
+/// Plays the events of a script in order, and keeps what each session is given.
+///
+/// It tells where each event of the script may come behind those before it. A session that has gone or was shut has
+/// no event left. Two places of its list are taken with each session that opens, for its end; where anything else
+/// finds no memory, `next` answers `Idle` and `give` accepts no bytes.
+#[derive(Drop)]
+pub struct ScriptPort {
+    player: Player,
+}
+
+impl Model for ScriptPort {
+    ghost use Rattle.script_port.specs.States.{PortState};
+    ghost use Rattle.script_port.specs.Players.{state_of, IsConsistent};
+
+    ghost Value = { PortState };
+
+    ghost view = { λ p. state_of p.player };
+
+    ghost invariant = { λ p. IsConsistent p.player };
+}
+
+impl ScriptPort {
+    /// All events are left, and none was played.
+    pub fn new(alloc: Global, events: Vec<ScriptEvent>) -> ScriptPort
+        ensures fresh { IsNewPort events.items result }
+        ensures tells { (is_playable result.script ≡ true) ↔ IsPlayable events.items }
+    {
+        ScriptPort {
+            player: Player::new(alloc, events),
+        }
+    }
+
+    /// From now on each `give` accepts at most `accept` bytes, and the `fail_give`th that is offered at least one
+    /// byte accepts none and answers that the peer has gone. 0 is none for either.
+    pub fn with_faults(mut self, accept: usize, fail_give: u64) -> ScriptPort
+        ensures { result ≡ record self { accept = accept; fail_give = fail_give } }
+    {
+        self.player.accept = accept;
+        self.player.fail_give = fail_give;
+        self
+    }
+
+    /// The bytes given to a session; none to one that wasn't opened.
+    pub fn given(&self, session: u64) -> &[u8]
+        ensures { result.now ≡ given session self.now.records }
+    {
+        self.player.given(session)
+    }
+
+    /// The sessions that were opened, in order.
+    pub fn sessions(&self) -> &[Session]
+        ensures sessions { result.now ≡ self.now.sessions }
+        ensures opened { numbers result.now ≡ opened self.now.records }
+    {
+        self.player.sessions.as_slice()
+    }
+}
+
+impl Port for ScriptPort {
+    ghost tells = { λ p. is_playable p.script };
+
+    ghost events = { λ p. p.records };
+
+    fn next(&mut self) -> PortEvent
+        ensures tells { is_playable self.new.script ≡ is_playable self.old.script }
+        ensures events { is_playable self.old.script ≡ true → self.new.records ≡ self.old.records ++ event_records result }
+        ensures may { is_playable self.old.script ≡ true → MayCome self.old.records result }
+        ensures plays { is_playable self.old.script ≡ true → Plays self.old result self.new }
+        ensures goes_on { is_playable self.old.script ≡ true → GoesOn self.old self.new }
+    {
+        self.player.next()
+    }
+
+    fn give(&mut self, session: u64, bytes: &[u8]) -> Result<usize, Gone>
+        requires { is_playable self.old.script ≡ true → is_open session self.old.records ≡ true }
+        ensures within { IfOk result (λ n. n ≤ length bytes.now) }
+        ensures tells { is_playable self.new.script ≡ is_playable self.old.script }
+        ensures events { is_playable self.old.script ≡ true → self.new.records ≡ self.old.records ++ give_records session bytes.now result }
+        ensures gives { is_playable self.old.script ≡ true → Gives self.old session bytes.now result self.new }
+        ensures counts { CountsGive self.old bytes.now self.new }
+    {
+        self.player.give(session, bytes)
+    }
+
+    fn pause(&mut self, session: u64)
+        requires { is_playable self.old.script ≡ true → is_open session self.old.records ≡ true }
+        ensures tells { is_playable self.new.script ≡ is_playable self.old.script }
+        ensures events { is_playable self.old.script ≡ true → self.new.records ≡ self.old.records }
+        ensures held { is_playable self.old.script ≡ true → SetsHeld self.old session true self.new }
+    {
+        self.player.hold(session, Stage::Paused);
+    }
+
+    fn resume(&mut self, session: u64)
+        requires { is_playable self.old.script ≡ true → is_open session self.old.records ≡ true }
+        ensures tells { is_playable self.new.script ≡ is_playable self.old.script }
+        ensures events { is_playable self.old.script ≡ true → self.new.records ≡ self.old.records }
+        ensures held { is_playable self.old.script ≡ true → SetsHeld self.old session false self.new }
+    {
+        self.player.hold(session, Stage::Playing);
+    }
+
+    fn shut(&mut self, session: u64)
+        requires { is_playable self.old.script ≡ true → is_open session self.old.records ≡ true }
+        ensures tells { is_playable self.new.script ≡ is_playable self.old.script }
+        ensures events { is_playable self.old.script ≡ true → self.new.records ≡ self.old.records ++ Shut session ∷ [] }
+        ensures shuts { is_playable self.old.script ≡ true → Shuts self.old session self.new }
+    {
+        self.player.close(session, PortRecord::Shut(session));
+    }
+}

@@ -1,0 +1,33 @@
+//! Walks that find out what may be asked of a pool.
+
+ghost use Rattle.std.specs.Prelude.{◌≡◌, IsTrue, IsSome};
+ghost use Rattle.segments.specs.Pools.{item_in, segment_at};
+
+use proto::geometry::Geometry;
+use segments::place::Place;
+use segments::pool::Pool;
+
+/// Whether an item stands at the place.
+pub fn has_item(pool: &Pool, geometry: Geometry, place: Place) -> bool
+    requires { pool.now.sizes ≡ geometry }
+    ensures { IsTrue result → IsSome (item_in pool.now place) }
+{
+    if place.segment >= geometry.segments() {
+        return false;
+    }
+    let mut walk = pool.walk(place.segment);
+    while let Some((at, _)) = walk.next() {
+        if at.segment == place.segment && at.offset == place.offset {
+            return true;
+        }
+    }
+    false
+}
+
+/// Whether the segment is one of a chain, which has an item.
+pub fn is_in_chain(pool: &Pool, geometry: Geometry, segment: u32) -> bool
+    requires { pool.now.sizes ≡ geometry }
+    ensures { IsTrue result → IsSome (segment_at pool.now segment) }
+{
+    segment < geometry.segments() && pool.walk(segment).next().is_some()
+}

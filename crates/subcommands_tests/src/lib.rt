@@ -1,0 +1,17 @@
+//! Tests of the subcommands, by their public calls.
+#![tactic(auto)]
+
+#[cfg(test)]
+mod beside_straight;
+#[cfg(test)]
+mod common;
+#[cfg(test)]
+mod files;
+#[cfg(test)]
+mod groups;
+#[cfg(test)]
+mod scripts;
+#[cfg(test)]
+mod sessions;
+#[cfg(test)]
+mod words;

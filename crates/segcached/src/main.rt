@@ -5,13 +5,19 @@ use proto::geometry::Geometry;
 use std::fs::File;
 use std::io::{self, BufWriter};
 use std::process::ExitCode;
-use std::{env, fs};
+use std::sync::Wait;
+use std::thread::Threads;
+use std::{env, fs, time};
 use subcommands::fault::Fault;
 use subcommands::replay::{cannot_read, geometry_of, replay};
 use subcommands::words::{Job, Options, WordsFault, parse_words};
 
-/// Replays the script in the file that the options name.
-fn replay_file(rt: &HostRuntime, options: &Options) -> Result<(), Fault> {
+/// Replays the script in the file that the options name, with these threads.
+fn replay_file<H: Threads + Wait + time::Clock + Sync>(
+    rt: &HostRuntime,
+    threads: &H,
+    options: &Options,
+) -> Result<(), Fault> {
     let alloc = rt.alloc();
     let geometry: Geometry = geometry_of(options)?;
     let script: File = match fs::open(rt, options.file.as_str()) {
@@ -19,11 +25,15 @@ fn replay_file(rt: &HostRuntime, options: &Options) -> Result<(), Fault> {
         Err(error) => return Err(cannot_read(alloc, options, &error)),
     };
     let mut out = BufWriter::new(alloc, io::writer(rt)).map_err(|_| Fault::NoMemory)?;
-    replay(rt, alloc, options, geometry, script, &mut out)
+    replay(threads, alloc, options, geometry, script, &mut out)
 }
 
 /// Does the job, and answers the exit status.
-fn run(rt: &HostRuntime, job: Job) -> io::Result<u8> {
+fn run<H: Threads + Wait + time::Clock + Sync>(
+    rt: &HostRuntime,
+    threads: &H,
+    job: Job,
+) -> io::Result<u8> {
     match job {
         Job::Help(text) => {
             if rt.print(text).is_err() {
@@ -32,7 +42,7 @@ fn run(rt: &HostRuntime, job: Job) -> io::Result<u8> {
             }
             Ok(0)
         }
-        Job::Replay(options) => match replay_file(rt, &options) {
+        Job::Replay(options) => match replay_file(rt, threads, &options) {
             Ok(()) => Ok(0),
             Err(fault) => {
                 rt.eprintln(fault)?;
@@ -46,7 +56,7 @@ fn main(rt: HostRuntime) -> io::Result<ExitCode> {
     let alloc = rt.alloc();
     let words: Vec<String> = env::args(&rt)?.skip(1).collect(alloc)?;
     let status = match parse_words(alloc, words.as_slice()) {
-        Ok(job) => run(&rt, job)?,
+        Ok(job) => run(&rt, &rt, job)?,
         Err(WordsFault::BadWords(text)) => {
             rt.eprint(text)?;
             2

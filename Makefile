@@ -1,10 +1,22 @@
-# make run    builds the program and replays the first script
-# make test   the gate: every proof from nothing, the must-fail edits, the tests, and each refused growth
+.PHONY: help run serve test quick bench soak
 
-.PHONY: run test
+help: ## says what each target does
+	@awk -F ':.*## ' '/^[a-z]+:.*## /{printf "make %-8s %s\n", $$1, $$2}' Makefile
 
-run:
+run: ## proves and builds segcached, replays the first script, and talks to a served socket
 	@bash tools/run.sh
 
-test:
+serve: ## builds segcached and serves on 127.0.0.1:11211
+	@bash tools/serve.sh
+
+test: ## the gate: every proof from nothing, the wrong bodies that must be refused, the tests, sockets and clients
 	@bash tools/gate.sh
+
+quick: ## for daily work: proves what changed since the last run, and runs the rows
+	@bash tools/quick.sh
+
+bench: ## compares a served segcached with memcached, in one table
+	@bash tools/bench.sh
+
+soak: ## hostile use of a served segcached, for about an hour
+	@python3 tools/hostile.py --long

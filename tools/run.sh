@@ -1,15 +1,9 @@
 #!/usr/bin/env bash
-# Builds segcached (it is proved first, which takes some minutes the first time) and replays the first script.
+# Builds segcached (the crates that it stands on are proved first, side by side, which takes some minutes the first time),
+# replays the first script, and then serves on a free port and talks to it.
 set -eu
 cd "$(dirname "$0")/.."
-log=$(mktemp)
-trap 'rm -f "$log"' EXIT
-
-echo "Proving and building segcached ..."
-(cd crates/segcached && rt run -- --help) >"$log" 2>&1 || {
-  tail -n 20 "$log"
-  exit 1
-}
+bash tools/build.sh
 program=crates/segcached/out/segcached
 script=scripts/first.script
 
@@ -24,3 +18,17 @@ echo
 echo "Worker 0 gave session 1 these bytes:"
 hex=${output##* }
 printf '%b' "$(printf '%s' "$hex" | sed 's/../\\x&/g')" | sed 's/^/    /'
+echo
+
+. tools/served.sh
+trap end_server EXIT
+serve_on_free_port "$program"
+echo "\$ segcached serve --listen 127.0.0.1:0"
+cat "$served_output"
+echo "A client sends set a 0 0 1\\r\\nx\\r\\nget a\\r\\nquit\\r\\n to 127.0.0.1:$port, and reads:"
+exec 3<>"/dev/tcp/127.0.0.1/$port"
+printf 'set a 0 0 1\r\nx\r\nget a\r\nquit\r\n' >&3
+answer=$(cat <&3)
+exec 3>&-
+printf '%s\n' "$answer" | sed 's/^/    /'
+[ "$answer" = $'STORED\r\nVALUE a 0 1\r\nx\r\nEND\r' ]

@@ -4,7 +4,8 @@
 
 use anyhow::{Result, bail};
 use proto::history::Answered;
-use proto::message::{Hits, Reply, Request};
+use proto::hits::Hits;
+use proto::message::{Reply, Request};
 use session_book::book::Book;
 use session_book::causes::Settled;
 use std::alloc::Global;
@@ -19,7 +20,7 @@ fn answer(alloc: Global, book: &mut Book, session: u64, asked: (Request, u64)) -
         number,
         request,
         moment: 0,
-        reply: Reply::Values(Hits::from_vec(Vec::new(alloc))),
+        reply: Reply::Values(Hits::new(alloc)),
     });
     if settled != Settled::Kept {
         bail!("an answer was not kept");

@@ -3,3 +3,4 @@
 
 mod answers;
 pub mod told_clock;
+pub mod unix_clock;

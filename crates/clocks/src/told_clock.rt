@@ -1,5 +1,5 @@
 //! A script's clock for a group.
-ghost use Rattle.std.specs.Prelude.{◌≡◌, ℕ, ◌+◌, ◌++◌, [], ◌∷◌, true};
+ghost use Rattle.std.specs.Prelude.{◌≡◌, ℕ, ◌+◌, ◌++◌, [], ◌∷◌};
 ghost use Rattle.script.specs.Clocks.{answer_of};
 ghost use Rattle.clocks.specs.Answers.{listed};
 
@@ -28,16 +28,22 @@ impl ToldClock {
 }
 
 impl Clock for ToldClock {
+    ghost use Rattle.std.specs.Prelude.{Some};
     ghost use Rattle.clocks.specs.Answers.{listed};
+    ghost use Rattle.clocks.specs.Leading.{GivesAnswers, gives_none, gives_more};
 
-    ghost tells = { λ _. true };
+    ghost told = { λ clock. Some (listed clock.answers) };
 
-    ghost answers = { λ c. listed c.answers };
+    ghost leads_to = { GivesAnswers };
+
+    ghost leads_reflexive = { gives_none };
+
+    ghost leads_transitive = { gives_more };
 
     /// The next answer of the script's clock.
     fn now(&mut self) -> u64
-        ensures tells { true ≡ true }
-        ensures answers { true ≡ true → listed self.new.answers ≡ listed self.old.answers ++ result ∷ [] }
+        ensures told { Some (listed self.new.answers) ≡ Some (listed self.old.answers ++ result ∷ []) }
+        ensures leads { GivesAnswers self.old self.new }
         ensures next { result ≡ answer_of self.old.clock 0 }
         ensures later { (n : ℕ) → answer_of self.new.clock n ≡ answer_of self.old.clock (n + 1) }
     {

@@ -20,41 +20,67 @@ use Rattle.exchange.proofs.WorkerSteps.{posts_it, posts_bye, loads_done, returns
 use Rattle.exchange.proofs.StorageSteps.{answers_it, settles_bye_it}
 
 -- a seat after an exchange of the slot in front
-pub exchanged : (now was : SeatState) (v : View) (q q' : ℕ) (x y : Option LaneMessage) → now ≡ (was.0, (q, y) ∷ rest was.1) → was ≡ (v, (q', x) ∷ []) → q ≡ q' → now ≡ (v, (q', y) ∷ [])
+pub exchanged : (now was : SeatState) (v : View) (q q' : ℕ) (x y : Option LaneMessage) → now ≡ (was.0, (q, y) ∷ rest was.1) → was ≡ (v, (q', x) ∷ [])
+    → q ≡ q' → now ≡ (v, (q', y) ∷ [])
 exchanged now was v q q' x y e was_is q_is = e ∙ (λ j. ((was_is j).0, (q_is j, y) ∷ rest (was_is j).1))
 
 module _ (key : LaneKey) (n id : ℕ) (me : SeatState) where
-  pub posts_as : (c : WorkerState) (p : Posted) (i new : ℕ) → me ≡ (Worker c, (slot_of c.worker (length c.sent), Some (Ask p)) ∷ []) → i ≡ 16 * c.worker → new ≡ suc (length c.sent) → p.number ≡ suc (length c.sent) → c.slot_held ≡ suc (length c.sent) → c.said_bye ≡ false
+  -- the store of posted
+  pub posts_as : (c : WorkerState) (p : Posted) (i new : ℕ) → me ≡ (Worker c, (slot_of c.worker (length c.sent), Some (Ask p)) ∷ []) → i ≡ 16 * c.worker
+      → new ≡ suc (length c.sent) → p.number ≡ suc (length c.sent) → c.slot_held ≡ suc (length c.sent) → c.said_bye ≡ false
       → Allows (LanesHold key) n id me i (λ _. new) (λ _. posted (step n i new 0 none) me new)
-  posts_as c p i new is i_is new_is next slot_held open_ = subst (λ (z : SeatState × ℕ × ℕ). Allows (LanesHold key) n id z.0 z.1 (λ _. z.2) (λ _. posted (step n z.1 z.2 0 none) z.0 z.2)) (λ j. (sym is j, sym i_is j, sym new_is j)) (posts_it key n id c p next slot_held open_)
+  posts_as c p i new is i_is new_is next slot_held open_ = subst
+      (λ (z : SeatState × ℕ × ℕ). Allows (LanesHold key) n id z.0 z.1 (λ _. z.2) (λ _. posted (step n z.1 z.2 0 none) z.0 z.2))
+      (λ j. (sym is j, sym i_is j, sym new_is j)) (posts_it key n id c p next slot_held open_)
 
-  pub posts_bye_as : (c : WorkerState) (i new : ℕ) → me ≡ (Worker c, (slot_of c.worker (length c.sent), Some Bye) ∷ []) → i ≡ 16 * c.worker → new ≡ suc (length c.sent) → c.slot_held ≡ suc (length c.sent) → c.said_bye ≡ false → length c.back ≡ length c.sent
+  -- the store of posted, with a bye
+  pub posts_bye_as : (c : WorkerState) (i new : ℕ) → me ≡ (Worker c, (slot_of c.worker (length c.sent), Some Bye) ∷ []) → i ≡ 16 * c.worker
+      → new ≡ suc (length c.sent) → c.slot_held ≡ suc (length c.sent) → c.said_bye ≡ false → length c.back ≡ length c.sent
       → Allows (LanesHold key) n id me i (λ _. new) (λ _. bye_posted (step n i new 0 none) me new)
-  posts_bye_as c i new is i_is new_is slot_held open_ all = subst (λ (z : SeatState × ℕ × ℕ). Allows (LanesHold key) n id z.0 z.1 (λ _. z.2) (λ _. bye_posted (step n z.1 z.2 0 none) z.0 z.2)) (λ j. (sym is j, sym i_is j, sym new_is j)) (posts_bye key n id c slot_held open_ all)
+  posts_bye_as c i new is i_is new_is slot_held open_ all = subst
+      (λ (z : SeatState × ℕ × ℕ). Allows (LanesHold key) n id z.0 z.1 (λ _. z.2) (λ _. bye_posted (step n z.1 z.2 0 none) z.0 z.2))
+      (λ j. (sym is j, sym i_is j, sym new_is j)) (posts_bye key n id c slot_held open_ all)
 
-  pub returns_as : (c : WorkerState) (i k q : ℕ) → me ≡ (Worker c, (q, None) ∷ []) → c.slot_held ≡ suc k → q ≡ slot_of c.worker k → Allows (LanesHold key) n id me i (λ x. x) (slot_returned (step n i 0 0 none) me)
-  returns_as c i k q is slot_held slot = subst (λ (z : SeatState). Allows (LanesHold key) n id z i (λ x. x) (slot_returned (step n i 0 0 none) z)) (sym is) (returns_it key n id c i k q slot_held slot)
+  -- giving a slot back
+  pub returns_as : (c : WorkerState) (i k q : ℕ) → me ≡ (Worker c, (q, None) ∷ []) → c.slot_held ≡ suc k → q ≡ slot_of c.worker k
+      → Allows (LanesHold key) n id me i (λ x. x) (slot_returned (step n i 0 0 none) me)
+  returns_as c i k q is slot_held slot = subst (λ (z : SeatState). Allows (LanesHold key) n id z i (λ x. x) (slot_returned (step n i 0 0 none) z)) (sym is)
+      (returns_it key n id c i k q slot_held slot)
 
-  pub answers_as : (d : StorageState) (w : ℕ) (p : Posted) (a : Answered) (i new : ℕ) → me ≡ (Storage d, (slot_of w (settled d w), Some (Answer a)) ∷ []) → i ≡ 16 * w + 8 → new ≡ suc (settled d w)
+  -- the store of done, with an answer
+  pub answers_as : (d : StorageState) (w : ℕ) (p : Posted) (a : Answered) (i new : ℕ) → me ≡ (Storage d, (slot_of w (settled d w), Some (Answer a)) ∷ [])
+      → i ≡ 16 * w + 8 → new ≡ suc (settled d w)
       → d.holding ≡ Some (w, Ask p) → a.worker ≡ w → posted_of a ≡ p → w < key.workers → Legal d.geometry (d.history ++ a ∷ [])
       → Allows (LanesHold key) n id me i (λ _. new) (λ _. answered (step n i new 0 none) me new)
-  answers_as d w p a i new is i_is new_is held mine for inside legal = subst (λ (z : SeatState × ℕ × ℕ). Allows (LanesHold key) n id z.0 z.1 (λ _. z.2) (λ _. answered (step n z.1 z.2 0 none) z.0 z.2)) (λ j. (sym is j, sym i_is j, sym new_is j))
+  answers_as d w p a i new is i_is new_is held mine for inside legal = subst
+      (λ (z : SeatState × ℕ × ℕ). Allows (LanesHold key) n id z.0 z.1 (λ _. z.2) (λ _. answered (step n z.1 z.2 0 none) z.0 z.2))
+      (λ j. (sym is j, sym i_is j, sym new_is j))
       (answers_it key n id d w p a held mine for inside legal)
 
-  pub settles_bye_as : (d : StorageState) (w : ℕ) (i new : ℕ) → me ≡ (Storage d, (slot_of w (settled d w), None) ∷ []) → i ≡ 16 * w + 8 → new ≡ suc (settled d w) → d.holding ≡ Some (w, Bye) → w < key.workers
+  -- the store of done, after a bye
+  pub settles_bye_as : (d : StorageState) (w : ℕ) (i new : ℕ) → me ≡ (Storage d, (slot_of w (settled d w), None) ∷ []) → i ≡ 16 * w + 8
+      → new ≡ suc (settled d w) → d.holding ≡ Some (w, Bye) → w < key.workers
       → Allows (LanesHold key) n id me i (λ _. new) (λ _. settle_bye (step n i new 0 none) me new)
-  settles_bye_as d w i new is i_is new_is held inside = subst (λ (z : SeatState × ℕ × ℕ). Allows (LanesHold key) n id z.0 z.1 (λ _. z.2) (λ _. settle_bye (step n z.1 z.2 0 none) z.0 z.2)) (λ j. (sym is j, sym i_is j, sym new_is j)) (settles_bye_it key n id d w held inside)
+  settles_bye_as d w i new is i_is new_is held inside = subst
+      (λ (z : SeatState × ℕ × ℕ). Allows (LanesHold key) n id z.0 z.1 (λ _. z.2) (λ _. settle_bye (step n z.1 z.2 0 none) z.0 z.2))
+      (λ j. (sym is j, sym i_is j, sym new_is j)) (settles_bye_it key n id d w held inside)
 
-  pub loads_done_as : (c : WorkerState) (i : ℕ) → me.0 ≡ Worker c → i ≡ 16 * c.worker + 8 → c.slot_held ≡ 0 → Allows (LanesHold key) n id me i (λ x. x) (done_loaded (step n i 0 0 none) me)
-  loads_done_as c i is i_is idle = subst (λ (z : ℕ). Allows (LanesHold key) n id me z (λ x. x) (done_loaded (step n z 0 0 none) me)) (sym i_is) (loads_done key n id me c is idle)
+  -- the load of done
+  pub loads_done_as : (c : WorkerState) (i : ℕ) → me.0 ≡ Worker c → i ≡ 16 * c.worker + 8 → c.slot_held ≡ 0
+      → Allows (LanesHold key) n id me i (λ x. x) (done_loaded (step n i 0 0 none) me)
+  loads_done_as c i is i_is idle = subst (λ (z : ℕ). Allows (LanesHold key) n id me z (λ x. x) (done_loaded (step n z 0 0 none) me)) (sym i_is)
+      (loads_done key n id me c is idle)
 
 -- the slot in front of a seat that took it
-pub in_front : (now : SeatState) (v : View) (q q' : ℕ) (x : Option LaneMessage) (cs : List (ℕ × Option LaneMessage)) → now ≡ (v, (q', x) ∷ cs) → q ≡ q' → now.1 ≡ (q, x) ∷ rest now.1
+pub in_front : (now : SeatState) (v : View) (q q' : ℕ) (x : Option LaneMessage) (cs : List (ℕ × Option LaneMessage)) → now ≡ (v, (q', x) ∷ cs) → q ≡ q'
+    → now.1 ≡ (q, x) ∷ rest now.1
 in_front now v q q' x cs e q_is = let f = ap (λ (m : SeatState). m.1) e in f ∙ (λ j. (sym q_is j, x) ∷ rest (sym f j))
 
 -- with no other slot
-pub alone : (now : SeatState) (v : View) (q : ℕ) (x : Option LaneMessage) (cs : List (ℕ × Option LaneMessage)) → now ≡ (v, (q, x) ∷ cs) → cs ≡ [] → now ≡ (v, (q, x) ∷ [])
+pub alone : (now : SeatState) (v : View) (q : ℕ) (x : Option LaneMessage) (cs : List (ℕ × Option LaneMessage)) → now ≡ (v, (q, x) ∷ cs) → cs ≡ []
+    → now ≡ (v, (q, x) ∷ [])
 alone now v q x cs e none_ = e ∙ (λ j. (v, (q, x) ∷ none_ j))
 
+-- a slot serves again 64 messages later
 pub next_round : (w b : ℕ) → slot_of w b ≡ slot_of w (b + 64)
 next_round w b = ap (λ (z : ℕ). 64 * w + z) (sym (add-mod_right b 64))

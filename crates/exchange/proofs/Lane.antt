@@ -1,5 +1,6 @@
 -- Each step keeps its lane in order.
-use Rattle.std.proofs.Common.{◌≡◌, ◌≢◌, ◌⊎◌, ℕ, zero, suc, ◌+◌, ◌%◌, ◌<◌, ◌≤◌, List, [], ◌∷◌, ◌++◌, map, length, take, Some, None, Bool, true, false, true≢false, refl, sym, ap, ◌∙◌, subst, inl, inr, ⊎_elim, arith, length-append, suc-ne-zero}
+use Rattle.std.proofs.Common.{◌≡◌, ◌≢◌, ◌⊎◌, ℕ, zero, suc, ◌+◌, ◌%◌, ◌<◌, ◌≤◌, List, [], ◌∷◌, ◌++◌, map, length, take, Some, None, Bool, true, false}
+use Rattle.std.proofs.Common.{true≢false, refl, sym, ap, ◌∙◌, subst, inl, inr, ⊎_elim, arith, length-append, suc-ne-zero}
 use mathlib.Core.Logic.{dite}
 use mathlib.Core.Option.{none, some, some-injective, some-ne-none}
 use mathlib.Core.Option as maybe
@@ -25,6 +26,7 @@ Else at at' i = (k : ℕ) → k % 64 ≢ i % 64 → at' k ≡ at k
 pub apart : (a b : ℕ) → a < b → b < a + 64 → a % 64 ≢ b % 64
 apart a b lt near e = let same : a ≡ b = one_turn a b 64 (omega arith) near e in omega arith
 
+-- the same, the other way round
 pub apart' : (a b : ℕ) → a < b → b < a + 64 → b % 64 ≢ a % 64
 apart' a b lt near e = apart a b lt near (sym e)
 
@@ -34,17 +36,21 @@ kind (Ask p) = 0
 kind Bye = 1
 kind (Answer a) = 2
 
+-- the request of a message, or another one
 abbrev posted_or : Posted → LaneMessage → Posted
 posted_or p (Ask q) = q
 posted_or p Bye = p
 posted_or p (Answer a) = p
 
+-- equal messages have equal requests
 pub ask_injective : (p q : Posted) → Ask p ≡ Ask q → p ≡ q
 ask_injective p q e = ap (posted_or p) e
 
+-- a message is the request at its place, or the bye behind the last one
 abbrev pub SentAt : List Posted → Bool → ℕ → LaneMessage → Type 0
 SentAt l b t m = ((p : Posted) × (m ≡ Ask p) × (get_elem? l t ≡ some p)) ⊎ ((m ≡ Bye) × (b ≡ true) × (t ≡ length l))
 
+-- so each of a worker's messages is
 pub sent_at : (l : List Posted) (b : Bool) (t : ℕ) (m : LaneMessage) → get_elem? (map Ask l ++ bye_at_end b) t ≡ some m → SentAt l b t m
 sent_at [] true zero m e = inr (sym (some-injective Bye m e), refl, refl)
 sent_at [] true (suc t) m e = absurd (some-ne-none m (sym e))
@@ -52,18 +58,22 @@ sent_at [] false t m e = absurd (some-ne-none m (sym e))
 sent_at (p ∷ l) b zero m e = inl (p, sym (some-injective (Ask p) m e), refl)
 sent_at (p ∷ l) b (suc t) m e = ⊎_elim (λ h. inl h) (λ (h : (m ≡ Bye) × (b ≡ true) × (t ≡ length l)). inr (h.0, h.1, ap suc h.2)) (sent_at l b t m e)
 
+-- a request stands among the requests
 pub ask_at : (l : List Posted) (b : Bool) (t : ℕ) (p : Posted) → get_elem? (map Ask l ++ bye_at_end b) t ≡ some (Ask p) → get_elem? l t ≡ some p
 ask_at l b t p e = ⊎_elim (λ (h : (q : Posted) × (Ask p ≡ Ask q) × (get_elem? l t ≡ some q)). h.2 ∙ ap (λ (q : Posted). some q) (sym (ask_injective p h.0 h.1)))
     (λ (h : (Ask p ≡ Bye) × (b ≡ true) × (t ≡ length l)). let e : 0 ≡ 1 = ap kind h.0 in absurd (omega arith)) (sent_at l b t (Ask p) e)
 
+-- a bye stands behind all requests, and was said
 pub bye_at : (l : List Posted) (b : Bool) (t : ℕ) → get_elem? (map Ask l ++ bye_at_end b) t ≡ some Bye → (b ≡ true) × (t ≡ length l)
 bye_at l b t e = ⊎_elim (λ (h : (q : Posted) × (Bye ≡ Ask q) × (get_elem? l t ≡ some q)). let e : 1 ≡ 0 = ap kind h.1 in absurd (omega arith))
     (λ (h : (Bye ≡ Bye) × (b ≡ true) × (t ≡ length l)). (h.1, h.2)) (sent_at l b t Bye e)
 
+-- 1 where a bye was said
 abbrev pub bye_count : Bool → ℕ
 bye_count true = 1
 bye_count false = 0
 
+-- so long is the bye
 length-bye : (b : Bool) → length (bye_at_end b) ≡ bye_count b
 length-bye true = refl
 length-bye false = refl
@@ -72,20 +82,25 @@ length-bye false = refl
 pub count : (c : WorkerState) → length (messages c) ≡ length c.sent + bye_count c.said_bye
 count c = length-append (map Ask c.sent) (bye_at_end c.said_bye) ∙ (omega (arith, length-map c.sent Ask, length-bye c.said_bye))
 
+-- there is one bye at most
 pub at_most_one : (b : Bool) → bye_count b ≤ 1
 at_most_one true = omega arith
 at_most_one false = omega arith
 
+-- one more request is one more message
 pub one_more : (c : WorkerState) (p : Posted) → c.said_bye ≡ false → messages (sent_on c p) ≡ messages c ++ Ask p ∷ []
 one_more c p e = subst (λ (b : Bool). map Ask (c.sent ++ p ∷ []) ++ bye_at_end b ≡ (map Ask c.sent ++ bye_at_end b) ++ Ask p ∷ []) (sym e)
-    (append_nil (map Ask (c.sent ++ p ∷ [])) ∙ (map-append Ask c.sent (p ∷ []) ∙ ap (λ (l : List LaneMessage). l ++ Ask p ∷ []) (sym (append_nil (map Ask c.sent)))))
+    (append_nil (map Ask (c.sent ++ p ∷ []))
+    ∙ (map-append Ask c.sent (p ∷ []) ∙ ap (λ (l : List LaneMessage). l ++ Ask p ∷ []) (sym (append_nil (map Ask c.sent)))))
   where
     append_nil : (l : List LaneMessage) → l ++ [] ≡ l
     append_nil [] = refl
     append_nil (x ∷ l) = λ i. x ∷ append_nil l i
 
+-- a bye is one more message
 pub one_bye : (c : WorkerState) → c.said_bye ≡ false → messages (with_bye c) ≡ messages c ++ Bye ∷ []
-one_bye c e = subst (λ (b : Bool). map Ask c.sent ++ Bye ∷ [] ≡ (map Ask c.sent ++ bye_at_end b) ++ Bye ∷ []) (sym e) (ap (λ (l : List LaneMessage). l ++ Bye ∷ []) (sym (append_nil (map Ask c.sent))))
+one_bye c e = subst (λ (b : Bool). map Ask c.sent ++ Bye ∷ [] ≡ (map Ask c.sent ++ bye_at_end b) ++ Bye ∷ []) (sym e)
+    (ap (λ (l : List LaneMessage). l ++ Bye ∷ []) (sym (append_nil (map Ask c.sent))))
   where
     append_nil : (l : List LaneMessage) → l ++ [] ≡ l
     append_nil [] = refl
@@ -93,16 +108,21 @@ one_bye c e = subst (λ (b : Bool). map Ask c.sent ++ Bye ∷ [] ≡ (map Ask c.
 
 -- A worker's steps
 
-module _ (c : WorkerState) (mine : List Answered) (byes : ℕ) (held : maybe.Option LaneMessage) (posted done : ℕ) (at : At) (r : LaneOk c mine byes held posted done at) where
+module _ (c : WorkerState) (mine : List Answered) (byes : ℕ) (held : maybe.Option LaneMessage) (posted done : ℕ) (at : At)
+    (r : LaneOk c mine byes held posted done at) where
+  -- the number of messages
   len : ℕ
   len = length (messages c)
 
+  -- no more came back than the worker's share has
   pub back_below : length c.back ≤ length mine
   back_below = starts_below mine c.back r.known
 
   -- the worker takes the slot of its next message
-  pub begins : (at' : At) → c.slot_held ≡ 0 → c.said_bye ≡ false → length c.sent < length c.back + 64 → Else at at' (length c.sent) → LaneOk (holding_slot c (suc (length c.sent))) mine byes held posted done at'
-  begins at' idle open_ room same = let n : ℕ = length c.sent in let b : ℕ = length c.back in let e : length (messages c) ≡ n = count c ∙ (omega (arith, ap bye_count open_)) in let low : b ≤ length mine = back_below in
+  pub begins : (at' : At) → c.slot_held ≡ 0 → c.said_bye ≡ false → length c.sent < length c.back + 64 → Else at at' (length c.sent)
+      → LaneOk (holding_slot c (suc (length c.sent))) mine byes held posted done at'
+  begins at' idle open_ room same = let n : ℕ = length c.sent in let b : ℕ = length c.back in
+      let e : length (messages c) ≡ n = count c ∙ (omega (arith, ap bye_count open_)) in let low : b ≤ length mine = back_below in
       let high : length mine ≤ n = r.answered in let room' : n < b + 64 = room in record {
         posted_is = r.posted_is;
         done_is = r.done_is;
@@ -118,67 +138,99 @@ module _ (c : WorkerState) (mine : List Answered) (byes : ℕ) (held : maybe.Opt
         slot_held_is = λ _. (let g : length (messages c) < suc n = omega arith in g, let g : suc n ≤ b + 64 = omega arith in g);
         within = r.within;
         answers = λ k a le is. let below : k < length mine = at_below mine k a is in same k (apart k n (omega arith) (omega arith)) ∙ r.answers k a le is;
-        requests = λ k m le is. let below : k < length (messages c) = at_below (messages c) k m is in let le' : length mine + byes + count_of held ≤ k = le in same k (apart k n (omega arith) (omega arith)) ∙ r.requests k m le is;
-        frees = λ k le near other. let le' : length (messages c) ≤ k = le in let near' : k < b + 64 = near in let ne : suc k ≢ suc n = other in same k (apart' n k (omega arith) (omega arith)) ∙ r.frees k le near (λ z. suc-ne-zero k (z ∙ idle));
+        requests = λ k m le is. let below : k < length (messages c) = at_below (messages c) k m is in
+            let le' : length mine + byes + count_of held ≤ k = le in same k (apart k n (omega arith) (omega arith)) ∙ r.requests k m le is;
+        frees = λ k le near other. let le' : length (messages c) ≤ k = le in let near' : k < b + 64 = near in
+            let ne : suc k ≢ suc n = other in same k (apart' n k (omega arith) (omega arith)) ∙ r.frees k le near (λ z. suc-ne-zero k (z ∙ idle));
       }
 
   -- the store of posted
-  pub posts : (at' : At) (p : Posted) → p.number ≡ suc (length c.sent) → c.slot_held ≡ suc (length c.sent) → c.said_bye ≡ false → at' (length c.sent) ≡ some (some (Some (Ask p))) → Else at at' (length c.sent) → LaneOk (sent_on c p) mine byes held (suc posted) done at'
-  posts at' p next mineis open_ here same = let n : ℕ = length c.sent in let b : ℕ = length c.back in let e : length (messages c) ≡ n = count c ∙ (omega (arith, ap bye_count open_)) in let low : b ≤ length mine = back_below in
-      let high : length mine ≤ n = r.answered in let slot_held : c.slot_held ≡ suc n = mineis in let hands = r.slot_held_is (let g : 0 < c.slot_held = omega arith in g) in let room : c.slot_held ≤ b + 64 = hands.1 in let is = one_more c p open_ in
-      let long : length (messages (sent_on c p)) ≡ suc n = ap length is ∙ length-append (messages c) (Ask p ∷ []) ∙ (omega arith) in let longer : length (c.sent ++ p ∷ []) ≡ suc n = length-append c.sent (p ∷ []) ∙ (omega arith) in record {
+  pub posts : (at' : At) (p : Posted) → p.number ≡ suc (length c.sent) → c.slot_held ≡ suc (length c.sent) → c.said_bye ≡ false
+      → at' (length c.sent) ≡ some (some (Some (Ask p))) → Else at at' (length c.sent) → LaneOk (sent_on c p) mine byes held (suc posted) done at'
+  posts at' p next mineis open_ here same = let n : ℕ = length c.sent in let b : ℕ = length c.back in
+      let e : length (messages c) ≡ n = count c ∙ (omega (arith, ap bye_count open_)) in let low : b ≤ length mine = back_below in
+      let high : length mine ≤ n = r.answered in let slot_held : c.slot_held ≡ suc n = mineis in
+      let hands = r.slot_held_is (let g : 0 < c.slot_held = omega arith in g) in let room : c.slot_held ≤ b + 64 = hands.1 in let is = one_more c p open_ in
+      let long : length (messages (sent_on c p)) ≡ suc n = ap length is ∙ length-append (messages c) (Ask p ∷ []) ∙ (omega arith) in
+      let longer : length (c.sent ++ p ∷ []) ≡ suc n = length-append c.sent (p ∷ []) ∙ (omega arith) in record {
         posted_is = ap suc r.posted_is ∙ (let g : suc (length (messages c)) ≡ length (messages (sent_on c p)) = omega arith in g);
         done_is = r.done_is;
-        order = (let o : done ≤ posted = r.order.0 in let g : done ≤ suc posted = omega arith in g, let o : posted ≡ length (messages c) = r.posted_is in let d : done ≡ length mine + byes = r.done_is in let g : suc posted ≤ done + 64 = omega arith in g);
+        order = (
+          let o : done ≤ posted = r.order.0 in let g : done ≤ suc posted = omega arith in g,
+          let o : posted ≡ length (messages c) = r.posted_is in
+              let d : done ≡ length mine + byes = r.done_is in let g : suc posted ≤ done + 64 = omega arith in g,
+        );
         asked_is = r.asked_is ∙ sym (take_front c.sent (p ∷ []) (length mine) r.answered);
         answered = let g : length mine ≤ length (c.sent ++ p ∷ []) = omega arith in g;
         known = r.known;
-        numbered = λ k q y. ⊎_elim (λ (h : get_elem? c.sent k ≡ some q). r.numbered k q h) (λ (h : (k ≡ length c.sent) × (p ≡ q)). ap (λ (z : Posted). z.number) (sym h.1) ∙ (next ∙ ap suc (sym h.0))) (at_end c.sent p k q y);
+        numbered = λ k q y. ⊎_elim (λ (h : get_elem? c.sent k ≡ some q). r.numbered k q h)
+            (λ (h : (k ≡ length c.sent) × (p ≡ q)). ap (λ (z : Posted). z.number) (sym h.1) ∙ (next ∙ ap suc (sym h.0))) (at_end c.sent p k q y);
         leaves = r.leaves;
         quiet = λ y. absurd (true≢false (sym y ∙ open_));
-        behind = let h : length mine + byes + count_of held ≤ length (messages c) = r.behind in let g : length mine + byes + count_of held ≤ length (messages (sent_on c p)) = omega arith in g;
-        open_is = λ m y. subst (λ (l : List LaneMessage). get_elem? l (length mine + byes) ≡ some m) (sym is) (at_longer (messages c) (Ask p ∷ []) (length mine + byes) m (r.open_is m y));
+        behind = let h : length mine + byes + count_of held ≤ length (messages c) = r.behind in
+            let g : length mine + byes + count_of held ≤ length (messages (sent_on c p)) = omega arith in g;
+        open_is = λ m y. subst (λ (l : List LaneMessage). get_elem? l (length mine + byes) ≡ some m) (sym is)
+            (at_longer (messages c) (Ask p ∷ []) (length mine + byes) m (r.open_is m y));
         slot_held_is = λ (y : 0 < 0). absurd (omega arith);
         within = let g : length (messages (sent_on c p)) ≤ b + 64 = omega arith in g;
         answers = λ k a le y. let below : k < length mine = at_below mine k a y in same k (apart k n (omega arith) (omega arith)) ∙ r.answers k a le y;
         requests = λ k m le y. let le' : length mine + byes + count_of held ≤ k = le in
-            ⊎_elim (λ (h : get_elem? (messages c) k ≡ some m). let below : k < length (messages c) = at_below (messages c) k m h in same k (apart k n (omega arith) (omega arith)) ∙ r.requests k m le h)
-            (λ (h : (k ≡ length (messages c)) × (Ask p ≡ m)). let k_is : k ≡ n = h.0 ∙ e in ap at' k_is ∙ (here ∙ ap (λ (z : LaneMessage). some (some (Some z))) h.1))
+            ⊎_elim (λ (h : get_elem? (messages c) k ≡ some m). let below : k < length (messages c) = at_below (messages c) k m h in
+            same k (apart k n (omega arith) (omega arith)) ∙ r.requests k m le h)
+            (λ (h : (k ≡ length (messages c)) × (Ask p ≡ m)). let k_is : k ≡ n = h.0 ∙ e in ap at' k_is
+            ∙ (here ∙ ap (λ (z : LaneMessage). some (some (Some z))) h.1))
             (at_end (messages c) (Ask p) k m (subst (λ (l : List LaneMessage). get_elem? l k ≡ some m) is y));
         frees = λ k le near other. let le' : length (messages (sent_on c p)) ≤ k = le in let near' : k < b + 64 = near in
-            same k (apart' n k (omega arith) (omega arith)) ∙ r.frees k (let g : length (messages c) ≤ k = omega arith in g) near (λ z. let z' : suc k ≡ suc n = z ∙ mineis in let k' : n < k = omega arith in absurd (omega arith));
+            same k (apart' n k (omega arith) (omega arith))
+            ∙ r.frees k (let g : length (messages c) ≤ k = omega arith in g) near
+            (λ z. let z' : suc k ≡ suc n = z ∙ mineis in let k' : n < k = omega arith in absurd (omega arith));
       }
 
   -- the store of posted, with the Bye
-  pub posts_last : (at' : At) → c.slot_held ≡ suc (length c.sent) → c.said_bye ≡ false → length c.back ≡ length c.sent → at' (length c.sent) ≡ some (some (Some Bye)) → Else at at' (length c.sent) → LaneOk (with_bye c) mine byes held (suc posted) done at'
-  posts_last at' mineis open_ all here same = let n : ℕ = length c.sent in let b : ℕ = length c.back in let e : length (messages c) ≡ n = count c ∙ (omega (arith, ap bye_count open_)) in let low : b ≤ length mine = back_below in
+  pub posts_last : (at' : At) → c.slot_held ≡ suc (length c.sent) → c.said_bye ≡ false → length c.back ≡ length c.sent
+      → at' (length c.sent) ≡ some (some (Some Bye)) → Else at at' (length c.sent) → LaneOk (with_bye c) mine byes held (suc posted) done at'
+  posts_last at' mineis open_ all here same = let n : ℕ = length c.sent in let b : ℕ = length c.back in
+      let e : length (messages c) ≡ n = count c ∙ (omega (arith, ap bye_count open_)) in let low : b ≤ length mine = back_below in
       let high : length mine ≤ n = r.answered in let slot_held : c.slot_held ≡ suc n = mineis in let is = one_bye c open_ in
-      let long : length (messages (with_bye c)) ≡ suc n = ap length is ∙ length-append (messages c) (Bye ∷ []) ∙ (omega arith) in let all' : b ≡ n = all in record {
+      let long : length (messages (with_bye c)) ≡ suc n = ap length is ∙ length-append (messages c) (Bye ∷ []) ∙ (omega arith) in
+      let all' : b ≡ n = all in record {
         posted_is = ap suc r.posted_is ∙ (let g : suc (length (messages c)) ≡ length (messages (with_bye c)) = omega arith in g);
         done_is = r.done_is;
-        order = (let o : done ≤ posted = r.order.0 in let g : done ≤ suc posted = omega arith in g, let o : posted ≡ length (messages c) = r.posted_is in let d : done ≡ length mine + byes = r.done_is in let h : b ≡ n = all in let g : suc posted ≤ done + 64 = omega arith in g);
+        order = (
+          let o : done ≤ posted = r.order.0 in let g : done ≤ suc posted = omega arith in g,
+          let o : posted ≡ length (messages c) = r.posted_is in
+              let d : done ≡ length mine + byes = r.done_is in let h : b ≡ n = all in let g : suc posted ≤ done + 64 = omega arith in g,
+        );
         asked_is = r.asked_is;
         answered = r.answered;
         known = r.known;
         numbered = r.numbered;
         leaves = λ _. refl;
         quiet = λ _. all;
-        behind = let h : length mine + byes + count_of held ≤ length (messages c) = r.behind in let g : length mine + byes + count_of held ≤ length (messages (with_bye c)) = omega arith in g;
-        open_is = λ m y. subst (λ (l : List LaneMessage). get_elem? l (length mine + byes) ≡ some m) (sym is) (at_longer (messages c) (Bye ∷ []) (length mine + byes) m (r.open_is m y));
+        behind = let h : length mine + byes + count_of held ≤ length (messages c) = r.behind in
+            let g : length mine + byes + count_of held ≤ length (messages (with_bye c)) = omega arith in g;
+        open_is = λ m y. subst (λ (l : List LaneMessage). get_elem? l (length mine + byes) ≡ some m) (sym is)
+            (at_longer (messages c) (Bye ∷ []) (length mine + byes) m (r.open_is m y));
         slot_held_is = λ (y : 0 < 0). absurd (omega arith);
         within = let g : length (messages (with_bye c)) ≤ b + 64 = omega arith in g;
         answers = λ k a le y. let below : k < length mine = at_below mine k a y in same k (apart k n (omega arith) (omega arith)) ∙ r.answers k a le y;
         requests = λ k m le y. let le' : length mine + byes + count_of held ≤ k = le in
-            ⊎_elim (λ (h : get_elem? (messages c) k ≡ some m). let below : k < length (messages c) = at_below (messages c) k m h in same k (apart k n (omega arith) (omega arith)) ∙ r.requests k m le h)
-            (λ (h : (k ≡ length (messages c)) × (Bye ≡ m)). let k_is : k ≡ n = h.0 ∙ e in ap at' k_is ∙ (here ∙ ap (λ (z : LaneMessage). some (some (Some z))) h.1))
+            ⊎_elim (λ (h : get_elem? (messages c) k ≡ some m). let below : k < length (messages c) = at_below (messages c) k m h in
+            same k (apart k n (omega arith) (omega arith)) ∙ r.requests k m le h)
+            (λ (h : (k ≡ length (messages c)) × (Bye ≡ m)). let k_is : k ≡ n = h.0 ∙ e in ap at' k_is
+            ∙ (here ∙ ap (λ (z : LaneMessage). some (some (Some z))) h.1))
             (at_end (messages c) Bye k m (subst (λ (l : List LaneMessage). get_elem? l k ≡ some m) is y));
         frees = λ k le near other. let le' : length (messages (with_bye c)) ≤ k = le in let near' : k < b + 64 = near in
-            same k (apart' n k (omega arith) (omega arith)) ∙ r.frees k (let g : length (messages c) ≤ k = omega arith in g) near (λ z. let z' : suc k ≡ suc n = z ∙ mineis in let k' : n < k = omega arith in absurd (omega arith));
+            same k (apart' n k (omega arith) (omega arith))
+            ∙ r.frees k (let g : length (messages c) ≤ k = omega arith in g) near
+            (λ z. let z' : suc k ≡ suc n = z ∙ mineis in let k' : n < k = omega arith in absurd (omega arith));
       }
 
   -- the load of done, where an answer is taken
-  pub takes_back : (at' : At) (g : List Answered) (n : ℕ) (a : Answered) → c.slot_held ≡ 0 → length c.back < length c.sent → get_elem? mine (length c.back) ≡ some a → Else at at' (length c.back) → LaneOk (took_out c g n a) mine byes held posted done at'
-  takes_back at' g n a idle more is same = let b : ℕ = length c.back in let low : b < length mine = at_below mine b a is in let longer : length (c.back ++ a ∷ []) ≡ suc b = length-append c.back (a ∷ []) ∙ (omega arith) in
+  pub takes_back : (at' : At) (g : List Answered) (n : ℕ) (a : Answered) → c.slot_held ≡ 0 → length c.back < length c.sent
+      → get_elem? mine (length c.back) ≡ some a → Else at at' (length c.back) → LaneOk (took_out c g n a) mine byes held posted done at'
+  takes_back at' g n a idle more is same = let b : ℕ = length c.back in let low : b < length mine = at_below mine b a is in
+      let longer : length (c.back ++ a ∷ []) ≡ suc b = length-append c.back (a ∷ []) ∙ (omega arith) in
       let room : length (messages c) ≤ b + 64 = r.within in let behind' : length mine + byes + count_of held ≤ length (messages c) = r.behind in record {
         posted_is = r.posted_is;
         done_is = r.done_is;
@@ -191,12 +243,18 @@ module _ (c : WorkerState) (mine : List Answered) (byes : ℕ) (held : maybe.Opt
         quiet = λ y. let q : b ≡ length c.sent = r.quiet y in let m' : b < length c.sent = more in absurd (omega arith);
         behind = r.behind;
         open_is = r.open_is;
-        slot_held_is = λ _. (let h : length (messages c) < suc (b + 64) = omega arith in h, let h : suc (b + 64) ≤ length (c.back ++ a ∷ []) + 64 = omega arith in h);
+        slot_held_is = λ _. (
+          let h : length (messages c) < suc (b + 64) = omega arith in
+              h,
+          let h : suc (b + 64) ≤ length (c.back ++ a ∷ []) + 64 = omega arith in h,
+        );
         within = let h : length (messages c) ≤ length (c.back ++ a ∷ []) + 64 = omega arith in h;
         answers = λ k x le y. let below : k < length mine = at_below mine k x y in let le' : length (c.back ++ a ∷ []) ≤ k = le in
             same k (apart' b k (omega arith) (omega arith)) ∙ r.answers k x (let h : b ≤ k = omega arith in h) y;
-        requests = λ k m le y. let below : k < length (messages c) = at_below (messages c) k m y in let le' : length mine + byes + count_of held ≤ k = le in same k (apart' b k (omega arith) (omega arith)) ∙ r.requests k m le y;
-        frees = λ k le near other. let le' : length (messages c) ≤ k = le in let near' : k < length (c.back ++ a ∷ []) + 64 = near in let ne : suc k ≢ suc (b + 64) = other in
+        requests = λ k m le y. let below : k < length (messages c) = at_below (messages c) k m y in
+            let le' : length mine + byes + count_of held ≤ k = le in same k (apart' b k (omega arith) (omega arith)) ∙ r.requests k m le y;
+        frees = λ k le near other. let le' : length (messages c) ≤ k = le in let near' : k < length (c.back ++ a ∷ []) + 64 = near in
+            let ne : suc k ≢ suc (b + 64) = other in
             same k (apart' b k (omega arith) (omega arith)) ∙ r.frees k le (let h : k < b + 64 = omega arith in h) (λ z. suc-ne-zero k (z ∙ idle));
       }
 
@@ -222,9 +280,12 @@ module _ (c : WorkerState) (mine : List Answered) (byes : ℕ) (held : maybe.Opt
   }
 
   -- the worker gives back the slot of i, empty
-  pub returns_slot : (at' : At) (i : ℕ) → c.slot_held ≡ suc i → at' i ≡ some (some None) → Else at at' i → LaneOk (holding_slot c 0) mine byes held posted done at'
-  returns_slot at' i slot_held here same = let b : ℕ = length c.back in let low : b ≤ length mine = back_below in let hand' : c.slot_held ≡ suc i = slot_held in let hands = r.slot_held_is (let g : 0 < c.slot_held = omega arith in g) in
-      let above : length (messages c) < c.slot_held = hands.0 in let below_ : c.slot_held ≤ b + 64 = hands.1 in let behind' : length mine + byes + count_of held ≤ length (messages c) = r.behind in record {
+  pub returns_slot : (at' : At) (i : ℕ) → c.slot_held ≡ suc i → at' i ≡ some (some None) → Else at at' i
+      → LaneOk (holding_slot c 0) mine byes held posted done at'
+  returns_slot at' i slot_held here same = let b : ℕ = length c.back in let low : b ≤ length mine = back_below in
+      let hand' : c.slot_held ≡ suc i = slot_held in let hands = r.slot_held_is (let g : 0 < c.slot_held = omega arith in g) in
+      let above : length (messages c) < c.slot_held = hands.0 in let below_ : c.slot_held ≤ b + 64 = hands.1 in
+      let behind' : length mine + byes + count_of held ≤ length (messages c) = r.behind in record {
         posted_is = r.posted_is;
         done_is = r.done_is;
         order = r.order;
@@ -238,10 +299,14 @@ module _ (c : WorkerState) (mine : List Answered) (byes : ℕ) (held : maybe.Opt
         open_is = r.open_is;
         slot_held_is = λ (y : 0 < 0). absurd (omega arith);
         within = r.within;
-        answers = λ k a le y. let below : k < length mine = at_below mine k a y in let le' : b ≤ k = le in same k (apart k i (omega arith) (omega arith)) ∙ r.answers k a le y;
-        requests = λ k m le y. let below : k < length (messages c) = at_below (messages c) k m y in let le' : length mine + byes + count_of held ≤ k = le in same k (apart k i (omega arith) (omega arith)) ∙ r.requests k m le y;
+        answers = λ k a le y. let below : k < length mine = at_below mine k a y in
+            let le' : b ≤ k = le in same k (apart k i (omega arith) (omega arith)) ∙ r.answers k a le y;
+        requests = λ k m le y. let below : k < length (messages c) = at_below (messages c) k m y in
+            let le' : length mine + byes + count_of held ≤ k = le in same k (apart k i (omega arith) (omega arith)) ∙ r.requests k m le y;
         frees = λ k le near _. let le' : length (messages c) ≤ k = le in let near' : k < b + 64 = near in
-            dite (ℕ_discrete k i) (λ e. ap at' e ∙ here) (λ ne. same k (λ e. ne (window k i (omega arith) (omega arith) e)) ∙ r.frees k le near (λ z. let z' : suc k ≡ suc i = z ∙ slot_held in let e : k ≡ i = omega arith in absurd (ne e)));
+            dite (ℕ_discrete k i) (λ e. ap at' e ∙ here)
+            (λ ne. same k (λ e. ne (window k i (omega arith) (omega arith) e))
+            ∙ r.frees k le near (λ z. let z' : suc k ≡ suc i = z ∙ slot_held in let e : k ≡ i = omega arith in absurd (ne e)));
       }
     where
       window : (k i : ℕ) → k < i + 64 → i < k + 64 → k % 64 ≡ i % 64 → k ≡ i
@@ -253,8 +318,10 @@ module _ (c : WorkerState) (mine : List Answered) (byes : ℕ) (held : maybe.Opt
   -- Storage's steps on the lane
 
   -- storage takes the next message out
-  pub opens : (at' : At) (x : LaneMessage) → held ≡ none → get_elem? (messages c) (length mine + byes) ≡ some x → Else at at' (length mine + byes) → LaneOk c mine byes (some x) posted done at'
-  opens at' x none_ is same = let t : ℕ = length mine + byes in let b : ℕ = length c.back in let low : b ≤ length mine = back_below in let below_ : t < length (messages c) = at_below (messages c) t x is in
+  pub opens : (at' : At) (x : LaneMessage) → held ≡ none → get_elem? (messages c) (length mine + byes) ≡ some x → Else at at' (length mine + byes)
+      → LaneOk c mine byes (some x) posted done at'
+  opens at' x none_ is same = let t : ℕ = length mine + byes in let b : ℕ = length c.back in let low : b ≤ length mine = back_below in
+      let below_ : t < length (messages c) = at_below (messages c) t x is in
       let room : length (messages c) ≤ b + 64 = r.within in let zero_ : count_of held ≡ 0 = ap count_of none_ in record {
         posted_is = r.posted_is;
         done_is = r.done_is;
@@ -269,25 +336,40 @@ module _ (c : WorkerState) (mine : List Answered) (byes : ℕ) (held : maybe.Opt
         open_is = λ m y. is ∙ y;
         slot_held_is = r.slot_held_is;
         within = r.within;
-        answers = λ k a le y. let below : k < length mine = at_below mine k a y in let le' : b ≤ k = le in same k (apart k t (omega arith) (omega arith)) ∙ r.answers k a le y;
-        requests = λ k m le y. let below : k < length (messages c) = at_below (messages c) k m y in let le' : length mine + byes + 1 ≤ k = le in same k (apart' t k (omega arith) (omega arith)) ∙ r.requests k m (let g : length mine + byes + count_of held ≤ k = omega arith in g) y;
-        frees = λ k le near other. let le' : length (messages c) ≤ k = le in let near' : k < b + 64 = near in same k (apart' t k (omega arith) (omega arith)) ∙ r.frees k le near other;
+        answers = λ k a le y. let below : k < length mine = at_below mine k a y in
+            let le' : b ≤ k = le in same k (apart k t (omega arith) (omega arith)) ∙ r.answers k a le y;
+        requests = λ k m le y. let below : k < length (messages c) = at_below (messages c) k m y in
+            let le' : length mine + byes + 1 ≤ k = le in same k (apart' t k (omega arith) (omega arith))
+            ∙ r.requests k m (let g : length mine + byes + count_of held ≤ k = omega arith in g) y;
+        frees = λ k le near other. let le' : length (messages c) ≤ k = le in
+            let near' : k < b + 64 = near in same k (apart' t k (omega arith) (omega arith)) ∙ r.frees k le near other;
       }
 
   -- the store of done, with an answer
-  pub replies : (at' : At) (p : Posted) (a : Answered) → held ≡ some (Ask p) → posted_of a ≡ p → at' (length mine + byes) ≡ some (some (Some (Answer a))) → Else at at' (length mine + byes)
+  pub replies : (at' : At) (p : Posted) (a : Answered) → held ≡ some (Ask p) → posted_of a ≡ p → at' (length mine + byes) ≡ some (some (Some (Answer a)))
+      → Else at at' (length mine + byes)
       → LaneOk c (mine ++ a ∷ []) byes none posted (suc done) at'
-  replies at' p a held_ for here same = let t : ℕ = length mine + byes in let n : ℕ = length mine in let b : ℕ = length c.back in let low : b ≤ n = back_below in
-      let item : get_elem? (messages c) t ≡ some (Ask p) = r.open_is (Ask p) held_ in let below_ : t < length (messages c) = at_below (messages c) t (Ask p) item in
+  replies at' p a held_ for here same = let t : ℕ = length mine + byes in let n : ℕ = length mine in let b : ℕ = length c.back in
+      let low : b ≤ n = back_below in
+      let item : get_elem? (messages c) t ≡ some (Ask p) = r.open_is (Ask p) held_ in
+      let below_ : t < length (messages c) = at_below (messages c) t (Ask p) item in
       let item' : get_elem? c.sent t ≡ some p = ask_at c.sent c.said_bye t p item in let below' : t < length c.sent = at_below c.sent t p item' in
       let room : length (messages c) ≤ b + 64 = r.within in let one_ : count_of held ≡ 1 = ap count_of held_ in
-      let zero_ : byes ≡ 0 = dite (ℕ_discrete byes 0) (λ z. z) (λ nz. let bye = r.leaves (let g : 0 < byes = omega arith in g) in let q : b ≡ length c.sent = r.quiet bye in absurd (omega arith)) in
+      let zero_ : byes ≡ 0 = dite (ℕ_discrete byes 0) (λ z. z)
+      (λ nz. let bye = r.leaves (let g : 0 < byes = omega arith in g) in let q : b ≡ length c.sent = r.quiet bye in absurd (omega arith)) in
       let longer : length (mine ++ a ∷ []) ≡ suc n = length-append mine (a ∷ []) ∙ (omega arith) in let t_is : t ≡ n = omega arith in
       let item'' : get_elem? c.sent n ≡ some p = subst (λ (z : ℕ). get_elem? c.sent z ≡ some p) t_is item' in record {
         posted_is = r.posted_is;
         done_is = let d : done ≡ length mine + byes = r.done_is in let g : suc done ≡ length (mine ++ a ∷ []) + byes = omega arith in g;
-        order = (let o : posted ≡ length (messages c) = r.posted_is in let d : done ≡ length mine + byes = r.done_is in let h : length mine + byes + count_of held ≤ length (messages c) = r.behind in let g : suc done ≤ posted = omega arith in g, let o : posted ≤ done + 64 = r.order.1 in let g : posted ≤ suc done + 64 = omega arith in g);
-        asked_is = map-append posted_of mine (a ∷ []) ∙ (ap (λ (z : List Posted). z ++ posted_of a ∷ []) r.asked_is ∙ (ap (λ (z : Posted). take n c.sent ++ z ∷ []) for ∙ (sym (take_more c.sent n p item'') ∙ ap (λ (z : ℕ). take z c.sent) (sym longer))));
+        order = (
+          let o : posted ≡ length (messages c) = r.posted_is in let d : done ≡ length mine + byes = r.done_is in
+              let h : length mine + byes + count_of held ≤ length (messages c) = r.behind in
+              let g : suc done ≤ posted = omega arith in g,
+          let o : posted ≤ done + 64 = r.order.1 in let g : posted ≤ suc done + 64 = omega arith in g,
+        );
+        asked_is = map-append posted_of mine (a ∷ [])
+            ∙ (ap (λ (z : List Posted). z ++ posted_of a ∷ []) r.asked_is
+            ∙ (ap (λ (z : Posted). take n c.sent ++ z ∷ []) for ∙ (sym (take_more c.sent n p item'') ∙ ap (λ (z : ℕ). take z c.sent) (sym longer))));
         answered = let g : length (mine ++ a ∷ []) ≤ length c.sent = omega arith in g;
         known = starts_longer mine c.back (a ∷ []) r.known;
         numbered = r.numbered;
@@ -297,21 +379,31 @@ module _ (c : WorkerState) (mine : List Answered) (byes : ℕ) (held : maybe.Opt
         open_is = λ m y. absurd (some-ne-none m (sym y));
         slot_held_is = r.slot_held_is;
         within = r.within;
-        answers = λ k x le y. let le' : b ≤ k = le in ⊎_elim (λ (h : get_elem? mine k ≡ some x). let below : k < n = at_below mine k x h in same k (apart k t (omega arith) (omega arith)) ∙ r.answers k x le h)
-            (λ (h : (k ≡ length mine) × (a ≡ x)). let k_is : k ≡ t = h.0 ∙ sym t_is in ap at' k_is ∙ (here ∙ ap (λ (z : Answered). some (some (Some (Answer z)))) h.1)) (at_end mine a k x y);
+        answers = λ k x le y. let le' : b ≤ k = le in
+            ⊎_elim (λ (h : get_elem? mine k ≡ some x). let below : k < n = at_below mine k x h in same k (apart k t (omega arith) (omega arith))
+            ∙ r.answers k x le h)
+            (λ (h : (k ≡ length mine) × (a ≡ x)). let k_is : k ≡ t = h.0 ∙ sym t_is in ap at' k_is
+            ∙ (here ∙ ap (λ (z : Answered). some (some (Some (Answer z)))) h.1)) (at_end mine a k x y);
         requests = λ k m le y. let below : k < length (messages c) = at_below (messages c) k m y in let le' : length (mine ++ a ∷ []) + byes + 0 ≤ k = le in
             same k (apart' t k (omega arith) (omega arith)) ∙ r.requests k m (let g : length mine + byes + count_of held ≤ k = omega arith in g) y;
-        frees = λ k le near other. let le' : length (messages c) ≤ k = le in let near' : k < b + 64 = near in same k (apart' t k (omega arith) (omega arith)) ∙ r.frees k le near other;
+        frees = λ k le near other. let le' : length (messages c) ≤ k = le in
+            let near' : k < b + 64 = near in same k (apart' t k (omega arith) (omega arith)) ∙ r.frees k le near other;
       }
 
   -- the store of done, after a Bye
   pub settles_bye : (at' : At) → held ≡ some Bye → Else at at' (length mine + byes) → LaneOk c mine (suc byes) none posted (suc done) at'
   settles_bye at' held_ same = let t : ℕ = length mine + byes in let n : ℕ = length mine in let b : ℕ = length c.back in let low : b ≤ n = back_below in
       let item : get_elem? (messages c) t ≡ some Bye = r.open_is Bye held_ in let below_ : t < length (messages c) = at_below (messages c) t Bye item in
-      let last = bye_at c.sent c.said_bye t item in let room : length (messages c) ≤ b + 64 = r.within in let one_ : count_of held ≡ 1 = ap count_of held_ in record {
+      let last = bye_at c.sent c.said_bye t item in let room : length (messages c) ≤ b + 64 = r.within in
+      let one_ : count_of held ≡ 1 = ap count_of held_ in record {
         posted_is = r.posted_is;
         done_is = let d : done ≡ length mine + byes = r.done_is in let g : suc done ≡ length mine + suc byes = omega arith in g;
-        order = (let o : posted ≡ length (messages c) = r.posted_is in let d : done ≡ length mine + byes = r.done_is in let h : length mine + byes + count_of held ≤ length (messages c) = r.behind in let g : suc done ≤ posted = omega arith in g, let o : posted ≤ done + 64 = r.order.1 in let g : posted ≤ suc done + 64 = omega arith in g);
+        order = (
+          let o : posted ≡ length (messages c) = r.posted_is in let d : done ≡ length mine + byes = r.done_is in
+              let h : length mine + byes + count_of held ≤ length (messages c) = r.behind in
+              let g : suc done ≤ posted = omega arith in g,
+          let o : posted ≤ done + 64 = r.order.1 in let g : posted ≤ suc done + 64 = omega arith in g,
+        );
         asked_is = r.asked_is;
         answered = r.answered;
         known = r.known;
@@ -322,8 +414,10 @@ module _ (c : WorkerState) (mine : List Answered) (byes : ℕ) (held : maybe.Opt
         open_is = λ m y. absurd (some-ne-none m (sym y));
         slot_held_is = r.slot_held_is;
         within = r.within;
-        answers = λ k x le y. let le' : b ≤ k = le in let below : k < n = at_below mine k x y in same k (apart k t (omega arith) (omega arith)) ∙ r.answers k x le y;
+        answers = λ k x le y. let le' : b ≤ k = le in
+            let below : k < n = at_below mine k x y in same k (apart k t (omega arith) (omega arith)) ∙ r.answers k x le y;
         requests = λ k m le y. let below : k < length (messages c) = at_below (messages c) k m y in let le' : length mine + suc byes + 0 ≤ k = le in
             same k (apart' t k (omega arith) (omega arith)) ∙ r.requests k m (let g : length mine + byes + count_of held ≤ k = omega arith in g) y;
-        frees = λ k le near other. let le' : length (messages c) ≤ k = le in let near' : k < b + 64 = near in same k (apart' t k (omega arith) (omega arith)) ∙ r.frees k le near other;
+        frees = λ k le near other. let le' : length (messages c) ≤ k = le in
+            let near' : k < b + 64 = near in same k (apart' t k (omega arith) (omega arith)) ∙ r.frees k le near other;
       }

@@ -1,21 +1,25 @@
 -- Lists read by `get_elem?`, and beginnings.
-use Rattle.std.proofs.Common.{◌≡◌, ◌⊎◌, ℕ, zero, suc, ◌<◌, ◌≤◌, List, [], ◌∷◌, ◌++◌, length, take, refl, sym, ap, ◌∙◌, subst, inl, inr, ⊎_elim, arith, length-append, append_assoc}
+use Rattle.std.proofs.Common.{◌≡◌, ◌⊎◌, ℕ, zero, suc, ◌<◌, ◌≤◌, List, [], ◌∷◌, ◌++◌, length, take, refl, sym, ap, ◌∙◌, subst, inl, inr, ⊎_elim, arith}
+use Rattle.std.proofs.Common.{length-append, append_assoc}
 use mathlib.Core.Option.{some, some-injective, some-ne-none}
 use lib.ListN.{get_elem?}
 use Rattle.exchange.specs.Beginnings.{StartsWith}
 
 module _ {A : Type 0} where
+  -- what is there stands below the length
   pub at_below : (l : List A) (k : ℕ) (a : A) → get_elem? l k ≡ some a → k < length l
   at_below [] k a e = absurd (some-ne-none a (sym e))
   at_below (x ∷ l) zero a e = omega arith
   at_below (x ∷ l) (suc k) a e = let h = at_below l k a e in omega arith
 
+  -- of a list with one more, each is one of the old or the last
   pub at_end : (l : List A) (x : A) (k : ℕ) (a : A) → get_elem? (l ++ x ∷ []) k ≡ some a → (get_elem? l k ≡ some a) ⊎ ((k ≡ length l) × (x ≡ a))
   at_end [] x zero a e = inr (refl, some-injective x a e)
   at_end [] x (suc k) a e = absurd (some-ne-none a (sym e))
   at_end (y ∷ l) x zero a e = inl e
   at_end (y ∷ l) x (suc k) a e = ⊎_elim (λ h. inl h) (λ (h : (k ≡ length l) × (x ≡ a)). inr (ap suc h.0, h.1)) (at_end l x k a e)
 
+  -- below the length something is there
   pub at_some : (l : List A) (k : ℕ) → k < length l → (a : A) × (get_elem? l k ≡ some a)
   at_some [] k h = absurd (omega arith)
   at_some (x ∷ l) zero h = (x, refl)
@@ -27,41 +31,51 @@ module _ {A : Type 0} where
   next_of [] (x ∷ m) a e = (m, λ i. some-injective x a e i ∷ m)
   next_of (y ∷ l) m a e = let h = next_of l m a e in (h.0, λ i. y ∷ h.1 i)
 
+  -- a beginning with the next element is one
   pub starts_more : (l m : List A) (a : A) → StartsWith l m → get_elem? l (length m) ≡ some a → StartsWith l (m ++ a ∷ [])
   starts_more l m a h e = let t = next_of m h.0 a (subst (λ z. get_elem? z (length m) ≡ some a) h.1 e) in (t.0, h.1 ∙ t.1)
 
+  -- a beginning of a list is one of a longer list
   pub starts_longer : (l m n : List A) → StartsWith l m → StartsWith (l ++ n) m
   starts_longer l m n h = (h.0 ++ n, ap (λ (z : List A). z ++ n) h.1 ∙ append_assoc m h.0 n)
 
+  -- a beginning is no longer
   pub starts_below : (l m : List A) → StartsWith l m → length m ≤ length l
   starts_below l m h = let e = ap length h.1 in omega (arith, e, length-append m h.0)
 
+  -- a list of length 0 is empty
   empty : (l : List A) → length l ≡ 0 → l ≡ []
   empty [] e = refl
   empty (x ∷ l) e = absurd (omega arith)
 
+  -- nothing behind a list changes nothing
   append_empty : (l : List A) → l ++ [] ≡ l
   append_empty [] = refl
   append_empty (x ∷ l) = λ i. x ∷ append_empty l i
 
+  -- a beginning as long as the list is the list
   pub starts_whole : (l m : List A) → StartsWith l m → length l ≤ length m → m ≡ l
   starts_whole l m h le = let e = ap length h.1 in let none : length h.0 ≡ 0 = omega (arith, e, length-append m h.0) in
       sym (h.1 ∙ (ap (λ (z : List A). m ++ z) (empty h.0 none) ∙ append_empty m))
 
+  -- a list begins with itself
   pub starts_self : (l : List A) → StartsWith l l
   starts_self l = ([], sym (append_empty l))
 
+  -- one more is taken
   pub take_more : (l : List A) (k : ℕ) (a : A) → get_elem? l k ≡ some a → take (suc k) l ≡ take k l ++ a ∷ []
   take_more [] k a e = absurd (some-ne-none a (sym e))
   take_more (x ∷ l) zero a e = λ i. some-injective x a e i ∷ []
   take_more (x ∷ l) (suc k) a e = λ i. x ∷ take_more l k a e i
 
+  -- all of a list is taken
   pub take_whole : (l : List A) (k : ℕ) → length l ≤ k → take k l ≡ l
   take_whole [] zero h = refl
   take_whole [] (suc k) h = refl
   take_whole (x ∷ l) zero h = absurd (omega arith)
   take_whole (x ∷ l) (suc k) h = λ i. x ∷ take_whole l k (omega arith) i
 
+  -- what is taken from the front of a longer list
   pub take_front : (l m : List A) (k : ℕ) → k ≤ length l → take k (l ++ m) ≡ take k l
   take_front [] m zero h = take_zero m
     where
@@ -72,9 +86,11 @@ module _ {A : Type 0} where
   take_front (x ∷ l) m zero h = refl
   take_front (x ∷ l) m (suc k) h = λ i. x ∷ take_front l m k (omega arith) i
 
+  -- a beginning of a beginning is one
   pub starts_trans : (l m n : List A) → StartsWith l m → StartsWith m n → StartsWith l n
   starts_trans l m n a b = (b.0 ++ a.0, a.1 ∙ (ap (λ (z : List A). z ++ a.0) b.1 ∙ append_assoc n b.0 a.0))
 
+  -- what is taken is a beginning
   pub starts_take : (l : List A) (k : ℕ) → StartsWith l (take k l)
   starts_take [] zero = ([], refl)
   starts_take [] (suc k) = ([], refl)

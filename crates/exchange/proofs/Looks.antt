@@ -1,5 +1,6 @@
 -- The looks of one call of `next`.
-use Rattle.std.proofs.Common.{◌≡◌, ◌≢◌, ◌⊎◌, ℕ, zero, suc, ◌+◌, ◌-◌, ◌<◌, ◌≤◌, List, [], ◌∷◌, ◌++◌, map, Some, Bool, cond, refl, sym, ap, ◌∙◌, subst, inl, inr, ⊎_elim, arith, append_assoc, eq-eqb, ne_eqb}
+use Rattle.std.proofs.Common.{◌≡◌, ◌≢◌, ◌⊎◌, ℕ, zero, suc, ◌+◌, ◌-◌, ◌<◌, ◌≤◌, List, [], ◌∷◌, ◌++◌, map, Some, Bool, cond, refl, sym, ap, ◌∙◌, subst, inl}
+use Rattle.std.proofs.Common.{inr, ⊎_elim, arith, append_assoc, eq-eqb, ne_eqb}
 use Rattle.std.specs.Prelude.{◌==◌}
 use Rattle.std.specs.List.{filter, range_with_len, All}
 use mathlib.Core.Logic.{dite}
@@ -12,21 +13,28 @@ use Rattle.exchange.specs.declared.messages.Taken.TheVariants.{Asked, Bye}
 use Rattle.exchange.specs.Beginnings.{StartsWith, times}
 use Rattle.exchange.specs.Ends.{StorageView, looked, lanes_of, lanes_in_turn, done_in, FoundNone, LookedOnce, IsNext, with_taken, LooksAt, FindsNone, FindsOne}
 
+-- looks: lanes, each with its posted word
 abbrev Pairs : Type 0
 Pairs = List (ℕ × ℕ)
 
+-- one look at this lane
 one_here : (w n : ℕ) → looked ((w, n) ∷ []) w ≡ n ∷ []
 one_here w n = ap (λ (b : Bool). let l : Pairs = cond b ((w, n) ∷ []) [] in map (λ (x : ℕ × ℕ). x.1) l) (eq-eqb w w refl)
 
+-- one look at another lane
 one_else : (w n v : ℕ) → w ≢ v → looked ((w, n) ∷ []) v ≡ []
 one_else w n v e = ap (λ (b : Bool). let l : Pairs = cond b ((w, n) ∷ []) [] in map (λ (x : ℕ × ℕ). x.1) l) (ne_eqb w v e)
 
+-- the words read in both lists of looks
 pub looked-append : (xs ys : Pairs) (w : ℕ) → looked (xs ++ ys) w ≡ looked xs w ++ looked ys w
-looked-append xs ys w = ap (map (λ (x : ℕ × ℕ). x.1)) (filter-append (λ (x : ℕ × ℕ). x.0 == w) xs ys) ∙ map-append (λ (x : ℕ × ℕ). x.1) (filter (λ (x : ℕ × ℕ). x.0 == w) xs) (filter (λ (x : ℕ × ℕ). x.0 == w) ys)
+looked-append xs ys w = ap (map (λ (x : ℕ × ℕ). x.1)) (filter-append (λ (x : ℕ × ℕ). x.0 == w) xs ys)
+    ∙ map-append (λ (x : ℕ × ℕ). x.1) (filter (λ (x : ℕ × ℕ). x.0 == w) xs) (filter (λ (x : ℕ × ℕ). x.0 == w) ys)
 
+-- one more look at this lane
 pub looked_here : (xs : Pairs) (w n : ℕ) → looked (xs ++ (w, n) ∷ []) w ≡ looked xs w ++ n ∷ []
 looked_here xs w n = looked-append xs ((w, n) ∷ []) w ∙ ap (λ (l : List ℕ). looked xs w ++ l) (one_here w n)
 
+-- one more look at another lane changes nothing here
 pub looked_else : (xs : Pairs) (w n v : ℕ) → w ≢ v → looked (xs ++ (w, n) ∷ []) v ≡ looked xs v
 looked_else xs w n v e = looked-append xs ((w, n) ∷ []) v ∙ (ap (λ (l : List ℕ). looked xs v ++ l) (one_else w n v e) ∙ append-nil (looked xs v))
 
@@ -37,13 +45,21 @@ pub record InVain (old now : StorageView) (lanes : List ℕ) : Type 0 where
   pub found_none : FoundNone old looks
   pub now_is : now ≡ record old { looks = old.looks ++ looks }
 
+-- no look, no word
 pub no_look : (old : StorageView) → InVain old old []
-no_look old = record { looks = []; lanes_are = refl; found_none = All-nil (λ (x : ℕ × ℕ). x.1 ≤ done_in old x.0); now_is = λ i. let l : Pairs = sym (append-nil old.looks) i in record old { looks = l } }
+no_look old = record {
+  looks = [];
+  lanes_are = refl;
+  found_none = All-nil (λ (x : ℕ × ℕ). x.1 ≤ done_in old x.0);
+  now_is = λ i. let l : Pairs = sym (append-nil old.looks) i in record old { looks = l };
+}
 
+-- one more look, one more lane
 lanes_more : (looks : Pairs) (w n : ℕ) → lanes_of (looks ++ (w, n) ∷ []) ≡ lanes_of looks ++ w ∷ []
 lanes_more looks w n = map-append (λ (x : ℕ × ℕ). x.0) looks ((w, n) ∷ [])
 
 module _ (old now : StorageView) (lanes : List ℕ) (r : InVain old now lanes) where
+  -- what is done stays while no entry and no bye comes
   done_same : (w : ℕ) → done_in now w ≡ done_in old w
   done_same w = ap (λ (z : StorageView). done_in z w) r.now_is
 
@@ -52,12 +68,16 @@ module _ (old now : StorageView) (lanes : List ℕ) (r : InVain old now lanes) w
   look_more new w n small is = record {
     looks = r.looks ++ (w, n) ∷ [];
     lanes_are = lanes_more r.looks w n ∙ ap (λ (l : List ℕ). l ++ w ∷ []) r.lanes_are;
-    found_none = All-append (λ (x : ℕ × ℕ). x.1 ≤ done_in old x.0) r.looks ((w, n) ∷ []) r.found_none (All-cons (λ (x : ℕ × ℕ). x.1 ≤ done_in old x.0) (w, n) [] (subst (λ (z : ℕ). n ≤ z) (done_same w) small) (All-nil (λ (x : ℕ × ℕ). x.1 ≤ done_in old x.0)));
-    now_is = is ∙ (λ i. let z : StorageView = r.now_is i in record z { looks = z.looks ++ (w, n) ∷ [] }) ∙ ap (λ (l : Pairs). record old { looks = l }) (append_assoc old.looks r.looks ((w, n) ∷ []));
+    found_none = All-append (λ (x : ℕ × ℕ). x.1 ≤ done_in old x.0) r.looks ((w, n) ∷ []) r.found_none
+        (All-cons (λ (x : ℕ × ℕ). x.1 ≤ done_in old x.0) (w, n) [] (subst (λ (z : ℕ). n ≤ z) (done_same w) small)
+        (All-nil (λ (x : ℕ × ℕ). x.1 ≤ done_in old x.0)));
+    now_is = is ∙ (λ i. let z : StorageView = r.now_is i in record z { looks = z.looks ++ (w, n) ∷ [] })
+        ∙ ap (λ (l : Pairs). record old { looks = l }) (append_assoc old.looks r.looks ((w, n) ∷ []));
   }
 
   -- a look that found a message
-  pub look_found : (new : StorageView) (w : ℕ) (t : Taken) → w < old.workers → StartsWith (lanes_in_turn old.workers old.last) (lanes ++ w ∷ []) → LooksAt now w (Some t) new → FindsOne old new t
+  pub look_found : (new : StorageView) (w : ℕ) (t : Taken) → w < old.workers → StartsWith (lanes_in_turn old.workers old.last) (lanes ++ w ∷ [])
+      → LooksAt now w (Some t) new → FindsOne old new t
   look_found new w t inside turn l = let n : ℕ = l.0 in record {
     lane = w;
     posted = n;
@@ -67,7 +87,8 @@ module _ (old now : StorageView) (lanes : List ℕ) (r : InVain old now lanes) w
     none_before = r.found_none;
     found = subst (λ (z : ℕ). z < n) (done_same w) l.1.0;
     is_next = same_next t l.1.1;
-    after = l.1.2 ∙ (λ i. let z : StorageView = r.now_is i in record (with_taken z w t) { looks = z.looks ++ (w, n) ∷ [] }) ∙ (taken_looks n t ∙ ap (λ (k : Pairs). record (with_taken old w t) { looks = k }) (append_assoc old.looks r.looks ((w, n) ∷ [])));
+    after = l.1.2 ∙ (λ i. let z : StorageView = r.now_is i in record (with_taken z w t) { looks = z.looks ++ (w, n) ∷ [] })
+        ∙ (taken_looks n t ∙ ap (λ (k : Pairs). record (with_taken old w t) { looks = k }) (append_assoc old.looks r.looks ((w, n) ∷ [])));
   }
     where
       same_next : (u : Taken) → IsNext now w u → IsNext old w u
@@ -77,130 +98,188 @@ module _ (old now : StorageView) (lanes : List ℕ) (r : InVain old now lanes) w
           next_of (Asked v p) h = h
           next_of (Bye v) h = h
 
-      taken_looks : (n : ℕ) (u : Taken) → let z : StorageView = record old { looks = old.looks ++ r.looks } in record (with_taken z w u) { looks = (old.looks ++ r.looks) ++ (w, n) ∷ [] } ≡ record (with_taken old w u) { looks = (old.looks ++ r.looks) ++ (w, n) ∷ [] }
+      taken_looks : (n : ℕ) (u : Taken)
+          → let z : StorageView = record old { looks = old.looks ++ r.looks } in
+          record (with_taken z w u) { looks = (old.looks ++ r.looks) ++ (w, n) ∷ [] } ≡ record
+          (with_taken old w u) { looks = (old.looks ++ r.looks) ++ (w, n) ∷ [] }
       taken_looks n (Asked v p) = refl
       taken_looks n (Bye v) = refl
 
+  -- a lane that was looked at once has one word more
   pub looked_all : lanes ≡ lanes_in_turn old.workers old.last → FindsNone old now
   looked_all all = (r.looks, r.lanes_are ∙ all, r.found_none, r.now_is)
 
 -- how often a lane is looked at
 
+-- one more time
 one_more_time : (w x : ℕ) (xs : List ℕ) → x ≡ w → times w (x ∷ xs) ≡ suc (times w xs)
 one_more_time w x xs e = ap (λ (b : Bool). cond b 1 0 + times w xs) (eq-eqb x w e) ∙ (omega arith)
 
+-- not one more time
 no_more_time : (w x : ℕ) (xs : List ℕ) → x ≢ w → times w (x ∷ xs) ≡ times w xs
 no_more_time w x xs e = ap (λ (b : Bool). cond b 1 0 + times w xs) (ne_eqb x w e) ∙ (omega arith)
 
+-- so often as in both lists
 times-append : (w : ℕ) (xs ys : List ℕ) → times w (xs ++ ys) ≡ times w xs + times w ys
 times-append w [] ys = let e : times w ys ≡ 0 + times w ys = omega arith in e
 times-append w (x ∷ xs) ys = let e = times-append w xs ys in dite (ℕ_discrete x w)
     (λ same. let a = one_more_time w x (xs ++ ys) same in let b = one_more_time w x xs same in omega (arith, e, a, b))
     (λ other. let a = no_more_time w x (xs ++ ys) other in let b = no_more_time w x xs other in omega (arith, e, a, b))
 
+-- a number outside a range is not in it
 times_range_out : (w a n : ℕ) → (w < a) ⊎ (a + n ≤ w) → times w (range_with_len a n) ≡ 0
 times_range_out w a zero h = refl
 times_range_out w a (suc n) h = no_more_time w a (range_with_len (a + 1) n) (λ e. ⊎_elim (λ (l : w < a). omega arith) (λ (l : a + suc n ≤ w). omega arith) h) ∙
-    times_range_out w (a + 1) n (⊎_elim (λ (l : w < a). let g : w < a + 1 = omega arith in inl g) (λ (l : a + suc n ≤ w). let g : a + 1 + n ≤ w = omega arith in inr g) h)
+    times_range_out w (a + 1) n
+    (⊎_elim (λ (l : w < a). let g : w < a + 1 = omega arith in inl g) (λ (l : a + suc n ≤ w). let g : a + 1 + n ≤ w = omega arith in inr g) h)
 
+-- a number inside a range is in it once
 times_range_in : (w a n : ℕ) → a ≤ w → w < a + n → times w (range_with_len a n) ≡ 1
 times_range_in w a zero low high = let low' : a ≤ w = low in let high' : w < a + 0 = high in absurd (omega arith)
 times_range_in w a (suc n) low high = let low' : a ≤ w = low in let high' : w < a + suc n = high in dite (ℕ_discrete a w)
-    (λ e. one_more_time w a (range_with_len (a + 1) n) e ∙ ap suc (times_range_out w (a + 1) n (inl (let e' : a ≡ w = e in let g : w < a + 1 = omega arith in g))))
+    (λ e. one_more_time w a (range_with_len (a + 1) n) e
+    ∙ ap suc (times_range_out w (a + 1) n (inl (let e' : a ≡ w = e in let g : w < a + 1 = omega arith in g))))
     (λ ne. let ne' : a ≢ w = ne in no_more_time w a (range_with_len (a + 1) n) ne ∙ times_range_in w (a + 1) n (omega arith) (omega arith))
 
+-- each lane comes once in a turn
 once_in_turn : (workers last w : ℕ) → last < workers → w < workers → times w (lanes_in_turn workers last) ≡ 1
-once_in_turn workers last w inside small = times-append w (range_with_len (last + 1) (workers - (last + 1))) (range_with_len 0 (last + 1)) ∙ dite (dec_le w last)
-    (λ le. let a = times_range_out w (last + 1) (workers - (last + 1)) (inl (omega arith)) in let b = times_range_in w 0 (last + 1) (omega arith) (omega arith) in omega (arith, a, b))
-    (λ gt. let a = times_range_in w (last + 1) (workers - (last + 1)) (omega arith) (omega arith) in let b = times_range_out w 0 (last + 1) (inr (omega arith)) in omega (arith, a, b))
+once_in_turn workers last w inside small = times-append w (range_with_len (last + 1) (workers - (last + 1))) (range_with_len 0 (last + 1))
+    ∙ dite (dec_le w last)
+    (λ le. let a = times_range_out w (last + 1) (workers - (last + 1)) (inl (omega arith)) in
+    let b = times_range_in w 0 (last + 1) (omega arith) (omega arith) in omega (arith, a, b))
+    (λ gt. let a = times_range_in w (last + 1) (workers - (last + 1)) (omega arith) (omega arith) in
+    let b = times_range_out w 0 (last + 1) (inr (omega arith)) in omega (arith, a, b))
 
+-- no word of a lane that was not looked at
 none_there : (looks : Pairs) (w : ℕ) → times w (lanes_of looks) ≡ 0 → looked looks w ≡ []
 none_there [] w e = refl
 none_there (x ∷ looks) w e = dite (ℕ_discrete x.0 w)
     (λ same. absurd (let one = one_more_time w x.0 (lanes_of looks) same in omega (arith, one)))
-    (λ other. ap (λ (b : Bool). let l : Pairs = cond b (x ∷ filter (λ (y : ℕ × ℕ). y.0 == w) looks) (filter (λ (y : ℕ × ℕ). y.0 == w) looks) in map (λ (y : ℕ × ℕ). y.1) l) (ne_eqb x.0 w other) ∙
+    (λ other. ap (λ (b : Bool). let l : Pairs = cond b (x ∷ filter (λ (y : ℕ × ℕ). y.0 == w) looks) (filter (λ (y : ℕ × ℕ). y.0 == w) looks) in
+    map (λ (y : ℕ × ℕ). y.1) l) (ne_eqb x.0 w other) ∙
     none_there looks w (sym (no_more_time w x.0 (lanes_of looks) other) ∙ e))
 
+-- one word of a lane that was looked at once
 one_there : (P : ℕ × ℕ → Type 0) (looks : Pairs) (w : ℕ) → times w (lanes_of looks) ≡ 1 → All P looks → (n : ℕ) × P (w, n) × (looked looks w ≡ n ∷ [])
 one_there P [] w e all = absurd (omega arith)
 one_there P (x ∷ looks) w e all = dite (ℕ_discrete x.0 w)
     (λ same. (
       x.1,
       subst (λ (z : ℕ). P (z, x.1)) same (All-head P x looks all),
-      ap (λ (b : Bool). let l : Pairs = cond b (x ∷ filter (λ (y : ℕ × ℕ). y.0 == w) looks) (filter (λ (y : ℕ × ℕ). y.0 == w) looks) in map (λ (y : ℕ × ℕ). y.1) l) (eq-eqb x.0 w same) ∙
+      ap (λ (b : Bool). let l : Pairs = cond b (x ∷ filter (λ (y : ℕ × ℕ). y.0 == w) looks) (filter (λ (y : ℕ × ℕ). y.0 == w) looks) in
+          map (λ (y : ℕ × ℕ). y.1) l) (eq-eqb x.0 w same) ∙
           ap (λ (l : List ℕ). x.1 ∷ l) (none_there looks w (let one = one_more_time w x.0 (lanes_of looks) same in omega (arith, one))),
     ))
-    (λ other. let rest = one_there P looks w (sym (no_more_time w x.0 (lanes_of looks) other) ∙ e) (All-tail P x looks all) in
-    (rest.0, rest.1, ap (λ (b : Bool). let l : Pairs = cond b (x ∷ filter (λ (y : ℕ × ℕ). y.0 == w) looks) (filter (λ (y : ℕ × ℕ). y.0 == w) looks) in map (λ (y : ℕ × ℕ). y.1) l) (ne_eqb x.0 w other) ∙ rest.2))
+    (λ other. let rest = one_there P looks w (sym (no_more_time w x.0 (lanes_of looks) other) ∙ e) (All-tail P x looks all) in (
+      rest.0,
+      rest.1,
+      ap (λ (b : Bool). let l : Pairs = cond b (x ∷ filter (λ (y : ℕ × ℕ). y.0 == w) looks) (filter (λ (y : ℕ × ℕ). y.0 == w) looks) in
+          map (λ (y : ℕ × ℕ). y.1) l) (ne_eqb x.0 w other) ∙ rest.2,
+    ))
 
 -- a call that found nothing looked once at each lane
 pub each_once : (old new : StorageView) (w : ℕ) → old.last < old.workers → w < old.workers → FindsNone old new → LookedOnce old new w
-each_once old new w inside small f = let one = one_there (λ (x : ℕ × ℕ). x.1 ≤ done_in old x.0) f.0 w (ap (times w) f.1 ∙ once_in_turn old.workers old.last w inside small) f.2 in
+each_once old new w inside small f = let one = one_there (λ (x : ℕ × ℕ). x.1 ≤ done_in old x.0) f.0 w
+    (ap (times w) f.1 ∙ once_in_turn old.workers old.last w inside small) f.2 in
     (one.0, one.1, ap (λ (z : StorageView). looked z.looks w) f.3 ∙ (looked-append old.looks f.0 w ∙ ap (λ (l : List ℕ). looked old.looks w ++ l) one.2))
 
 -- the next lane in turn
 
+-- a range of one more, from its front
 range_suc : (a k : ℕ) → range_with_len a (suc k) ≡ range_with_len a k ++ (a + k) ∷ []
 range_suc a zero = ap (λ (z : ℕ). z ∷ []) (let e : a ≡ a + 0 = omega arith in e)
-range_suc a (suc k) = ap (λ (l : List ℕ). a ∷ l) (range_suc (a + 1) k ∙ ap (λ (z : ℕ). range_with_len (a + 1) k ++ z ∷ []) (let e : a + 1 + k ≡ a + suc k = omega arith in e))
+range_suc a (suc k) = ap (λ (l : List ℕ). a ∷ l)
+    (range_suc (a + 1) k ∙ ap (λ (z : ℕ). range_with_len (a + 1) k ++ z ∷ []) (let e : a + 1 + k ≡ a + suc k = omega arith in e))
 
+-- a range of one more, at its end
 range_end : (a k : ℕ) → range_with_len a (k + 1) ≡ range_with_len a k ++ (a + k) ∷ []
 range_end a k = ap (range_with_len a) (let e : k + 1 ≡ suc k = omega arith in e) ∙ range_suc a k
 
+-- a range in two parts
 range_split : (a k m : ℕ) → range_with_len a (k + m) ≡ range_with_len a k ++ range_with_len (a + k) m
 range_split a zero m = ap (range_with_len a) (let e : 0 + m ≡ m = omega arith in e) ∙ ap (λ (z : ℕ). range_with_len z m) (let e : a ≡ a + 0 = omega arith in e)
 range_split a (suc k) m = ap (range_with_len a) (let e : suc k + m ≡ suc (k + m) = omega arith in e) ∙
-    ap (λ (l : List ℕ). a ∷ l) (range_split (a + 1) k m ∙ ap (λ (z : ℕ). range_with_len (a + 1) k ++ range_with_len z m) (let e : a + 1 + k ≡ a + suc k = omega arith in e))
+    ap (λ (l : List ℕ). a ∷ l)
+    (range_split (a + 1) k m ∙ ap (λ (z : ℕ). range_with_len (a + 1) k ++ range_with_len z m) (let e : a + 1 + k ≡ a + suc k = omega arith in e))
 
 -- the lane after so many looks behind the last one
 pub turn_above : (workers last k : ℕ) → last + 1 + k < workers → StartsWith (lanes_in_turn workers last) (range_with_len (last + 1) k ++ (last + 1 + k) ∷ [])
-turn_above workers last k small = let small' : last + 1 + k < workers = small in let rest : ℕ = workers - (last + 1) - (k + 1) in let all : workers - (last + 1) ≡ k + 1 + rest = omega arith in (
-  range_with_len (last + 1 + (k + 1)) rest ++ range_with_len 0 (last + 1),
-  ap (λ (z : ℕ). range_with_len (last + 1) z ++ range_with_len 0 (last + 1)) all ∙ (ap (λ (l : List ℕ). l ++ range_with_len 0 (last + 1)) (range_split (last + 1) (k + 1) rest ∙ ap (λ (l : List ℕ). l ++ range_with_len (last + 1 + (k + 1)) rest) (range_end (last + 1) k))
-      ∙ append_assoc (range_with_len (last + 1) k ++ (last + 1 + k) ∷ []) (range_with_len (last + 1 + (k + 1)) rest) (range_with_len 0 (last + 1))),
-)
+turn_above workers last k small = let small' : last + 1 + k < workers = small in let rest : ℕ = workers - (last + 1) - (k + 1) in
+    let all : workers - (last + 1) ≡ k + 1 + rest = omega arith in (
+      range_with_len (last + 1 + (k + 1)) rest ++ range_with_len 0 (last + 1),
+      ap (λ (z : ℕ). range_with_len (last + 1) z ++ range_with_len 0 (last + 1)) all
+          ∙ (ap (λ (l : List ℕ). l ++ range_with_len 0 (last + 1))
+          (range_split (last + 1) (k + 1) rest ∙ ap (λ (l : List ℕ). l ++ range_with_len (last + 1 + (k + 1)) rest) (range_end (last + 1) k))
+          ∙ append_assoc (range_with_len (last + 1) k ++ (last + 1 + k) ∷ []) (range_with_len (last + 1 + (k + 1)) rest) (range_with_len 0 (last + 1))),
+    )
 
 -- the lanes behind the last one and the first k
 abbrev pub up_to : ℕ → ℕ → ℕ → List ℕ
 up_to workers last k = range_with_len (last + 1) (workers - (last + 1)) ++ range_with_len 0 k
 
+-- a low range is a beginning
 range_low : (k : ℕ) → range_with_len 0 (k + 1) ≡ range_with_len 0 k ++ k ∷ []
 range_low k = range_end 0 k ∙ ap (λ (z : ℕ). range_with_len 0 k ++ z ∷ []) (let e : 0 + k ≡ k = omega arith in e)
 
+-- one more lane of the first part
 pub more_below : (workers last k : ℕ) → up_to workers last k ++ k ∷ [] ≡ up_to workers last (k + 1)
-more_below workers last k = let high : List ℕ = range_with_len (last + 1) (workers - (last + 1)) in append_assoc high (range_with_len 0 k) (k ∷ []) ∙ ap (λ (l : List ℕ). high ++ l) (sym (range_low k))
+more_below workers last k = let high : List ℕ = range_with_len (last + 1) (workers - (last + 1)) in append_assoc high (range_with_len 0 k) (k ∷ [])
+    ∙ ap (λ (l : List ℕ). high ++ l) (sym (range_low k))
 
+-- the turn, up to a lane of the second part
 pub turn_below : (workers last k : ℕ) → k < last + 1 → StartsWith (lanes_in_turn workers last) (up_to workers last k ++ k ∷ [])
-turn_below workers last k small = let small' : k < last + 1 = small in let rest : ℕ = last + 1 - (k + 1) in let all : last + 1 ≡ k + 1 + rest = omega arith in let high : List ℕ = range_with_len (last + 1) (workers - (last + 1)) in (
-  range_with_len (0 + (k + 1)) rest,
-  ap (λ (z : ℕ). high ++ range_with_len 0 z) all ∙ (ap (λ (l : List ℕ). high ++ l) (range_split 0 (k + 1) rest)
-      ∙ (sym (append_assoc high (range_with_len 0 (k + 1)) (range_with_len (0 + (k + 1)) rest)) ∙ ap (λ (l : List ℕ). l ++ range_with_len (0 + (k + 1)) rest) (sym (more_below workers last k)))),
-)
+turn_below workers last k small = let small' : k < last + 1 = small in let rest : ℕ = last + 1 - (k + 1) in
+    let all : last + 1 ≡ k + 1 + rest = omega arith in let high : List ℕ = range_with_len (last + 1) (workers - (last + 1)) in (
+      range_with_len (0 + (k + 1)) rest,
+      ap (λ (z : ℕ). high ++ range_with_len 0 z) all ∙ (ap (λ (l : List ℕ). high ++ l) (range_split 0 (k + 1) rest)
+          ∙ (sym (append_assoc high (range_with_len 0 (k + 1)) (range_with_len (0 + (k + 1)) rest))
+          ∙ ap (λ (l : List ℕ). l ++ range_with_len (0 + (k + 1)) rest) (sym (more_below workers last k)))),
+    )
 
+-- one more lane of the second part
 pub more_above : (last k : ℕ) → range_with_len (last + 1) k ++ (last + 1 + k) ∷ [] ≡ range_with_len (last + 1) (k + 1)
 more_above last k = sym (range_end (last + 1) k)
 
+-- the first part, whole
 pub all_above : (workers last k : ℕ) → last + 1 + k ≡ workers → range_with_len (last + 1) k ≡ up_to workers last 0
-all_above workers last k e = ap (range_with_len (last + 1)) (let e' : last + 1 + k ≡ workers = e in let h : k ≡ workers - (last + 1) = omega arith in h) ∙ sym (append-nil (range_with_len (last + 1) (workers - (last + 1))))
+all_above workers last k e = ap (range_with_len (last + 1)) (let e' : last + 1 + k ≡ workers = e in let h : k ≡ workers - (last + 1) = omega arith in h)
+    ∙ sym (append-nil (range_with_len (last + 1) (workers - (last + 1))))
 
 -- a look of each of the two loops of `next`, whose variables are those of the end
 module _ (old now new : StorageView) (workers last lane : ℕ) (workers_is : workers ≡ old.workers) (last_is : last ≡ old.last) where
+  -- the turn depends on the last lane alone
   same_turn : (l : List ℕ) → StartsWith (lanes_in_turn workers last) l → StartsWith (lanes_in_turn old.workers old.last) l
   same_turn l h = subst (λ (z : ℕ × ℕ). StartsWith (lanes_in_turn z.0 z.1) l) (λ i. (workers_is i, last_is i)) h
 
-  pub found_above : (k : ℕ) (t : Taken) → last + 1 + k ≡ lane → lane < workers → InVain old now (range_with_len (last + 1) k) → LooksAt now lane (Some t) new → FindsOne old new t
+  -- a message found in the first part
+  pub found_above : (k : ℕ) (t : Taken) → last + 1 + k ≡ lane → lane < workers → InVain old now (range_with_len (last + 1) k)
+      → LooksAt now lane (Some t) new → FindsOne old new t
   found_above k t e small r l = look_found old now (range_with_len (last + 1) k) r new lane t (subst (λ (z : ℕ). lane < z) workers_is small)
-      (same_turn (range_with_len (last + 1) k ++ lane ∷ []) (subst (λ (z : ℕ). StartsWith (lanes_in_turn workers last) (range_with_len (last + 1) k ++ z ∷ [])) e (turn_above workers last k (subst (λ (z : ℕ). z < workers) (sym e) small)))) l
+      (same_turn (range_with_len (last + 1) k ++ lane ∷ [])
+      (subst (λ (z : ℕ). StartsWith (lanes_in_turn workers last) (range_with_len (last + 1) k ++ z ∷ [])) e
+      (turn_above workers last k (subst (λ (z : ℕ). z < workers) (sym e) small)))) l
 
-  pub found_below : (t : Taken) → lane < last + 1 → last < workers → InVain old now (up_to workers last lane) → LooksAt now lane (Some t) new → FindsOne old new t
-  found_below t small inside r l = let small' : lane < last + 1 = small in let inside' : last < workers = inside in let w_is : workers ≡ old.workers = workers_is in
-      look_found old now (up_to workers last lane) r new lane t (omega arith) (same_turn (up_to workers last lane ++ lane ∷ []) (turn_below workers last lane small)) l
+  -- a message found in the second part
+  pub found_below : (t : Taken) → lane < last + 1 → last < workers → InVain old now (up_to workers last lane) → LooksAt now lane (Some t) new
+      → FindsOne old new t
+  found_below t small inside r l = let small' : lane < last + 1 = small in let inside' : last < workers = inside in
+      let w_is : workers ≡ old.workers = workers_is in
+      look_found old now (up_to workers last lane) r new lane t (omega arith)
+      (same_turn (up_to workers last lane ++ lane ∷ []) (turn_below workers last lane small)) l
 
-  pub vain_above : (k n : ℕ) → last + 1 + k ≡ lane → n ≤ done_in now lane → new ≡ record now { looks = now.looks ++ (lane, n) ∷ [] } → InVain old now (range_with_len (last + 1) k) → InVain old new (range_with_len (last + 1) (k + 1))
-  vain_above k n e small is r = subst (InVain old new) (ap (λ (z : ℕ). range_with_len (last + 1) k ++ z ∷ []) (sym e) ∙ more_above last k) (look_more old now (range_with_len (last + 1) k) r new lane n small is)
+  -- a look in vain in the first part
+  pub vain_above : (k n : ℕ) → last + 1 + k ≡ lane → n ≤ done_in now lane → new ≡ record now { looks = now.looks ++ (lane, n) ∷ [] }
+      → InVain old now (range_with_len (last + 1) k) → InVain old new (range_with_len (last + 1) (k + 1))
+  vain_above k n e small is r = subst (InVain old new) (ap (λ (z : ℕ). range_with_len (last + 1) k ++ z ∷ []) (sym e) ∙ more_above last k)
+      (look_more old now (range_with_len (last + 1) k) r new lane n small is)
 
-  pub vain_below : (n : ℕ) → n ≤ done_in now lane → new ≡ record now { looks = now.looks ++ (lane, n) ∷ [] } → InVain old now (up_to workers last lane) → InVain old new (up_to workers last (lane + 1))
+  -- a look in vain in the second part
+  pub vain_below : (n : ℕ) → n ≤ done_in now lane → new ≡ record now { looks = now.looks ++ (lane, n) ∷ [] } → InVain old now (up_to workers last lane)
+      → InVain old new (up_to workers last (lane + 1))
   vain_below n small is r = subst (InVain old new) (more_below workers last lane) (look_more old now (up_to workers last lane) r new lane n small is)
 
+  -- where all looks were in vain, each lane was looked at once
   pub all_looked : lane ≤ last + 1 → last + 1 ≤ lane → InVain old now (up_to workers last lane) → FindsNone old now
-  all_looked low high r = looked_all old now (up_to workers last lane) r ((let low' : lane ≤ last + 1 = low in let high' : last + 1 ≤ lane = high in let e : lane ≡ last + 1 = omega arith in ap (up_to workers last) e) ∙ (λ i. lanes_in_turn (workers_is i) (last_is i)))
+  all_looked low high r = looked_all old now (up_to workers last lane) r
+      ((let low' : lane ≤ last + 1 = low in let high' : last + 1 ≤ lane = high in let e : lane ≡ last + 1 = omega arith in ap (up_to workers last) e)
+      ∙ (λ i. lanes_in_turn (workers_is i) (last_is i)))

@@ -1,5 +1,6 @@
 -- What stays true of the table when one lane moves.
-use Rattle.std.proofs.Common.{◌≡◌, ◌≢◌, ℕ, suc, ◌+◌, ◌*◌, ◌%◌, ◌<◌, ◌≤◌, List, length, get_or, set, Option, refl, sym, ap, ◌∙◌, subst, ⊎_elim, arith, length-set, mod-lt}
+use Rattle.std.proofs.Common.{◌≡◌, ◌≢◌, ℕ, suc, ◌+◌, ◌*◌, ◌%◌, ◌<◌, ◌≤◌, List, length, get_or, set, Option, refl, sym, ap, ◌∙◌, subst, ⊎_elim, arith}
+use Rattle.std.proofs.Common.{length-set, mod-lt}
 use mathlib.Core.Logic.{dite}
 use mathlib.Core.Option.{none, some}
 use mathlib.Core.Option as maybe
@@ -21,6 +22,7 @@ use Rattle.exchange.specs.Beginnings.{times}
 use Rattle.exchange.proofs.Lists.{at_below, starts_trans}
 use Rattle.exchange.proofs.Lane.{Else}
 
+-- one of two values, by a decision
 abbrev pick : {P A : Type 0} → Dec P → A → A → A
 pick (yes _) a b = a
 pick (no _) a b = b
@@ -30,6 +32,7 @@ pub put : {A : Type 0} → (ℕ → A) → ℕ → A → ℕ → A
 put f i c j = pick (ℕ_discrete j i) c (f j)
 
 module _ {A : Type 0} (f : ℕ → A) (i : ℕ) (c : A) where
+  -- at i it is c
   pub put_here : put f i c i ≡ c
   unfolding put
   put_here = go (ℕ_discrete i i)
@@ -38,6 +41,7 @@ module _ {A : Type 0} (f : ℕ → A) (i : ℕ) (c : A) where
       go (yes _) = refl
       go (no n) = absurd (n refl)
 
+  -- elsewhere it is f
   pub put_else : (j : ℕ) → j ≢ i → put f i c j ≡ f j
   unfolding put
   put_else j other = go (ℕ_discrete j i)
@@ -48,56 +52,71 @@ module _ {A : Type 0} (f : ℕ → A) (i : ℕ) (c : A) where
 
 -- slots
 
+-- a remainder is below 64
 pub below_64 : (k : ℕ) → k % 64 < 64
 below_64 k = mod-lt k (omega arith)
 
+-- the slots of a lane are in the table
 pub slot_below : (n w k : ℕ) → w < n → slot_of w k < 64 * n
 slot_below n w k h = let b = below_64 k in omega arith
 
+-- two lanes have no slot in common
 pub slots_apart : (w j k i : ℕ) → j ≢ w → slot_of j k ≢ slot_of w i
 slots_apart w j k i other e = let a = below_64 k in let b = below_64 i in let e' : 64 * j + k % 64 ≡ 64 * w + i % 64 = e in other (omega arith)
 
+-- two messages of one window have different slots
 pub slots_of_one : (w k i : ℕ) → k % 64 ≢ i % 64 → slot_of w k ≢ slot_of w i
 slots_of_one w k i other e = let e' : 64 * w + k % 64 ≡ 64 * w + i % 64 = e in other (omega arith)
 
 module _ (homes : Homes) (w i : ℕ) (v : maybe.Option (Option LaneMessage)) where
+  -- another message's slot stays
   pub slot_else : Else (at_home homes w) (at_home (set homes (slot_of w i) v) w) i
   slot_else k other = set_else homes (slot_of w i) (slot_of w k) v (slots_of_one w k i other)
 
+  -- the message's slot has the value
   pub slot_here : slot_of w i < length homes → at_home (set homes (slot_of w i) v) w i ≡ some v
   slot_here h = set_here homes (slot_of w i) v h
 
+  -- the slots of other lanes stay
   pub slot_other : (j k : ℕ) → j ≢ w → at_home (set homes (slot_of w i) v) j k ≡ at_home homes j k
   slot_other j k other = set_else homes (slot_of w i) (slot_of j k) v (slots_apart w j k i other)
 
 -- a lane over equal posts_last
-pub lane_same : (c : WorkerState) (mine mine' : List Answered) (byes gone' : ℕ) (held held' : maybe.Option LaneMessage) (p p' d d' : ℕ) (at at' : At) → mine' ≡ mine → gone' ≡ byes → held' ≡ held → p' ≡ p → d' ≡ d → ((k : ℕ) → at' k ≡ at k)
+pub lane_same : (c : WorkerState) (mine mine' : List Answered) (byes gone' : ℕ) (held held' : maybe.Option LaneMessage) (p p' d d' : ℕ) (at at' : At)
+    → mine' ≡ mine → gone' ≡ byes → held' ≡ held → p' ≡ p → d' ≡ d → ((k : ℕ) → at' k ≡ at k)
     → LaneOk c mine byes held p d at → LaneOk c mine' gone' held' p' d' at'
 lane_same c mine mine' byes gone' held held' p p' d d' at at' e₀ e₁ e₂ e₃ e₄ e₅ ok =
     let Six : Type 0 = List Answered × ℕ × maybe.Option LaneMessage × ℕ × ℕ × At in
     subst (λ (z : Six). LaneOk c z.0 z.1 z.2 z.3 z.4 z.5) (λ i. (sym e₀ i, sym e₁ i, sym e₂ i, sym e₃ i, sym e₄ i, λ k. sym (e₅ k) i)) ok
 
+-- the state of the table
 abbrev pub St : Type 0
 St = State (Option LaneMessage) View
 
 -- the lane j stands as it was
 abbrev pub Stands : St → List ℕ → Homes → ℕ → Type 0
-Stands s words' homes' j = (get_or words' (16 * j) 0 ≡ get_or s.words (16 * j) 0) × (get_or words' (16 * j + 8) 0 ≡ get_or s.words (16 * j + 8) 0) × ((k : ℕ) → at_home homes' j k ≡ at_home s.homes j k)
+Stands s words' homes' j = (get_or words' (16 * j) 0 ≡ get_or s.words (16 * j) 0) × (get_or words' (16 * j + 8) 0 ≡ get_or s.words (16 * j + 8) 0)
+    × ((k : ℕ) → at_home homes' j k ≡ at_home s.homes j k)
 
 module _ (key : LaneKey) (s : St) (r : LanesHold key s) where
-  pub worker_of : (id : ℕ) (v : View) (c : WorkerState) → get_elem? s.views id ≡ some v → v ≡ Worker c → (id ≡ suc c.worker) × (r.states c.worker ≡ c) × (c.worker < key.workers)
+  -- a worker's view is its state
+  pub worker_of : (id : ℕ) (v : View) (c : WorkerState) → get_elem? s.views id ≡ some v → v ≡ Worker c
+      → (id ≡ suc c.worker) × (r.states c.worker ≡ c) × (c.worker < key.workers)
   worker_of id v c at is = r.each_view id (Worker c) (at ∙ ap (λ (z : View). some z) is)
 
+  -- its lane is in order
   pub lane_of : (c : WorkerState) → r.states c.worker ≡ c → c.worker < key.workers → LaneIs s.words s.homes r.storage_state c c.worker
   lane_of c is inside = subst (λ (z : WorkerState). LaneIs s.words s.homes r.storage_state z c.worker) is (r.each_lane c.worker inside)
 
   -- a step of a worker
-  pub worker_moves : (id : ℕ) (c c' : WorkerState) (words' : List ℕ) (homes' : Homes) → get_elem? s.views id ≡ some (Worker c) → c'.worker ≡ c.worker → c'.geometry ≡ c.geometry → length words' ≡ length s.words → length homes' ≡ length s.homes
+  pub worker_moves : (id : ℕ) (c c' : WorkerState) (words' : List ℕ) (homes' : Homes) → get_elem? s.views id ≡ some (Worker c) → c'.worker ≡ c.worker
+      → c'.geometry ≡ c.geometry → length words' ≡ length s.words → length homes' ≡ length s.homes
       → ((j : ℕ) → j ≢ c.worker → Stands s words' homes' j) → LaneIs words' homes' r.storage_state c' c.worker → StartsWith r.storage_state.history c'.seen
       → LanesHold key record { words = words'; homes = homes'; views = set s.views id (Worker c') }
   worker_moves id c c' words' homes' at same geometry wide deep others lane seen =
       let f = r.each_view id (Worker c) at in let w : ℕ = c.worker in let states' : ℕ → WorkerState = put r.states w c' in let was = r.each_seen w f.2 in
-      let below : id < length s.views = at_below s.views id (Worker c) at in let id_is : id ≡ suc w = f.0 in let made : length s.views ≡ suc r.storage_state.made = r.count in record {
+      let below : id < length s.views = at_below s.views id (Worker c) at in let id_is : id ≡ suc w = f.0 in
+      let made : length s.views ≡ suc r.storage_state.made = r.count in record {
         states = states';
         storage_state = r.storage_state;
         legal = r.legal;
@@ -105,13 +124,16 @@ module _ (key : LaneKey) (s : St) (r : LanesHold key s) where
         wide = wide ∙ r.wide;
         deep = deep ∙ r.deep;
         each_lane = λ j l. dite (ℕ_discrete j w)
-            (λ e. subst (λ (z : ℕ × WorkerState). LaneIs words' homes' r.storage_state z.1 z.0) (λ i. (sym e i, (sym (put_here r.states w c') ∙ ap states' (sym e)) i)) lane)
+            (λ e. subst (λ (z : ℕ × WorkerState). LaneIs words' homes' r.storage_state z.1 z.0)
+            (λ i. (sym e i, (sym (put_here r.states w c') ∙ ap states' (sym e)) i)) lane)
             (λ other. let st = others j other in subst (λ (z : WorkerState). LaneIs words' homes' r.storage_state z j) (sym (put_else r.states w c' j other))
             (lane_same (r.states j) _ _ _ _ _ _ _ _ _ _ (at_home s.homes j) (at_home homes' j) refl refl refl st.0 st.1 st.2 (r.each_lane j l)));
         each_seen = λ j l. dite (ℕ_discrete j w)
-            (λ e. subst (λ (z : ℕ × WorkerState). StartsWith r.storage_state.history z.1.seen × (z.1.geometry ≡ key.geometry) × (z.1.worker ≡ z.0)) (λ i. (sym e i, (sym (put_here r.states w c') ∙ ap states' (sym e)) i))
+            (λ e. subst (λ (z : ℕ × WorkerState). StartsWith r.storage_state.history z.1.seen × (z.1.geometry ≡ key.geometry) × (z.1.worker ≡ z.0))
+            (λ i. (sym e i, (sym (put_here r.states w c') ∙ ap states' (sym e)) i))
             (seen, geometry ∙ (ap (λ (z : WorkerState). z.geometry) (sym f.1) ∙ was.1), same))
-            (λ other. subst (λ (z : WorkerState). StartsWith r.storage_state.history z.seen × (z.geometry ≡ key.geometry) × (z.worker ≡ j)) (sym (put_else r.states w c' j other)) (r.each_seen j l));
+            (λ other. subst (λ (z : WorkerState). StartsWith r.storage_state.history z.seen × (z.geometry ≡ key.geometry) × (z.worker ≡ j))
+            (sym (put_else r.states w c' j other)) (r.each_seen j l));
         each_view = λ j v e. ⊎_elim
             (λ (x : (j ≡ id) × (Worker c' ≡ v)). subst (λ (z : ℕ × View). Fits key states' r.storage_state z.0 z.1) (λ i. (sym x.0 i, x.1 i))
             (id_is ∙ ap suc (sym same), ap states' same ∙ put_here r.states w c', subst (λ (z : ℕ). z < key.workers) (sym same) f.2))
@@ -121,16 +143,20 @@ module _ (key : LaneKey) (s : St) (r : LanesHold key s) where
         later = λ j l. let l' : r.storage_state.made ≤ j = l in put_else r.states w c' j (λ e. let e' : j ≡ w = e in absurd (omega arith)) ∙ r.later j l;
       }
     where
-      stay : (states' : ℕ → WorkerState) (j : ℕ) (v : View) → j ≢ suc c.worker → Fits key r.states r.storage_state j v → Fits key (put r.states c.worker c') r.storage_state j v
+      stay : (states' : ℕ → WorkerState) (j : ℕ) (v : View) → j ≢ suc c.worker → Fits key r.states r.storage_state j v
+          → Fits key (put r.states c.worker c') r.storage_state j v
       stay states' j Nobody other f = tt
       stay states' j (Worker u) other f = (f.0, put_else r.states c.worker c' u.worker (λ e. other (f.0 ∙ ap suc e)) ∙ f.1, f.2)
       stay states' j (Storage d) other f = f
       stay states' j (Comparing d u) other f = f
 
   -- a step of storage on the lane w
-  pub storage_moves : (id : ℕ) (d d' : StorageState) (w : ℕ) (words' : List ℕ) (homes' : Homes) → get_elem? s.views id ≡ some (Storage d) → d'.geometry ≡ d.geometry → d'.made ≡ d.made → Legal key.geometry d'.history → StartsWith d'.history d.history
+  pub storage_moves : (id : ℕ) (d d' : StorageState) (w : ℕ) (words' : List ℕ) (homes' : Homes) → get_elem? s.views id ≡ some (Storage d)
+      → d'.geometry ≡ d.geometry → d'.made ≡ d.made → Legal key.geometry d'.history → StartsWith d'.history d.history
       → length words' ≡ length s.words → length homes' ≡ length s.homes
-      → ((j : ℕ) → j ≢ w → Stands s words' homes' j) → ((j : ℕ) → j ≢ w → (worker_share d'.history j ≡ worker_share d.history j) × (times j d'.byes ≡ times j d.byes) × (open_at d'.holding j ≡ open_at d.holding j))
+      → ((j : ℕ) → j ≢ w → Stands s words' homes' j)
+      → ((j : ℕ) → j ≢ w → (worker_share d'.history j ≡ worker_share d.history j) × (times j d'.byes ≡ times j d.byes)
+      × (open_at d'.holding j ≡ open_at d.holding j))
       → (w < key.workers → LaneIs words' homes' d' (r.states w) w)
       → LanesHold key record { words = words'; homes = homes'; views = set s.views id (Storage d') }
   storage_moves id d d' w words' homes' at geometry made legal longer wide deep others apart lane =
@@ -144,8 +170,14 @@ module _ (key : LaneKey) (s : St) (r : LanesHold key s) where
         each_lane = λ j l. dite (ℕ_discrete j w)
             (λ e. subst (λ (z : ℕ). LaneIs words' homes' d' (r.states z) z) (sym e) (lane (subst (λ (z : ℕ). z < key.workers) e l)))
             (λ other. let st = others j other in let ap' = apart j other in
-            lane_same (r.states j) _ _ _ _ _ _ _ _ _ _ (at_home s.homes j) (at_home homes' j) ap'.0 ap'.1 ap'.2 st.0 st.1 st.2 (subst (λ (z : StorageState). LaneIs s.words s.homes z (r.states j) j) is (r.each_lane j l)));
-        each_seen = λ j l. let was = r.each_seen j l in (starts_trans d'.history d.history (r.states j).seen longer (subst (λ (z : StorageState). StartsWith z.history (r.states j).seen) is was.0), was.1, was.2);
+            lane_same (r.states j) _ _ _ _ _ _ _ _ _ _ (at_home s.homes j) (at_home homes' j) ap'.0 ap'.1 ap'.2 st.0 st.1 st.2
+            (subst (λ (z : StorageState). LaneIs s.words s.homes z (r.states j) j) is (r.each_lane j l)));
+        each_seen = λ j l. let was = r.each_seen j l in (
+          starts_trans d'.history d.history (r.states j).seen longer
+              (subst (λ (z : StorageState). StartsWith z.history (r.states j).seen) is was.0),
+          was.1,
+          was.2,
+        );
         each_view = λ j v e. ⊎_elim
             (λ (x : (j ≡ id) × (Storage d' ≡ v)). subst (λ (z : ℕ × View). Fits key r.states d' z.0 z.1) (λ i. (sym x.0 i, x.1 i)) (f.0, refl))
             (λ (x : (j ≢ id) × (get_elem? s.views j ≡ some v)). stay j v (λ e. x.0 (e ∙ sym f.0)) (r.each_view j v x.1))

@@ -1,5 +1,6 @@
 -- Each step keeps the rule.
-use Rattle.std.proofs.Common.{◌≡◌, ◌≢◌, ◌⊎◌, ℕ, suc, ◌+◌, ◌*◌, ◌<◌, ◌≤◌, List, [], ◌∷◌, length, take, get_or, set, Option, Some, None, false, refl, sym, ap, ◌∙◌, subst, inl, inr, ⊎_elim, arith, length-set, get_or-set_other, get_or-set_same, le_refl}
+use Rattle.std.proofs.Common.{◌≡◌, ◌≢◌, ◌⊎◌, ℕ, suc, ◌+◌, ◌*◌, ◌<◌, ◌≤◌, List, [], ◌∷◌, length, take, get_or, set, Option, Some, None, false, refl, sym, ap}
+use Rattle.std.proofs.Common.{◌∙◌, subst, inl, inr, ⊎_elim, arith, length-set, get_or-set_other, get_or-set_same, le_refl}
 use mathlib.Core.Logic.{dite}
 use mathlib.Core.Option.{none, some}
 use native.Mathlib.Decide.{ℕ_discrete, dec_le}
@@ -21,7 +22,8 @@ use Rattle.exchange.specs.Lanes.{Homes, SeatState, messages, open_at, count_of, 
 use Rattle.exchange.specs.Beginnings.{times}
 use Rattle.exchange.specs.Steps.{holding_slot, sent_on, with_bye, learnt_of, took_out, begun, posted, bye_posted, Learnt, DoneTells, done_loaded, slot_returned}
 use Rattle.exchange.proofs.Lists.{at_some, starts_below, starts_whole, starts_self, take_whole}
-use Rattle.exchange.proofs.Lane.{Else, begins, posts, posts_last, takes_back, is_told, returns_slot, opens, replies, settles_bye, sent_at, SentAt, count, at_most_one}
+use Rattle.exchange.proofs.Lane.{Else, begins, posts, posts_last, takes_back, is_told, returns_slot, opens, replies, settles_bye, sent_at, SentAt, count}
+use Rattle.exchange.proofs.Lane.{at_most_one}
 use Rattle.exchange.proofs.Table.{slot_below, slot_else, slot_here, slot_other, lane_same, St, worker_of, lane_of, worker_moves}
 
 -- what a view, or what a seat carries, has
@@ -31,28 +33,33 @@ worker_state_or c Nobody = c
 worker_state_or c (Storage d) = c
 worker_state_or c (Comparing d e) = e
 
+-- what storage knows, or else
 abbrev pub storage_state_or : StorageState → View → StorageState
 storage_state_or d (Storage e) = e
 storage_state_or d Nobody = d
 storage_state_or d (Worker c) = d
 storage_state_or d (Comparing e c) = e
 
+-- what stands in a slot, or else
 abbrev pub item_or : Option LaneMessage → List (ℕ × Option LaneMessage) → Option LaneMessage
 item_or x [] = x
 item_or x (y ∷ ys) = y.1
 
+-- the request of a message, or else
 abbrev asked_or : Posted → Option LaneMessage → Posted
 asked_or p (Some (Ask q)) = q
 asked_or p (Some Bye) = p
 asked_or p (Some (Answer a)) = p
 asked_or p None = p
 
+-- the answer of a message, or else
 abbrev pub answer_or : Answered → Option LaneMessage → Answered
 answer_or a (Some (Answer b)) = b
 answer_or a (Some Bye) = a
 answer_or a (Some (Ask p)) = a
 answer_or a None = a
 
+-- what stands in a slot at home, or else
 abbrev pub lane_or : ℕ → Option (ℕ × LaneMessage) → ℕ
 lane_or w (Some x) = x.0
 lane_or w None = w
@@ -63,111 +70,165 @@ module _ (key : LaneKey) where
   loaded ws i j = ap (λ (z : List ℕ). get_or z j 0) (set-get_or ws i 0)
 
   -- a load of the word i by a worker, at which its lane's slots change
-  worker_load : (s : St) (r : LanesHold key s) (i id : ℕ) (c c' : WorkerState) (homes' : Homes) → get_elem? s.views id ≡ some (Worker c) → c'.worker ≡ c.worker → c'.geometry ≡ c.geometry → length homes' ≡ length s.homes
-      → ((j k : ℕ) → j ≢ c.worker → at_home homes' j k ≡ at_home s.homes j k) → LaneIs s.words homes' r.storage_state c' c.worker → StartsWith r.storage_state.history c'.seen
+  worker_load : (s : St) (r : LanesHold key s) (i id : ℕ) (c c' : WorkerState) (homes' : Homes) → get_elem? s.views id ≡ some (Worker c)
+      → c'.worker ≡ c.worker → c'.geometry ≡ c.geometry → length homes' ≡ length s.homes
+      → ((j k : ℕ) → j ≢ c.worker → at_home homes' j k ≡ at_home s.homes j k) → LaneIs s.words homes' r.storage_state c' c.worker
+      → StartsWith r.storage_state.history c'.seen
       → LanesHold key record { words = set s.words i (get_or s.words i 0); homes = homes'; views = set s.views id (Worker c') }
   worker_load s r i id c c' homes' at same geometry deep others lane seen =
       worker_moves key s r id c c' (set s.words i (get_or s.words i 0)) homes' at same geometry (length-set s.words i (get_or s.words i 0)) deep
       (λ j other. (loaded s.words i (16 * j), loaded s.words i (16 * j + 8), λ k. others j k other))
-      (lane_same c' _ _ _ _ _ _ _ _ _ _ (at_home homes' c.worker) (at_home homes' c.worker) refl refl refl (loaded s.words i (16 * c.worker)) (loaded s.words i (16 * c.worker + 8)) (λ _. refl) lane) seen
+      (lane_same c' _ _ _ _ _ _ _ _ _ _ (at_home homes' c.worker) (at_home homes' c.worker) refl refl refl (loaded s.words i (16 * c.worker))
+      (loaded s.words i (16 * c.worker + 8)) (λ _. refl) lane) seen
 
+  -- what the worker has seen begins the history
   seen_of : (s : St) (r : LanesHold key s) (c : WorkerState) → r.states c.worker ≡ c → c.worker < key.workers → StartsWith r.storage_state.history c.seen
   seen_of s r c is inside = subst (λ (z : WorkerState). StartsWith r.storage_state.history z.seen) is (r.each_seen c.worker inside).0
 
   -- the worker takes the slot of its next message
-  pub begins_post : (n id : ℕ) (me : SeatState) (c : WorkerState) (i : ℕ) → me.0 ≡ Worker c → c.slot_held ≡ 0 → c.said_bye ≡ false → length c.sent < length c.back + 64
+  pub begins_post : (n id : ℕ) (me : SeatState) (c : WorkerState) (i : ℕ) → me.0 ≡ Worker c → c.slot_held ≡ 0 → c.said_bye ≡ false
+      → length c.sent < length c.back + 64
       → Allows (LanesHold key) n id me i (λ x. x) (begun (step n i 0 0 none) me)
-  begins_post n id me c i is idle open_ room s r _ at _ = let w : ℕ = c.worker in let k : ℕ = length c.sent in let f = worker_of key s r id me.0 c at is in let lane = lane_of key s r c f.1 f.2 in
-      let c' : WorkerState = holding_slot c (suc k) in let long : length (messages c) ≡ k = count c ∙ (omega (arith, ap Rattle.exchange.proofs.Lane.bye_count open_)) in (
+  begins_post n id me c i is idle open_ room s r _ at _ = let w : ℕ = c.worker in let k : ℕ = length c.sent in let f = worker_of key s r id me.0 c at is in
+      let lane = lane_of key s r c f.1 f.2 in
+      let c' : WorkerState = holding_slot c (suc k) in
+      let long : length (messages c) ≡ k = count c ∙ (omega (arith, ap Rattle.exchange.proofs.Lane.bye_count open_)) in (
         Worker c',
         takes (slot_of w k) None,
         lane.frees k (omega arith) room (λ e. let e' : suc k ≡ 0 = e ∙ idle in omega arith),
-        worker_load s r i id c c' (set s.homes (slot_of w k) none) (at ∙ ap (λ (z : View). some z) is) refl refl (length-set s.homes (slot_of w k) none) (λ j q other. slot_other s.homes w k none j q other)
+        worker_load s r i id c c' (set s.homes (slot_of w k) none) (at ∙ ap (λ (z : View). some z) is) refl refl (length-set s.homes (slot_of w k) none)
+            (λ j q other. slot_other s.homes w k none j q other)
             (begins c _ _ _ _ _ (at_home s.homes w) lane _ idle open_ room (slot_else s.homes w k none)) (seen_of s r c f.1 f.2),
-        λ c₂ is₂. let e : c ≡ c₂ = ap (worker_state_or c) (sym is ∙ is₂) in ap (λ (z : WorkerState). let m : SeatState = (Worker (holding_slot z (suc (length z.sent))), (slot_of z.worker (length z.sent), None) ∷ me.1) in m) e,
+        λ c₂ is₂. let e : c ≡ c₂ = ap (worker_state_or c) (sym is ∙ is₂) in
+            ap (λ (z : WorkerState). let m : SeatState = (Worker (holding_slot z (suc (length z.sent))), (slot_of z.worker (length z.sent), None) ∷ me.1) in
+            m) e,
       )
 
   -- the store of posted
   pub posts_it : (n id : ℕ) (c : WorkerState) (p : Posted) → p.number ≡ suc (length c.sent) → c.slot_held ≡ suc (length c.sent) → c.said_bye ≡ false
       → Allows (LanesHold key) n id (Worker c, (slot_of c.worker (length c.sent), Some (Ask p)) ∷ []) (16 * c.worker) (λ _. suc (length c.sent))
-      (λ _. posted (step n (16 * c.worker) (suc (length c.sent)) 0 none) (Worker c, (slot_of c.worker (length c.sent), Some (Ask p)) ∷ []) (suc (length c.sent)))
-  posts_it n id c p next slot_held open_ s r _ at _ = let w : ℕ = c.worker in let k : ℕ = length c.sent in let f = r.each_view id (Worker c) at in let lane = lane_of key s r c f.1 f.2 in let wide = r.wide in let deep = r.deep in
-      let inside : w < key.workers = f.2 in let c' : WorkerState = sent_on c p in let v : Option LaneMessage = Some (Ask p) in let near : slot_of w k < length s.homes = subst (λ (z : ℕ). slot_of w k < z) (sym deep) (slot_below key.workers w k inside) in
+      (λ _. posted (step n (16 * c.worker) (suc (length c.sent)) 0 none) (Worker c, (slot_of c.worker (length c.sent), Some (Ask p)) ∷ [])
+      (suc (length c.sent)))
+  posts_it n id c p next slot_held open_ s r _ at _ = let w : ℕ = c.worker in let k : ℕ = length c.sent in let f = r.each_view id (Worker c) at in
+      let lane = lane_of key s r c f.1 f.2 in let wide = r.wide in let deep = r.deep in
+      let inside : w < key.workers = f.2 in let c' : WorkerState = sent_on c p in let v : Option LaneMessage = Some (Ask p) in
+      let near : slot_of w k < length s.homes = subst (λ (z : ℕ). slot_of w k < z) (sym deep) (slot_below key.workers w k inside) in
       let homes' : Homes = set s.homes (slot_of w k) (some v) in let words' : List ℕ = set s.words (16 * w) (suc k) in
       let was : get_or s.words (16 * w) 0 ≡ k = lane.posted_is ∙ (count c ∙ (omega (arith, ap Rattle.exchange.proofs.Lane.bye_count open_))) in (
         Worker c',
         gives,
         tt,
         worker_moves key s r id c c' words' homes' at refl refl (length-set s.words (16 * w) (suc k)) (length-set s.homes (slot_of w k) (some v))
-            (λ j other. (get_or-set_other s.words (16 * w) (16 * j) (suc k) 0 (λ e. other (omega arith)), get_or-set_other s.words (16 * w) (16 * j + 8) (suc k) 0 (λ e. omega arith), λ q. slot_other s.homes w k (some v) j q other))
-            (lane_same c' _ _ _ _ _ _ _ _ _ _ (at_home homes' w) (at_home homes' w) refl refl refl (get_or-set_same s.words (16 * w) (suc k) 0 (omega arith) ∙ ap suc (sym was)) (get_or-set_other s.words (16 * w) (16 * w + 8) (suc k) 0 (λ e. omega arith)) (λ _. refl)
-            (posts c _ _ _ _ _ (at_home s.homes w) lane _ p next slot_held open_ (slot_here s.homes w k (some v) near) (slot_else s.homes w k (some v)))) (seen_of s r c f.1 f.2),
+            (λ j other. (
+              get_or-set_other s.words (16 * w) (16 * j) (suc k) 0 (λ e. other (omega arith)),
+              get_or-set_other s.words (16 * w) (16 * j + 8)
+                  (suc k) 0 (λ e. omega arith),
+              λ q. slot_other s.homes w k (some v) j q other,
+            ))
+            (lane_same c' _ _ _ _ _ _ _ _ _ _ (at_home homes' w) (at_home homes' w) refl refl refl
+            (get_or-set_same s.words (16 * w) (suc k) 0 (omega arith) ∙ ap suc (sym was))
+            (get_or-set_other s.words (16 * w) (16 * w + 8) (suc k) 0 (λ e. omega arith)) (λ _. refl)
+            (posts c _ _ _ _ _ (at_home s.homes w) lane _ p next slot_held open_ (slot_here s.homes w k (some v) near) (slot_else s.homes w k (some v))))
+            (seen_of s r c f.1 f.2),
         λ c₂ p₂ k₂ e. λ i. (Worker (sent_on (worker_state_or c (e i).0) (asked_or p (item_or v (e i).1))), []),
       )
 
   -- the same with the Bye
   pub posts_bye : (n id : ℕ) (c : WorkerState) → c.slot_held ≡ suc (length c.sent) → c.said_bye ≡ false → length c.back ≡ length c.sent
       → Allows (LanesHold key) n id (Worker c, (slot_of c.worker (length c.sent), Some Bye) ∷ []) (16 * c.worker) (λ _. suc (length c.sent))
-      (λ _. bye_posted (step n (16 * c.worker) (suc (length c.sent)) 0 none) (Worker c, (slot_of c.worker (length c.sent), Some Bye) ∷ []) (suc (length c.sent)))
-  posts_bye n id c slot_held open_ all s r _ at _ = let w : ℕ = c.worker in let k : ℕ = length c.sent in let f = r.each_view id (Worker c) at in let lane = lane_of key s r c f.1 f.2 in let wide = r.wide in let deep = r.deep in
-      let inside : w < key.workers = f.2 in let c' : WorkerState = with_bye c in let v : Option LaneMessage = Some Bye in let near : slot_of w k < length s.homes = subst (λ (z : ℕ). slot_of w k < z) (sym deep) (slot_below key.workers w k inside) in
+      (λ _. bye_posted (step n (16 * c.worker) (suc (length c.sent)) 0 none) (Worker c, (slot_of c.worker (length c.sent), Some Bye) ∷ [])
+      (suc (length c.sent)))
+  posts_bye n id c slot_held open_ all s r _ at _ = let w : ℕ = c.worker in let k : ℕ = length c.sent in let f = r.each_view id (Worker c) at in
+      let lane = lane_of key s r c f.1 f.2 in let wide = r.wide in let deep = r.deep in
+      let inside : w < key.workers = f.2 in let c' : WorkerState = with_bye c in let v : Option LaneMessage = Some Bye in
+      let near : slot_of w k < length s.homes = subst (λ (z : ℕ). slot_of w k < z) (sym deep) (slot_below key.workers w k inside) in
       let homes' : Homes = set s.homes (slot_of w k) (some v) in let words' : List ℕ = set s.words (16 * w) (suc k) in
       let was : get_or s.words (16 * w) 0 ≡ k = lane.posted_is ∙ (count c ∙ (omega (arith, ap Rattle.exchange.proofs.Lane.bye_count open_))) in (
         Worker c',
         gives,
         tt,
         worker_moves key s r id c c' words' homes' at refl refl (length-set s.words (16 * w) (suc k)) (length-set s.homes (slot_of w k) (some v))
-            (λ j other. (get_or-set_other s.words (16 * w) (16 * j) (suc k) 0 (λ e. other (omega arith)), get_or-set_other s.words (16 * w) (16 * j + 8) (suc k) 0 (λ e. omega arith), λ q. slot_other s.homes w k (some v) j q other))
-            (lane_same c' _ _ _ _ _ _ _ _ _ _ (at_home homes' w) (at_home homes' w) refl refl refl (get_or-set_same s.words (16 * w) (suc k) 0 (omega arith) ∙ ap suc (sym was)) (get_or-set_other s.words (16 * w) (16 * w + 8) (suc k) 0 (λ e. omega arith)) (λ _. refl)
-            (posts_last c _ _ _ _ _ (at_home s.homes w) lane _ slot_held open_ all (slot_here s.homes w k (some v) near) (slot_else s.homes w k (some v)))) (seen_of s r c f.1 f.2),
+            (λ j other. (
+              get_or-set_other s.words (16 * w) (16 * j) (suc k) 0 (λ e. other (omega arith)),
+              get_or-set_other s.words (16 * w) (16 * j + 8)
+                  (suc k) 0 (λ e. omega arith),
+              λ q. slot_other s.homes w k (some v) j q other,
+            ))
+            (lane_same c' _ _ _ _ _ _ _ _ _ _ (at_home homes' w) (at_home homes' w) refl refl refl
+            (get_or-set_same s.words (16 * w) (suc k) 0 (omega arith) ∙ ap suc (sym was))
+            (get_or-set_other s.words (16 * w) (16 * w + 8) (suc k) 0 (λ e. omega arith)) (λ _. refl)
+            (posts_last c _ _ _ _ _ (at_home s.homes w) lane _ slot_held open_ all (slot_here s.homes w k (some v) near) (slot_else s.homes w k (some v))))
+            (seen_of s r c f.1 f.2),
         λ c₂ k₂ e. λ i. (Worker (with_bye (worker_state_or c (e i).0)), []),
       )
 
   -- the load of done
-  pub loads_done : (n id : ℕ) (me : SeatState) (c : WorkerState) → me.0 ≡ Worker c → c.slot_held ≡ 0 → Allows (LanesHold key) n id me (16 * c.worker + 8) (λ x. x) (done_loaded (step n (16 * c.worker + 8) 0 0 none) me)
-  loads_done n id me c is idle s r _ at _ = let w : ℕ = c.worker in let i : ℕ = 16 * w + 8 in let x : ℕ = get_or s.words i 0 in let b : ℕ = length c.back in let g : List Answered = r.storage_state.history in let mine : List Answered = worker_share g w in
-      let f = worker_of key s r id me.0 c at is in let lane = lane_of key s r c f.1 f.2 in let byes : ℕ = times w r.storage_state.byes in let x_is : x ≡ length mine + byes = lane.done_is in let within : length mine ≤ length c.sent = lane.answered in
+  pub loads_done : (n id : ℕ) (me : SeatState) (c : WorkerState) → me.0 ≡ Worker c → c.slot_held ≡ 0
+      → Allows (LanesHold key) n id me (16 * c.worker + 8) (λ x. x) (done_loaded (step n (16 * c.worker + 8) 0 0 none) me)
+  loads_done n id me c is idle s r _ at _ = let w : ℕ = c.worker in let i : ℕ = 16 * w + 8 in let x : ℕ = get_or s.words i 0 in let b : ℕ = length c.back in
+      let g : List Answered = r.storage_state.history in let mine : List Answered = worker_share g w in
+      let f = worker_of key s r id me.0 c at is in let lane = lane_of key s r c f.1 f.2 in let byes : ℕ = times w r.storage_state.byes in
+      let x_is : x ≡ length mine + byes = lane.done_is in let within : length mine ≤ length c.sent = lane.answered in
       let at' : get_elem? s.views id ≡ some (Worker c) = at ∙ ap (λ (z : View). some z) is in let low : b ≤ length mine = starts_below mine c.back lane.known in
       let known = subst (λ (z : WorkerState). StartsWith g z.seen × (z.geometry ≡ key.geometry) × (z.worker ≡ w)) f.1 (r.each_seen w f.2) in
       let learnt : Learnt c x g = record {
         legal = subst (λ z. Legal z g) (sym known.1) r.legal;
         later = known.0;
         asks = lane.asked_is ∙ dite (ℕ_discrete byes 0) (λ e. ap (λ (z : ℕ). take z c.sent) (let h : length mine ≡ x = omega arith in h))
-            (λ e. let q : b ≡ length c.sent = lane.quiet (lane.leaves (omega arith)) in take_whole c.sent (length mine) (omega arith) ∙ sym (take_whole c.sent x (omega arith)));
+            (λ e. let q : b ≡ length c.sent = lane.quiet (lane.leaves (omega arith)) in take_whole c.sent (length mine) (omega arith)
+            ∙ sym (take_whole c.sent x (omega arith)));
         counted = dite (ℕ_discrete byes 0) (λ e. inl (let h : x ≡ length mine = omega arith in h))
-            (λ e. let bye = lane.leaves (omega arith) in let q : b ≡ length c.sent = lane.quiet bye in let few = at_most_one c.said_bye in let behind : length mine + byes + count_of (open_at r.storage_state.holding w) ≤ length (messages c) = lane.behind in let all = count c in
+            (λ e. let bye = lane.leaves (omega arith) in let q : b ≡ length c.sent = lane.quiet bye in let few = at_most_one c.said_bye in
+            let behind : length mine + byes + count_of (open_at r.storage_state.holding w) ≤ length (messages c) = lane.behind in let all = count c in
             inr (bye, let h : x ≡ length c.sent + 1 = omega arith in h));
         back = lane.known;
       } in
-      let tell : (m' : SeatState) → DoneTells c x me.1 m' g → done_loaded (step n i 0 0 none) me x m' = λ m' h c₂ is₂. (g, subst (λ (z : WorkerState). DoneTells z x me.1 m' g) (ap (worker_state_or c) (sym is ∙ is₂)) h) in
-      let stays : (x ≤ b) ⊎ (length c.sent ≤ b) → (v : View) × (a : Act (Option LaneMessage)) × Rattle.atomic_table.specs.Table.Valid s.homes me.1 a × LanesHold key (stepped s i x id me.1 v a) × done_loaded (step n i 0 0 none) me x (v, Rattle.atomic_table.specs.Table.carried_after me.1 a)
+      let tell : (m' : SeatState) → DoneTells c x me.1 m' g
+      → done_loaded (step n i 0 0 none) me x m' = λ m' h c₂ is₂.
+      (g, subst (λ (z : WorkerState). DoneTells z x me.1 m' g) (ap (worker_state_or c) (sym is ∙ is₂)) h) in
+      let stays : (x ≤ b) ⊎ (length c.sent ≤ b)
+      → (v : View) × (a : Act (Option LaneMessage)) × Rattle.atomic_table.specs.Table.Valid s.homes me.1 a × LanesHold key (stepped s i x id me.1 v a)
+      × done_loaded (step n i 0 0 none) me x (v, Rattle.atomic_table.specs.Table.carried_after me.1 a)
       = λ less. let short : length mine ≤ b = ⊎_elim (λ (h : x ≤ b). omega arith) (λ (h : length c.sent ≤ b). omega arith) less in (
         Worker (learnt_of c g x),
         keeps,
         tt,
         worker_load s r i id c (learnt_of c g x) s.homes at' refl refl refl (λ _ _ _. refl) (is_told c _ _ _ _ _ _ lane g x) (starts_self g),
-        tell (Worker (learnt_of c g x), me.1) (learnt, (λ y z. absurd (⊎_elim (λ (h : x ≤ b). omega arith) (λ (h : length c.sent ≤ b). omega arith) less)), λ _. (starts_whole mine c.back lane.known short, refl)),
+        tell (Worker (learnt_of c g x), me.1) (
+          learnt,
+          (λ y z. absurd (⊎_elim (λ (h : x ≤ b). omega arith) (λ (h : length c.sent ≤ b). omega arith) less)),
+          λ _.
+              (starts_whole mine c.back lane.known short, refl),
+        ),
       ) in
       dite (dec_le x b) (λ le. stays (inl le)) (λ gt. dite (dec_le (length c.sent) b) (λ le. stays (inr le)) (λ gt'.
-      let more : b < length c.sent = omega arith in let none_gone : byes ≡ 0 = dite (ℕ_discrete byes 0) (λ z. z) (λ e. let q : b ≡ length c.sent = lane.quiet (lane.leaves (omega arith)) in absurd (omega arith)) in
+      let more : b < length c.sent = omega arith in
+      let none_gone : byes ≡ 0 = dite (ℕ_discrete byes 0) (λ z. z)
+      (λ e. let q : b ≡ length c.sent = lane.quiet (lane.leaves (omega arith)) in absurd (omega arith)) in
       let next = at_some mine b (let h : b < length mine = omega arith in h) in let a : Answered = next.0 in let c' : WorkerState = took_out c g x a in (
         Worker c',
         takes (slot_of w b) (Some (Answer a)),
         lane.answers b a (le_refl b) next.1,
-        worker_load s r i id c c' (set s.homes (slot_of w b) none) at' refl refl (length-set s.homes (slot_of w b) none) (λ j q other. slot_other s.homes w b none j q other)
+        worker_load s r i id c c' (set s.homes (slot_of w b) none) at' refl refl (length-set s.homes (slot_of w b) none)
+            (λ j q other. slot_other s.homes w b none j q other)
             (takes_back c _ _ _ _ _ (at_home s.homes w) lane _ g x a idle more next.1 (slot_else s.homes w b none)) (starts_self g),
-        tell (Worker c', (slot_of w b, Some (Answer a)) ∷ me.1) (learnt, (λ _ _. (a, next.1, refl)), λ less. absurd (⊎_elim (λ (h : x ≤ b). gt h) (λ (h : length c.sent ≤ b). gt' h) less)),
+        tell (Worker c', (slot_of w b, Some (Answer a)) ∷ me.1)
+            (learnt, (λ _ _. (a, next.1, refl)), λ less. absurd (⊎_elim (λ (h : x ≤ b). gt h) (λ (h : length c.sent ≤ b). gt' h) less)),
       )))
 
   -- the worker gives the slot of k back, empty
-  pub returns_it : (n id : ℕ) (c : WorkerState) (i k q : ℕ) → c.slot_held ≡ suc k → q ≡ slot_of c.worker k → Allows (LanesHold key) n id (Worker c, (q, None) ∷ []) i (λ x. x) (slot_returned (step n i 0 0 none) (Worker c, (q, None) ∷ []))
-  returns_it n id c i k q slot_held slot s r _ at _ = let w : ℕ = c.worker in let f = r.each_view id (Worker c) at in let lane = lane_of key s r c f.1 f.2 in let deep = r.deep in let c' : WorkerState = holding_slot c 0 in let v : Option LaneMessage = None in
+  pub returns_it : (n id : ℕ) (c : WorkerState) (i k q : ℕ) → c.slot_held ≡ suc k → q ≡ slot_of c.worker k
+      → Allows (LanesHold key) n id (Worker c, (q, None) ∷ []) i (λ x. x) (slot_returned (step n i 0 0 none) (Worker c, (q, None) ∷ []))
+  returns_it n id c i k q slot_held slot s r _ at _ = let w : ℕ = c.worker in let f = r.each_view id (Worker c) at in
+      let lane = lane_of key s r c f.1 f.2 in let deep = r.deep in let c' : WorkerState = holding_slot c 0 in let v : Option LaneMessage = None in
       let near : slot_of w k < length s.homes = subst (λ (z : ℕ). slot_of w k < z) (sym deep) (slot_below key.workers w k f.2) in (
         Worker c',
         gives,
         tt,
         subst (λ (z : ℕ). LanesHold key (stepped s i (get_or s.words i 0) id ((z, None) ∷ []) (Worker c') gives)) (sym slot)
-            (worker_load s r i id c c' (set s.homes (slot_of w k) (some v)) at refl refl (length-set s.homes (slot_of w k) (some v)) (λ j y other. slot_other s.homes w k (some v) j y other)
-            (returns_slot c _ _ _ _ _ (at_home s.homes w) lane _ k slot_held (slot_here s.homes w k (some v) near) (slot_else s.homes w k (some v))) (seen_of s r c f.1 f.2)),
+            (worker_load s r i id c c' (set s.homes (slot_of w k) (some v)) at refl refl (length-set s.homes (slot_of w k) (some v))
+            (λ j y other. slot_other s.homes w k (some v) j y other)
+            (returns_slot c _ _ _ _ _ (at_home s.homes w) lane _ k slot_held (slot_here s.homes w k (some v) near) (slot_else s.homes w k (some v)))
+            (seen_of s r c f.1 f.2)),
         λ c₂ is₂. λ j. (Worker (holding_slot (worker_state_or c (is₂ j)) 0), []),
       )

@@ -1,5 +1,6 @@
 -- What contracts see of the ends of an exchange, and what a call of each end tells.
-use Rattle.std.specs.Prelude.{◌≡◌, ◌⊎◌, ℕ, ◌+◌, ◌-◌, ◌<◌, ◌≤◌, ◌^◌, List, [], ◌∷◌, ◌++◌, length, map, take, All, Option, Some, None, MatchOption, Bool, true, false, ◌==◌, if◌then◌else◌}
+use Rattle.std.specs.Prelude.{◌≡◌, ◌⊎◌, ℕ, ◌+◌, ◌-◌, ◌<◌, ◌≤◌, ◌^◌, List, [], ◌∷◌, ◌++◌, length, map, take, All, Option, Some, None, MatchOption, Bool}
+use Rattle.std.specs.Prelude.{true, false, ◌==◌, if◌then◌else◌}
 use Rattle.std.specs.List.{filter, range_with_len}
 use mathlib.Core.Option.{some}
 use lib.ListN.{get_elem?}
@@ -50,7 +51,17 @@ new_worker_view exchange geometry w =
 -- storage's end as it is made; the first lane comes after the last one
 abbrev pub new_storage_view : TableId → Sizes → ℕ → StorageView
 new_storage_view exchange geometry workers =
-    record { exchange = exchange; workers = workers; geometry = geometry; taken = []; open_request = None; history = []; byes = []; looks = []; last = workers - 1 }
+    record {
+      exchange = exchange;
+      workers = workers;
+      geometry = geometry;
+      taken = [];
+      open_request = None;
+      history = [];
+      byes = [];
+      looks = [];
+      last = workers - 1;
+    }
 
 -- an end for each worker, in their order
 abbrev pub AreNew : TableId → Sizes → List WorkerView → Type 0
@@ -176,7 +187,8 @@ abbrev pub open_of : Option (ℕ × Posted) → ℕ → List Posted
 open_of None w = []
 open_of (Some x) w = if x.0 == w then x.1 ∷ [] else []
 
--- What storage and a worker find where their ends come together.
+-- What storage and a worker find where their ends come together. A bye that storage took of the worker, the
+-- worker said.
 pub record AreCompared (s : StorageView) (v : WorkerView) : Type 0 where
   pub inside : v.worker < s.workers
   pub geometry : v.geometry ≡ s.geometry
@@ -185,6 +197,7 @@ pub record AreCompared (s : StorageView) (v : WorkerView) : Type 0 where
   pub back : StartsWith (worker_share s.history v.worker) v.back
   pub sent : StartsWith v.sent (asked_posted (worker_share s.history v.worker) ++ open_of s.open_request v.worker)
   pub all : v.said_bye ≡ true → (v.back ≡ worker_share s.history v.worker) × (asked_posted (worker_share s.history v.worker) ≡ v.sent)
+  pub bye : 0 < times v.worker s.byes → v.said_bye ≡ true
 
 -- the numbers of requests and of answers of a worker
 pub record AreCounted (s : StorageView) (v : WorkerView) (sent back : ℕ) : Type 0 where

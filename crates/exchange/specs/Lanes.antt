@@ -2,7 +2,8 @@
 -- Lane w has the words 16 w (posted) and 16 w + 8 (done), and the slots from 64 w on. The words that are used
 -- lie 64 bytes apart, so that no two share a cache line. The message with the number k, from 0 on, uses the
 -- slot 64 w + k % 64.
-use Rattle.std.specs.Prelude.{◌≡◌, ◌≢◌, ℕ, suc, ◌+◌, ◌*◌, ◌%◌, ◌<◌, ◌≤◌, List, [], ◌∷◌, ◌++◌, map, length, take, slice_index, Option, Some, None, Bool, true, false, ◌==◌, if◌then◌else◌}
+use Rattle.std.specs.Prelude.{◌≡◌, ◌≢◌, ℕ, suc, ◌+◌, ◌*◌, ◌%◌, ◌<◌, ◌≤◌, List, [], ◌∷◌, ◌++◌, map, length, take, slice_index, Option, Some, None, Bool}
+use Rattle.std.specs.Prelude.{true, false, ◌==◌, if◌then◌else◌}
 use mathlib.Core.Option.{none, some}
 use mathlib.Core.Option as maybe
 use lib.ListN.{get_elem?}
@@ -84,7 +85,8 @@ pub record LaneOk (c : WorkerState) (mine : List Answered) (byes : ℕ) (held : 
 
 -- lane w of the table
 abbrev pub LaneIs : List ℕ → Homes → StorageState → WorkerState → ℕ → Type 0
-LaneIs words homes d c w = LaneOk c (worker_share d.history w) (times w d.byes) (open_at d.holding w) (slice_index words (16 * w)) (slice_index words (16 * w + 8)) (at_home homes w)
+LaneIs words homes d c w = LaneOk c (worker_share d.history w) (times w d.byes) (open_at d.holding w) (slice_index words (16 * w))
+    (slice_index words (16 * w + 8)) (at_home homes w)
 
 -- What storage and a worker find where their ends come together
 pub record Agree (d : StorageState) (c : WorkerState) : Type 0 where
@@ -96,6 +98,7 @@ pub record Agree (d : StorageState) (c : WorkerState) : Type 0 where
   pub answered : length (worker_share d.history c.worker) ≤ length c.sent
   pub held : (p : Posted) → d.holding ≡ Some (c.worker, Ask p) → get_elem? c.sent (length (worker_share d.history c.worker)) ≡ some p
   pub all_back : c.said_bye ≡ true → length c.back ≡ length c.sent
+  pub leaves : 0 < times c.worker d.byes → c.said_bye ≡ true
 
 -- The view of each seat is what the states say: the first seat is storage's, and then come the workers'.
 module _ (key : LaneKey) (states : ℕ → WorkerState) (storage_state : StorageState) where

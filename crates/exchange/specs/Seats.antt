@@ -1,5 +1,6 @@
 -- What the fields of the two ends have to do with their seats, and what each of them shows.
-use Rattle.std.specs.Prelude.{◌≡◌, ℕ, ◌+◌, ◌*◌, ◌^◌, ◌<◌, ◌≤◌, List, [], ◌∷◌, ◌++◌, length, Option, Some, None, MatchOption, is_some, Bool, true, false, slice_index}
+use Rattle.std.specs.Prelude.{◌≡◌, ℕ, ◌+◌, ◌*◌, ◌^◌, ◌<◌, ◌≤◌, List, [], ◌∷◌, ◌++◌, length, Option, Some, None, MatchOption, is_some, Bool, true, false}
+use Rattle.std.specs.Prelude.{slice_index}
 use mathlib.Core.Option.{some}
 use lib.ListN.{get_elem?}
 use Rattle.atomic_table.specs.Seated.{TableId}
@@ -40,7 +41,17 @@ open_in (Some x) = request_of x.0 x.1
 -- what a contract sees of storage's end
 abbrev pub storage_view : TableId → ℕ → ℕ → StorageState → StorageView
 storage_view z workers last d =
-    record { exchange = z; workers = workers; geometry = d.geometry; taken = d.taken; open_request = open_in d.holding; history = d.history; byes = d.byes; looks = d.looks; last = last }
+    record {
+      exchange = z;
+      workers = workers;
+      geometry = d.geometry;
+      taken = d.taken;
+      open_request = open_in d.holding;
+      history = d.history;
+      byes = d.byes;
+      looks = d.looks;
+      last = last;
+    }
 
 -- some sizes, for views that aren't a worker's or storage's
 abbrev pub any_geometry : Sizes
@@ -101,21 +112,25 @@ pub record WorkerAgrees (me : SeatState) (worker sent back : ℕ) (said_bye : Bo
 
 -- the seat is this worker's, has sent this many requests, and may send one more message
 abbrev pub MayPost : SeatState → ℕ → ℕ → Type 0
-MayPost me w n = (me ≡ (Worker (worker_state_in me.0), [])) × ((worker_state_in me.0).worker ≡ w) × (length (worker_state_in me.0).sent ≡ n) × ((worker_state_in me.0).slot_held ≡ 0) × ((worker_state_in me.0).said_bye ≡ false)
+MayPost me w n = (me ≡ (Worker (worker_state_in me.0), [])) × ((worker_state_in me.0).worker ≡ w) × (length (worker_state_in me.0).sent ≡ n)
+    × ((worker_state_in me.0).slot_held ≡ 0) × ((worker_state_in me.0).said_bye ≡ false)
     × (length (worker_state_in me.0).sent < length (worker_state_in me.0).back + 64) × (n < 2 ^ 63)
 
 -- the seat is this worker's, has sent and taken back so many, and holds no slot
 abbrev pub MayTake : SeatState → ℕ → ℕ → ℕ → Type 0
-MayTake me w sent back = (me ≡ (Worker (worker_state_in me.0), [])) × ((worker_state_in me.0).worker ≡ w) × (length (worker_state_in me.0).sent ≡ sent) × (length (worker_state_in me.0).back ≡ back) × ((worker_state_in me.0).slot_held ≡ 0)
+MayTake me w sent back = (me ≡ (Worker (worker_state_in me.0), [])) × ((worker_state_in me.0).worker ≡ w) × (length (worker_state_in me.0).sent ≡ sent)
+    × (length (worker_state_in me.0).back ≡ back) × ((worker_state_in me.0).slot_held ≡ 0)
 
 -- told of the history g by the done word d, with the answer a added to what it took back
 abbrev pub took_back : WorkerState → List Answered → ℕ → Answered → WorkerState
 took_back c g d a = record c { seen = g; loads = c.loads ++ d ∷ []; back = c.back ++ a ∷ [] }
 
--- What a take tells: it read the done word d and was told of the history g. An answer is the next one of g. There is none where all answers of g were taken before
+-- What a take tells: it read the done word d and was told of the history g. An answer is the next one of g.
+-- There is none where all answers of g were taken before
 abbrev pub StateTakes : WorkerState → Option Answered → WorkerState → Type 0
 StateTakes c result c' = (d : ℕ) × (g : List Answered) × Learnt c d g
-    × MatchOption result ((c.back ≡ worker_share g c.worker) × (c' ≡ learnt_of c g d)) (λ a. (get_elem? (worker_share g c.worker) (length c.back) ≡ some a) × (c' ≡ took_back c g d a))
+    × MatchOption result ((c.back ≡ worker_share g c.worker) × (c' ≡ learnt_of c g d))
+    (λ a. (get_elem? (worker_share g c.worker) (length c.back) ≡ some a) × (c' ≡ took_back c g d a))
 
 -- Storage's end
 
@@ -126,11 +141,13 @@ MayLook me w count = (me ≡ (Storage (storage_state_in me.0), [])) × (settled 
 -- What a look at a lane tells: the posted word n names no message beyond those settled, or the next message is out
 abbrev pub Looks : StorageState → ℕ → Option LaneMessage → SeatState → Type 0
 Looks d w result me = (n : ℕ) × (n < 2 ^ 64)
-    × MatchOption result ((n ≤ settled d w) × (me ≡ (Storage (looked_at d w n), []))) (λ x. (settled d w < n) × IsSent d w x × (me ≡ (Storage (opened d w n x), (slot_of w (settled d w), None) ∷ [])))
+    × MatchOption result ((n ≤ settled d w) × (me ≡ (Storage (looked_at d w n), [])))
+    (λ x. (settled d w < n) × IsSent d w x × (me ≡ (Storage (opened d w n x), (slot_of w (settled d w), None) ∷ [])))
 
 -- storage's seat holds the slot of this message of lane w, of which so many were settled before
 abbrev pub Holds : SeatState → ℕ → ℕ → LaneMessage → Type 0
-Holds me w count x = (me ≡ (Storage (storage_state_in me.0), (slot_of w count, None) ∷ [])) × (settled (storage_state_in me.0) w ≡ count) × ((storage_state_in me.0).holding ≡ Some (w, x)) × (count + 1 < 2 ^ 64)
+Holds me w count x = (me ≡ (Storage (storage_state_in me.0), (slot_of w count, None) ∷ [])) × (settled (storage_state_in me.0) w ≡ count)
+    × ((storage_state_in me.0).holding ≡ Some (w, x)) × (count + 1 < 2 ^ 64)
 
 -- the slot that storage holds
 abbrev pub carried_by : StorageState → Option (ℕ × LaneMessage) → List (ℕ × Option LaneMessage)
@@ -144,7 +161,8 @@ pub record StorageAgrees (me : SeatState) (workers last : ℕ) (counts : List �
   pub room : length counts ≡ 8
   pub counts_are : (w : ℕ) → w < workers → slice_index counts w ≡ settled (storage_state_in me.0) w
   pub open_is : open_now ≡ is_some (open_in (storage_state_in me.0).holding)
-  pub holds : (w : ℕ) (x : LaneMessage) → (storage_state_in me.0).holding ≡ Some (w, x) → (w < workers) × (settled (storage_state_in me.0) w + 1 < 2 ^ 64) × ((p : Posted) × (x ≡ Ask p))
+  pub holds : (w : ℕ) (x : LaneMessage) → (storage_state_in me.0).holding ≡ Some (w, x)
+      → (w < workers) × (settled (storage_state_in me.0) w + 1 < 2 ^ 64) × ((p : Posted) × (x ≡ Ask p))
 
 -- what storage knows once it has made n workers
 abbrev pub made_storage_state : Sizes → ℕ → StorageState

@@ -62,7 +62,9 @@ pub record Learnt (c : WorkerState) (n : ℕ) (g : List Answered) : Type 0 where
 -- at the load of done, which found n: the next answer's slot is taken, or all answers of the history were taken before
 abbrev pub DoneTells : WorkerState → ℕ → List (ℕ × Option LaneMessage) → SeatState → List Answered → Type 0
 DoneTells c n cs m' g = Learnt c n g
-    × (length c.back < n → length c.back < length c.sent → (a : Answered) × (get_elem? (worker_share g c.worker) (length c.back) ≡ some a) × (m' ≡ (Worker (took_out c g n a), (slot_of c.worker (length c.back), Some (Answer a)) ∷ cs)))
+    × (length c.back < n → length c.back < length c.sent
+    → (a : Answered) × (get_elem? (worker_share g c.worker) (length c.back) ≡ some a)
+    × (m' ≡ (Worker (took_out c g n a), (slot_of c.worker (length c.back), Some (Answer a)) ∷ cs)))
     × ((n ≤ length c.back) ⊎ (length c.sent ≤ length c.back) → (c.back ≡ worker_share g c.worker) × (m' ≡ (Worker (learnt_of c g n), cs)))
 
 -- the load of done

@@ -1,5 +1,7 @@
 //! A gate that holds two workers apart, so that a run in which they don't run side by side can't finish in time.
 
+ghost use Rattle.std.specs.Prelude.{◌≡◌, ◌≢◌, ◌≤◌, true};
+
 use std::sync::atomic::{AtomicBool, AtomicU64, Ordering};
 use std::thread;
 use worker::gate::Gate;
@@ -74,7 +76,10 @@ impl HoldGate {
 }
 
 impl Gate for HoldGate {
-    fn may_post(&self, worker: usize, number: u64) -> bool {
+    fn may_post(&self, worker: usize, number: u64) -> bool
+        ensures others { 2 ≤ worker → result ≡ true }
+        ensures not_second { number ≢ 2 → result ≡ true }
+    {
         let [first, second] = &self.first_requests;
         let (own, other) = match worker {
             0 => (first, second),

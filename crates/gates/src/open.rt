@@ -1,5 +1,7 @@
 //! A gate that is always open.
 
+ghost use Rattle.std.specs.Prelude.{◌≡◌, true};
+
 use worker::gate::Gate;
 
 /// Lets every request pass.
@@ -7,7 +9,9 @@ use worker::gate::Gate;
 pub struct OpenGate;
 
 impl Gate for OpenGate {
-    fn may_post(&self, _worker: usize, _number: u64) -> bool {
+    fn may_post(&self, _worker: usize, _number: u64) -> bool
+        ensures { result ≡ true }
+    {
         true
     }
 

@@ -1,36 +1,30 @@
 -- What the threads left makes the run of a group.
-use Rattle.std.proofs.Common.{◌≡◌, ℕ, zero, suc, ◌<◌, ◌≤◌, Bool, true, false, List, [], ◌∷◌, ◌++◌, length, map, Contains, IsSome, Some, None, refl, sym, ap, subst, ◌∙◌, arith}
+use Rattle.std.proofs.Common.{◌≡◌, ℕ, zero, suc, ◌<◌, ◌≤◌, Bool, List, [], ◌∷◌, ◌++◌, length, map, Contains, Option, refl, sym, ap, subst, ◌∙◌, arith}
 use Rattle.std.specs.Prelude.{All, slice_index, slice_index_or}
 use Rattle.std.proofs.lemmas.List.{length-map, map-append}
 use mathlib.Core.Option.{some}
 use lib.ListN.{get_elem?}
 use Rattle.proto.specs.Sizes.{Sizes}
-use Rattle.proto.specs.declared.message.Message.{Message}
 use Rattle.proto.specs.declared.history.Posted.{Posted}
 use Rattle.proto.specs.declared.history.Answered.{Answered}
 use Rattle.proto.specs.History.{worker_share, asked_posted}
-use Rattle.proto.specs.Reading.{Reads}
 use Rattle.exchange.specs.declared.gathering.Gathered.{Gathered}
 use Rattle.exchange.specs.Ends.{WorkerView, StorageView, AreMade, AreTogether, AreCounted, new_worker_view, new_storage_view}
 use Rattle.exchange.proofs.Lists.{at_below, at_some}
-use Rattle.session_book.specs.declared.causes.EndCause.{EndCause}
 use Rattle.storage_thread.specs.Serving.{IsTimed}
 use Rattle.storage_thread.specs.declared.serving.StorageReport.{StorageReport}
-use Rattle.worker.specs.declared.port.PortRecord.{PortRecord}
+use Rattle.worker.specs.Ports.{PortStory}
 use Rattle.worker.specs.declared.report.WorkerReport.{WorkerReport}
-use Rattle.worker.specs.Ports.{fed}
-use Rattle.worker.specs.Sessions.{cause_of}
 use Rattle.worker.specs.Reports.{IsReported, IsAnswered}
-use Rattle.group.specs.declared.report.GroupWorker.{GroupWorker}
 use Rattle.group.specs.declared.report.GroupReport.{GroupReport}
 use Rattle.group.specs.Threads.{AreJoined, AreEach, IsFresh, IsStored, KeepsWorker, KeepsStorage, ends_of, worker_of, workers_of}
-use Rattle.group.specs.Headline.{IsServed, IsWorkerOf, IsRun}
+use Rattle.group.specs.Headline.{AreAnsweredIn, IsWorkerOf, IsRun}
 use Rattle.group.proofs.Places.{at_map, at_mapped, at_or}
 
-module _ {P : Type 0} (tells : P → Bool) (events : P → List PortRecord) where
-  module _ (sizes : Sizes) (storage : StorageView) (ports : List P) (reports : List (WorkerReport P)) (joined : AreJoined tells events sizes storage ports reports) where
+module _ {P : Type 0} (told : P → Option PortStory) (leads_to : P → P → Type 0) where
+  module _ (sizes : Sizes) (storage : StorageView) (ports : List P) (reports : List (WorkerReport P)) (joined : AreJoined told leads_to sizes storage ports reports) where
     -- the report at a place, and the port there
-    kept_at : (w : ℕ) (r : WorkerReport P) → get_elem? reports w ≡ some r → (port : P) × KeepsWorker tells events port (new_worker_view storage.exchange sizes w) r
+    kept_at : (w : ℕ) (r : WorkerReport P) → get_elem? reports w ≡ some r → (port : P) × KeepsWorker told leads_to port (new_worker_view storage.exchange sizes w) r
     kept_at w r at =
         let low : w < length reports = at_below reports w r at in
         let there = at_some ports w (subst (λ n. w < n) joined.one_each low) in (there.0, joined.each w there.0 r there.1 at)
@@ -46,13 +40,13 @@ module _ {P : Type 0} (tells : P → Bool) (events : P → List PortRecord) wher
   -- the reports of threads that were given the ports and the ends as they were made
   pub joined : {H : Type 0} (port_of : H → P) (end_of : H → WorkerView) (n : ℕ) (g : Sizes) (ends : List WorkerView) (s t : StorageView) → AreMade n g ends s → t.exchange ≡ s.exchange
       → (ports : List P) (handles : List H) (reports : List (WorkerReport P)) → map port_of handles ≡ ports → map end_of handles ≡ ends
-      → AreEach (λ h r. KeepsWorker tells events (port_of h) (end_of h) r) handles reports → AreJoined tells events g t ports reports
+      → AreEach (λ h r. KeepsWorker told leads_to (port_of h) (end_of h) r) handles reports → AreJoined told leads_to g t ports reports
   joined {H} port_of end_of n g ends s t made same ports handles reports ports_are ends_are kept = record {
     one_each = sym kept.0 ∙ sym (length-map handles port_of) ∙ ap length ports_are;
     each = λ w port report there at.
         let h = at_mapped port_of handles w port (subst (λ l. get_elem? l w ≡ some port) (sym ports_are) there) in
         let is : end_of h.0 ≡ new_worker_view s.exchange g w = made.1 w (end_of h.0) (subst (λ l. get_elem? l w ≡ some (end_of h.0)) ends_are (at_map end_of handles w h.0 h.1)) in
-        subst (λ (z : P × WorkerView). KeepsWorker tells events z.0 z.1 report) (λ i. (h.2 i, (is ∙ (λ j. new_worker_view (sym same j) g w)) i)) (kept.1 w h.0 report h.1 at);
+        subst (λ (z : P × WorkerView). KeepsWorker told leads_to z.0 z.1 report) (λ i. (h.2 i, (is ∙ (λ j. new_worker_view (sym same j) g w)) i)) (kept.1 w h.0 report h.1 at);
   }
 
   -- a list at one of its elements
@@ -69,10 +63,12 @@ module _ {P : Type 0} (tells : P → Bool) (events : P → List PortRecord) wher
 
   -- what a worker reports of itself holds in each history that has its requests and its answers
   pub served : (h : List Answered) (w : ℕ) (r : WorkerReport P) → r.worker_end.worker ≡ w → r.worker_end.back ≡ worker_share h r.worker_end.worker → asked_posted (worker_share h r.worker_end.worker) ≡ r.worker_end.sent
-      → IsReported (events r.port) r.worker_end r.sessions.items r.unopened → IsServed (events r.port) h w r.sessions.items r.unopened
-  served h w r is back sent told = record {
+      → (story : PortStory) → IsReported story.events r.worker_end r.sessions.items r.unopened → AreAnsweredIn story.events h w r.sessions.items r.unopened
+  served h w r is back sent story told = record {
     ended = told.ended;
     once = told.once;
+    opened = told.opened;
+    refused = told.refused;
     counted = told.counted;
     accepts = told.accepts;
     no_stranger = told.no_stranger;
@@ -80,38 +76,40 @@ module _ {P : Type 0} (tells : P → Bool) (events : P → List PortRecord) wher
         let t = asked_split (worker_share h w) e has in
         told.placed (record { session = e.session; number = e.number; request = e.request }) t.0 t.1 (sym sent ∙ ap (λ n. asked_posted (worker_share h n)) is ∙ t.2);
     answered = λ s cause found messages rest reads.
-        subst (λ n. IsAnswered (events r.port) h n s cause messages) is (told.answered s cause found h (sym back) sent messages rest reads);
+        subst (λ n. IsAnswered story.events h n s cause messages) is (told.answered s cause found h (sym back) sent messages rest reads);
   }
 
-  pub worker_holds : (sizes : Sizes) (s : StorageView) (g : Gathered) (port : P) (w : ℕ) (r : WorkerReport P) → KeepsWorker tells events port (new_worker_view s.exchange sizes w) r
+  pub worker_holds : (sizes : Sizes) (s : StorageView) (g : Gathered) (port : P) (w : ℕ) (r : WorkerReport P) → KeepsWorker told leads_to port (new_worker_view s.exchange sizes w) r
       → AreCounted s r.worker_end (slice_index g.sent r.worker_end.worker) (slice_index g.back r.worker_end.worker)
-      → IsWorkerOf tells events s.history g port w (worker_of r)
+      → IsWorkerOf told leads_to s.history g port w (worker_of r)
   worker_holds sizes s g port w r kept counted =
       let is : r.worker_end.worker ≡ w = kept.over.worker in
       let all = counted.compared.all kept.over.said_bye in
       let sent : asked_posted (worker_share s.history r.worker_end.worker) ≡ r.worker_end.sent = all.1 in record {
-        tells_same = kept.tells_same;
+        leads = kept.leads;
+        tells = kept.tells;
         exactly = subst (λ n. asked_posted (worker_share s.history n) ≡ r.worker_end.sent) is sent;
         sent = subst (λ n. slice_index g.sent n ≡ length r.worker_end.sent) is counted.sent_is;
         back = subst (λ n. slice_index g.back n ≡ length r.worker_end.sent) is (counted.back_is ∙ sym (length-map r.worker_end.back (λ (a : Answered). let p : Posted = record { session = a.session; number = a.number; request = a.request } in p)) ∙ ap length kept.over.all_back);
         strangers = kept.strangers;
-        served = λ t. served s.history w r is all.0 sent (kept.reported (kept.tells_same ∙ t));
+        served = λ story tells. served s.history w r is all.0 sent story (kept.reported story tells);
       }
 
   -- the report of a storage thread that was given the clock and the end as it was made
-  pub stored : {C : Type 0} (clock_tells : C → Bool) (answers : C → List ℕ) (n : ℕ) (g : Sizes) (ends : List WorkerView) (s : StorageView) → AreMade n g ends s → (ports : List P) → n ≡ length ports
-      → (clock c₀ : C) (e₀ : StorageView) (report : StorageReport C) → c₀ ≡ clock → e₀ ≡ s → KeepsStorage clock_tells answers c₀ e₀ report → IsStored clock_tells answers g ports clock report
-  stored {C} clock_tells answers n g ends s made ports count clock c₀ e₀ report clock_is end_is kept =
-      let k : KeepsStorage clock_tells answers clock s report = subst (λ (z : C × StorageView). KeepsStorage clock_tells answers z.0 z.1 report) (λ i. (clock_is i, end_is i)) kept in
-      subst (λ (z : StorageView). KeepsStorage clock_tells answers clock z report) (made.2 ∙ (λ i. new_storage_view (sym k.same.0 i) g (count i))) k
+  pub stored : {C : Type 0} (clock_told : C → Option (List ℕ)) (clock_leads : C → C → Type 0) (keeps : Type 0) (n : ℕ) (g : Sizes) (ends : List WorkerView) (s : StorageView) → AreMade n g ends s → (ports : List P) → n ≡ length ports
+      → (clock c₀ : C) (e₀ : StorageView) (report : StorageReport C) → c₀ ≡ clock → e₀ ≡ s → KeepsStorage clock_told clock_leads keeps c₀ e₀ report
+      → IsStored clock_told clock_leads keeps g ports clock report
+  stored {C} clock_told clock_leads keeps n g ends s made ports count clock c₀ e₀ report clock_is end_is kept =
+      let k : KeepsStorage clock_told clock_leads keeps clock s report = subst (λ (z : C × StorageView). KeepsStorage clock_told clock_leads keeps z.0 z.1 report) (λ i. (clock_is i, end_is i)) kept in
+      subst (λ (z : StorageView). KeepsStorage clock_told clock_leads keeps clock z report) (made.2 ∙ (λ i. new_storage_view (sym k.same.0 i) g (count i))) k
 
-  pub run : {C : Type 0} (clock_tells : C → Bool) (answers : C → List ℕ) (sizes : Sizes) (ports : List P) (clock : C) (reports : List (WorkerReport P)) (storage : StorageReport C) (report : GroupReport P C)
-      → IsStored clock_tells answers sizes ports clock storage → AreJoined tells events sizes storage.storage_end ports reports
+  pub run : {C : Type 0} (clock_told : C → Option (List ℕ)) (clock_leads : C → C → Type 0) (keeps : Type 0) (sizes : Sizes) (ports : List P) (clock : C) (reports : List (WorkerReport P)) (storage : StorageReport C) (report : GroupReport P C)
+      → IsStored clock_told clock_leads keeps sizes ports clock storage → AreJoined told leads_to sizes storage.storage_end ports reports
       → report.workers.items ≡ workers_of reports → report.clock ≡ storage.clock → report.executed ≡ storage.executed
       → ((i : ℕ) (v : WorkerView) → get_elem? (ends_of reports) i ≡ some v → AreCounted storage.storage_end v (slice_index report.gathered.sent v.worker) (slice_index report.gathered.back v.worker))
       → ((w : ℕ) → storage.storage_end.workers ≤ w → (slice_index report.gathered.sent w ≡ 0) × (slice_index report.gathered.back w ≡ 0))
-      → IsRun tells events clock_tells answers sizes ports clock report
-  run {C} clock_tells answers sizes ports clock reports storage report stored joined workers_are clock_is executed_is counted beyond = record {
+      → IsRun told leads_to clock_told clock_leads keeps sizes ports clock report
+  run {C} clock_told clock_leads keeps sizes ports clock reports storage report stored joined workers_are clock_is executed_is counted beyond = record {
     history = storage.storage_end.history;
     legal = stored.legal;
     inside = stored.inside;
@@ -119,12 +117,13 @@ module _ {P : Type 0} (tells : P → Bool) (events : P → List PortRecord) wher
     one_each = ap length workers_are ∙ length-map reports worker_of ∙ joined.one_each;
     each = λ w port worker there at.
         let q = at_mapped worker_of reports w worker (subst (λ l. get_elem? l w ≡ some worker) workers_are at) in
-        subst (IsWorkerOf tells events storage.storage_end.history report.gathered port w) q.2
+        subst (IsWorkerOf told leads_to storage.storage_end.history report.gathered port w) q.2
         (worker_holds sizes storage.storage_end report.gathered port w q.0 (joined.each w port q.0 there q.1)
         (counted w q.0.worker_end (at_map (λ (r : WorkerReport P). r.worker_end) reports w q.0 q.1)));
     none_beyond = λ w le. beyond w (subst (λ n. n ≤ w) (sym stored.same.1) le);
-    clock_same = ap clock_tells clock_is ∙ stored.tells_same;
-    moments = λ t. subst (λ (c : C). IsTimed (answers clock) (answers c) storage.storage_end.history) (sym clock_is) (stored.moments t);
+    leads = subst (clock_leads clock) (sym clock_is) stored.leads;
+    moments = subst (λ (c : C). IsTimed (clock_told clock) (clock_told c) storage.storage_end.history) (sym clock_is) stored.moments;
+    bounded = stored.bounded;
   }
 
 -- ends as they are made have sent nothing

@@ -1,19 +1,18 @@
 -- The headline: what holds once a group has ended.
-use Rattle.std.specs.Prelude.{◌≡◌, ℕ, ◌^◌, ◌-◌, ◌<◌, ◌≤◌, Bool, true, List, [], length, min, map, All, Contains, Some, None, IsSome, slice_index}
+use Rattle.std.specs.Prelude.{◌≡◌, ℕ, ◌^◌, ◌-◌, ◌<◌, ◌≤◌, Bool, true, List, [], length, min, All, Contains, Option, Some, None, is_some, IsSome, slice_index}
 use mathlib.Core.Option.{some}
 use lib.ListN.{get_elem?}
 use Rattle.proto.specs.declared.message.Message.{Message}
-use Rattle.proto.specs.declared.history.Posted.{Posted}
 use Rattle.proto.specs.declared.history.Answered.{Answered}
 use Rattle.proto.specs.Sizes.{Sizes}
 use Rattle.proto.specs.History.{Legal, worker_share, asked_posted}
 use Rattle.proto.specs.Reading.{Reads}
 use Rattle.exchange.specs.declared.gathering.Gathered.{Gathered}
 use Rattle.session_book.specs.declared.causes.EndCause.{EndCause}
+use Rattle.storage_thread.specs.Keeping.{MayForgetNothing}
 use Rattle.storage_thread.specs.Serving.{IsTimed}
 use Rattle.worker.specs.declared.port.PortRecord.{PortRecord}
-use Rattle.worker.specs.declared.report.WorkerReport.{WorkerReport}
-use Rattle.worker.specs.Ports.{fed, given, has_ended, AcceptsOnlyOpen}
+use Rattle.worker.specs.Ports.{PortStory, fed, given, was_opened, was_shut, has_ended, AcceptsOnlyOpen}
 use Rattle.worker.specs.Sessions.{cause_of}
 use Rattle.worker.specs.Places.{Rises}
 use Rattle.worker.specs.Workers.{IsCounted}
@@ -22,13 +21,16 @@ use Rattle.group.specs.declared.report.GroupWorker.{GroupWorker}
 use Rattle.group.specs.declared.report.GroupReport.{GroupReport}
 
 -- What the list of a port that tells it says of its worker's sessions, in this history: the port has ended; each
--- session opened stands in the report once, or is counted as unopened; no bytes were accepted for a session after
--- its close, nor for one that isn't in the report; each request of the history is of a session in the report; and
--- each session's requests in the history are the first of those that its bytes spell, and what it was given a
--- beginning of their answers there, complete after drain, quit or a fatal line, and its cause is one of it.
-pub record IsServed (events : List PortRecord) (history : List Answered) (w : ℕ) (sessions : List (ℕ × EndCause)) (unopened : ℕ) : Type 0 where
+-- session of the report was opened; each session opened stands in the report once, or was shut and is counted as
+-- unopened; no bytes were accepted for a session after its close, nor for one that isn't in the report; each request
+-- of the history is of a session in the report; and each session's requests in the history are the first of those that
+-- its bytes spell, and what it was given a beginning of their answers there, complete after drain, quit or a fatal
+-- line, and its cause is one of it.
+pub record AreAnsweredIn (events : List PortRecord) (history : List Answered) (w : ℕ) (sessions : List (ℕ × EndCause)) (unopened : ℕ) : Type 0 where
   pub ended : has_ended events ≡ true
   pub once : Rises sessions
+  pub opened : (s : ℕ) → IsSome (cause_of sessions s) → was_opened s events ≡ true
+  pub refused : (s : ℕ) → was_opened s events ≡ true → cause_of sessions s ≡ None → was_shut s events ≡ true
   pub counted : IsCounted events sessions unopened
   pub accepts : AcceptsOnlyOpen events
   pub no_stranger : (s : ℕ) → cause_of sessions s ≡ None → given s events ≡ []
@@ -37,25 +39,30 @@ pub record IsServed (events : List PortRecord) (history : List Answered) (w : �
       → (messages : List Message) (rest : List ℕ) → Reads (fed s events) messages rest → IsAnswered events history w s cause messages
 
 -- What a group says of worker w, whose port this was: the history holds exactly the requests that it sent, once each
--- and in its order, and as many came back; and its sessions were served, where the port tells.
-pub record IsWorkerOf {P : Type 0} (tells : P → Bool) (events : P → List PortRecord) (history : List Answered) (gathered : Gathered) (port : P) (w : ℕ) (worker : GroupWorker P) : Type 0 where
-  pub tells_same : tells worker.port ≡ tells port
+-- and in its order, and as many came back; the port is what the one handed in became; and its sessions were answered,
+-- where the port tells.
+pub record IsWorkerOf {P : Type 0} (told : P → Option PortStory) (leads_to : P → P → Type 0) (history : List Answered) (gathered : Gathered) (port : P) (w : ℕ) (worker : GroupWorker P) : Type 0 where
+  pub leads : leads_to port worker.port
+  pub tells : is_some (told worker.port) ≡ is_some (told port)
   pub exactly : asked_posted (worker_share history w) ≡ worker.sent
   pub sent : slice_index gathered.sent w ≡ length worker.sent
   pub back : slice_index gathered.back w ≡ length worker.sent
   pub strangers : worker.strangers ≡ 0
-  pub served : tells port ≡ true → IsServed (events worker.port) history w worker.sessions.items worker.unopened
+  pub served : (story : PortStory) → told worker.port ≡ Some story → AreAnsweredIn story.events history w worker.sessions.items worker.unopened
 
 -- The headline. Some legal history holds exactly the requests sent, each worker's once and in its order, and no other;
--- each worker's sessions were served by it; and its moments are the clock's, where the clock tells its answers.
-pub record IsRun {P C : Type 0} (tells : P → Bool) (events : P → List PortRecord) (clock_tells : C → Bool) (answers : C → List ℕ) (sizes : Sizes) (ports : List P) (clock : C) (report : GroupReport P C) : Type 0 where
+-- each worker's sessions were answered in it; and its moments are the clock's. The clock is what the one handed in
+-- became. And over a store that keeps what it stores, it may be read as a history that forgets nothing, where no request sets
+-- a deadline and little is stored.
+pub record IsRun {P C : Type 0} (told : P → Option PortStory) (leads_to : P → P → Type 0) (clock_told : C → Option (List ℕ)) (clock_leads : C → C → Type 0) (keeps : Type 0) (sizes : Sizes) (ports : List P) (clock : C) (report : GroupReport P C) : Type 0 where
   pub history : List Answered
   pub legal : Legal sizes history
   pub inside : All (λ (e : Answered). e.worker < length ports) history
   pub executed : report.executed ≡ min (length history) (2 ^ 64 - 1)
   pub one_each : length report.workers.items ≡ length ports
   pub each : (w : ℕ) (port : P) (worker : GroupWorker P) → get_elem? ports w ≡ some port → get_elem? report.workers.items w ≡ some worker
-      → IsWorkerOf tells events history report.gathered port w worker
+      → IsWorkerOf told leads_to history report.gathered port w worker
   pub none_beyond : (w : ℕ) → length ports ≤ w → (slice_index report.gathered.sent w ≡ 0) × (slice_index report.gathered.back w ≡ 0)
-  pub clock_same : clock_tells report.clock ≡ clock_tells clock
-  pub moments : clock_tells clock ≡ true → IsTimed (answers clock) (answers report.clock) history
+  pub leads : clock_leads clock report.clock
+  pub moments : IsTimed (clock_told clock) (clock_told report.clock) history
+  pub bounded : keeps → MayForgetNothing sizes history

@@ -7,7 +7,7 @@ use session_book::causes::EndCause;
 /// What a group runs for.
 #[derive(Clone, Copy, Debug)]
 pub struct Config {
-    /// The sizes of the cache that the storage thread owns.
+    /// The sizes of the store that the storage thread owns.
     pub geometry: Geometry,
 }
 

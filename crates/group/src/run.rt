@@ -1,6 +1,7 @@
 //! A whole run of a group.
 ghost use Rattle.std.specs.Prelude.{◌≡◌, ℕ, ◌≤◌, ◌≢◌, ◌⊎◌, List, [], All, IfOk, IfErr, MatchResult, vec_len, vec_capacity};
 ghost use Rattle.proto.specs.Sizes.{Sizes};
+ghost use Rattle.proto.specs.Cache.{empty_cache};
 ghost use Rattle.exchange.specs.Ends.{AreTogether, IsCount};
 ghost use Rattle.group.specs.declared.fault.GroupFault.TheVariants.{BadConfig};
 ghost use Rattle.group.specs.Threads.{IsSilent, AreJoined, IsStored, ends_of, workers_of};
@@ -10,8 +11,8 @@ use crate::fault::GroupFault;
 use crate::report::{Config, GroupReport, GroupWorker};
 use crate::start::tell;
 use crate::threads::{join_storage, join_workers, start_storage, start_workers};
+use engine::StorageEngine;
 use exchange::{WorkerEnd, gather, make};
-use segcache::plain::Store;
 use std::alloc::Global;
 use std::sync::{OnceLock, Wait};
 use std::thread::{Scope, Threads};
@@ -57,7 +58,7 @@ fn part<P: Port>(
 }
 
 /// Gathers the ends, which are of one exchange. The lists have room for what is left.
-fn finish<P: Port, C: Clock>(
+fn finish<P: Port, E: StorageEngine, C: Clock>(
     reports: Vec<WorkerReport<P>>,
     storage: StorageReport<C>,
     workers: Vec<GroupWorker<P>>,
@@ -66,7 +67,7 @@ fn finish<P: Port, C: Clock>(
     requires workers { (workers.items ≡ []) × (vec_len reports ≤ vec_capacity workers) }
     requires ends { (ends.items ≡ []) × (vec_len reports ≤ vec_capacity ends) }
     requires together { AreTogether (ends_of reports.items) storage.storage_end }
-    ensures { (sizes : Sizes) (ports : List P) (clock : C) → IsStored C.tells C.answers sizes ports clock storage → AreJoined P.tells P.events sizes storage.storage_end ports reports.items → IsRun P.tells P.events C.tells C.answers sizes ports clock result }
+    ensures { (store : E) (sizes : Sizes) (ports : List P) (clock : C) → IsStored C.told C.leads_to (E.keeps store []) sizes ports clock storage → AreJoined P.told P.leads_to sizes storage.storage_end ports reports.items → IsRun P.told P.leads_to C.told C.leads_to (E.keeps store []) sizes ports clock result }
 {
     let (workers, ends) = part(reports, workers, ends);
     let StorageReport {
@@ -88,6 +89,7 @@ fn run_in<
     's,
     'e,
     P: Port + Send + 's,
+    E: StorageEngine + Drop + Send + 's,
     C: Clock + Send + 's,
     G: Gate + Sync,
     R: Threads + Wait + time::Clock + Sync,
@@ -98,12 +100,15 @@ fn run_in<
     start: &'s OnceLock<bool>,
     ports: Vec<P>,
     config: Config,
+    store: E,
     clock: C,
     gate: &'s G,
 ) -> Result<GroupReport<P, C>, GroupFault>
-    requires ports { All (IsSilent P.tells P.events) ports.items }
+    requires ports { All (IsSilent P.told) ports.items }
+    requires empty { (E.cache store ≡ empty_cache 0) × (E.moment store ≡ 0) }
+    requires sizes { E.sizes store ≡ config.geometry }
     requires count { IsCount (vec_len ports) }
-    ensures run { IfOk result (λ report. IsRun P.tells P.events C.tells C.answers config.geometry ports.items clock report) }
+    ensures run { IfOk result (λ report. IsRun P.told P.leads_to C.told C.leads_to (E.keeps store []) (E.sizes store) ports.items clock report) }
     ensures fault { IfErr result (λ fault. fault ≢ BadConfig) }
 {
     let count = ports.len();
@@ -112,7 +117,6 @@ fn run_in<
     let reports = Vec::with_capacity(alloc, count)?;
     let workers = Vec::with_capacity(alloc, count)?;
     let ends_left = Vec::with_capacity(alloc, count)?;
-    let store = Store::new(alloc, config.geometry);
     let storage = start_storage(rt, scope, start, store, clock, storage_end)?;
     match start_workers(rt, alloc, scope, start, ports, ends, gate, handles) {
         Ok(handles) => {
@@ -122,7 +126,7 @@ fn run_in<
             }
             let reports = join_workers(rt, &told, handles, reports);
             let storage = join_storage(rt, &told, storage);
-            Ok(finish(reports, storage, workers, ends_left))
+            Ok(finish::<P, E, C>(reports, storage, workers, ends_left))
         }
         Err(fault) => {
             tell(rt, start, false);
@@ -131,16 +135,18 @@ fn run_in<
     }
 }
 
-/// Runs a worker for each port, and one storage thread over a new cache, each in a thread of its own, until all
-/// ports have ended and all was answered and given.
+/// Runs a worker for each port, and one storage thread over the store, each in a thread of its own, until all ports
+/// have ended and all was answered and given. The store is new, and the configuration has its sizes.
 ///
 /// # Errors
 ///
 /// BadConfig exactly where the number of ports isn't 1 to 8; NoMemory where a growth was refused at the start, where
 /// all room for joining and gathering is made too; NoThread where a thread couldn't be started. After each of them
-/// the threads that were started have ended, no event was taken and no request executed; ports and clock are dropped.
+/// the threads that were started have ended, no event was taken and no request executed; ports, store and clock are
+/// dropped.
 pub fn run_group<
     P: Port + Send,
+    E: StorageEngine + Drop + Send,
     C: Clock + Send,
     G: Gate + Sync,
     R: Threads + Wait + time::Clock + Sync,
@@ -149,11 +155,14 @@ pub fn run_group<
     alloc: Global,
     ports: Vec<P>,
     config: Config,
+    store: E,
     clock: C,
     gate: &G,
 ) -> Result<GroupReport<P, C>, GroupFault>
-    requires ports { All (IsSilent P.tells P.events) ports.items }
-    ensures run { IfOk result (λ report. IsRun P.tells P.events C.tells C.answers config.geometry ports.items clock report) }
+    requires ports { All (IsSilent P.told) ports.items }
+    requires empty { (E.cache store ≡ empty_cache 0) × (E.moment store ≡ 0) }
+    requires sizes { E.sizes store ≡ config.geometry }
+    ensures run { IfOk result (λ report. IsRun P.told P.leads_to C.told C.leads_to (E.keeps store []) (E.sizes store) ports.items clock report) }
     ensures count { MatchResult result (λ _. IsCount (vec_len ports)) (λ fault. (IsCount (vec_len ports) × (fault ≢ BadConfig)) ⊎ ((¬ (IsCount (vec_len ports))) × (fault ≡ BadConfig))) }
 {
     if ports.is_empty() || ports.len() > MAX_WORKERS {
@@ -165,9 +174,10 @@ pub fn run_group<
         thread::scope_env(),
         rt,
         move |scope| -> Result<GroupReport<P, C>, GroupFault>
-            requires { All (IsSilent P.tells P.events) ports.items × IsCount (vec_len ports) }
-            ensures run { IfOk result (λ report. IsRun P.tells P.events C.tells C.answers config.geometry ports.items clock report) }
+            requires ports { All (IsSilent P.told) ports.items × IsCount (vec_len ports) }
+            requires store { (E.cache store ≡ empty_cache 0) × (E.moment store ≡ 0) × (E.sizes store ≡ config.geometry) }
+            ensures run { IfOk result (λ report. IsRun P.told P.leads_to C.told C.leads_to (E.keeps store []) (E.sizes store) ports.items clock report) }
             ensures fault { IfErr result (λ fault. fault ≢ BadConfig) }
-        { run_in(rt, alloc, scope, start, ports, config, clock, gate) },
+        { run_in(rt, alloc, scope, start, ports, config, store, clock, gate) },
     )
 }

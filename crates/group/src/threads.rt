@@ -9,8 +9,8 @@ ghost use Rattle.group.specs.Threads.{IsFinished, IsFresh, IsSilent, KeepsWorker
 
 use crate::fault::GroupFault;
 use crate::start::{Finished, hear};
+use engine::StorageEngine;
 use exchange::{StorageEnd, WorkerEnd};
-use segcache::plain::Store;
 use std::alloc::Global;
 use std::snapshot::Snapshot;
 use std::sync::{OnceLock, OnceToken, Wait};
@@ -34,28 +34,31 @@ pub struct WorkerPromise<'a, P> {
 impl<'a, P: Port> Promise<Finished<'a, WorkerReport<P>>> for WorkerPromise<'a, P> {
     ghost use Rattle.group.specs.Threads.{IsFinished, KeepsWorker};
 
-    ghost kept_by = { λ p r. IsFinished p.start.now.id (KeepsWorker P.tells P.events p.port.value p.end.value) r };
+    ghost kept_by = { λ p r. IsFinished p.start.now.id (KeepsWorker P.told P.leads_to p.port.value p.end.value) r };
 }
 
 /// What the storage thread promises: what it leaves of the clock and the end that it was given, if it was told to begin.
 #[derive(Drop)]
-pub struct StoragePromise<'a, C> {
+pub struct StoragePromise<'a, E, C> {
     pub start: &'a OnceLock<bool>,
+    pub store: Snapshot<E>,
     pub clock: Snapshot<C>,
     pub end: Snapshot<StorageEnd>,
 }
 
-impl<'a, C: Clock> Promise<Finished<'a, StorageReport<C>>> for StoragePromise<'a, C> {
+impl<'a, E: StorageEngine, C: Clock> Promise<Finished<'a, StorageReport<C>>>
+    for StoragePromise<'a, E, C> {
+    ghost use Rattle.std.specs.Prelude.{[]};
     ghost use Rattle.group.specs.Threads.{IsFinished, KeepsStorage};
 
-    ghost kept_by = { λ p r. IsFinished p.start.now.id (KeepsStorage C.tells C.answers p.clock.value p.end.value) r };
+    ghost kept_by = { λ p r. IsFinished p.start.now.id (KeepsStorage C.told C.leads_to (E.keeps p.store.value []) p.clock.value p.end.value) r };
 }
 
 pub type WorkerHandle<'a, P> = PromisedHandle<Finished<'a, WorkerReport<P>>, WorkerPromise<'a, P>>;
 
-pub type StorageHandle<'a, C> = PromisedHandle<
+pub type StorageHandle<'a, E, C> = PromisedHandle<
     Finished<'a, StorageReport<C>>,
-    StoragePromise<'a, C>,
+    StoragePromise<'a, E, C>,
 >;
 
 /// Runs a worker once it is told to begin.
@@ -67,9 +70,9 @@ fn work<'a, P: Port, G: Gate, R: Wait>(
     end: WorkerEnd,
     gate: &G,
 ) -> Finished<'a, WorkerReport<P>>
-    requires port { IsSilent P.tells P.events port }
+    requires port { IsSilent P.told port }
     requires fresh { IsFresh end }
-    ensures { IsFinished start.now.id (KeepsWorker P.tells P.events port end) result }
+    ensures { IsFinished start.now.id (KeepsWorker P.told P.leads_to port end) result }
 {
     let told = hear(rt, start);
     let ran = if *start.value(&told) {
@@ -81,16 +84,17 @@ fn work<'a, P: Port, G: Gate, R: Wait>(
 }
 
 /// Runs the storage loop once it is told to begin.
-fn serve<'a, C: Clock, R: Wait + time::Clock>(
+fn serve<'a, E: StorageEngine + Drop, C: Clock, R: Wait + time::Clock>(
     rt: &R,
     start: &'a OnceLock<bool>,
-    store: Store,
+    store: E,
     clock: C,
     end: StorageEnd,
 ) -> Finished<'a, StorageReport<C>>
-    requires empty { store ≡ record { sizes = end.geometry; cache = empty_cache 0; moment = 0 } }
+    requires empty { (E.cache store ≡ empty_cache 0) × (E.moment store ≡ 0) }
+    requires sizes { E.sizes store ≡ end.geometry }
     requires unused { IsUnused end }
-    ensures { IsFinished start.now.id (KeepsStorage C.tells C.answers clock end) result }
+    ensures { IsFinished start.now.id (KeepsStorage C.told C.leads_to (E.keeps store []) clock end) result }
 {
     let told = hear(rt, start);
     let ran = if *start.value(&told) {
@@ -102,22 +106,30 @@ fn serve<'a, C: Clock, R: Wait + time::Clock>(
 }
 
 /// Starts the storage thread.
-pub fn start_storage<'s, 'e, C: Clock + Send + 's, R: Threads + Wait + time::Clock + Sync>(
+pub fn start_storage<
+    's,
+    'e,
+    E: StorageEngine + Drop + Send + 's,
+    C: Clock + Send + 's,
+    R: Threads + Wait + time::Clock + Sync,
+>(
     rt: &'s R,
     scope: &'s Scope<'s, &'e ()>,
     start: &'s OnceLock<bool>,
-    store: Store,
+    store: E,
     clock: C,
     end: StorageEnd,
-) -> Result<StorageHandle<'s, C>, GroupFault>
-    requires empty { store ≡ record { sizes = end.geometry; cache = empty_cache 0; moment = 0 } }
+) -> Result<StorageHandle<'s, E, C>, GroupFault>
+    requires empty { (E.cache store ≡ empty_cache 0) × (E.moment store ≡ 0) }
+    requires sizes { E.sizes store ≡ end.geometry }
     requires unused { IsUnused end }
     ensures fault { IfErr result (λ fault. fault ≡ NoThread) }
     ensures start { IfOk result (λ h. h.promise.start.now.id ≡ start.now.id) }
-    ensures given { IfOk result (λ h. (h.promise.clock.value ≡ clock) × (h.promise.end.value ≡ end)) }
+    ensures given { IfOk result (λ h. (h.promise.store.value ≡ store) × (h.promise.clock.value ≡ clock) × (h.promise.end.value ≡ end)) }
 {
     let promise = StoragePromise {
         start,
+        store: Snapshot::of(&store),
         clock: Snapshot::of(&clock),
         end: Snapshot::of(&end),
     };
@@ -137,7 +149,7 @@ fn start_worker<'s, 'e, P: Port + Send + 's, G: Gate + Sync, R: Threads + Wait +
     end: WorkerEnd,
     gate: &'s G,
 ) -> Result<WorkerHandle<'s, P>, GroupFault>
-    requires port { IsSilent P.tells P.events port }
+    requires port { IsSilent P.told port }
     requires fresh { IsFresh end }
     ensures fault { IfErr result (λ fault. fault ≡ NoThread) }
     ensures start { IfOk result (λ h. h.promise.start.now.id ≡ start.now.id) }
@@ -165,7 +177,7 @@ pub fn start_workers<'s, 'e, P: Port + Send + 's, G: Gate + Sync, R: Threads + W
     gate: &'s G,
     mut handles: Vec<WorkerHandle<'s, P>>,
 ) -> Result<Vec<WorkerHandle<'s, P>>, GroupFault>
-    requires ports { All (IsSilent P.tells P.events) ports.items }
+    requires ports { All (IsSilent P.told) ports.items }
     requires ends { All IsFresh ends.items }
     requires lengths { vec_len ports ≡ vec_len ends }
     requires room { (handles.items ≡ []) × (vec_len ends ≤ vec_capacity handles) }
@@ -186,13 +198,13 @@ pub fn start_workers<'s, 'e, P: Port + Send + 's, G: Gate + Sync, R: Threads + W
 }
 
 /// What the storage thread leaves, which was told to begin.
-pub fn join_storage<'s, C: Clock, R: Threads>(
+pub fn join_storage<'s, E: StorageEngine, C: Clock, R: Threads>(
     rt: &R,
     told: &OnceToken<'s, bool>,
-    handle: StorageHandle<'s, C>,
+    handle: StorageHandle<'s, E, C>,
 ) -> StorageReport<C>
     requires began { (told.now.of ≡ handle.promise.start.now.id) × (told.now.value ≡ true) }
-    ensures { KeepsStorage C.tells C.answers handle.entry.promise.clock.value handle.entry.promise.end.value result }
+    ensures { KeepsStorage C.told C.leads_to (E.keeps handle.entry.promise.store.value []) handle.entry.promise.clock.value handle.entry.promise.end.value result }
 {
     let finished = handle.join(rt);
     finished.told.agrees(told);
@@ -206,7 +218,7 @@ fn join_worker<'s, P: Port, R: Threads>(
     handle: WorkerHandle<'s, P>,
 ) -> WorkerReport<P>
     requires began { (told.now.of ≡ handle.promise.start.now.id) × (told.now.value ≡ true) }
-    ensures { KeepsWorker P.tells P.events handle.entry.promise.port.value handle.entry.promise.end.value result }
+    ensures { KeepsWorker P.told P.leads_to handle.entry.promise.port.value handle.entry.promise.end.value result }
 {
     let finished = handle.join(rt);
     finished.told.agrees(told);
@@ -222,7 +234,7 @@ pub fn join_workers<'s, P: Port, R: Threads>(
 ) -> Vec<WorkerReport<P>>
     requires began { All (λ h. told.now.of ≡ h.promise.start.now.id) handles.items × (told.now.value ≡ true) }
     requires room { (reports.items ≡ []) × (vec_len handles ≤ vec_capacity reports) }
-    ensures { AreEach (λ h r. KeepsWorker P.tells P.events h.promise.port.value h.promise.end.value r) handles.entry.items result.items }
+    ensures { AreEach (λ h r. KeepsWorker P.told P.leads_to h.promise.port.value h.promise.end.value r) handles.entry.items result.items }
 {
     for handle in handles {
         let report = join_worker(rt, told, handle);

@@ -51,13 +51,13 @@ impl<'a> TestPort<'a> {
 }
 
 impl Port for TestPort<'_> {
-    ghost use Rattle.std.specs.Prelude.{false, []};
+    ghost use Rattle.std.specs.Prelude.{None};
 
-    ghost tells = { λ _. false };
+    ghost told = { λ _. None };
 
-    ghost events = { λ _. [] };
+    ghost leads_to = { λ _ _. Unit {0} };
 
-    fn next(&mut self) -> PortEvent {
+    fn next(&mut self, _may_wait: bool) -> PortEvent {
         self.counters.events.fetch_add(1, Ordering::SeqCst);
         if !self.is_open {
             self.is_open = true;
@@ -81,6 +81,10 @@ impl Port for TestPort<'_> {
     fn resume(&mut self, _session: u64) {}
 
     fn shut(&mut self, _session: u64) {}
+
+    ghost leads_reflexive = { λ _. tt };
+
+    ghost leads_transitive = { λ _ _ _ _ _. tt };
 }
 
 /// It is 1000 at all times.
@@ -90,11 +94,15 @@ pub(crate) struct TestClock<'a> {
 }
 
 impl Clock for TestClock<'_> {
-    ghost use Rattle.std.specs.Prelude.{false, []};
+    ghost use Rattle.std.specs.Prelude.{⊤, None};
 
-    ghost tells = { λ _. false };
+    ghost told = { λ _. None };
 
-    ghost answers = { λ _. [] };
+    ghost leads_to = { λ _ _. ⊤ };
+
+    ghost leads_reflexive = { λ _. tt };
+
+    ghost leads_transitive = { λ _ _ _ _ _. tt };
 
     fn now(&mut self) -> u64 {
         self.counters.moments.fetch_add(1, Ordering::SeqCst);

@@ -2,13 +2,12 @@
 
 use crate::meeting::{Meeting, MeetingClock};
 use crate::ports::{Counters, TestClock, TestPort};
-use crate::running::{are_complete, default_config, ports_of};
+use crate::running::{are_complete, ports_of, run};
 use crate::second_gate::SecondGate;
 use bytes::Bytes;
 use gates::hold::HoldGate;
 use gates::open::OpenGate;
 use group::fault::GroupFault;
-use group::run::run_group;
 use std::alloc::Global;
 use std::test::Fail;
 
@@ -23,7 +22,7 @@ fn no_port_and_nine_ports_are_refused(rt: HostRuntime) {
         let clock = TestClock {
             counters: &counters,
         };
-        match run_group(&rt, alloc, ports, default_config(&rt), clock, &OpenGate) {
+        match run(&rt, alloc, ports, clock, &OpenGate) {
             Err(GroupFault::BadConfig) => {}
             _ => panic!(rt; "{count} ports ran"),
         }
@@ -39,9 +38,7 @@ fn one_worker_drains(rt: HostRuntime) {
     let clock = TestClock {
         counters: &counters,
     };
-    let report = run_group(&rt, alloc, ports, default_config(&rt), clock, &OpenGate).expect(
-        &rt, "a run",
-    );
+    let report = run(&rt, alloc, ports, clock, &OpenGate).expect(&rt, "a run");
     assert!(rt; are_complete(&rt, alloc, report.workers.as_slice(), b"a"));
     assert_eq!(rt; report.executed, 2);
     assert_eq!(rt; counters.asked().1, 2);
@@ -56,9 +53,7 @@ fn two_workers_wait_for_each_other(rt: HostRuntime) {
     let clock = TestClock {
         counters: &counters,
     };
-    let report = run_group(&rt, alloc, ports, default_config(&rt), clock, &gate).expect(
-        &rt, "a run",
-    );
+    let report = run(&rt, alloc, ports, clock, &gate).expect(&rt, "a run");
     assert!(rt; are_complete(&rt, alloc, report.workers.as_slice(), b"ab"));
     assert!(rt; !gate.spent());
     assert_eq!(rt; report.executed, 4);
@@ -74,9 +69,7 @@ fn all_apart(rt: HostRuntime) {
     let keys = &KEYS[..8];
     let ports = ports_of(&rt, alloc, &counters, keys);
     let clock = MeetingClock { meeting: &meeting };
-    let report = run_group(&rt, alloc, ports, default_config(&rt), clock, &meeting).expect(
-        &rt, "a run",
-    );
+    let report = run(&rt, alloc, ports, clock, &meeting).expect(&rt, "a run");
     assert_eq!(rt; meeting.given_up(), 0);
     assert!(rt; are_complete(&rt, alloc, report.workers.as_slice(), keys));
     assert_eq!(rt; report.executed, 16);
@@ -98,9 +91,7 @@ fn two_workers_see_one_cache(rt: HostRuntime) -> Result<(), Fail> {
     let clock = TestClock {
         counters: &counters,
     };
-    let report = run_group(&rt, alloc, ports, default_config(&rt), clock, &gate).expect(
-        &rt, "a run",
-    );
+    let report = run(&rt, alloc, ports, clock, &gate).expect(&rt, "a run");
     let [first, second] = report.workers.as_slice() else {
         panic!(rt; "two workers")
     };

@@ -1,12 +1,20 @@
-//! Ports with their bytes, and what a group's workers were given.
+//! Ports with their bytes, runs over them, and what a group's workers were given.
 
 use crate::ports::{Counters, TestPort};
 use bytes::Bytes;
-use group::report::{Config, GroupWorker};
+use group::fault::GroupFault;
+use group::report::{Config, GroupReport, GroupWorker};
+use group::run::run_group;
+use plain_store::Store;
 use proto::geometry::Geometry;
 use session_book::causes::EndCause;
 use std::alloc::Global;
 use std::process::Abort;
+use std::sync::Wait;
+use std::thread::Threads;
+use std::time;
+use storage_thread::clock::Clock;
+use worker::gate::Gate;
 
 /// Stores one byte under the key `a` and asks for it.
 pub(crate) const INPUT: &[u8] = b"set a 0 0 1\r\nx\r\nget a\r\n";
@@ -42,10 +50,22 @@ pub(crate) fn ports_of<'a, R: Abort>(
     ports
 }
 
-pub(crate) fn default_config<R: Abort>(rt: &R) -> Config {
-    Config {
-        geometry: Geometry::new(65_536, 64).expect(rt, "a geometry"),
-    }
+/// Runs a group over a new plain store of 64 segments.
+pub(crate) fn run<
+    'a,
+    C: Clock + Send,
+    G: Gate + Sync,
+    R: Abort + Threads + Wait + time::Clock + Sync,
+>(
+    rt: &R,
+    alloc: Global,
+    ports: Vec<TestPort<'a>>,
+    clock: C,
+    gate: &G,
+) -> Result<GroupReport<TestPort<'a>, C>, GroupFault> {
+    let geometry = Geometry::new(65_536, 64).expect(rt, "a geometry");
+    let store = Store::new(alloc, geometry);
+    run_group(rt, alloc, ports, Config { geometry }, store, clock, gate)
 }
 
 /// Each worker opened session 1 alone, which drained, and was given the whole output for its key.

@@ -1,15 +1,19 @@
-//! Messages a second through the lanes, beside plain queues that do the same hand-over. The figures go to standard
-//! error, since they differ from run to run. `lanes_bench N` hands over N requests a run; `lanes_bench idle N` lets the
-//! storage thread wait N seconds for nothing, to be timed from outside.
+//! Requests a second through the lanes, and through the exchange by queues, each to the plain store and back. The
+//! figures go to standard error, since they differ from run to run. `lanes_bench N` hands over N requests a run;
+//! `lanes_bench idle N` lets the storage thread wait N seconds for nothing, to be timed from outside.
 #![tactic(auto)]
 
-mod lanes;
-mod queues;
+ghost use Rattle.std.specs.Prelude.{◌<◌};
 
-use std::env;
+mod idle;
+
+use exchange_runs::{Load, run_lanes, run_queues};
 use std::process::ExitCode;
 use std::rt::Env;
+use std::sync::Wait;
+use std::thread::Threads;
 use std::time::Duration;
+use std::{env, time};
 
 /// The requests of a run, of all workers together, where no other number is given: a short run, which shows that
 /// all are handed over.
@@ -25,31 +29,46 @@ fn number<R: Env + AllocGlobal>(rt: &R, place: usize) -> Option<u64> {
     word(rt, place)?.as_str().parse::<u64>().ok()
 }
 
-fn per_second(messages: u64, elapsed: Option<Duration>) -> u64 {
+fn per_second(requests: u64, elapsed: Option<Duration>) -> u64 {
     match elapsed {
         Some(elapsed) => {
             let micros = u64::try_from(elapsed.as_micros())
                 .unwrap_or(u64::MAX)
                 .max(1);
-            messages.saturating_mul(1_000_000) / micros
+            requests.saturating_mul(1_000_000) / micros
         }
         None => 0,
     }
 }
 
+/// Measures both exchanges for so many requests of all workers together.
+fn measure<R: Threads + Wait + time::Clock + Sync + AllocGlobal>(
+    rt: &R,
+    requests: u64,
+    workers: usize,
+    window: u64,
+) -> (u64, u64)
+    requires { 0 < workers }
+{
+    let load = Load {
+        each: requests / workers as u64,
+        window,
+        kept: false,
+    };
+    let lanes = run_lanes(rt, rt.alloc(), workers, load).map(|run| run.elapsed);
+    let queues = run_queues(rt, rt.alloc(), workers, load).map(|run| run.elapsed);
+    (per_second(requests, lanes), per_second(requests, queues))
+}
+
 fn main(rt: HostRuntime) -> ExitCode {
     if word(&rt, 1).is_some_and(|word| word.as_str() == "idle") {
-        let _ = lanes::wait(&rt, rt.alloc(), number(&rt, 2).unwrap_or(1));
+        let _ = idle::wait(&rt, rt.alloc(), number(&rt, 2).unwrap_or(1));
         return ExitCode::SUCCESS;
     }
-    let messages = number(&rt, 1).unwrap_or(FEW);
+    let requests = number(&rt, 1).unwrap_or(FEW);
     for workers in [1, 2, 4] {
         for window in [1, 64] {
-            let each = messages / workers as u64;
-            let lanes = lanes::run(&rt, rt.alloc(), workers, window, each);
-            let queues = queues::run(&rt, rt.alloc(), workers, window, each);
-            let lanes = per_second(messages, lanes);
-            let queues = per_second(messages, queues);
+            let (lanes, queues) = measure(&rt, requests, workers, window);
             let _ = eprintln!(rt;
                 "{workers} workers, window {window}: lanes {lanes}, queues {queues} a second"
             );

@@ -4,7 +4,7 @@ use Rattle.std.specs.Prelude.{◌≡◌, ℕ, ℤ, pos, negsuc, true, false, Lis
 use Rattle.std.specs.List.{AllByRecursion}
 use Rattle.std.specs.FinMap as finite
 use Rattle.proto.specs.declared.message.Put.{Put}
-use Rattle.proto.specs.declared.message.Hit.{Hit}
+use Rattle.proto.specs.Hits.{Hit}
 use Rattle.proto.specs.declared.message.Request.{Request}
 use Rattle.proto.specs.declared.message.Request.TheVariants.{Get, Set, Add, Replace, Cas, Delete, Incr, Decr, FlushAll}
 use Rattle.proto.specs.declared.message.Reply.{Reply}

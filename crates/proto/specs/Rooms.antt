@@ -1,7 +1,7 @@
 -- How many bytes are reserved before an answer is written. They aren't part of the meaning: an answer has at
 -- most as many.
 use Rattle.std.specs.Prelude.{ℕ, ◌+◌, List, [], length, sum_by, Option, Some, None}
-use Rattle.proto.specs.declared.message.Hit.{Hit}
+use Rattle.proto.specs.Hits.{Hit}
 use Rattle.proto.specs.declared.message.Reply.{Reply}
 use Rattle.proto.specs.declared.message.Reply.TheVariants.{Values}
 

@@ -7,6 +7,8 @@ pub mod examples;
 pub mod geometry;
 pub mod head;
 pub mod history;
+pub mod hits;
+pub mod keys;
 pub mod laws;
 mod line;
 pub mod message;

@@ -6,6 +6,7 @@ use gates::open::OpenGate;
 use group::fault::GroupFault;
 use group::report::{Config, GroupReport};
 use group::run::run_group;
+use plain_store::Store;
 use proto::geometry::Geometry;
 use std::alloc::Global;
 use std::sync::Wait;
@@ -84,7 +85,16 @@ fn run<R: Threads + Wait + time::Clock + Sync>(rt: &R, alloc: Global) -> Outcome
     let clock = SteadyClock {
         counters: &counters,
     };
-    match run_group(rt, alloc, ports, Config { geometry }, clock, &OpenGate) {
+    let store = Store::new(alloc, geometry);
+    match run_group(
+        rt,
+        alloc,
+        ports,
+        Config { geometry },
+        store,
+        clock,
+        &OpenGate,
+    ) {
         Ok(report) => judged(&report),
         Err(GroupFault::NoMemory | GroupFault::NoThread) if counters.are_zero() => Outcome::Allowed,
         Err(_) => Outcome::Wrong,

@@ -63,13 +63,13 @@ impl<'a> QuietPort<'a> {
 }
 
 impl Port for QuietPort<'_> {
-    ghost use Rattle.std.specs.Prelude.{false, []};
+    ghost use Rattle.std.specs.Prelude.{None};
 
-    ghost tells = { λ _. false };
+    ghost told = { λ _. None };
 
-    ghost events = { λ _. [] };
+    ghost leads_to = { λ _ _. Unit {0} };
 
-    fn next(&mut self) -> PortEvent {
+    fn next(&mut self, _may_wait: bool) -> PortEvent {
         self.counters.events.fetch_add(1, Ordering::SeqCst);
         self.step = self.step.saturating_add(1);
         match self.step {
@@ -97,6 +97,10 @@ impl Port for QuietPort<'_> {
     fn shut(&mut self, _session: u64) {
         self.is_shut = true;
     }
+
+    ghost leads_reflexive = { λ _. tt };
+
+    ghost leads_transitive = { λ _ _ _ _ _. tt };
 }
 
 /// It is 1000 at all times.
@@ -106,11 +110,15 @@ pub struct SteadyClock<'a> {
 }
 
 impl Clock for SteadyClock<'_> {
-    ghost use Rattle.std.specs.Prelude.{false, []};
+    ghost use Rattle.std.specs.Prelude.{⊤, None};
 
-    ghost tells = { λ _. false };
+    ghost told = { λ _. None };
 
-    ghost answers = { λ _. [] };
+    ghost leads_to = { λ _ _. ⊤ };
+
+    ghost leads_reflexive = { λ _. tt };
+
+    ghost leads_transitive = { λ _ _ _ _ _. tt };
 
     fn now(&mut self) -> u64 {
         self.counters.moments.fetch_add(1, Ordering::SeqCst);

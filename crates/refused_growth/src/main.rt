@@ -5,8 +5,8 @@
 #![tactic(auto)]
 
 mod book;
+mod cache;
 mod lanes;
-mod plain_store;
 mod pools;
 mod protocol;
 mod quiet_port;
@@ -29,7 +29,7 @@ fn report(rt: &impl Print, layer: &str, promise: &str, held: bool) -> bool {
 fn main(rt: HostRuntime) -> ExitCode {
     let alloc = rt.alloc();
     let messages = report(&rt, "messages", REPEATED, protocol::is_repeatable(alloc));
-    let requests = report(&rt, "requests", REPEATED, plain_store::is_repeatable(&rt));
+    let requests = report(&rt, "requests", REPEATED, cache::is_repeatable(&rt));
     let exchange = report(&rt, "lanes", REPEATED, lanes::is_repeatable(alloc));
     let sessions = report(&rt, "sessions", REPEATED, book::is_repeatable(alloc));
     let segments = report(&rt, "pools", REPEATED, pools::is_repeatable(alloc));

@@ -70,13 +70,13 @@ impl QuietPort {
 }
 
 impl Port for QuietPort {
-    ghost use Rattle.std.specs.Prelude.{false, []};
+    ghost use Rattle.std.specs.Prelude.{None};
 
-    ghost tells = { λ _. false };
+    ghost told = { λ _. None };
 
-    ghost events = { λ _. [] };
+    ghost leads_to = { λ _ _. Unit {0} };
 
-    fn next(&mut self) -> PortEvent {
+    fn next(&mut self, _may_wait: bool) -> PortEvent {
         self.step = self.step.saturating_add(1);
         match self.step {
             1 => PortEvent::Opened(1),
@@ -100,4 +100,8 @@ impl Port for QuietPort {
     fn shut(&mut self, session: u64) {
         self.output(session).is_shut = true;
     }
+
+    ghost leads_reflexive = { λ _. tt };
+
+    ghost leads_transitive = { λ _ _ _ _ _. tt };
 }

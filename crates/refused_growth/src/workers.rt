@@ -6,8 +6,8 @@ ghost use Rattle.storage_thread.specs.Serving.{IsUnused};
 
 use crate::quiet_port::QuietPort;
 use exchange::{StorageEnd, WorkerEnd, make};
+use plain_store::Store;
 use proto::geometry::Geometry;
-use segcache::plain::Store;
 use session_book::causes::EndCause;
 use std::alloc::Global;
 use std::sync::Wait;
@@ -39,11 +39,15 @@ const SECOND_OUTPUTS: [&[u8]; 1] = [b"END\r\nNOT_FOUND\r\n"];
 struct SteadyClock;
 
 impl Clock for SteadyClock {
-    ghost use Rattle.std.specs.Prelude.{false, []};
+    ghost use Rattle.std.specs.Prelude.{⊤, None};
 
-    ghost tells = { λ _. false };
+    ghost told = { λ _. None };
 
-    ghost answers = { λ _. [] };
+    ghost leads_to = { λ _ _. ⊤ };
+
+    ghost leads_reflexive = { λ _. tt };
+
+    ghost leads_transitive = { λ _ _ _ _ _. tt };
 
     fn now(&mut self) -> u64 {
         1000

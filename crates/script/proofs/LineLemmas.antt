@@ -10,10 +10,11 @@ use Rattle.hex.specs.Hex.{decode_of, is_hex_digit}
 use Rattle.hex.specs.declared.error.FromHexError.{FromHexError}
 use Rattle.hex.proofs.HexLemmas.{decode_of-ok}
 use Rattle.proto.specs.Lines.{spaced}
-use Rattle.proto.specs.PlainReader.{◌>>=◌, guarded, is_space, number_in, words_of}
+use Rattle.proto.specs.PlainReader.{◌>>=◌, guarded, number_in}
+use Rattle.proto.specs.Words.{IsWord, is_space, words_of}
 use Rattle.proto.proofs.Options.{bind_some, guarded_some, some_is, none_is_some}
 use Rattle.proto.proofs.Numbers.{number_in_sound, number_in_decimal, decimal_word, chosen}
-use Rattle.proto.proofs.WordLists.{IsWord, AreWords, words_of-spaced, spaced-words_of}
+use Rattle.proto.proofs.WordLists.{AreWords, words_of-spaced, spaced-words_of}
 use Rattle.script.specs.declared.event.ScriptEvent.{ScriptEvent}
 use Rattle.script.specs.declared.event.ScriptEvent.TheVariants.{Open, Send, Gone}
 use Rattle.script.specs.declared.event.ScriptLine.{ScriptLine}

@@ -3,7 +3,7 @@
 ghost use Rattle.std.specs.Prelude.{◌≡◌, ℕ, IfOk, MatchOption, option_copied, option_to_list, option_map};
 ghost use Rattle.script.specs.Lines.{Says, SaysNothing};
 ghost use Rattle.script.specs.PlainLine.{bytes_in, event_in, line_in, session_in};
-ghost use Rattle.proto.specs.PlainReader.{words_of};
+ghost use Rattle.proto.specs.Words.{words_of};
 
 use crate::event::{ScriptEvent, ScriptLine};
 use bytes::Bytes;

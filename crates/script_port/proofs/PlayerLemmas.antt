@@ -3,6 +3,7 @@ use Rattle.std.proofs.Common.{◌≡◌, ◌≢◌, ℕ, ◌≤◌, ◌==◌, Bo
 use Rattle.std.specs.List.{filter, AllByRecursion, cons_option}
 use Rattle.std.proofs.lemmas.List.Elements.{filter-append, filter_map-append}
 use Rattle.script.specs.declared.event.ScriptEvent.{ScriptEvent}
+use Rattle.script.specs.Events as script
 use Rattle.worker.specs.declared.port.PortRecord.{PortRecord}
 use Rattle.worker.specs.declared.port.PortRecord.TheVariants as was
 use Rattle.worker.specs.Ports.{has_ended, is_end, was_opened, MayCome}
@@ -221,8 +222,8 @@ none_some : (x : SessionState) → None ≡ Some x → ⊥
 none_some x e = cc
 
 pub no_sessions : (p : Player) → p.sessions ≡ [] → p.records.entries ≡ [] → p.records.promised ≡ 0 → p.ended ≡ false
-    → (is_playable p.script.value.items ≡ true → plays_from 0 (λ (t : ℕ). false) p.events.items ≡ true) → IsConsistent p
-no_sessions p ss_is l_is promised ended plays = record {
+    → (is_playable p.script.value.items ≡ true → plays_from 0 (λ (t : ℕ). false) p.events.items ≡ true) → p.events.items ≡ p.script.value.items → IsConsistent p
+no_sessions p ss_is l_is promised ended plays all = record {
   each = λ t. subst (λ (ss : List SessionState). Agrees (entry_of ss t) (port_facts p.records.entries t)) (sym ss_is) (subst (λ (l : List PortRecord). Agrees None (port_facts l t)) (sym l_is) (refl, refl, refl, refl));
   opened_are = ap numbers ss_is ∙ sym (ap opened l_is);
   rising = λ s x e. absurd (none_some x (sym (ap (λ (ss : List SessionState). entry_of ss s) ss_is) ∙ e));
@@ -230,4 +231,10 @@ no_sessions p ss_is l_is promised ended plays = record {
   at_end = ap has_ended l_is ∙ sym ended;
   plays = λ tells. (λ i. plays_from (newest (ss_is i)) (is_open (ss_is i)) (events_left (ss_is i) p.events.items))
       ∙ ap (plays_from 0 (λ (t : ℕ). false)) (filter_all (is_left []) p.events.items (λ x. refl)) ∙ plays tells;
+  follows = λ tells. let left_is : events_left p.sessions p.events.items ≡ p.script.value.items = ap (λ ss. events_left ss p.events.items) ss_is ∙ filter_all (is_left []) p.events.items (λ x. refl) ∙ all in record {
+    opened_are = (λ i. opened (sym l_is i) ++ script.opened (sym left_is i));
+    fed_are = λ t _. (λ i. list.fed t (sym l_is i) ++ script.sent (sym left_is i) t);
+    begun = λ t closed. absurd (true≢false (sym closed ∙ ap (λ ss. was_closed ss t) ss_is));
+  };
+  finished = λ over. absurd (true≢false (sym over ∙ ended));
 }

@@ -25,7 +25,9 @@ use Rattle.script_port.specs.Records.{opened}
 use Rattle.script_port.specs.Players.{is_left, is_ready, events_left, state_of, Agrees, IsConsistent, IsFirst, TellsNext, Closes}
 use Rattle.script_port.proofs.SessionLemmas.{either_way, entry_behind, newest_more}
 use Rattle.script_port.proofs.EventLemmas.{bool_cases, lt_true, true_lt, false_lt, TakenOut, send_again, found_first}
-use Rattle.script_port.proofs.PlayerLemmas.{option_cases, open_entry, around, each_step, opened_one, opened_more, plays_along, left_same, agrees_fed}
+use Rattle.script_port.specs.Following.{Follows}
+use Rattle.script_port.proofs.FollowLemmas.{follows_open, follows_send, follows_as, no_opens, sent_apart}
+use Rattle.script_port.proofs.PlayerLemmas.{not_true, apart_before, option_cases, open_entry, around, each_step, opened_one, opened_more, plays_along, left_same, agrees_fed}
 
 -- ---- an event is taken away
 
@@ -45,6 +47,14 @@ pub removed_at : (old new : List ScriptEvent) (o : Option ScriptEvent) (before :
 removed_at old new o before e after at old_is at_is removed found =
     let lt : at < length old = subst (λ (l : List ScriptEvent). at < length l) (sym old_is) (subst (λ (n : ℕ). n < length (before ++ e ∷ after)) at_is (seam_length before e after)) in
     some_of (new ≡ remove old at) o (get_or old at e) (found lt) removed ∙ (λ i. remove (old_is i) (sym at_is i)) ∙ remove_seam before e after
+
+-- an event that is left isn't there once the port has ended
+pub none_around : (p : Player) (at : ℕ) (e : ScriptEvent) → IsConsistent p → IsFirst p at e → p.ended ≡ true → ⊥
+none_around p at e k f over = seam_some f.before e f.after (sym f.events_are ∙ k.finished over)
+  where
+    seam_some : (xs : List ScriptEvent) (e : ScriptEvent) (ys : List ScriptEvent) → xs ++ e ∷ ys ≡ [] → ⊥
+    seam_some [] e ys none = cc
+    seam_some (x ∷ xs) e ys none = cc
 
 -- ---- a session is opened
 
@@ -120,6 +130,19 @@ open_consistent p q at s k f o =
           newest_is (open_added ss s none)
           (left_same ss ss' (f.before ++ f.after) (test_added (λ (x : SessionState). is_closed x.stage) ss s none refl) ∙ filter-append (is_left ss) f.before f.after)
           ((r.taken told).rest_plays);
+      follows = λ tells.
+          let told = ap (λ sn. is_playable sn.value.items) (sym o.script_is) ∙ tells in
+          let L1 = events_left ss f.before in let L2 = events_left ss f.after in
+          let apart = apart_before ss (newest ss) (Open s) L1 k.rising r.free r.held in
+          subst (λ (script : List ScriptEvent). Follows script (events_left q.sessions q.events.items) q.records.entries (was_closed q.sessions)) (sym (ap (λ sn. sn.value.items) o.script_is))
+          (follows_open p.script.value.items (events_left ss p.events.items) (events_left q.sessions q.events.items) L1 L2 l q.records.entries s (was_closed ss) (was_closed q.sessions)
+          r.left_is
+          ((λ i. events_left (o.sessions_are i) (o.events_are i)) ∙ left_same ss ss' (f.before ++ f.after) (test_added (λ (x : SessionState). is_closed x.stage) ss s none refl) ∙ filter-append (is_left ss) f.before f.after)
+          o.records_are
+          (no_opens (newest ss) (is_open ss) (Open s) L1 (Open s ∷ L2) apart (ap (plays_from (newest ss) (is_open ss)) (sym r.left_is) ∙ k.plays told))
+          (λ t. ap (λ (m : List SessionState). was_closed m t) o.sessions_are ∙ test_added (λ (x : SessionState). is_closed x.stage) ss s none refl t)
+          (k.follows told));
+      finished = λ over. absurd (none_around p at (Open s) k f (sym o.ended_is ∙ over));
     }
 
 not_opened : (o : Option SessionState) (f : PortFacts) → Agrees o f → f.opened ≡ true → (x : SessionState) × (o ≡ Some x)
@@ -211,6 +234,18 @@ send_consistent p q at s bytes k f o =
           let told = ap (λ sn. is_playable sn.value.items) (sym o.script_is) ∙ tells in
           (λ i. plays_from (newest (o.sessions_are i)) (is_open (o.sessions_are i)) (send_left p q s bytes f.before f.after o r.is_left_too i))
           ∙ rest_plays (newest ss) (is_open ss) (events_left ss f.before) s bytes (events_left ss f.after) (ap (plays_from (newest ss) (is_open ss)) (sym r.left_is) ∙ k.plays told) (r.taken told);
+      follows = λ tells.
+          let told = ap (λ sn. is_playable sn.value.items) (sym o.script_is) ∙ tells in
+          let L1 = events_left ss f.before in let L2 = events_left ss f.after in
+          let apart = apart_before ss (newest ss) (Send s bytes) L1 k.rising r.free r.held in
+          subst (λ (script : List ScriptEvent). Follows script (events_left q.sessions q.events.items) q.records.entries (was_closed q.sessions)) (sym (ap (λ sn. sn.value.items) o.script_is))
+          (follows_send p.script.value.items (events_left ss p.events.items) (events_left q.sessions q.events.items) L1 L2 l q.records.entries s bytes (was_closed ss) (was_closed q.sessions)
+          r.left_is (send_left p q s bytes f.before f.after o r.is_left_too) o.records_are
+          (sent_apart (newest ss) (Send s bytes) L1 apart)
+          (not_true (was_closed ss s) r.is_left_too)
+          (λ t. ap (λ (m : List SessionState). was_closed m t) o.sessions_are)
+          (k.follows told));
+      finished = λ over. absurd (none_around p at (Send s bytes) k f (sym o.ended_is ∙ over));
     }
 
 -- an open session is open in the list too
@@ -229,7 +264,7 @@ send_told p q at s bytes k f o running tells =
     let ss = p.sessions in
     let r = around p at (Send s bytes) k f in record {
       records_are = o.records_are;
-      may = (open_in_list p s k ((r.taken tells).may), short_take 16384 bytes, k.at_end ∙ running);
+      may = (open_in_list p s k ((r.taken tells).may), r.free, short_take 16384 bytes, k.at_end ∙ running);
       plays = (
         bytes,
         refl,
@@ -252,7 +287,7 @@ closed_stage Playing e = refl
 closed_stage Paused e = absurd (true≢false (sym e))
 closed_stage Closed e = refl
 
-closed_waits : (o : Option SessionState) → is_some_and (λ (x : SessionState). is_closed x.stage) o ≡ true → is_some_and (λ (x : SessionState). is_waiting x.stage) o ≡ false
+pub closed_waits : (o : Option SessionState) → is_some_and (λ (x : SessionState). is_closed x.stage) o ≡ true → is_some_and (λ (x : SessionState). is_waiting x.stage) o ≡ false
 closed_waits None e = refl
 closed_waits (Some x) e = closed_stage x.stage e
 
@@ -276,8 +311,8 @@ gone_left : (p m q : Player) (at s : ℕ) (f : IsFirst p at (Gone s)) → Closes
 gone_left p m q at s f c g =
     ap (events_left m.sessions) g.events_are ∙ dead_left m.sessions s f.before f.after c.closed ∙ ap (events_left m.sessions) (sym f.events_are ∙ ap (λ d. d.items) (sym c.events_are))
 
-pub gone_consistent : (p m q : Player) (at s : ℕ) (f : IsFirst p at (Gone s)) → Closes p s (was.Gone s) m → GoesTo m q f.before f.after → IsConsistent m → IsConsistent q
-gone_consistent p m q at s f c g k =
+pub gone_consistent : (p m q : Player) (at s : ℕ) → IsConsistent p → (f : IsFirst p at (Gone s)) → Closes p s (was.Gone s) m → GoesTo m q f.before f.after → IsConsistent m → IsConsistent q
+gone_consistent p m q at s old f c g k =
     subst IsConsistent (sym g.q_is) (record {
       each = k.each;
       opened_are = k.opened_are;
@@ -285,6 +320,8 @@ gone_consistent p m q at s f c g k =
       promised = k.promised;
       at_end = k.at_end;
       plays = λ tells. ap (plays_from (newest m.sessions) (is_open m.sessions)) (gone_left p m q at s f c g) ∙ k.plays tells;
+      follows = λ tells. follows_as m.script.value.items (events_left m.sessions m.events.items) _ m.records.entries (was_closed m.sessions) (was_closed m.sessions) (gone_left p m q at s f c g) (λ t. refl) (k.follows tells);
+      finished = λ over. absurd (none_around p at (Gone s) old f (sym c.ended_is ∙ over));
     })
 
 pub gone_told : (p m q : Player) (at s : ℕ) (k : IsConsistent p) (f : IsFirst p at (Gone s)) → Closes p s (was.Gone s) m → GoesTo m q f.before f.after → p.ended ≡ false → is_playable p.script.value.items ≡ true
@@ -315,14 +352,16 @@ gone_told p m q at s k f c g running tells =
 -- ---- where the port doesn't tell
 
 -- nothing but the events changes
-pub odd_consistent : (p q : Player) → IsConsistent p → q.sessions ≡ p.sessions → q.records.entries ≡ p.records.entries → q.records.promised ≡ p.records.promised → q.ended ≡ p.ended → q.script ≡ p.script → (is_playable p.script.value.items ≡ true → ⊥) → IsConsistent q
-odd_consistent p q k sessions_are records_are promised_is ended_is script_is silent = record {
+pub odd_consistent : (p q : Player) → IsConsistent p → q.sessions ≡ p.sessions → q.records.entries ≡ p.records.entries → q.records.promised ≡ p.records.promised → q.ended ≡ p.ended → q.script ≡ p.script → (q.ended ≡ true → q.events.items ≡ []) → (is_playable p.script.value.items ≡ true → ⊥) → IsConsistent q
+odd_consistent p q k sessions_are records_are promised_is ended_is script_is finished silent = record {
   each = λ t. subst (λ (m : List SessionState). Agrees (entry_of m t) (port_facts q.records.entries t)) (sym sessions_are) (subst (λ (l : List PortRecord). Agrees (entry_of p.sessions t) (port_facts l t)) (sym records_are) (k.each t));
   opened_are = ap numbers sessions_are ∙ k.opened_are ∙ sym (ap opened records_are);
   rising = λ t y e. subst (λ (m : List SessionState). t ≤ newest m) (sym sessions_are) (k.rising t y (ap (λ (m : List SessionState). entry_of m t) (sym sessions_are) ∙ e));
   promised = subst (λ (m : List SessionState). 2 * open_count m ≤ q.records.promised) (sym sessions_are) (omega (arith, k.promised, promised_is));
   at_end = ap has_ended records_are ∙ k.at_end ∙ sym ended_is;
   plays = λ tells. absurd (silent (ap (λ sn. is_playable sn.value.items) (sym script_is) ∙ tells));
+  follows = λ tells. absurd (silent (ap (λ sn. is_playable sn.value.items) (sym script_is) ∙ tells));
+  finished = finished;
 }
 
 -- a session that opens is new, and one of which something comes is open

@@ -1,5 +1,6 @@
 pub mod Events
 pub mod Sessions
 pub mod Records
+pub mod Following
 pub mod States
 pub mod Players

@@ -14,7 +14,8 @@ use Rattle.script_port.specs.declared.player.Player.{Player}
 use Rattle.script_port.specs.Events.{session_of, send_after, plays_from, is_playable}
 use Rattle.script_port.specs.Sessions.{SessionState, numbers, newest, entry_of, is_closed, was_closed, is_open, is_paused, open_count}
 use Rattle.script_port.specs.Records.{opened}
-use Rattle.script_port.specs.States.{PortState, Plays, GoesOn, Shuts, Gives, Fails, count_down}
+use Rattle.script_port.specs.Following.{Follows}
+use Rattle.script_port.specs.States.{PortState, story_of, Plays, GoesOn, Shuts, Gives, Fails, count_down}
 
 abbrev pub is_left : List SessionState → ScriptEvent → Bool
 is_left sessions e = not (was_closed sessions (session_of e))
@@ -48,6 +49,8 @@ pub record IsConsistent (p : Player) : Type 0 where
   pub promised : 2 * open_count p.sessions ≤ p.records.promised
   pub at_end : has_ended p.records.entries ≡ p.ended
   pub plays : is_playable p.script.value.items ≡ true → plays_from (newest p.sessions) (is_open p.sessions) (events_left p.sessions p.events.items) ≡ true
+  pub follows : is_playable p.script.value.items ≡ true → Follows p.script.value.items (events_left p.sessions p.events.items) p.records.entries (was_closed p.sessions)
+  pub finished : p.ended ≡ true → p.events.items ≡ []
 
 -- the event at this place is the first that may be played now
 pub record IsFirst (p : Player) (at : ℕ) (e : ScriptEvent) : Type 0 where
@@ -67,7 +70,7 @@ TakesPiece old at new =
 -- where the port tells, an event came as it may
 pub record TellsNext (old : PortState) (result : PortEvent) (new : PortState) : Type 0 where
   pub records_are : new.records ≡ old.records ++ list.event_records result
-  pub may : list.MayCome old.records result
+  pub may : list.MayCome (story_of old) result
   pub plays : Plays old result new
   pub goes_on : GoesOn old new
 

@@ -1,5 +1,6 @@
 -- What a port has still to play, and what its calls change of that.
-use Rattle.std.specs.Prelude.{◌≡◌, ◌≢◌, ℕ, ◌-◌, ◌<◌, ◌≤◌, Bool, true, false, List, [], ◌∷◌, ◌++◌, length, take, Result, Ok, Err}
+use Rattle.std.specs.Prelude.{◌≡◌, ◌≢◌, ℕ, ◌-◌, ◌<◌, ◌==◌, ◌⊎◌, min, Bool, true, false, List, [], ◌∷◌, ◌++◌, length, take, Result, Ok, Err, Option, Some, None, if◌then◌else◌}
+use Rattle.std.proofs.Common.{refl, ◌∙◌}
 use Rattle.std.specs.List.{AllByRecursion}
 use Rattle.script.specs.declared.event.ScriptEvent.{ScriptEvent}
 use Rattle.script.specs.declared.event.ScriptEvent.TheVariants as script
@@ -7,7 +8,8 @@ use Rattle.worker.specs.declared.port.PortEvent.{PortEvent}
 use Rattle.worker.specs.declared.port.PortEvent.TheVariants as event
 use Rattle.worker.specs.declared.port.PortRecord.{PortRecord}
 use Rattle.worker.specs.declared.port.Gone.{Gone}
-use Rattle.script_port.specs.Events.{session_of, without, send_after}
+use Rattle.worker.specs.Ports.{PortStory}
+use Rattle.script_port.specs.Events.{session_of, without, send_after, is_playable}
 use Rattle.script_port.specs.Sessions.{SessionState, is_paused}
 
 -- The script that was handed in, the events of it that are left, the sessions that were opened, the list of the
@@ -62,12 +64,17 @@ count_down n (x ∷ bytes) = n - 1
 abbrev pub Fails : PortState → List ℕ → Type 0
 Fails port bytes = (port.fail_give ≡ 1) × (0 < length bytes)
 
+-- the most bytes of these that a `give` accepts; 0 stands for any number
+abbrev pub most_accepted : ℕ → List ℕ → ℕ
+most_accepted accept bytes = if accept == 0 then length bytes else min accept (length bytes)
+
 -- A `give`: it fails exactly at the offer that was said to, and the session's events that are left are dropped.
--- Else it accepts no more bytes than was said.
+-- Else it accepts all that it may, or, for want of memory, nothing.
 abbrev pub Gives : PortState → ℕ → List ℕ → Result ℕ Gone → PortState → Type 0
-Gives old s bytes (Err e) new = Fails old bytes × (new.left ≡ without s old.left) × KeepsOthers s old new
+Gives old s bytes (Err e) new =
+    Fails old bytes × (new.left ≡ without s old.left) × (is_held new s ≡ false) × KeepsOthers s old new
 Gives old s bytes (Ok n) new =
-    (Fails old bytes → ⊥) × (0 < old.accept → n ≤ old.accept) × (new.left ≡ old.left)
+    (Fails old bytes → ⊥) × ((n ≡ 0) ⊎ (n ≡ most_accepted old.accept bytes)) × (new.left ≡ old.left)
     × ((t : ℕ) → is_held new t ≡ is_held old t)
 
 abbrev pub CountsGive : PortState → List ℕ → PortState → Type 0
@@ -80,11 +87,31 @@ pub record SetsHeld (old : PortState) (s : ℕ) (held : Bool) (new : PortState) 
   pub here : is_held new s ≡ held
   pub others : KeepsOthers s old new
 
--- the session's events that are left are dropped
+-- the session's events that are left are dropped, and it is paused no more
 pub record Shuts (old : PortState) (s : ℕ) (new : PortState) : Type 0 where
   pub left : new.left ≡ without s old.left
+  pub here : is_held new s ≡ false
   pub others : KeepsOthers s old new
   pub faults : (new.script ≡ old.script) × (new.accept ≡ old.accept) × (new.fail_give ≡ old.fail_give)
+
+-- the port's list, and which sessions are paused
+abbrev pub story_of : PortState → PortStory
+story_of port = record { events = port.records; paused = is_held port }
+
+-- they are told where the events of the script may come as they stand
+abbrev pub told_of : PortState → Option PortStory
+told_of port = if is_playable port.script then Some (story_of port) else None
+
+-- a port that plays the same script, and accepts as much at once
+abbrev pub PlaysOn : PortState → PortState → Type 0
+PlaysOn old new = (new.script ≡ old.script) × (new.accept ≡ old.accept)
+
+-- it does, and so it still does later
+pub plays_same : (port : PortState) → PlaysOn port port
+plays_same port = (refl, refl)
+
+pub plays_later : (first second third : PortState) → PlaysOn first second → PlaysOn second third → PlaysOn first third
+plays_later first second third before after = (after.0 ∙ before.0, after.1 ∙ before.1)
 
 -- a port of which nothing was asked yet
 abbrev pub IsNewPort : List ScriptEvent → PortState → Type 0

@@ -7,7 +7,7 @@ ghost use Rattle.script_port.specs.Events.{session_of, is_playable};
 ghost use Rattle.script_port.specs.Sessions.{is_closed, is_waiting};
 ghost use Rattle.script_port.specs.Sessions as sessions;
 ghost use Rattle.script_port.specs.Players.{is_left, is_ready, events_left, state_of, IsConsistent, IsFirst, Played, Closes, EndsSession, Keeps, SamePlayer, CountsOffer, GivesAs, TakesPiece};
-ghost use Rattle.script_port.specs.States.{IsNewPort, CountsGive, SetsHeld};
+ghost use Rattle.script_port.specs.States.{IsNewPort, CountsGive, SetsHeld, most_accepted};
 ghost use Rattle.worker.specs.Ports.{given};
 
 use crate::records::Records;
@@ -118,6 +118,18 @@ fn take_piece(events: &mut VecDeque<ScriptEvent>, at: usize)
     }
 }
 
+// The most bytes of these that a `give` accepts.
+fn most_accepted(accept: usize, bytes: &[u8]) -> usize
+    ensures most { result ≡ most_accepted accept bytes.now }
+    ensures within { result ≤ length bytes.now }
+{
+    if accept == 0 {
+        bytes.len()
+    } else {
+        accept.min(bytes.len())
+    }
+}
+
 impl Player {
     pub(crate) fn new(alloc: Global, events: Vec<ScriptEvent>) -> Player
         ensures consistent { IsConsistent result }
@@ -154,6 +166,7 @@ impl Player {
         requires first { IsFirst self.old at (script.Open session) }
         ensures consistent { IsConsistent self.new }
         ensures script { self.new.script ≡ self.old.script }
+        ensures accept { self.new.accept ≡ self.old.accept }
         ensures played { Played self.old result self.new }
     {
         if session <= self.sessions.newest() {
@@ -176,6 +189,7 @@ impl Player {
         requires first { (bytes : List ℕ) × IsFirst self.old at (script.Send session bytes) × (piece ≡ take 16384 bytes) × (copy ≡ take 16384 bytes) }
         ensures consistent { IsConsistent self.new }
         ensures script { self.new.script ≡ self.old.script }
+        ensures accept { self.new.accept ≡ self.old.accept }
         ensures played { Played self.old result self.new }
     {
         if self.records.reserve(1).is_err() {
@@ -193,6 +207,7 @@ impl Player {
         requires first { IsFirst self.old at (script.Gone session) }
         ensures consistent { IsConsistent self.new }
         ensures script { self.new.script ≡ self.old.script }
+        ensures accept { self.new.accept ≡ self.old.accept }
         ensures played { Played self.old result self.new }
     {
         self.close(session, PortRecord::Gone(session));
@@ -207,6 +222,7 @@ impl Player {
         requires first { position (is_ready self.old.sessions) self.old.events.items ≡ Some at }
         ensures consistent { IsConsistent self.new }
         ensures script { self.new.script ≡ self.old.script }
+        ensures accept { self.new.accept ≡ self.old.accept }
         ensures played { Played self.old result self.new }
     {
         match self.events.get(at) {
@@ -236,6 +252,7 @@ impl Player {
         requires none { self.old.events.items ≡ [] }
         ensures consistent { IsConsistent self.new }
         ensures script { self.new.script ≡ self.old.script }
+        ensures accept { self.new.accept ≡ self.old.accept }
         ensures played { Played self.old result self.new }
     {
         if self.records.reserve(1).is_err() {
@@ -252,6 +269,7 @@ impl Player {
         requires consistent { IsConsistent self.old }
         ensures consistent { IsConsistent self.new }
         ensures script { self.new.script ≡ self.old.script }
+        ensures accept { self.new.accept ≡ self.old.accept }
         ensures played { Played self.old result self.new }
     {
         if self.ended {
@@ -270,12 +288,18 @@ impl Player {
         }
     }
 
+    /// Whether events are left, of paused sessions alone.
+    pub(crate) fn is_waiting(&self) -> bool {
+        !self.events.is_empty() && first_ready(&self.sessions, &self.events).is_none()
+    }
+
     /// Ends an open session with this entry, in a place that was taken when it began. Its events are left no more.
     pub(crate) fn close(&mut self, session: u64, entry: PortRecord)
         requires consistent { IsConsistent self.old }
         requires ends { EndsSession session entry }
         ensures consistent { IsConsistent self.new }
         ensures script { self.new.script ≡ self.old.script }
+        ensures accept { self.new.accept ≡ self.old.accept }
         ensures closes { sessions.is_open self.old.sessions session ≡ true → Closes self.old session entry self.new }
         ensures same { sessions.is_open self.old.sessions session ≡ false → self.new ≡ self.old }
     {
@@ -290,6 +314,7 @@ impl Player {
         requires stage { is_closed stage ≡ false }
         ensures consistent { IsConsistent self.new }
         ensures script { self.new.script ≡ self.old.script }
+        ensures accept { self.new.accept ≡ self.old.accept }
         ensures records { self.new.records ≡ self.old.records }
         ensures held { sessions.is_open self.old.sessions session ≡ true → SetsHeld (state_of self.old) session (is_waiting stage) (state_of self.new) }
     {
@@ -336,10 +361,7 @@ impl Player {
             self.close(session, PortRecord::Gone(session));
             return Err(Gone);
         }
-        let mut most = bytes.len();
-        if self.accept > 0 {
-            most = most.min(self.accept);
-        }
+        let most = most_accepted(self.accept, bytes);
         if most > 0 && self.keep(session, &bytes[..most]) {
             return Ok(most);
         }

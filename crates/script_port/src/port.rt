@@ -1,13 +1,14 @@
 //! A port that plays a script.
 
-ghost use Rattle.std.specs.Prelude.{◌≡◌, ℕ, ◌++◌, [], ◌∷◌, ◌≤◌, ◌↔◌, length, true, false, IfOk};
+ghost use Rattle.std.specs.Prelude.{◌≡◌, ℕ, ◌++◌, [], ◌∷◌, ◌≤◌, ◌↔◌, length, true, false, IfOk, option_map, Some};
 ghost use Rattle.script.specs.Events.{IsPlayable};
 ghost use Rattle.worker.specs.declared.port.PortRecord.TheVariants.{Shut};
-ghost use Rattle.worker.specs.Ports.{event_records, give_records, is_open, MayCome, given};
+ghost use Rattle.worker.specs.Ports.{PortStory, then_told, with_pause, event_records, give_records, IsOpenIn, MayCome, given};
 ghost use Rattle.script_port.specs.Events.{is_playable};
 ghost use Rattle.script_port.specs.Sessions.{numbers};
 ghost use Rattle.script_port.specs.Records.{opened};
-ghost use Rattle.script_port.specs.States.{Plays, Gives, GoesOn, CountsGive, SetsHeld, Shuts, IsNewPort};
+ghost use Rattle.script_port.specs.Following.{IsPlayed};
+ghost use Rattle.script_port.specs.States.{told_of, PlaysOn, Plays, Gives, GoesOn, CountsGive, SetsHeld, Shuts, IsNewPort};
 
 use crate::player::Player;
 use crate::sessions::Session;
@@ -25,6 +26,8 @@ use worker::port::{Gone, Port, PortEvent, PortRecord};
 #[derive(Drop)]
 pub struct ScriptPort {
     player: Player,
+    /// No event left may be played until a session is resumed or closed, so none is looked for.
+    is_waiting: bool,
 }
 
 impl Model for ScriptPort {
@@ -46,6 +49,7 @@ impl ScriptPort {
     {
         ScriptPort {
             player: Player::new(alloc, events),
+            is_waiting: false,
         }
     }
 
@@ -66,65 +70,81 @@ impl ScriptPort {
         self.player.given(session)
     }
 
-    /// The sessions that were opened, in order.
+    /// The sessions that were opened, in order. The list tells what the script says of them.
     pub fn sessions(&self) -> &[Session]
         ensures sessions { result.now ≡ self.now.sessions }
         ensures opened { numbers result.now ≡ opened self.now.records }
+        ensures played { is_playable self.now.script ≡ true → IsPlayed self.now.script self.now.records }
     {
         self.player.sessions.as_slice()
     }
 }
 
 impl Port for ScriptPort {
-    ghost tells = { λ p. is_playable p.script };
+    ghost use Rattle.script_port.specs.States.{told_of, PlaysOn, plays_same, plays_later};
 
-    ghost events = { λ p. p.records };
+    ghost told = { told_of };
 
-    fn next(&mut self) -> PortEvent
-        ensures tells { is_playable self.new.script ≡ is_playable self.old.script }
-        ensures events { is_playable self.old.script ≡ true → self.new.records ≡ self.old.records ++ event_records result }
-        ensures may { is_playable self.old.script ≡ true → MayCome self.old.records result }
+    ghost leads_to = { PlaysOn };
+
+    ghost leads_reflexive = { plays_same };
+
+    ghost leads_transitive = { plays_later };
+
+    /// It never waits.
+    fn next(&mut self, _may_wait: bool) -> PortEvent
+        ensures leads { PlaysOn self.old self.new }
+        ensures told { told_of self.new ≡ option_map (then_told (event_records result)) (told_of self.old) }
+        ensures may { (story : PortStory) → told_of self.old ≡ Some story → MayCome story result }
         ensures plays { is_playable self.old.script ≡ true → Plays self.old result self.new }
         ensures goes_on { is_playable self.old.script ≡ true → GoesOn self.old self.new }
     {
-        self.player.next()
+        if self.is_waiting {
+            return PortEvent::Idle;
+        }
+        let event = self.player.next();
+        self.is_waiting = matches!(&event, PortEvent::Idle) && self.player.is_waiting();
+        event
     }
 
     fn give(&mut self, session: u64, bytes: &[u8]) -> Result<usize, Gone>
-        requires { is_playable self.old.script ≡ true → is_open session self.old.records ≡ true }
+        requires { IsOpenIn session (told_of self.old) }
         ensures within { IfOk result (λ n. n ≤ length bytes.now) }
-        ensures tells { is_playable self.new.script ≡ is_playable self.old.script }
-        ensures events { is_playable self.old.script ≡ true → self.new.records ≡ self.old.records ++ give_records session bytes.now result }
+        ensures leads { PlaysOn self.old self.new }
+        ensures told { told_of self.new ≡ option_map (then_told (give_records session bytes.now result)) (told_of self.old) }
         ensures gives { is_playable self.old.script ≡ true → Gives self.old session bytes.now result self.new }
         ensures counts { CountsGive self.old bytes.now self.new }
     {
+        self.is_waiting = false;
         self.player.give(session, bytes)
     }
 
     fn pause(&mut self, session: u64)
-        requires { is_playable self.old.script ≡ true → is_open session self.old.records ≡ true }
-        ensures tells { is_playable self.new.script ≡ is_playable self.old.script }
-        ensures events { is_playable self.old.script ≡ true → self.new.records ≡ self.old.records }
+        requires { IsOpenIn session (told_of self.old) }
+        ensures leads { PlaysOn self.old self.new }
+        ensures told { told_of self.new ≡ option_map (with_pause session true) (told_of self.old) }
         ensures held { is_playable self.old.script ≡ true → SetsHeld self.old session true self.new }
     {
         self.player.hold(session, Stage::Paused);
     }
 
     fn resume(&mut self, session: u64)
-        requires { is_playable self.old.script ≡ true → is_open session self.old.records ≡ true }
-        ensures tells { is_playable self.new.script ≡ is_playable self.old.script }
-        ensures events { is_playable self.old.script ≡ true → self.new.records ≡ self.old.records }
+        requires { IsOpenIn session (told_of self.old) }
+        ensures leads { PlaysOn self.old self.new }
+        ensures told { told_of self.new ≡ option_map (with_pause session false) (told_of self.old) }
         ensures held { is_playable self.old.script ≡ true → SetsHeld self.old session false self.new }
     {
+        self.is_waiting = false;
         self.player.hold(session, Stage::Playing);
     }
 
     fn shut(&mut self, session: u64)
-        requires { is_playable self.old.script ≡ true → is_open session self.old.records ≡ true }
-        ensures tells { is_playable self.new.script ≡ is_playable self.old.script }
-        ensures events { is_playable self.old.script ≡ true → self.new.records ≡ self.old.records ++ Shut session ∷ [] }
+        requires { IsOpenIn session (told_of self.old) }
+        ensures leads { PlaysOn self.old self.new }
+        ensures told { told_of self.new ≡ option_map (then_told (Shut session ∷ [])) (told_of self.old) }
         ensures shuts { is_playable self.old.script ≡ true → Shuts self.old session self.new }
     {
+        self.is_waiting = false;
         self.player.close(session, PortRecord::Shut(session));
     }
 }

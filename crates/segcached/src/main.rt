@@ -1,16 +1,18 @@
-//! `segcached`: replays scripts.
+//! `segcached`: serves, and replays scripts.
 #![tactic(auto)]
 
 use proto::geometry::Geometry;
 use std::fs::File;
 use std::io::{self, BufWriter};
+use std::net::Net;
 use std::process::ExitCode;
 use std::sync::Wait;
 use std::thread::Threads;
 use std::{env, fs, time};
 use subcommands::fault::Fault;
 use subcommands::replay::{cannot_read, geometry_of, replay};
-use subcommands::words::{Job, Options, WordsFault, parse_words};
+use subcommands::serve::{serve, serve_geometry};
+use subcommands::words::{Job, Options, ServeOptions, WordsFault, parse_words, unreadable_words};
 
 /// Replays the script in the file that the options name, with these threads.
 fn replay_file<H: Threads + Wait + time::Clock + Sync>(
@@ -28,43 +30,59 @@ fn replay_file<H: Threads + Wait + time::Clock + Sync>(
     replay(threads, alloc, options, geometry, script, &mut out)
 }
 
-/// Does the job, and answers the exit status.
-fn run<H: Threads + Wait + time::Clock + Sync>(
+/// Serves as the options say.
+fn serve_at<H: Threads + Wait + Net + time::Clock + Copy + Drop + Send + Sync + 'static>(
+    rt: &HostRuntime,
+    threads: &H,
+    options: &ServeOptions,
+) -> Result<(), Fault> {
+    let alloc = rt.alloc();
+    let geometry = serve_geometry(options)?;
+    let mut out = BufWriter::new(alloc, io::writer(rt)).map_err(|_| Fault::NoMemory)?;
+    serve(*threads, alloc, options, geometry, &mut out)
+}
+
+/// What the words after the program's name ask for.
+fn job(rt: &HostRuntime) -> Result<Job, WordsFault> {
+    let alloc = rt.alloc();
+    let words = match env::args(rt) {
+        Ok(words) => words,
+        Err(error) => return Err(unreadable_words(alloc, &error)),
+    };
+    let words: Vec<String> = words.skip(1).collect(alloc)?;
+    parse_words(alloc, words.as_slice())
+}
+
+/// Does the job.
+fn run<H: Threads + Wait + Net + time::Clock + Copy + Drop + Send + Sync + 'static>(
     rt: &HostRuntime,
     threads: &H,
     job: Job,
-) -> io::Result<u8> {
+) -> Result<(), Fault> {
     match job {
-        Job::Help(text) => {
-            if rt.print(text).is_err() {
-                rt.eprintln("fault: cannot write")?;
-                return Ok(1);
-            }
-            Ok(0)
-        }
-        Job::Replay(options) => match replay_file(rt, threads, &options) {
-            Ok(()) => Ok(0),
-            Err(fault) => {
-                rt.eprintln(fault)?;
-                Ok(1)
-            }
-        },
+        Job::Help(text) => rt.print(text).map_err(|_| Fault::CannotWrite),
+        Job::Replay(options) => replay_file(rt, threads, &options),
+        Job::Serve(options) => serve_at(rt, threads, &options),
     }
 }
 
-fn main(rt: HostRuntime) -> io::Result<ExitCode> {
-    let alloc = rt.alloc();
-    let words: Vec<String> = env::args(&rt)?.skip(1).collect(alloc)?;
-    let status = match parse_words(alloc, words.as_slice()) {
-        Ok(job) => run(&rt, &rt, job)?,
+/// Prints the fault, where standard error takes it, and answers the exit status.
+fn fail(rt: &HostRuntime, fault: Fault) -> u8 {
+    let _ = rt.eprintln(fault);
+    1
+}
+
+fn main(rt: HostRuntime) -> ExitCode {
+    let status = match job(&rt) {
+        Ok(job) => match run(&rt, &rt, job) {
+            Ok(()) => 0,
+            Err(fault) => fail(&rt, fault),
+        },
         Err(WordsFault::BadWords(text)) => {
-            rt.eprint(text)?;
+            let _ = rt.eprint(text);
             2
         }
-        Err(WordsFault::NoMemory) => {
-            rt.eprintln("fault: out of memory")?;
-            1
-        }
+        Err(WordsFault::NoMemory) => fail(&rt, Fault::NoMemory),
     };
-    Ok(ExitCode::from(status))
+    ExitCode::from(status)
 }

@@ -11,9 +11,11 @@ found_from : (p : PoolState) (n : ℕ) (before behind : List Item) → items_of 
     → All (λ s. item_in p s.place ≡ Some s.item) (standing_from n (size_of_all before) behind)
 found_from p n before [] e = All-nil (λ s. item_in p s.place ≡ Some s.item)
 found_from p n before (i ∷ behind) e =
-    let here : item_in p (record { segment = n; offset = size_of_all before }) ≡ Some i = ap (λ xs. item_at xs (size_of_all before)) e ∙ item_behind before i behind in
+    let here : item_in p (record { segment = n; offset = size_of_all before }) ≡ Some i = ap (λ xs. item_at xs (size_of_all before)) e
+    ∙ item_behind before i behind in
     let next : size_of_all (before ++ i ∷ []) ≡ size_of_all before + item_size i = sum_by_push item_size before i in
-    All-cons (λ s. item_in p s.place ≡ Some s.item) (record { place = record { segment = n; offset = size_of_all before }; item = i }) (standing_from n (size_of_all before + item_size i) behind) here
+    All-cons (λ s. item_in p s.place ≡ Some s.item) (record { place = record { segment = n; offset = size_of_all before }; item = i })
+    (standing_from n (size_of_all before + item_size i) behind) here
     (subst (λ o. All (λ s. item_in p s.place ≡ Some s.item) (standing_from n o behind)) next
     (found_from p n (before ++ i ∷ []) behind (e ∙ sym (append_assoc before (i ∷ []) behind))))
 

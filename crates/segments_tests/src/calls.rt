@@ -1,111 +1,88 @@
-//! Each public call where it succeeds.
+//! Public calls whose answers the runs don't show.
 
-use crate::keys::{check_hits, check_segment, key_of, value_of, walked};
-use crate::store::{Store, item_for, make_store};
+use crate::run::{key_of, value_of};
+use crate::stock::Stock;
 use segments::bucket::LASTING;
-use segments::place::Place;
-use segments::pool::NoRoom;
+use segments::place::{Move, Place};
 use std::alloc::Global;
 use std::process::Abort;
 use std::test::Fail;
 
 #[test]
 fn a_new_pool(rt: HostRuntime) -> Result<(), Fail> {
-    let store = make_store(rt.alloc(), 4096, 8)?;
-    assert_eq!(rt; store.pool.oldest(), None);
-    assert_eq!(rt; store.pool.moves().len(), 0);
-    assert_eq!(rt; store.pool.geometry().segment_size(), 4096);
-    assert_eq!(rt; store.pool.geometry().segments(), 8);
-    for segment in 0..8 {
-        assert_eq!(rt; walked(&rt, rt.alloc(), &store, segment)?.len(), 0);
-    }
+    let stock = Stock::new(rt.alloc(), 4096, 8)?;
+    assert!(rt; stock.pool.oldest().is_none());
+    assert!(rt; stock.moves().is_empty());
+    assert!(rt; stock.pool.geometry().segment_size() == 4096);
+    assert!(rt; stock.pool.geometry().segments() == 8);
     Ok(())
 }
 
+/// Items of 32 bytes stand one behind the other. Reads are counted up to 127.
 #[test]
-fn an_item(rt: HostRuntime) -> Result<(), Fail> {
-    let mut store = make_store(rt.alloc(), 4096, 8)?;
-    let place = store.write(LASTING, 1000, b"a", b"x")?;
-    assert_eq!(rt; place.offset, 0);
-    let item = store.item(1).ok_or("gone")?;
-    assert_eq!(rt; (item.key, item.value), (b"a".as_slice(), b"x".as_slice()));
-    assert_eq!(rt;
-        (item.flags, item.deadline, item.cas, item.reads),
-        (0, None, 1, 0)
-    );
-    assert_eq!(rt; store.pool.oldest(), Some(place.segment));
-    let next = store.write(LASTING, 1000, b"b", b"y")?;
-    assert_eq!(rt;
-        next,
-        Place {
-            segment: place.segment,
-            offset: 32
-        }
-    );
-    check_segment(&rt, rt.alloc(), &store, &[1, 2])?;
-    Ok(())
-}
-
-/// Reads are counted up to 127.
-#[test]
-fn many_reads(rt: HostRuntime) -> Result<(), Fail> {
-    let mut store = make_store(rt.alloc(), 4096, 8)?;
-    store.write(LASTING, 1000, b"a", b"x")?;
+fn two_items(rt: HostRuntime) -> Result<(), Fail> {
+    let mut stock = Stock::new(rt.alloc(), 4096, 8)?;
+    let first = stock.append(LASTING, 1000, 1, b"a", b"x").ok_or("no room")?;
+    let second = stock.append(LASTING, 1000, 2, b"b", b"y").ok_or("no room")?;
+    assert!(rt; first.offset == 0 && second.offset == 32);
+    assert!(rt; first.segment == second.segment);
+    assert!(rt; stock.pool.oldest() == Some(first.segment));
     for _ in 0..130 {
-        store.read(1)?;
+        stock.read(first);
     }
-    assert_eq!(rt; store.item(1).ok_or("gone")?.reads, 127);
+    let item = stock.item(first).ok_or("gone")?;
+    assert!(rt; item.key == b"a".as_slice() && item.value == b"x".as_slice());
+    assert!(rt; item.flags == 0 && item.cas == 1 && item.reads == 127);
+    assert!(rt; item.deadline.is_none());
+    Ok(())
+}
+
+/// With the key `a` the largest value of a segment of 4,096 bytes has 487 bytes.
+#[test]
+fn the_largest_item(rt: HostRuntime) -> Result<(), Fail> {
+    let mut stock = Stock::new(rt.alloc(), 4096, 8)?;
+    let large = value_of(rt.alloc(), 1, 488)?;
+    assert!(rt; stock.append(LASTING, 1000, 1, b"a", &large).is_none());
+    let value = value_of(rt.alloc(), 1, 487)?;
+    assert!(rt; stock.append(LASTING, 1000, 1, b"a", &value).is_some());
     Ok(())
 }
 
 /// Eight segments with eight items each.
-fn full_store(alloc: Global) -> Result<Store, Fail> {
-    let mut store = make_store(alloc, 4096, 8)?;
+fn fill(alloc: Global, stock: &mut Stock) -> Result<(), Fail> {
     for n in 1..65 {
-        store.write(LASTING, 1000, &key_of(n), &value_of(n))?;
+        let value = value_of(alloc, n, 476)?;
+        stock
+            .append(LASTING, 1000, n as u64, &key_of(n), &value)
+            .ok_or("no room")?;
     }
-    Ok(store)
-}
-
-#[test]
-fn no_room(rt: HostRuntime) -> Result<(), Fail> {
-    let mut store = full_store(rt.alloc())?;
-    let value = value_of(65);
-    let item = item_for(store.geometry, 65, b"k065", &value).ok_or("too large")?;
-    assert_eq!(rt; store.pool.append(LASTING, 1000, item), Err(NoRoom));
     Ok(())
 }
 
 /// Of 32 moves the first 24 forget an item, and the others put theirs behind one another into the first segment.
-fn check_moves(rt: &impl Abort, store: &Store) -> Result<(), Fail> {
-    let moves = store.pool.moves();
-    let segment = store.place(1).ok_or("gone")?.segment;
-    assert_eq!(rt; moves.len(), 32);
-    for k in 0..32 {
-        let target = if k < 24 {
-            None
-        } else {
-            Some(Place {
-                segment,
-                offset: 504 * (k as u32 - 24),
-            })
-        };
-        assert_eq!(rt; Some(moves[k].source), store.place(k + 1));
-        assert_eq!(rt; moves[k].target, target);
+fn check_moves(rt: &impl Abort, moves: &[Move], segment: u32) {
+    assert!(rt; moves.len() == 32, "moves");
+    for (k, step) in moves.iter().enumerate() {
+        assert!(rt; step.source.offset == 504 * (k as u32 % 8), "source of {k}");
+        match step.target {
+            None => assert!(rt; k < 24, "no target of {k}"),
+            Some(target) => {
+                assert!(rt; k >= 24 && target.segment == segment, "target of {k}");
+                assert!(rt; target.offset == step.source.offset, "target of {k}");
+            }
+        }
     }
-    Ok(())
 }
 
-/// A plan lists the moves and changes no segment; the merge makes them.
+/// A plan lists the moves and changes no segment.
 #[test]
 fn a_planned_merge(rt: HostRuntime) -> Result<(), Fail> {
-    let mut store = full_store(rt.alloc())?;
-    assert!(rt; store.plan());
-    check_segment(&rt, rt.alloc(), &store, &[1, 2, 3, 4, 5, 6, 7, 8])?;
-    check_hits(&rt, &store, &[(1, 64)]);
-    check_moves(&rt, &store)?;
-    store.merge();
-    check_hits(&rt, &store, &[(25, 64)]);
-    assert_eq!(rt; store.pool.moves().len(), 0);
+    let mut stock = Stock::new(rt.alloc(), 4096, 8)?;
+    fill(rt.alloc(), &mut stock)?;
+    let segment = stock.pool.oldest().ok_or("no segment")?;
+    assert!(rt; stock.plan());
+    check_moves(&rt, stock.moves(), segment);
+    let first = Place { segment, offset: 0 };
+    assert!(rt; stock.item(first).ok_or("gone")?.cas == 1);
     Ok(())
 }

@@ -9,13 +9,13 @@ mod calls;
 #[cfg(test)]
 mod deadlines;
 #[cfg(test)]
-mod keys;
-#[cfg(test)]
 mod layout;
 #[cfg(test)]
 mod rows;
 #[cfg(test)]
-mod store;
+mod run;
+#[cfg(test)]
+mod stock;
 #[cfg(test)]
 mod walks;
 #[cfg(test)]

@@ -1,7 +1,7 @@
 //! Walks that find out what may be asked of a pool.
 
 ghost use Rattle.std.specs.Prelude.{◌≡◌, IsTrue, IsSome};
-ghost use Rattle.segments.specs.Pools.{item_in, segment_at};
+ghost use Rattle.segments.specs.Pools.{item_in};
 
 use proto::geometry::Geometry;
 use segments::place::Place;
@@ -22,12 +22,4 @@ pub fn has_item(pool: &Pool, geometry: Geometry, place: Place) -> bool
         }
     }
     false
-}
-
-/// Whether the segment is one of a chain, which has an item.
-pub fn is_in_chain(pool: &Pool, geometry: Geometry, segment: u32) -> bool
-    requires { pool.now.sizes ≡ geometry }
-    ensures { IsTrue result → IsSome (segment_at pool.now segment) }
-{
-    segment < geometry.segments() && pool.walk(segment).next().is_some()
 }

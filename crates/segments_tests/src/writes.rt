@@ -1,48 +1,39 @@
-//! Where the writes of a test stand.
+//! Where the writes of a run stand.
 
-ghost use Rattle.std.specs.Prelude.{◌≡◌};
-ghost use Rattle.segments_tests.specs.Writing.{is_at};
-
-use segments::item::ItemRef;
-use segments::live::Live;
 use segments::place::{Move, Place};
+use std::alloc::{AllocError, Global};
 
-/// The place of each write by its cas number, none where it was replaced or forgotten, and the moment.
+/// The place of each write by its cas number, none where it was forgotten. The first write has the number 1.
 #[derive(Drop)]
 pub struct Writes {
-    pub places: Vec<Option<Place>>,
-    pub now: u64,
-}
-
-/// Whether a write stands at the place.
-fn is_at(place: Place, spot: Option<Place>) -> bool
-    ensures { result ≡ is_at place spot }
-{
-    match spot {
-        None => false,
-        Some(spot) => spot.segment == place.segment && spot.offset == place.offset,
-    }
-}
-
-impl Live for Writes {
-    ghost use Rattle.segments_tests.specs.Writing.{is_live};
-
-    ghost lives_at = { λ w place item deadline. is_live w.places.items w.now place item deadline };
-
-    fn lives(&self, place: Place, item: &ItemRef) -> bool {
-        let spot = match self.places.get(item.cas as usize) {
-            None => None,
-            Some(spot) => *spot,
-        };
-        let is_to_come = match item.deadline {
-            None => true,
-            Some(deadline) => self.now < deadline,
-        };
-        is_at(place, spot) && is_to_come
-    }
+    places: Vec<Option<Place>>,
 }
 
 impl Writes {
+    pub fn new(alloc: Global) -> Result<Writes, AllocError> {
+        let mut places = Vec::new(alloc);
+        places.push(None)?;
+        Ok(Writes { places })
+    }
+
+    /// The number that the next write gets.
+    pub fn next(&self) -> usize {
+        self.places.len()
+    }
+
+    pub fn add(&mut self, place: Place) -> Result<(), AllocError> {
+        self.places.push(Some(place))?;
+        Ok(())
+    }
+
+    /// Where a write stands, none where it is no longer there.
+    pub fn place(&self, write: usize) -> Option<Place> {
+        match self.places.get(write) {
+            None => None,
+            Some(place) => *place,
+        }
+    }
+
     /// The writes from now on stand where a merge puts them.
     pub fn follow(&mut self, moves: &[Move]) {
         for spot in self.places.iter_mut() {
@@ -56,7 +47,7 @@ impl Writes {
         }
     }
 
-    /// Forgets what stands in a segment.
+    /// What stands in a segment is forgotten.
     pub fn forget_segment(&mut self, segment: u32) {
         for spot in self.places.iter_mut() {
             if let Some(place) = *spot {
@@ -67,18 +58,8 @@ impl Writes {
         }
     }
 
-    /// Forgets the writes of a range, both ends included.
-    pub fn forget(&mut self, first: usize, last: usize) {
-        for (n, spot) in self.places.iter_mut().enumerate() {
-            if first <= n && n <= last {
-                *spot = None;
-            }
-        }
-    }
-
-    /// Forgets all.
-    pub fn forget_all(&mut self) {
-        for spot in self.places.iter_mut() {
+    pub fn forget(&mut self, write: usize) {
+        if let Some(spot) = self.places.get_mut(write) {
             *spot = None;
         }
     }

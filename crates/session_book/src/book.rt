@@ -1,8 +1,8 @@
 //! The sessions of one worker: reading what they were fed, and answering in the order of their messages.
 
-ghost use Rattle.std.specs.Prelude.{◌≡◌, ◌+◌, ◌≤◌, ◌<◌, ◌↔◌, [], length, option_map, IsSomeAnd, OnOk, OnErr};
+ghost use Rattle.std.specs.Prelude.{◌≡◌, ◌+◌, ◌≤◌, ◌<◌, ◌↔◌, [], length, not, false, ◌==◌, is_some, option_map, IsSomeAnd, OnOk, OnErr};
 ghost use Rattle.session_book.specs.Session.{SessionState, new_session, IsFull, fed, gave, finished_by};
-ghost use Rattle.std.specs.Option.{option_and_then};
+ghost use Rattle.std.specs.Option.{option_and_then, option_map_or};
 
 use crate::causes::{EndCause, FeedFault, OpenFault, Settled, Unsettled};
 use crate::limits::{MAX_POSTS, MAX_SESSIONS, MAX_UNSETTLED};
@@ -145,6 +145,22 @@ impl Book {
                 self.sessions.remove(&answered.session);
                 Settled::Starved
             }
+        }
+    }
+
+    pub fn is_open(&self, session: u64) -> bool
+        ensures { result ≡ is_some (session_of self.now session) }
+    {
+        self.sessions.contains_key(&session)
+    }
+
+    /// Whether the session has requests that aren't settled, or messages behind them.
+    pub fn awaits(&self, session: u64) -> bool
+        ensures { result ≡ option_map_or (λ s. not (length s.queue == 0)) (session_of self.now session) false }
+    {
+        match self.sessions.get(&session) {
+            Some(open) => open.awaits(),
+            None => false,
         }
     }
 

@@ -1,5 +1,7 @@
 //! What a caller carries over a whole run, over the definitions alone.
 
+ghost use Rattle.std.specs.Prelude.{◌≡◌};
+ghost use Rattle.session_book.specs.declared.limits.TheConstants.{MAX_UNSETTLED, MAX_UNREAD, MAX_WAITING, MAX_SESSIONS, MAX_POSTS};
 ghost use Rattle.session_book.specs.Accounts.{StartsAccounts, FeedKeeps, ReadKeeps, SettleKeeps, GiveKeeps, ReadBegins, ReadIsWhole, SaidBegins, SaidIsWhole};
 
 /// What was read and what was said of a session, from its opening on, through each call that changes it.
@@ -17,4 +19,13 @@ pub fn beginnings()
     ensures read_whole { ReadIsWhole }
     ensures said { SaidBegins }
     ensures said_whole { SaidIsWhole }
+{}
+
+/// The limits that the contracts of a book cite, in numbers.
+pub fn limits()
+    ensures unsettled { MAX_UNSETTLED ≡ 64 }
+    ensures unread { MAX_UNREAD ≡ 262144 }
+    ensures waiting { MAX_WAITING ≡ 1048576 }
+    ensures sessions { MAX_SESSIONS ≡ 16777216 }
+    ensures posts { MAX_POSTS ≡ 4611686018427387904 }
 {}

@@ -1,6 +1,6 @@
 //! One session: reading its messages and answering them in their places.
 
-ghost use Rattle.std.specs.Prelude.{◌≡◌, ◌≤◌, ◌<◌, ◌+◌, ◌↔◌, [], length, drop, is_some, OnOk, OnErr, ◌∷◌, ◌++◌, true, None, Err};
+ghost use Rattle.std.specs.Prelude.{◌≡◌, ◌≤◌, ◌<◌, ◌+◌, ◌↔◌, [], length, not, ◌==◌, drop, is_some, OnOk, OnErr, ◌∷◌, ◌++◌, true, None, Err};
 ghost use Rattle.std.specs.Bool.{OnTrue, OnFalse};
 ghost use Rattle.proto.specs.Answers.{said};
 ghost use Rattle.session_book.specs.Session.{begins_asked, left, ended_by, read_of};
@@ -158,6 +158,12 @@ impl Session {
         ensures { self.new ≡ gave self.old n }
     {
         self.output.discard(n);
+    }
+
+    pub fn awaits(&self) -> bool
+        ensures { result ≡ not (length self.now.queue == 0) }
+    {
+        !self.queue.is_empty()
     }
 
     pub fn finished(&self) -> Option<EndCause>

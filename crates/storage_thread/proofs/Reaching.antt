@@ -13,13 +13,13 @@ use Rattle.proto.specs.Steps.{Step}
 use Rattle.proto.specs.History.{max_moment, MomentsFrom, Chain, NumbersFrom, worker_share, Legal}
 use Rattle.storage_thread.specs.Serving.{moments, moment_after, moments_after, last_or, last_cache, Reaches}
 
-chain_more : (sizes : Sizes) (before : Cache) (h : List Answered) (caches : List Cache) (e : Answered) (after : Cache) → Chain sizes before h caches → Step sizes (last_cache before caches) e.moment e.request e.reply after → Chain sizes before (h ++ e ∷ []) (caches ++ after ∷ [])
+pub chain_more : (sizes : Sizes) (before : Cache) (h : List Answered) (caches : List Cache) (e : Answered) (after : Cache) → Chain sizes before h caches → Step sizes (last_cache before caches) e.moment e.request e.reply after → Chain sizes before (h ++ e ∷ []) (caches ++ after ∷ [])
 chain_more sizes before [] [] e after c s = (s, tt)
 chain_more sizes before [] (x ∷ caches) e after c s = absurd c
 chain_more sizes before (b ∷ h) [] e after c s = absurd c
 chain_more sizes before (b ∷ h) (x ∷ caches) e after c s = (c.0, chain_more sizes x h caches e after c.1 s)
 
-last_more : (before : Cache) (caches : List Cache) (after : Cache) → last_cache before (caches ++ after ∷ []) ≡ after
+pub last_more : (before : Cache) (caches : List Cache) (after : Cache) → last_cache before (caches ++ after ∷ []) ≡ after
 last_more before [] after = refl
 last_more before (x ∷ caches) after = last_more x caches after
 

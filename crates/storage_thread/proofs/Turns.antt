@@ -1,6 +1,7 @@
 -- What one turn of the storage thread keeps.
-use Rattle.std.proofs.Common.{◌≡◌, ◌≢◌, ℕ, zero, suc, ◌+◌, ◌<◌, ◌≤◌, List, [], ◌∷◌, ◌++◌, map, length, Some, None, Bool, cond, refl, sym, ap, ◌∙◌, subst, arith, length-append, append_assoc, eq-eqb, ne_eqb}
+use Rattle.std.proofs.Common.{◌≡◌, ◌≢◌, ℕ, zero, suc, ◌+◌, ◌<◌, ◌≤◌, List, [], ◌∷◌, ◌++◌, map, length, Option, Some, None, Bool, cond, refl, sym, ap, ◌∙◌, subst, arith, length-append, append_assoc, append-nil, eq-eqb, ne_eqb}
 use Rattle.std.specs.List.{All}
+use Rattle.std.specs.Option.{option_map}
 use Rattle.std.proofs.lemmas.List.Elements.{All-nil, All-cons, All-head, All-tail, All-append}
 use mathlib.Core.Logic.{dite}
 use mathlib.Core.List.{map-append}
@@ -12,7 +13,7 @@ use Rattle.proto.specs.History.{worker_share}
 use Rattle.exchange.specs.declared.messages.Taken.TheVariants.{Asked, Bye}
 use Rattle.exchange.specs.Beginnings.{times}
 use Rattle.exchange.specs.Ends.{StorageView, FindsNone, FindsOne}
-use Rattle.storage_thread.specs.Serving.{moments, moment_after, moments_after, last_or, IsTimed, taken_as, SaidBye, IsUnused, Reaches, IsAnswered, IsServing}
+use Rattle.storage_thread.specs.Serving.{AddsAnswers, AsksClock, moments, moment_after, moments_after, last_or, IsTimed, taken_as, SaidBye, IsUnused, Reaches, IsAnswered, IsServing}
 use Rattle.storage_thread.proofs.Reaching.{moments_more, times_more}
 
 -- before the first request
@@ -28,12 +29,18 @@ serving_first v c m u c_is m_is = record {
   once = λ w. subst (λ (l : List ℕ). times w l ≤ 1) (sym u.3) (omega arith);
 }
 
-pub timed_first : (a : List ℕ) (h : List Answered) → h ≡ [] → IsTimed a a h
-timed_first a h none = ([], sym (append_nil a), ap moments none)
-  where
-    append_nil : (l : List ℕ) → l ++ [] ≡ l
-    append_nil [] = refl
-    append_nil (x ∷ l) = ap (λ (z : List ℕ). x ∷ z) (append_nil l)
+-- no answer, and one more answer
+no_answers : (told : Option (List ℕ)) → AddsAnswers told [] told
+no_answers None = refl
+no_answers (Some told) = ap Some (sym (append-nil told))
+
+one_answer_more : (before mid after : Option (List ℕ)) (answers : List ℕ) (n : ℕ) → AddsAnswers before answers mid → AddsAnswers mid (n ∷ []) after → AddsAnswers before (answers ++ n ∷ []) after
+one_answer_more None mid after answers n first then = then ∙ ap (option_map (λ (told : List ℕ). told ++ n ∷ [])) first
+one_answer_more (Some told) mid after answers n first then =
+    then ∙ (ap (option_map (λ (told : List ℕ). told ++ n ∷ [])) first ∙ ap Some (append_assoc told answers (n ∷ [])))
+
+pub timed_first : (told : Option (List ℕ)) (h : List Answered) → h ≡ [] → IsTimed told told h
+timed_first told h none = ([], no_answers told, ap moments none)
 
 -- a turn in which nothing came
 module _ (old now new : StorageView) (c : Cache) (m : ℕ) (r : IsServing old now c m) where
@@ -116,12 +123,12 @@ module _ (now mid : StorageView) (w : ℕ) (p : Posted) (f : FindsOne now mid (A
     pub same_workers : new.workers ≡ now.workers
     same_workers = ap (λ (z : StorageView). z.workers) whole
 
-    pub timed_asked : (before mid_answers after : List ℕ) (n m₀ : ℕ) → last_or 0 (moments now.history) ≡ m₀ → IsTimed before mid_answers now.history → after ≡ mid_answers ++ n ∷ [] → m ≡ moment_after m₀ n → IsTimed before after new.history
-    timed_asked before mid_answers after n m₀ last_is t after_is m_is = (
+    pub timed_asked : (before then after : Option (List ℕ)) (m₀ : ℕ) → last_or 0 (moments now.history) ≡ m₀ → IsTimed before then now.history → AsksClock then m₀ after m → IsTimed before after new.history
+    timed_asked before then after m₀ last_is t asked = let n = asked.0 in (
       t.0 ++ n ∷ [],
-      after_is ∙ (ap (λ (l : List ℕ). l ++ n ∷ []) t.1 ∙ append_assoc before t.0 (n ∷ [])),
+      one_answer_more before then after t.0 n t.1 asked.1,
       ap moments one_entry ∙ (moments_more now.history a.0 ∙ (ap (λ (l : List ℕ). l ++ a.0.moment ∷ []) t.2
-          ∙ ((λ i. moments_after 0 t.0 ++ (a.3 ∙ m_is ∙ ap (λ (z : ℕ). moment_after z n) (sym last_is ∙ ap (last_or 0) t.2)) i ∷ []) ∙ sym (times_more 0 t.0 n)))),
+          ∙ ((λ i. moments_after 0 t.0 ++ (a.3 ∙ asked.2 ∙ ap (λ (z : ℕ). moment_after z n) (sym last_is ∙ ap (last_or 0) t.2)) i ∷ []) ∙ sym (times_more 0 t.0 n)))),
     )
 
 -- one bye of each worker

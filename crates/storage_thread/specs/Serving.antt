@@ -1,5 +1,5 @@
 -- What the storage thread makes of requests.
-use Rattle.std.specs.Prelude.{◌≡◌, ℕ, ◌<◌, ◌≤◌, max, min, List, [], ◌∷◌, ◌++◌, map, All, None}
+use Rattle.std.specs.Prelude.{◌≡◌, ℕ, ◌<◌, ◌≤◌, max, min, List, [], ◌∷◌, ◌++◌, map, All, Option, None, option_map}
 use Rattle.proto.specs.declared.history.Posted.{Posted}
 use Rattle.proto.specs.declared.history.Answered.{Answered}
 use Rattle.proto.specs.Sizes.{Sizes}
@@ -21,9 +21,17 @@ moments_after last (answer ∷ answers) = let moment = moment_after last answer 
 abbrev pub moments : List Answered → List ℕ
 moments history = map (λ e. e.moment) history
 
+-- these answers were given, where the clock tells its answers
+abbrev pub AddsAnswers : Option (List ℕ) → List ℕ → Option (List ℕ) → Type 0
+AddsAnswers old answers new = new ≡ option_map (λ (told : List ℕ). told ++ answers) old
+
+-- The clock was asked once, and the new moment is that of its answer.
+abbrev pub AsksClock : Option (List ℕ) → ℕ → Option (List ℕ) → ℕ → Type 0
+AsksClock old last new moment = (answer : ℕ) × AddsAnswers old (answer ∷ []) new × (moment ≡ moment_after last answer)
+
 -- The clock was asked once for each request, and the moments are those of its answers.
-abbrev pub IsTimed : List ℕ → List ℕ → List Answered → Type 0
-IsTimed old new history = (answers : List ℕ) × (new ≡ old ++ answers) × (moments history ≡ moments_after 0 answers)
+abbrev pub IsTimed : Option (List ℕ) → Option (List ℕ) → List Answered → Type 0
+IsTimed old new history = (answers : List ℕ) × AddsAnswers old answers new × (moments history ≡ moments_after 0 answers)
 
 -- a request of the history, as it was taken
 abbrev pub taken_as : Answered → ℕ × Posted

@@ -1,14 +1,15 @@
 //! The loop of the storage thread.
 
-ghost use Rattle.std.specs.Prelude.{◌≡◌, ℕ, ◌+◌, ◌-◌, ◌^◌, ◌<◌, ◌≤◌, ◌++◌, [], ◌∷◌, map, min, length, All, Some, None, true};
+ghost use Rattle.std.specs.Prelude.{◌≡◌, ℕ, ◌+◌, ◌-◌, ◌^◌, ◌<◌, ◌≤◌, map, min, length, All, Some, None, []};
 ghost use Rattle.proto.specs.Cache.{empty_cache};
 ghost use Rattle.proto.specs.History.{max_moment, worker_share, Legal};
-ghost use Rattle.storage_thread.specs.Serving.{moment_after, IsTimed, taken_as, SaidBye, IsUnused, IsSameExchange, Reaches, IsAnswered};
+ghost use Rattle.storage_thread.specs.Serving.{AsksClock, IsTimed, taken_as, SaidBye, IsUnused, IsSameExchange, Reaches, IsAnswered};
+ghost use Rattle.storage_thread.specs.Keeping.{LeadsKeeping, MayForgetNothing};
 
 use crate::clock::Clock;
 use crate::idle::IdleTurns;
+use engine::StorageEngine;
 use exchange::{Answered, Posted, StorageEnd, Taken};
-use segcache::engine::StorageEngine;
 use std::sync::Wait;
 use std::time;
 
@@ -37,10 +38,11 @@ pub(crate) fn execute<S: StorageEngine, C: Clock>(
     requires open_request { end.old.open_request ≡ Some (worker, posted) }
     requires next { posted.number ≡ length (worker_share end.old.history worker) + 1 }
     ensures reaches { Reaches end.new.geometry end.new.history (S.cache store.new) (S.moment store.new) }
+    ensures kept { LeadsKeeping end.old.geometry end.old.history (S.cache store.old) (S.keeps store.old) → LeadsKeeping end.new.geometry end.new.history (S.cache store.new) (S.keeps store.new) }
     ensures sizes { S.sizes store.new ≡ S.sizes store.old }
     ensures answered { IsAnswered end.old end.new worker posted (S.moment store.new) }
-    ensures tells { C.tells clock.new ≡ C.tells clock.old }
-    ensures moment { C.tells clock.old ≡ true → (n : ℕ) × (C.answers clock.new ≡ C.answers clock.old ++ n ∷ []) × (S.moment store.new ≡ moment_after (S.moment store.old) n) }
+    ensures leads { C.leads_to clock.old clock.new }
+    ensures moment { AsksClock (C.told clock.old) (S.moment store.old) (C.told clock.new) (S.moment store.new) }
 {
     let now = clock.now().min(MAX_MOMENT);
     let moment = now.max(store.last_moment());
@@ -79,8 +81,11 @@ pub fn run_storage<R: Wait + time::Clock, S: StorageEngine + Drop, C: Clock>(
     ensures once_in_order { (result.storage_end.taken ≡ map taken_as result.storage_end.history) × (result.storage_end.open_request ≡ None) }
     ensures inside { All (λ e. e.worker < storage_end.workers) result.storage_end.history }
     ensures bye { SaidBye result.storage_end }
-    ensures tells { C.tells result.clock ≡ C.tells clock }
-    ensures moments { C.tells clock ≡ true → IsTimed (C.answers clock) (C.answers result.clock) result.storage_end.history }
+    ensures leads { C.leads_to clock result.clock }
+    ensures moments { IsTimed (C.told clock) (C.told result.clock) result.storage_end.history }
+
+    // nothing is forgotten where no deadline is set and little is stored, by a store that keeps what it stores
+    ensures bounded { S.keeps store [] → MayForgetNothing storage_end.geometry result.storage_end.history }
     ensures executed { result.executed ≡ min (length result.storage_end.history) (2 ^ 64 - 1) }
 {
     let mut store = store;

@@ -7,10 +7,10 @@ ghost use Rattle.storage_thread.specs.Serving.{Reaches};
 use crate::clock::Clock;
 use crate::serving::{StorageReport, execute, run_storage};
 use exchange::{MakeFault, Posted, StorageEnd, Taken, WorkerEnd, gather, make};
+use plain_store::Store;
 use proto::byte_string::ByteString;
 use proto::geometry::Geometry;
 use proto::message::{Reply, Request};
-use segcache::plain::Store;
 use std::alloc::Global;
 use std::snapshot::Snapshot;
 use std::sync::Wait;
@@ -30,11 +30,15 @@ struct Count {
 }
 
 impl Clock for Count {
-    ghost use Rattle.std.specs.Prelude.{false, []};
+    ghost use Rattle.std.specs.Prelude.{⊤, None};
 
-    ghost tells = { λ _. false };
+    ghost told = { λ _. None };
 
-    ghost answers = { λ _. [] };
+    ghost leads_to = { λ _ _. ⊤ };
+
+    ghost leads_reflexive = { λ _. tt };
+
+    ghost leads_transitive = { λ _ _ _ _ _. tt };
 
     fn now(&mut self) -> u64 {
         self.last = self.last.saturating_add(1);

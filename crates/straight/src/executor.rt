@@ -3,11 +3,11 @@
 ghost use Rattle.std.specs.Prelude.{◌≡◌, ℕ, ◌++◌, is_some, IsTrue, OnOk};
 ghost use Rattle.straight.specs.Execution.{Execution, Executes, Answers};
 
+use engine::StorageEngine;
 use proto::message::{Message, Reply, Request};
 use proto::no_memory::NoMemory;
 use proto::show::show;
 use script::clock::ScriptClock;
-use segcache::engine::StorageEngine;
 use std::marker::Model;
 
 /// The greatest moment of a request.

@@ -11,11 +11,11 @@ ghost use Rattle.straight.specs.Replays.{FeedsAt, IsPlaceOf, IsReplay, IsRising,
 
 use crate::executor::Executor;
 use crate::session::Session;
+use engine::StorageEngine;
 use proto::byte_string::ByteString;
 use proto::no_memory::NoMemory;
 use script::clock::ScriptClock;
 use script::event::ScriptEvent;
-use segcache::engine::StorageEngine;
 use std::alloc::Global;
 
 /// A session, and all bytes that it was given.

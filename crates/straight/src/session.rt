@@ -6,10 +6,10 @@ ghost use Rattle.proto.specs.Reading.{ends_session};
 ghost use Rattle.straight.specs.Sessions.{AnswersNext, AnswersAll, IsNew, Feeds};
 
 use crate::executor::Executor;
+use engine::StorageEngine;
 use proto::message::{Message, Next};
 use proto::next::next_message;
 use proto::no_memory::NoMemory;
-use segcache::engine::StorageEngine;
 use std::alloc::Global;
 
 /// Whether nothing of the session is read after the message.

@@ -1,15 +1,23 @@
 -- The lines of a run, one after the other.
-use Rattle.std.proofs.Common.{◌≡◌, ℕ, zero, suc, ◌+◌, ◌<◌, List, [], ◌∷◌, ◌++◌, length, map, take, Option, Some, None, refl, sym, ap, ◌∙◌, subst, arith, append_assoc, append-nil}
+use Rattle.std.proofs.Common.{◌≡◌, ◌≢◌, cond, ℕ, zero, suc, ◌+◌, ◌<◌, List, [], ◌∷◌, ◌++◌, length, map, take, Option, Some, None, refl, sym, ap, ◌∙◌, subst, arith, append_assoc, append-nil}
 use Rattle.std.specs.Prelude.{flat_map, slice_index_or}
-use Rattle.std.specs.Io.KnownBytes.{Appends}
+use Rattle.std.specs.Io.KnownBytes.{Appends, Keeps}
 use Rattle.exchange.proofs.Lists.{at_some}
 use Rattle.script.specs.Scripts.{Workers}
 use Rattle.script_port.specs.Sessions.{SessionState, numbers}
-use Rattle.script_port.specs.States.{PortState}
+use Rattle.script_port.specs.States.{PortState, story_of, told_of}
+use Rattle.script_port.specs.Events.{is_playable}
+use Rattle.script_port.proofs.EventLemmas.{bool_cases}
+use Rattle.worker.specs.Ports.{PortStory}
 use Rattle.group.specs.declared.report.GroupWorker.{GroupWorker}
-use Rattle.group.specs.Threads.{AreEach}
+use Rattle.group.specs.Threads.{AreEach, IsSilent}
+use Rattle.std.specs.List.{All}
+use mathlib.Core.Logic.{dite}
+use mathlib.Core.Option.{some, some-injective}
+use native.Mathlib.Decide.{ℕ_discrete}
+use lib.ListN.{get_elem?}
 use Rattle.group.proofs.Places.{at_or}
-use Rattle.subcommands.specs.Printed.{lines_of, lines_from, events_of, IsPort}
+use Rattle.subcommands.specs.Printed.{lines_of, lines_from, events_of, IsPort, IsPlayedAt}
 
 pub over_numbers : (f : ℕ → List ℕ) (xs : List SessionState) → flat_map (λ (x : SessionState). f x.number) xs ≡ flat_map f (numbers xs)
 over_numbers f [] = refl
@@ -37,6 +45,13 @@ appended (Some o) None new xs ys a b = absurd a
 appended (Some o) (Some m) None xs ys a b = absurd b
 appended (Some o) (Some m) (Some n) xs ys a b = b ∙ ap (λ l. l ++ ys) a ∙ append_assoc o xs ys
 
+-- and then nothing more
+pub kept_after : (old mid new : Option (List ℕ)) (xs : List ℕ) → Appends old mid xs → Keeps mid new → Appends old new xs
+kept_after None mid new xs a kept = tt
+kept_after (Some o) None new xs a kept = absurd a
+kept_after (Some o) (Some m) None xs a kept = absurd kept
+kept_after (Some o) (Some m) (Some n) xs a kept = kept ∙ a
+
 -- one element more
 pub mapped_more : {A : Type 0} (f : A → List ℕ) (xs : List A) (k : ℕ) (d : A) → k < length xs → flat_map f (take (suc k) xs) ≡ flat_map f (take k xs) ++ f (slice_index_or xs k d)
 mapped_more f [] k d low = absurd (omega arith)
@@ -59,9 +74,28 @@ one_worker_more ws k x old mid new low is before wrote =
     subst (λ n. Appends old new (lines_from 0 (map events_of (take n ws)))) plus
     (subst (Appends old new) (sym (lines_more 0 k ws x low ∙ ap (λ n. lines_from 0 (map events_of (take k ws)) ++ lines_of n (events_of (slice_index_or ws k x))) zero_more ∙ ap (λ y. lines_from 0 (map events_of (take k ws)) ++ lines_of k (events_of y)) is)) (appended old mid new (lines_from 0 (map events_of (take k ws))) (lines_of k (events_of x)) before wrote))
 
+-- one worker more, at whose port the list is what the script does
+pub one_played_more : (ws : List (GroupWorker PortState)) (n : ℕ) (x : GroupWorker PortState) → n < length ws → slice_index_or ws n x ≡ x
+    → ((k : ℕ) (y : GroupWorker PortState) → k < n → get_elem? ws k ≡ some y → IsPlayedAt y.port) → IsPlayedAt x.port
+    → (k : ℕ) (y : GroupWorker PortState) → k < n + 1 → get_elem? ws k ≡ some y → IsPlayedAt y.port
+one_played_more ws n x low is before here k y small at =
+    dite (ℕ_discrete k n)
+    (λ same.
+    let there : some x ≡ some y = sym (ap (λ (z : GroupWorker PortState). some z) is) ∙ sym (at_or ws n x low) ∙ ap (get_elem? ws) (sym same) ∙ at in
+    subst (λ (z : GroupWorker PortState). IsPlayedAt z.port) (some-injective x y there) here)
+    (λ other. let apart : k ≢ n = other in before k y (omega arith) at)
+
 -- nothing has happened yet at the ports of a run
 pub silent : (accept fail_give : ℕ) (scripts : Workers) (ports : List PortState) → AreEach (IsPort accept fail_give) scripts ports
-    → (k : ℕ) (d : PortState) → k < length ports → (slice_index_or ports k d).records ≡ []
+    → All (IsSilent told_of) ports
 silent accept fail_give scripts ports each k d low =
     let s = at_some scripts k (subst (λ n. k < n) (sym each.0) low) in
-    ap (λ (p : PortState). p.records) (each.1 k s.0 (slice_index_or ports k d) s.1 (at_or ports k d low)).1
+    let is = each.1 k s.0 (slice_index_or ports k d) s.1 (at_or ports k d low) in record {
+      no_events = λ story told.
+          bool_cases (is_playable (slice_index_or ports k d).script)
+          (λ yes.
+          let same : Some (story_of (slice_index_or ports k d)) ≡ Some story = sym (ap (λ b. cond b (Some (story_of (slice_index_or ports k d))) None) yes) ∙ told in
+          let story_is : story_of (slice_index_or ports k d) ≡ story = cc in
+          ap (λ (z : PortStory). z.events) (sym story_is) ∙ ap (λ (p : PortState). p.records) is.1)
+          (λ no. let wrong : None ≡ Some story = sym (ap (λ b. cond b (Some (story_of (slice_index_or ports k d))) None) no) ∙ told in absurd (cc));
+    }

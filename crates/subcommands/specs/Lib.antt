@@ -1,1 +1,4 @@
+pub mod Faults
+pub mod Listening
 pub mod Printed
+pub mod Replayed

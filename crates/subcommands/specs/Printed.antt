@@ -1,5 +1,7 @@
 -- What `segcached replay` prints for a script.
-use Rattle.std.specs.Prelude.{◌≡◌, ℕ, ◌+◌, true, List, [], ◌∷◌, ◌++◌, ◌==◌, length, codes, decimal, flat_map, map, if◌then◌else◌}
+use Rattle.std.specs.Prelude.{◌≡◌, ℕ, ◌+◌, true, List, [], ◌∷◌, ◌++◌, ◌==◌, length, codes, decimal, flat_map, map, if◌then◌else◌, Some}
+use mathlib.Core.Option.{some}
+use lib.ListN.{get_elem?}
 use Rattle.hex.specs.Hex.{encode_lower}
 use Rattle.proto.specs.Sizes.{Sizes}
 use Rattle.script.specs.declared.event.ScriptEvent.{ScriptEvent}
@@ -9,9 +11,11 @@ use Rattle.worker.specs.declared.port.PortRecord.{PortRecord}
 use Rattle.worker.specs.Ports.{given}
 use Rattle.clocks.specs.declared.told_clock.ToldClock.{ToldClock}
 use Rattle.clocks.specs.Answers.{listed}
+use Rattle.clocks.specs.Leading.{GivesAnswers}
 use Rattle.script_port.specs.Events.{is_playable}
 use Rattle.script_port.specs.Records.{opened}
-use Rattle.script_port.specs.States.{PortState}
+use Rattle.script_port.specs.Following.{IsPlayed}
+use Rattle.script_port.specs.States.{PortState, told_of, PlaysOn}
 use Rattle.group.specs.declared.report.GroupWorker.{GroupWorker}
 use Rattle.group.specs.declared.report.GroupReport.{GroupReport}
 use Rattle.group.specs.Threads.{AreEach}
@@ -43,6 +47,14 @@ IsPort accept fail_give events port =
     (is_playable events ≡ true)
     × (port ≡ record { script = events; left = events; sessions = []; records = []; accept = accept; fail_give = fail_give })
 
+-- where the script may be played as it stands, the port's list is what the script does
+abbrev pub IsPlayedAt : PortState → Type 0
+IsPlayedAt port = is_playable port.script ≡ true → IsPlayed port.script port.records
+
+-- it is so at the port of each of these workers
+abbrev pub ArePlayed : List (GroupWorker PortState) → Type 0
+ArePlayed workers = (k : ℕ) (x : GroupWorker PortState) → get_elem? workers k ≡ some x → IsPlayedAt x.port
+
 -- The script has these events for so many workers. A group of them ran over ports with these events, and over a new
 -- clock; and what each session was given is printed, in order of worker and session.
 pub record IsPrinted (sizes : Sizes) (clock : Clock) (workers accept fail_give : ℕ) (text printed : List ℕ) : Type 0 where
@@ -53,5 +65,5 @@ pub record IsPrinted (sizes : Sizes) (clock : Clock) (workers accept fail_give :
   pub told : ToldClock
   pub told_is : (told.clock ≡ clock) × (listed told.answers ≡ [])
   pub report : GroupReport PortState ToldClock
-  pub run : IsRun (λ p. is_playable p.script) (λ p. p.records) (λ _. true) (λ c. listed c.answers) sizes ports told report
+  pub run : IsRun told_of PlaysOn (λ c. Some (listed c.answers)) GivesAnswers ⊥ sizes ports told report
   pub printed_is : printed ≡ lines_from 0 (map events_of report.workers.items)

@@ -1,5 +1,9 @@
 //! Why the program failed.
 
+ghost use Rattle.std.specs.Prelude.{◌≡◌};
+ghost use Rattle.subcommands.specs.declared.fault.Fault.TheVariants.{NoMemory};
+ghost use Rattle.subcommands.specs.Faults.{fault_of};
+
 use group::fault::GroupFault;
 use proto::no_memory::NoMemory;
 use script::fault::ScriptFault;
@@ -14,6 +18,9 @@ pub enum Fault {
     /// The path.
     #[error("fault: cannot read {0}")]
     CannotRead(String),
+    /// The address.
+    #[error("fault: cannot listen on {0}")]
+    CannotListen(String),
     #[error("fault: {0}")]
     Script(ScriptFault),
     /// The number of workers isn't 1 to 8; the program's words never ask for it.
@@ -28,24 +35,32 @@ pub enum Fault {
 }
 
 impl From<NoMemory> for Fault {
+    ghost from_gives = { λ error fault. fault ≡ NoMemory };
+
     fn from(_error: NoMemory) -> Fault {
         Fault::NoMemory
     }
 }
 
 impl From<AllocError> for Fault {
+    ghost from_gives = { λ error fault. fault ≡ NoMemory };
+
     fn from(_error: AllocError) -> Fault {
         Fault::NoMemory
     }
 }
 
 impl<T: Drop> From<AllocFailed<T>> for Fault {
+    ghost from_gives = { λ error fault. fault ≡ NoMemory };
+
     fn from(_failed: AllocFailed<T>) -> Fault {
         Fault::NoMemory
     }
 }
 
 impl From<GroupFault> for Fault {
+    ghost from_gives = { λ error fault. fault ≡ fault_of error };
+
     fn from(fault: GroupFault) -> Fault {
         match fault {
             GroupFault::BadConfig => Fault::BadWorkers,

@@ -3,4 +3,5 @@
 
 pub mod fault;
 pub mod replay;
+pub mod serve;
 pub mod words;

@@ -1,11 +1,15 @@
 //! `segcached replay`.
 
-ghost use Rattle.std.specs.Prelude.{◌≡◌, ℕ, List, IfOk, OnOk, IfSome, map, take};
+ghost use Rattle.std.specs.Prelude.{◌≡◌, ℕ, List, IfOk, OnOk, IfSome, MatchResult, map, take};
+ghost use Rattle.proto.specs.Sizes.{IsGeometry, sizes_of};
+ghost use Rattle.subcommands.specs.declared.fault.Fault.TheVariants.{BadGeometry};
+ghost use Rattle.subcommands.specs.Faults.{IsReadFault};
 ghost use Rattle.std.specs.String.{string_bytes};
 ghost use Rattle.std.specs.Io.KnownBytes.{Appends};
 ghost use Rattle.script.specs.Clocks.{clock_at};
 ghost use Rattle.group.specs.Threads.{AreEach};
-ghost use Rattle.subcommands.specs.Printed.{shown, line_of, lines_of, lines_from, events_of, IsPort, IsPrinted};
+ghost use Rattle.subcommands.specs.Printed.{shown, line_of, lines_of, lines_from, events_of, IsPort, IsPlayedAt, ArePlayed, IsPrinted};
+ghost use Rattle.subcommands.specs.Replayed.{IsReplayOf};
 
 use crate::fault::Fault;
 use crate::words::Options;
@@ -18,6 +22,7 @@ use script::clock::ScriptClock;
 use script::reader::read_script;
 use script::worker_script::WorkerScript;
 use script_port::port::ScriptPort;
+use segment_store::Store;
 use std::alloc::{AllocError, Global};
 use std::io::{self, ErrorKind, Read, Write};
 use std::sync::Wait;
@@ -28,7 +33,10 @@ use std::time;
 const TOO_MANY: u64 = 16_777_217;
 
 /// The sizes that the options ask for.
-pub fn geometry_of(options: &Options) -> Result<Geometry, Fault> {
+pub fn geometry_of(options: &Options) -> Result<Geometry, Fault>
+    ensures { let asked = sizes_of options.entry.now.segment_size options.entry.now.segments in
+        MatchResult result (λ g. IsGeometry asked × (g ≡ asked)) (λ fault. (fault ≡ BadGeometry) × (¬ (IsGeometry asked))) }
+{
     let Ok(segment_size) = u32::try_from(options.segment_size) else {
         return Err(Fault::BadGeometry);
     };
@@ -41,12 +49,27 @@ pub fn geometry_of(options: &Options) -> Result<Geometry, Fault> {
     }
 }
 
-/// That the options' file can't be read, for this reason.
-pub fn cannot_read(alloc: Global, options: &Options, error: &io::Error) -> Fault {
+/// The path on one line: its line feeds and carriage returns are shown as in Rust's strings.
+fn on_one_line(alloc: Global, path: &str) -> Result<String, AllocError> {
+    let mut line = String::new(alloc);
+    for character in path.chars() {
+        match character {
+            '\n' => line.push_str("\\n")?,
+            '\r' => line.push_str("\\r")?,
+            _ => line.push(character)?,
+        }
+    }
+    Ok(line)
+}
+
+/// That the options' file can't be read, for this reason: want of memory, or else the file is named.
+pub fn cannot_read(alloc: Global, options: &Options, error: &io::Error) -> Fault
+    ensures { IsReadFault result }
+{
     if error.kind() == ErrorKind::OutOfMemory {
         return Fault::NoMemory;
     }
-    match String::from_str(alloc, options.file.as_str()) {
+    match on_one_line(alloc, options.file.as_str()) {
         Ok(file) => Fault::CannotRead(file),
         Err(_) => Fault::NoMemory,
     }
@@ -98,7 +121,8 @@ fn write_worker<W: Write>(
     worker: usize,
     port: &ScriptPort,
 ) -> Result<(), Fault>
-    ensures { OnOk result (Appends (W.contents out.old) (W.contents out.new) (lines_of worker port.now.records)) }
+    ensures lines { OnOk result (Appends (W.contents out.old) (W.contents out.new) (lines_of worker port.now.records)) }
+    ensures played { IsPlayedAt port.now }
 {
     for session in port.sessions() {
         let number = session.number();
@@ -116,7 +140,7 @@ fn write_lines<W: Write>(
     out: &mut W,
     workers: &[GroupWorker<ScriptPort>],
 ) -> Result<(), Fault>
-    ensures { OnOk result (Appends (W.contents out.old) (W.contents out.new) (lines_from 0 (map events_of workers.now))) }
+    ensures { OnOk result (Appends (W.contents out.old) (W.contents out.new) (lines_from 0 (map events_of workers.now)) × ArePlayed workers.now) }
 {
     for worker in 0..workers.len() {
         write_worker(alloc, out, worker, &workers[worker].port)?;
@@ -153,7 +177,12 @@ pub fn replay<H: Threads + Wait + time::Clock + Sync, R: Read + Drop, W: Write>(
     script: R,
     out: &mut W,
 ) -> Result<(), Fault>
-    ensures { OnOk result (IfSome (R.remaining script) (λ text. (printed : List ℕ)
+    ensures printed { OnOk result (IfSome (R.remaining script) (λ text. (printed : List ℕ)
+        × IsReplayOf geometry (clock_at options.entry.now.now options.entry.now.tick) options.entry.now.workers text printed
+        × Appends (W.contents out.old) (W.contents out.new) printed)) }
+
+    // it is a group's run over ports with the faults that the options ask for
+    ensures ran { OnOk result (IfSome (R.remaining script) (λ text. (printed : List ℕ)
         × IsPrinted geometry (clock_at options.entry.now.now options.entry.now.tick) options.entry.now.workers options.entry.now.accept options.entry.now.fail_give text printed
         × Appends (W.contents out.old) (W.contents out.new) printed)) }
 {
@@ -164,6 +193,15 @@ pub fn replay<H: Threads + Wait + time::Clock + Sync, R: Read + Drop, W: Write>(
     };
     let ports = ports_of(alloc, options, scripts)?;
     let clock = ToldClock::new(ScriptClock::new(options.now, options.tick));
-    let report = run_group(rt, alloc, ports, Config { geometry }, clock, &OpenGate)?;
+    let store = Store::new(alloc, geometry)?;
+    let report = run_group(
+        rt,
+        alloc,
+        ports,
+        Config { geometry },
+        store,
+        clock,
+        &OpenGate,
+    )?;
     write_lines(alloc, out, report.workers.as_slice())
 }

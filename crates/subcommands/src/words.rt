@@ -1,7 +1,12 @@
 //! The words after the program's name.
 
+ghost use Rattle.std.specs.Prelude.{◌≡◌};
+ghost use Rattle.subcommands.specs.declared.words.WordsFault.TheVariants as words;
+
+use clap::error::ErrorKind;
 use clap::{Arg, ArgMatches, Command};
 use std::alloc::{AllocError, Global};
+use std::io;
 use thiserror::Error;
 
 /// What `segcached replay` is told.
@@ -25,12 +30,28 @@ pub struct Options {
     pub fail_give: u64,
 }
 
+/// What `segcached serve` is told.
+#[derive(Debug, Drop, PartialEq, Eq)]
+pub struct ServeOptions {
+    /// The address: an IP address and a port.
+    pub listen: String,
+    /// How many workers run, 1 to 8.
+    pub workers: u64,
+    /// So many streams are accepted; none is any number.
+    pub sessions: Option<u64>,
+    /// The bytes of a segment, 4,096 to 1,048,576. Whether it is a power of two is tested later.
+    pub segment_size: u64,
+    /// The number of segments, 8 to 65,536.
+    pub segments: u64,
+}
+
 /// What the words ask for.
 #[derive(Debug, Drop)]
 pub enum Job {
     /// To print this text.
     Help(String),
     Replay(Options),
+    Serve(ServeOptions),
 }
 
 /// Why the words ask for nothing.
@@ -44,10 +65,15 @@ pub enum WordsFault {
 }
 
 impl From<AllocError> for WordsFault {
+    ghost from_gives = { λ error fault. fault ≡ words.NoMemory };
+
     fn from(_error: AllocError) -> WordsFault {
         WordsFault::NoMemory
     }
 }
+
+/// What `--version` shows behind the program's name.
+const VERSION: &str = "0.1.0";
 
 const REPLAY_HELP: &str = "A script has a line for each event, with single spaces between its words:
   open W S      session S begins at worker W
@@ -56,6 +82,11 @@ const REPLAY_HELP: &str = "A script has a line for each event, with single space
 Workers are counted from 0. A session that begins has a number above those before it at its worker, from 1 on.
 
 For each session that was opened, in order of worker and session, the line `W S HEX` is printed, where HEX is all that the session was given, or `-` where that is nothing.
+
+Exit status: 0 done, 1 a fault (one line on standard error), 2 bad words";
+
+const SERVE_HELP: &str =
+    "The first line on standard output is `listening on ADDR`, with the real port.
 
 Exit status: 0 done, 1 a fault (one line on standard error), 2 bad words";
 
@@ -77,13 +108,13 @@ fn segments<'a>(alloc: Global) -> Arg<'a> {
         .default_value("64")
 }
 
-fn workers<'a>(alloc: Global) -> Arg<'a> {
+fn workers<'a>(alloc: Global, default: &'a str) -> Arg<'a> {
     Arg::new(alloc, "workers")
         .long("workers")
         .value_name("COUNT")
         .help("Number of worker threads, 1 to 8")
         .value_parser(clap::value_parser!(u64).range(1..=8))
-        .default_value("1")
+        .default_value(default)
 }
 
 fn accept<'a>(alloc: Global) -> Arg<'a> {
@@ -130,7 +161,7 @@ fn replay_command<'a>(alloc: Global) -> Result<Command<'a>, AllocError> {
         .override_usage("segcached replay [OPTIONS] <FILE>")
         .after_help(REPLAY_HELP)
         .arg(file)?
-        .arg(workers(alloc))?
+        .arg(workers(alloc, "1"))?
         .arg(segment_size(alloc))?
         .arg(segments(alloc))?
         .arg(now(alloc))?
@@ -139,12 +170,35 @@ fn replay_command<'a>(alloc: Global) -> Result<Command<'a>, AllocError> {
         .arg(fail_give(alloc))
 }
 
+fn serve_command<'a>(alloc: Global) -> Result<Command<'a>, AllocError> {
+    let listen = Arg::new(alloc, "listen")
+        .long("listen")
+        .value_name("ADDR")
+        .help("An IP address and a port; port 0 is any free one")
+        .required(true);
+    let sessions = Arg::new(alloc, "sessions")
+        .long("sessions")
+        .value_name("COUNT")
+        .help("Accept so many streams, and end when their sessions have ended")
+        .value_parser(clap::value_parser!(u64).range(1..));
+    Command::new(alloc, "serve")
+        .about("Listens on an address and serves")
+        .after_help(SERVE_HELP)
+        .arg(listen)?
+        .arg(workers(alloc, "2"))?
+        .arg(sessions)?
+        .arg(segment_size(alloc))?
+        .arg(segments(alloc))
+}
+
 fn command<'a>(alloc: Global) -> Result<Command<'a>, AllocError> {
     Command::new(alloc, "segcached")
         .about("A cache server: memcached's text protocol over Segcache's segments")
+        .version(VERSION)
         .no_binary_name(true)
         .subcommand_required(true)
-        .subcommand(replay_command(alloc)?)
+        .subcommand(replay_command(alloc)?)?
+        .subcommand(serve_command(alloc)?)
 }
 
 /// A number that the words give, or by default; 0 where there is neither.
@@ -165,21 +219,48 @@ fn replay_options(alloc: Global, matches: &ArgMatches<'_>) -> Result<Options, Al
     })
 }
 
+fn serve_options(alloc: Global, matches: &ArgMatches<'_>) -> Result<ServeOptions, AllocError> {
+    Ok(ServeOptions {
+        listen: String::from_str(alloc, matches.get_str("listen").unwrap_or(""))?,
+        workers: number(matches, "workers"),
+        sessions: matches.get_one::<u64>("sessions"),
+        segment_size: number(matches, "segment-size"),
+        segments: number(matches, "segments"),
+    })
+}
+
+/// Why the parser of the words asks for nothing: to show a text, want of memory, or bad words.
+fn parse_fault(alloc: Global, error: &clap::Error) -> Result<Job, WordsFault> {
+    if error.kind() == ErrorKind::OutOfMemory {
+        return Err(WordsFault::NoMemory);
+    }
+    let text = error.to_string(alloc)?;
+    if error.use_stderr() {
+        return Err(WordsFault::BadWords(text));
+    }
+    Ok(Job::Help(text))
+}
+
+/// Why the words after the program's name can't be had: want of memory, or a word that isn't UTF-8.
+pub fn unreadable_words(alloc: Global, error: &io::Error) -> WordsFault {
+    if error.kind() == io::ErrorKind::OutOfMemory {
+        return WordsFault::NoMemory;
+    }
+    match String::from_str(alloc, "error: a word isn't UTF-8\n") {
+        Ok(text) => WordsFault::BadWords(text),
+        Err(_) => WordsFault::NoMemory,
+    }
+}
+
 /// What the words after the program's name ask for. Words that are bad are answered with the text to print.
 pub fn parse_words(alloc: Global, words: &[String]) -> Result<Job, WordsFault> {
     let command = command(alloc)?;
     match command.try_get_matches_from(words) {
         Ok(matches) => match matches.subcommand() {
+            Some(("serve", serve)) => Ok(Job::Serve(serve_options(alloc, serve)?)),
             Some((_, replay)) => Ok(Job::Replay(replay_options(alloc, replay)?)),
             None => Err(WordsFault::BadWords(String::new(alloc))),
         },
-        Err(error) => {
-            let text = error.to_string(alloc)?;
-            if error.exit_code() == 0 {
-                Ok(Job::Help(text))
-            } else {
-                Err(WordsFault::BadWords(text))
-            }
-        }
+        Err(error) => parse_fault(alloc, &error),
     }
 }

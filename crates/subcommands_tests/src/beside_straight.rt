@@ -5,7 +5,7 @@ ghost use Rattle.std.specs.Prelude.{◌<◌};
 use crate::common::{options, printed};
 use script::clock::ScriptClock;
 use script::reader::read_script;
-use segcache::plain::Store;
+use segment_store::Store;
 use std::alloc::Global;
 use std::test::Fail;
 use straight::replay::replay_straight;
@@ -47,7 +47,7 @@ fn plain_lines(alloc: Global, options: &Options, script: &[u8]) -> Result<String
     let Some(events) = scripts.first() else {
         return Err("no worker".into());
     };
-    let store = Store::new(alloc, geometry_of(options)?);
+    let store = Store::new(alloc, geometry_of(options)?)?;
     let clock = ScriptClock::new(options.now, options.tick);
     let outputs = replay_straight(alloc, store, clock, events.as_slice())?;
     let mut lines = String::new(alloc);

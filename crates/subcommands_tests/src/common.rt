@@ -19,7 +19,7 @@ pub fn options(alloc: Global, words: &str) -> Result<Options, Fail> {
     }
     match parse_words(alloc, all.as_slice())? {
         Job::Replay(options) => Ok(options),
-        Job::Help(_) => Err("help".into()),
+        Job::Help(_) | Job::Serve(_) => Err("no replay".into()),
     }
 }
 

@@ -3,7 +3,7 @@
 use crate::common::options;
 use std::io::{self, ErrorKind, Read, Write};
 use std::test::Fail;
-use subcommands::replay::{geometry_of, replay};
+use subcommands::replay::{cannot_read, geometry_of, replay};
 
 /// Gives some bytes, and then fails.
 #[derive(Drop)]
@@ -61,6 +61,13 @@ fn faults_of_files(rt: HostRuntime) -> Result<(), Fail> {
     .err()
     .ok_or("write")?;
     assert_eq!(rt; fault.to_string(alloc)?.as_str(), "fault: cannot write");
+    let mut lines = options(alloc, "")?;
+    lines.file = String::from_str(alloc, "a\nb")?;
+    let fault = cannot_read(alloc, &lines, &ErrorKind::NotFound.into());
+    assert_eq!(rt;
+        fault.to_string(alloc)?.as_str(),
+        "fault: cannot read a\\nb"
+    );
     let odd = options(alloc, "--segment-size 5000")?;
     let fault = geometry_of(&odd).err().ok_or("geometry")?;
     assert_eq!(rt; fault.to_string(alloc)?.as_str(), "fault: bad geometry");

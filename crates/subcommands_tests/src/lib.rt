@@ -6,6 +6,8 @@ mod beside_straight;
 #[cfg(test)]
 mod common;
 #[cfg(test)]
+mod evictions;
+#[cfg(test)]
 mod files;
 #[cfg(test)]
 mod groups;

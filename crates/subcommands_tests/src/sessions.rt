@@ -125,11 +125,7 @@ fn moments_of_the_clock(rt: HostRuntime) -> Result<(), Fail> {
     let alloc = rt.alloc();
     let rows = [
         ("--now 1000 --tick 5", "set a 0 5 1\r\nx\r\nget a\r\n", GONE),
-        (
-            "--now 1000 --tick 5",
-            "set a 0 6 1\r\nx\r\nget a\r\n",
-            SHOWN,
-        ),
+        ("--now 1000 --tick 5", "set a 0 6 1\r\nx\r\nget a\r\n", GONE),
         (
             "--now 2592000 --tick 1",
             "set a 0 2592000 1\r\nx\r\nget a\r\n",
@@ -248,5 +244,37 @@ fn lengths_at_their_limits(rt: HostRuntime) -> Result<(), Fail> {
         line(&rt, alloc, "", whole.as_slice())?.as_str(),
         expected(alloc, shown.as_slice())?.as_str()
     );
+    Ok(())
+}
+
+/// A deadline is that of the segment: the life asked for cut down to a multiple of 8 seconds, from the moment at which the
+/// segment was opened.
+#[test]
+fn lives_end_with_their_segment(rt: HostRuntime) -> Result<(), Fail> {
+    let alloc = rt.alloc();
+    let rows = [
+        (
+            "--now 1000 --tick 15",
+            "set a 0 16 1\r\nx\r\nget a\r\n",
+            SHOWN,
+        ),
+        (
+            "--now 1000 --tick 16",
+            "set a 0 16 1\r\nx\r\nget a\r\n",
+            GONE,
+        ),
+        (
+            "--now 1000 --tick 3",
+            "set n 0 16 1\r\n1\r\nincr n 1\r\nget n\r\nget n\r\nget n\r\n",
+            "STORED\r\n2\r\nVALUE n 0 1\r\n2\r\nEND\r\nVALUE n 0 1\r\n2\r\nEND\r\nEND\r\n",
+        ),
+    ];
+    for (words, input, output) in rows {
+        assert_eq!(rt;
+            line(&rt, alloc, words, input.as_bytes())?.as_str(),
+            expected(alloc, output.as_bytes())?.as_str(),
+            "{input:?}"
+        );
+    }
     Ok(())
 }

@@ -2,9 +2,10 @@
 
 use crate::common::options;
 use std::alloc::Global;
+use std::io::{self, ErrorKind};
 use std::process::Abort;
 use std::test::Fail;
-use subcommands::words::{Job, WordsFault, parse_words};
+use subcommands::words::{Job, WordsFault, parse_words, unreadable_words};
 
 /// The job of some words.
 fn job(alloc: Global, words: &str) -> Result<Job, WordsFault> {
@@ -38,9 +39,23 @@ fn words(rt: HostRuntime) -> Result<(), Fail> {
         (group.workers, group.accept, group.fail_give),
         (8, 65536, 1)
     );
-    for words in ["--help", "-h", "help", "replay --help", "help replay"] {
+    let most = options(alloc, "--segments 65536 --segment-size 4096")?;
+    assert_eq!(rt; (most.segment_size, most.segments), (4096, 65536));
+    let shown = [
+        "--help",
+        "-h",
+        "help",
+        "replay --help",
+        "help replay",
+        "--version",
+    ];
+    for words in shown {
         assert!(rt; matches!(job(alloc, words), Ok(Job::Help(_))), "{words}");
     }
+    let error: io::Error = ErrorKind::InvalidData.into();
+    assert!(rt; matches!(unreadable_words(alloc, &error), WordsFault::BadWords(_)));
+    let error: io::Error = ErrorKind::OutOfMemory.into();
+    assert!(rt; matches!(unreadable_words(alloc, &error), WordsFault::NoMemory));
     let bad = [
         "",
         "replay",

@@ -4,6 +4,7 @@ ghost use Rattle.std.specs.Prelude.{◌<◌, IfSome, vec_len};
 
 use itoa::Buffer;
 use proto::byte_string::ByteString;
+use proto::keys::Keys;
 use proto::message::{Put, Request};
 use std::alloc::{AllocError, Global};
 
@@ -76,7 +77,7 @@ impl ListCache {
         }
         self.entries.retain(|entry| entry.deadline > now);
         match request {
-            Request::Get { keys, with_cas } => self.values(alloc, keys.as_slice(), *with_cas),
+            Request::Get { keys, with_cas } => self.values(alloc, keys, *with_cas),
             Request::Set(put) => self.put(alloc, now, put, Condition::Always),
             Request::Add(put) => self.put(alloc, now, put, Condition::Missing),
             Request::Replace(put) => self.put(alloc, now, put, Condition::There),
@@ -102,16 +103,15 @@ impl ListCache {
         }
     }
 
-    fn values(
-        &self,
-        alloc: Global,
-        keys: &[ByteString],
-        with_cas: bool,
-    ) -> Result<Vec<u8>, AllocError> {
+    fn values(&self, alloc: Global, keys: &Keys, with_cas: bool) -> Result<Vec<u8>, AllocError> {
         let mut out = Vec::new(alloc);
-        for key in keys {
+        let mut keys = keys.iter();
+        for _ in 0..u64::MAX {
+            let Some(key) = keys.next() else {
+                break;
+            };
             for entry in &self.entries {
-                if entry.key.as_slice() == key.as_slice() {
+                if entry.key.as_slice() == key {
                     push_value(&mut out, entry, with_cas)?;
                 }
             }

@@ -3,10 +3,12 @@
 ghost use Rattle.std.specs.Prelude.{◌≡◌, is_some};
 ghost use Rattle.proto.specs.Answers.{is_ask};
 
-use proto::byte_string::{ByteString, Keys};
 use proto::head::View;
-use proto::message::{Hit, Hits, Message, Next, Reply, Request};
+use proto::hits::{HitRef, HitWriter, Hits};
+use proto::keys::Keys;
+use proto::message::{Message, Next, Reply, Request};
 use proto::next::next_message;
+use proto::no_memory::NoMemory;
 use proto::show::show;
 use proto::view::next_view;
 use std::alloc::{AllocError, Global};
@@ -129,21 +131,28 @@ enum Given {
     NoCas,
 }
 
-fn reply_of(alloc: Global, given: Given) -> Result<Reply, AllocError> {
+/// The one hit that a `get` of `a` shows.
+fn hit(alloc: Global) -> Result<Hits, NoMemory> {
+    let hit = HitRef {
+        key: b"a",
+        flags: 0,
+        value: b"x",
+        cas: u64::MAX,
+    };
+    let room = hit.room().ok_or(NoMemory)?;
+    let mut hits = HitWriter::with_room(alloc, room)?;
+    hits.push(hit);
+    Ok(hits.finish())
+}
+
+fn reply_of(alloc: Global, given: Given) -> Result<Reply, NoMemory> {
     Ok(match given {
         Given::Stored => Reply::Stored,
         Given::NotStored => Reply::NotStored,
         Given::Exists => Reply::Exists,
         Given::NotFound => Reply::NotFound,
-        Given::Hit => Reply::Values(Hits::from_vec(vec![in alloc;
-            Hit {
-                key: ByteString::from_vec(Vec::from_slice(alloc, b"a")?),
-                flags: 0,
-                value: ByteString::from_vec(Vec::from_slice(alloc, b"x")?),
-                cas: u64::MAX,
-            },
-        ]?)),
-        Given::Miss => Reply::Values(Hits::from_vec(Vec::new(alloc))),
+        Given::Hit => Reply::Values(hit(alloc)?),
+        Given::Miss => Reply::Values(Hits::new(alloc)),
         Given::Deleted => Reply::Deleted,
         Given::Zero => Reply::Number(0),
         Given::Flushed => Reply::Flushed,
@@ -320,20 +329,27 @@ fn a_cas_is_read_whole(rt: HostRuntime) -> Result<(), Fail> {
     }
 }
 
-fn check_gets(rt: &impl Abort, request: Request) -> Result<(), Fail> {
+fn check_gets(rt: &impl Abort, alloc: Global, request: Request) -> Result<(), Fail> {
     let Request::Get { keys, with_cas } = request else {
         return Err(Fail::from("a gets"));
     };
     assert!(rt; with_cas);
-    assert_eq!(rt; keys.as_slice().len(), 2);
-    assert_eq!(rt; Keys::from_vec(keys.into_vec()).as_slice().len(), 2);
+    let mut copy = Keys::new(alloc);
+    copy.push(b"a")?;
+    copy.push(b"noreply")?;
+    let (mut given, mut wanted) = (keys.iter(), copy.iter());
+    for _ in 0..3 {
+        assert_eq!(rt; given.next(), wanted.next());
+    }
+    assert!(rt; given.is_empty() && wanted.is_empty() && !copy.is_empty());
+    assert_eq!(rt; keys.len(), 2);
     Ok(())
 }
 
 #[test]
 fn noreply_is_a_key_of_gets(rt: HostRuntime) -> Result<(), Fail> {
     match whole(&rt, rt.alloc(), b"gets a noreply\r\n")? {
-        Some(Message::Ask(request, false)) => check_gets(&rt, request),
+        Some(Message::Ask(request, false)) => check_gets(&rt, rt.alloc(), request),
         _ => Err(Fail::from("a request that isn't quiet")),
     }
 }

@@ -1,8 +1,8 @@
 //! A book with the requests that it has given, and a store that knows one value.
 
-use proto::byte_string::ByteString;
 use proto::history::{Answered, Posted};
-use proto::message::{Hit, Hits, Reply, Request};
+use proto::hits::{HitRef, Hits};
+use proto::message::{Reply, Request};
 use proto::no_memory::NoMemory;
 use session_book::book::Book;
 use session_book::causes::{EndCause, FeedFault, OpenFault, Settled};
@@ -95,22 +95,20 @@ fn answered(posted: Posted, reply: Reply) -> Answered {
 }
 
 /// What a store replies in which `a` has this value: Stored to a write.
-fn reply_to(alloc: Global, request: &Request, found: Option<&str>) -> Result<Reply, AllocError> {
+fn reply_to(alloc: Global, request: &Request, found: Option<&str>) -> Result<Reply, NoMemory> {
     if !matches!(request, Request::Get { .. }) {
         return Ok(Reply::Stored);
     }
-    let mut hits = Vec::new(alloc);
+    let mut hits = Hits::new(alloc).into_writer();
     if let Some(value) = found {
-        hits.push(hit(alloc, value)?)?;
+        let hit = HitRef {
+            key: b"a",
+            flags: 0,
+            value: value.as_bytes(),
+            cas: 1,
+        };
+        hits.reserve(hit.room().ok_or(NoMemory)?)?;
+        hits.push(hit);
     }
-    Ok(Reply::Values(Hits::from_vec(hits)))
-}
-
-fn hit(alloc: Global, value: &str) -> Result<Hit, AllocError> {
-    Ok(Hit {
-        key: ByteString::from_vec(Vec::from_slice(alloc, b"a")?),
-        flags: 0,
-        value: ByteString::from_vec(Vec::from_slice(alloc, value.as_bytes())?),
-        cas: 1,
-    })
+    Ok(Reply::Values(hits.finish()))
 }

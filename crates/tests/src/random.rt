@@ -1,11 +1,14 @@
 //! Random requests, which the store is to answer as the list does.
 
 use crate::list_cache::ListCache;
-use proto::byte_string::{ByteString, Keys};
+use plain_store::Store;
+use proto::byte_string::ByteString;
 use proto::geometry::Geometry;
+use proto::keys::Keys;
 use proto::message::{Message, Put, Request};
+use proto::no_memory::NoMemory;
 use proto::show::show;
-use segcache::plain::Store;
+use proto::words::Words;
 use std::alloc::{AllocError, Global};
 use std::test::Fail;
 
@@ -74,12 +77,15 @@ fn random_put(alloc: Global, random: &mut Random, now: u64) -> Result<Put, Alloc
     })
 }
 
-fn random_keys(alloc: Global, random: &mut Random) -> Result<Keys, AllocError> {
-    let mut keys = Vec::new(alloc);
+fn random_keys(alloc: Global, random: &mut Random) -> Result<Keys, NoMemory> {
+    let mut line = Vec::from_slice(alloc, b"get")?;
     for _ in 0..random.below(4) {
-        keys.push(random_key(alloc, random)?)?;
+        line.push(b' ')?;
+        line.extend_from_slice(random_key(alloc, random)?.as_slice())?;
     }
-    Ok(Keys::from_vec(keys))
+    let mut words = Words::new(line.as_slice());
+    let _ = words.next();
+    Keys::from_words(alloc, words)
 }
 
 /// An amount that a counter may pass its ends by.
@@ -96,7 +102,7 @@ fn random_request(
     random: &mut Random,
     now: u64,
     list: &ListCache,
-) -> Result<Request, AllocError> {
+) -> Result<Request, NoMemory> {
     Ok(match random.below(20) {
         0..=4 => Request::Get {
             keys: random_keys(alloc, random)?,

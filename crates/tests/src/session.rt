@@ -3,11 +3,11 @@
 ghost use Rattle.std.specs.Prelude.{◌≡◌, is_some};
 ghost use Rattle.proto.specs.Answers.{is_ask};
 
+use engine::{MAX_MOMENT, StorageEngine};
 use proto::message::{Message, Next, Reply};
 use proto::next::next_message;
 use proto::no_memory::NoMemory;
 use proto::show::show;
-use segcache::engine::{MAX_MOMENT, StorageEngine};
 use std::alloc::Global;
 
 /// Executes the message, if it is a request; the moment is not before the last one.

@@ -1,10 +1,10 @@
 //! Rows of whole sessions, and a store at its limits.
 
 use crate::session::replay;
+use plain_store::Store;
 use proto::byte_string::ByteString;
 use proto::geometry::Geometry;
 use proto::message::{Put, Reply, Request};
-use segcache::plain::Store;
 use std::alloc::Global;
 use std::process::Abort;
 use std::test::Fail;

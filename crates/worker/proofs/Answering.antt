@@ -15,7 +15,8 @@ behind a b c d e = ap (λ (x : List ℕ). a ++ x) e ∙ sym (append_assoc a c d)
 pub said_more : (ms : List Message) (rs more : List Reply) → StartsWith (said ms (rs ++ more)) (said ms rs)
 said_more [] rs more = ([], refl)
 said_more (Ask q quiet ∷ ms) [] more = (said (Ask q quiet ∷ ms) more, refl)
-said_more (Ask q quiet ∷ ms) (r ∷ rs) more = let h = said_more ms rs more in (h.0, behind (answer (Ask q quiet) (Some r)) (said ms (rs ++ more)) (said ms rs) h.0 h.1)
+said_more (Ask q quiet ∷ ms) (r ∷ rs) more = let h = said_more ms rs more in
+    (h.0, behind (answer (Ask q quiet) (Some r)) (said ms (rs ++ more)) (said ms rs) h.0 h.1)
 said_more (Wrong kind ∷ ms) rs more = let h = said_more ms rs more in (h.0, behind (answer (Wrong kind) None) (said ms (rs ++ more)) (said ms rs) h.0 h.1)
 said_more (Quit ∷ ms) rs more = said_more ms rs more
 said_more (Fatal kind ∷ ms) rs more = let h = said_more ms rs more in (h.0, behind (answer (Fatal kind) None) (said ms (rs ++ more)) (said ms rs) h.0 h.1)
@@ -24,7 +25,8 @@ said_more (Fatal kind ∷ ms) rs more = let h = said_more ms rs more in (h.0, be
 pub said_further : (ms ns : List Message) (rs : List Reply) → StartsWith (said (ms ++ ns) rs) (said ms rs)
 said_further [] ns rs = (said ns rs, refl)
 said_further (Ask q quiet ∷ ms) ns [] = ([], refl)
-said_further (Ask q quiet ∷ ms) ns (r ∷ rs) = let h = said_further ms ns rs in (h.0, behind (answer (Ask q quiet) (Some r)) (said (ms ++ ns) rs) (said ms rs) h.0 h.1)
+said_further (Ask q quiet ∷ ms) ns (r ∷ rs) = let h = said_further ms ns rs in
+    (h.0, behind (answer (Ask q quiet) (Some r)) (said (ms ++ ns) rs) (said ms rs) h.0 h.1)
 said_further (Wrong kind ∷ ms) ns rs = let h = said_further ms ns rs in (h.0, behind (answer (Wrong kind) None) (said (ms ++ ns) rs) (said ms rs) h.0 h.1)
 said_further (Quit ∷ ms) ns rs = said_further ms ns rs
 said_further (Fatal kind ∷ ms) ns rs = let h = said_further ms ns rs in (h.0, behind (answer (Fatal kind) None) (said (ms ++ ns) rs) (said ms rs) h.0 h.1)

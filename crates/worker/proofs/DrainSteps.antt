@@ -12,7 +12,8 @@ use Rattle.session_book.specs.Book.{BookState, session_of, GivesNone, full, spen
 use Rattle.worker.specs.Workers.{IsEmptied, IsSteady, posted_by, unsettled_of}
 use Rattle.worker.proofs.PlaceLemmas.{either_way}
 
-pub emptied_by : (book : BookState) (s : SessionState) → book.unsettled ≡ [] → book.posted < MAX_POSTS → GivesNone book s → s.out ≡ [] → finished_by s ≡ None → IsEmptied s
+pub emptied_by : (book : BookState) (s : SessionState) → book.unsettled ≡ [] → book.posted < MAX_POSTS → GivesNone book s → s.out ≡ []
+    → finished_by s ≡ None → IsEmptied s
 emptied_by book s none few (full le) out unfinished = let len : length book.unsettled ≡ 0 = ap (length {A = Unsettled}) none in absurd (omega arith)
 emptied_by book s none few (spent le) out unfinished = absurd (omega arith)
 emptied_by book s none few (stops h) out unfinished = record { out = out; unfinished = unfinished; stops = h }
@@ -20,16 +21,21 @@ emptied_by book s none few (stops h) out unfinished = record { out = out; unfini
 pub sent_posted : (end : WorkerView) (request : Option Posted) → request ≡ None → posted_by end request ≡ end.sent
 sent_posted end request e = ap (posted_by end) e ∙ append-nil end.sent
 
-pub none_unsettled : (end : WorkerView) (request : Option Posted) (book : BookState) → IsSteady end request book → request ≡ None → length end.back ≡ length end.sent → book.unsettled ≡ []
-none_unsettled end request book h e all = h.unsettled ∙ ap (λ (l : List Posted). map unsettled_of (drop (length end.back) l)) (sent_posted end request e) ∙ ap (map unsettled_of) (drop_of_length-le end.sent (omega (arith, all)))
+pub none_unsettled : (end : WorkerView) (request : Option Posted) (book : BookState) → IsSteady end request book → request ≡ None
+    → length end.back ≡ length end.sent → book.unsettled ≡ []
+none_unsettled end request book h e all = h.unsettled ∙ ap (λ (l : List Posted). map unsettled_of (drop (length end.back) l))
+    (sent_posted end request e) ∙ ap (map unsettled_of) (drop_of_length-le end.sent (omega (arith, all)))
 
-pub few_posted : (end : WorkerView) (request : Option Posted) (book : BookState) → IsSteady end request book → request ≡ None → length end.sent < MAX_POSTS → book.posted < MAX_POSTS
-few_posted end request book h e few = let p : book.posted ≡ length end.sent = h.posted ∙ ap (length {A = Posted}) (sent_posted end request e) in omega (arith, p)
+pub few_posted : (end : WorkerView) (request : Option Posted) (book : BookState) → IsSteady end request book → request ≡ None
+    → length end.sent < MAX_POSTS → book.posted < MAX_POSTS
+few_posted end request book h e few = let p : book.posted ≡ length end.sent = h.posted ∙ ap (length {A = Posted}) (sent_posted end request e) in
+    omega (arith, p)
 
 -- ---- the walk over the report
 
 abbrev pub EmptiedBelow : BookState → List (ℕ × EndCause) → ℕ → Type 0
-EmptiedBelow book xs n = (k : ℕ) (d : ℕ × EndCause) → k < n → (get_or xs k d).1 ≡ causes.Drained → (s : SessionState) → session_of book (get_or xs k d).0 ≡ Some s → IsEmptied s
+EmptiedBelow book xs n = (k : ℕ) (d : ℕ × EndCause) → k < n → (get_or xs k d).1 ≡ causes.Drained → (s : SessionState)
+    → session_of book (get_or xs k d).0 ≡ Some s → IsEmptied s
 
 by_cause : (c : EndCause) → (c ≡ causes.Drained) ⊎ (c ≡ causes.Drained → ⊥)
 by_cause causes.Drained = inl refl
@@ -38,7 +44,9 @@ by_cause causes.Fatal = inr (λ e. absurd (cc))
 by_cause causes.Gone = inr (λ e. absurd (cc))
 by_cause causes.NoMemory = inr (λ e. absurd (cc))
 
-pub emptied_more : (old new : BookState) (xs : List (ℕ × EndCause)) (n t : ℕ) (c : EndCause) → EmptiedBelow old xs n → ((d : ℕ × EndCause) → get_or xs n d ≡ (t, c)) → ((s : ℕ) → (s ≡ t → c ≡ causes.Drained → ⊥) → session_of new s ≡ session_of old s) → (c ≡ causes.Drained → (st : SessionState) → session_of new t ≡ Some st → IsEmptied st) → EmptiedBelow new xs (n + 1)
+pub emptied_more : (old new : BookState) (xs : List (ℕ × EndCause)) (n t : ℕ) (c : EndCause) → EmptiedBelow old xs n
+    → ((d : ℕ × EndCause) → get_or xs n d ≡ (t, c)) → ((s : ℕ) → (s ≡ t → c ≡ causes.Drained → ⊥) → session_of new s ≡ session_of old s)
+    → (c ≡ causes.Drained → (st : SessionState) → session_of new t ≡ Some st → IsEmptied st) → EmptiedBelow new xs (n + 1)
 emptied_more old new xs n t c below at others here =
     λ k d lt e s q.
     let number : k ≡ n → (get_or xs k d).0 ≡ t = λ same. ap (λ j. (get_or xs j d).0) same ∙ ap (λ (x : ℕ × EndCause). x.0) (at d) in

@@ -41,7 +41,8 @@ flat_yes f l x b e = flat_more f l x ∙ ap (λ b. flat_map f l ++ b) e
 -- ---- the port's list
 
 -- the facts of a session, from their parts
-pub facts_are : (l : List PortRecord) (s : ℕ) (f : PortFacts) → was_opened s l ≡ f.opened → has_gone s l ≡ f.gone → was_shut s l ≡ f.shut → fed s l ≡ f.fed → given s l ≡ f.given → port_facts l s ≡ f
+pub facts_are : (l : List PortRecord) (s : ℕ) (f : PortFacts) → was_opened s l ≡ f.opened → has_gone s l ≡ f.gone → was_shut s l ≡ f.shut
+    → fed s l ≡ f.fed → given s l ≡ f.given → port_facts l s ≡ f
 facts_are l s f o g h d a = λ i. record { opened = o i; gone = g i; shut = h i; fed = d i; given = a i }
 
 -- an entry about another session
@@ -59,8 +60,10 @@ no_bytes b c e = ap (λ c. cond c b []) e
 all_bytes : (b : List ℕ) (c : Bool) → c ≡ true → cond c b [] ≡ b
 all_bytes b c e = ap (λ c. cond c b []) e
 
-unconcerned : (l : List PortRecord) (x : PortRecord) (s : ℕ) → is_opening s x ≡ false → is_leaving s x ≡ false → is_shutting s x ≡ false → fed_by s x ≡ [] → given_by s x ≡ [] → port_facts (l ++ x ∷ []) s ≡ port_facts l s
-unconcerned l x s o g h d a = facts_are (l ++ x ∷ []) s (port_facts l s) (any_no (is_opening s) l x o) (any_no (is_leaving s) l x g) (any_no (is_shutting s) l x h) (flat_no (fed_by s) l x d) (flat_no (given_by s) l x a)
+unconcerned : (l : List PortRecord) (x : PortRecord) (s : ℕ) → is_opening s x ≡ false → is_leaving s x ≡ false → is_shutting s x ≡ false
+    → fed_by s x ≡ [] → given_by s x ≡ [] → port_facts (l ++ x ∷ []) s ≡ port_facts l s
+unconcerned l x s o g h d a = facts_are (l ++ x ∷ []) s (port_facts l s) (any_no (is_opening s) l x o) (any_no (is_leaving s) l x g)
+    (any_no (is_shutting s) l x h) (flat_no (fed_by s) l x d) (flat_no (given_by s) l x a)
 
 pub elsewhere : (l : List PortRecord) (x : PortRecord) (s : ℕ) → about s x ≡ false → port_facts (l ++ x ∷ []) s ≡ port_facts l s
 elsewhere l (Opened t) s e = unconcerned l (Opened t) s e refl refl refl refl
@@ -71,19 +74,27 @@ elsewhere l (Accepted t b) s e = unconcerned l (Accepted t b) s refl refl refl r
 elsewhere l (Shut t) s e = unconcerned l (Shut t) s refl refl e refl refl
 
 pub opened_here : (l : List PortRecord) (s : ℕ) → port_facts (l ++ Opened s ∷ []) s ≡ record (port_facts l s) { opened = true }
-opened_here l s = let x = Opened s in facts_are (l ++ x ∷ []) s (record (port_facts l s) { opened = true }) (any_yes (is_opening s) l x (eq-eqb s s refl)) (any_no (is_leaving s) l x refl) (any_no (is_shutting s) l x refl) (flat_no (fed_by s) l x refl) (flat_no (given_by s) l x refl)
+opened_here l s = let x = Opened s in facts_are (l ++ x ∷ []) s (record (port_facts l s) { opened = true })
+    (any_yes (is_opening s) l x (eq-eqb s s refl)) (any_no (is_leaving s) l x refl) (any_no (is_shutting s) l x refl) (flat_no (fed_by s) l x refl)
+    (flat_no (given_by s) l x refl)
 
 pub fed_here : (l : List PortRecord) (s : ℕ) (b : List ℕ) → port_facts (l ++ Data s b ∷ []) s ≡ record (port_facts l s) { fed = fed s l ++ b }
-fed_here l s b = let x = Data s b in facts_are (l ++ x ∷ []) s (record (port_facts l s) { fed = fed s l ++ b }) (any_no (is_opening s) l x refl) (any_no (is_leaving s) l x refl) (any_no (is_shutting s) l x refl) (flat_yes (fed_by s) l x b (all_bytes b (s == s) (eq-eqb s s refl))) (flat_no (given_by s) l x refl)
+fed_here l s b = let x = Data s b in facts_are (l ++ x ∷ []) s (record (port_facts l s) { fed = fed s l ++ b }) (any_no (is_opening s) l x refl)
+    (any_no (is_leaving s) l x refl) (any_no (is_shutting s) l x refl) (flat_yes (fed_by s) l x b (all_bytes b (s == s) (eq-eqb s s refl)))
+    (flat_no (given_by s) l x refl)
 
 pub gone_here : (l : List PortRecord) (s : ℕ) → port_facts (l ++ Gone s ∷ []) s ≡ record (port_facts l s) { gone = true }
-gone_here l s = let x = Gone s in facts_are (l ++ x ∷ []) s (record (port_facts l s) { gone = true }) (any_no (is_opening s) l x refl) (any_yes (is_leaving s) l x (eq-eqb s s refl)) (any_no (is_shutting s) l x refl) (flat_no (fed_by s) l x refl) (flat_no (given_by s) l x refl)
+gone_here l s = let x = Gone s in facts_are (l ++ x ∷ []) s (record (port_facts l s) { gone = true }) (any_no (is_opening s) l x refl)
+    (any_yes (is_leaving s) l x (eq-eqb s s refl)) (any_no (is_shutting s) l x refl) (flat_no (fed_by s) l x refl) (flat_no (given_by s) l x refl)
 
 pub shut_here : (l : List PortRecord) (s : ℕ) → port_facts (l ++ Shut s ∷ []) s ≡ record (port_facts l s) { shut = true }
-shut_here l s = let x = Shut s in facts_are (l ++ x ∷ []) s (record (port_facts l s) { shut = true }) (any_no (is_opening s) l x refl) (any_no (is_leaving s) l x refl) (any_yes (is_shutting s) l x (eq-eqb s s refl)) (flat_no (fed_by s) l x refl) (flat_no (given_by s) l x refl)
+shut_here l s = let x = Shut s in facts_are (l ++ x ∷ []) s (record (port_facts l s) { shut = true }) (any_no (is_opening s) l x refl)
+    (any_no (is_leaving s) l x refl) (any_yes (is_shutting s) l x (eq-eqb s s refl)) (flat_no (fed_by s) l x refl) (flat_no (given_by s) l x refl)
 
 pub accepted_here : (l : List PortRecord) (s : ℕ) (b : List ℕ) → port_facts (l ++ Accepted s b ∷ []) s ≡ record (port_facts l s) { given = given s l ++ b }
-accepted_here l s b = let x = Accepted s b in facts_are (l ++ x ∷ []) s (record (port_facts l s) { given = given s l ++ b }) (any_no (is_opening s) l x refl) (any_no (is_leaving s) l x refl) (any_no (is_shutting s) l x refl) (flat_no (fed_by s) l x refl) (flat_yes (given_by s) l x b (all_bytes b (s == s) (eq-eqb s s refl)))
+accepted_here l s b = let x = Accepted s b in facts_are (l ++ x ∷ []) s (record (port_facts l s) { given = given s l ++ b })
+    (any_no (is_opening s) l x refl) (any_no (is_leaving s) l x refl) (any_no (is_shutting s) l x refl) (flat_no (fed_by s) l x refl)
+    (flat_yes (given_by s) l x b (all_bytes b (s == s) (eq-eqb s s refl)))
 
 -- ---- the requests and the replies
 

@@ -5,6 +5,7 @@ pub mod BookLaws
 pub mod SessionSteps
 pub mod PlaceLemmas
 pub mod RunViews
+pub mod StoryLaws
 pub mod WorkerSteps
 pub mod PortSteps
 pub mod OutputSteps

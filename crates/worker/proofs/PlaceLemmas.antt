@@ -27,10 +27,12 @@ rises_on n (x ∷ xs) (suc i) zero d h le lt = absurd (omega arith)
 rises_on n (x ∷ xs) (suc i) (suc j) d h le lt = rises_on x.0 xs i j d h.1 (omega arith) (omega arith)
 
 -- one half of the search
-pub below_middle : (xs : Places) (s middle : ℕ) (e : ℕ × EndCause) → Rises xs → middle < length xs → ((d : ℕ × EndCause) → (get_or xs middle d).0 < s) → (k : ℕ) (d : ℕ × EndCause) → k < middle + 1 → (get_or xs k d).0 < s
+pub below_middle : (xs : Places) (s middle : ℕ) (e : ℕ × EndCause) → Rises xs → middle < length xs
+    → ((d : ℕ × EndCause) → (get_or xs middle d).0 < s) → (k : ℕ) (d : ℕ × EndCause) → k < middle + 1 → (get_or xs k d).0 < s
 below_middle xs s middle e h lt at k d k_lt = let r = rises_on 0 xs k middle d h (omega arith) lt in omega (arith, r, at d)
 
-pub from_middle : (xs : Places) (s middle : ℕ) → Rises xs → ((d : ℕ × EndCause) → s ≤ (get_or xs middle d).0) → (k : ℕ) (d : ℕ × EndCause) → middle ≤ k → k < length xs → s ≤ (get_or xs k d).0
+pub from_middle : (xs : Places) (s middle : ℕ) → Rises xs → ((d : ℕ × EndCause) → s ≤ (get_or xs middle d).0) → (k : ℕ) (d : ℕ × EndCause)
+    → middle ≤ k → k < length xs → s ≤ (get_or xs k d).0
 from_middle xs s middle h at k d le lt = let r = rises_on 0 xs middle k d h le lt in omega (arith, r, at d)
 
 -- ---- writing a cause
@@ -47,22 +49,26 @@ absent_above n (x ∷ xs) s c h le =
     let ne : x.0 ≢ s = λ e. omega (arith, e, h.0) in
     let rest = absent_above x.0 xs s c h.1 (omega (arith, h.0)) in λ i. kept_apart x s c ne i ∷ rest i
 
-set_from : (n : ℕ) (xs : Places) (i s : ℕ) (c : EndCause) → RisesFrom n xs → i < length xs → ((d : ℕ × EndCause) → (get_or xs i d).0 ≡ s) → slice_set xs i (s, c) ≡ with_cause xs s c
+set_from : (n : ℕ) (xs : Places) (i s : ℕ) (c : EndCause) → RisesFrom n xs → i < length xs → ((d : ℕ × EndCause) → (get_or xs i d).0 ≡ s)
+    → slice_set xs i (s, c) ≡ with_cause xs s c
 set_from n [] i s c h lt at = absurd (omega arith)
-set_from n (x ∷ xs) zero s c h lt at = let here : x.0 ≡ s = at x in let rest = absent_above x.0 xs s c h.1 (omega (arith, here)) in λ i. sym (written x s c here) i ∷ sym rest i
+set_from n (x ∷ xs) zero s c h lt at = let here : x.0 ≡ s = at x in let rest = absent_above x.0 xs s c h.1 (omega (arith, here)) in
+    λ i. sym (written x s c here) i ∷ sym rest i
 set_from n (x ∷ xs) (suc i) s c h lt at =
     let k = above x.0 xs i x h.1 (omega arith) in let e = at x in
     let ne : x.0 ≢ s = λ q. omega (arith, q, k, e) in
     let rest = set_from x.0 xs i s c h.1 (omega arith) (λ d. at d) in λ j. sym (kept_apart x s c ne) j ∷ rest j
 
-pub set_found : (xs : Places) (i s : ℕ) (c : EndCause) → Rises xs → i < length xs → ((d : ℕ × EndCause) → (get_or xs i d).0 ≡ s) → slice_set xs i (s, c) ≡ with_cause xs s c
+pub set_found : (xs : Places) (i s : ℕ) (c : EndCause) → Rises xs → i < length xs → ((d : ℕ × EndCause) → (get_or xs i d).0 ≡ s)
+    → slice_set xs i (s, c) ≡ with_cause xs s c
 set_found xs i s c h lt at = set_from 0 xs i s c h lt at
 
 absent : (xs : Places) (s : ℕ) (c : EndCause) → ((j : ℕ) (d : ℕ × EndCause) → j < length xs → (get_or xs j d).0 ≢ s) → with_cause xs s c ≡ xs
 absent [] s c h = refl
 absent (x ∷ xs) s c h = let rest = absent xs s c (λ j d lt. h (suc j) d (omega arith)) in λ i. kept_apart x s c (h 0 x (omega arith)) i ∷ rest i
 
-pub set_absent : (xs : Places) (i s : ℕ) (c : EndCause) → Rises xs → IsFirstFrom xs s i → (i < length xs → (d : ℕ × EndCause) → (get_or xs i d).0 ≢ s) → with_cause xs s c ≡ xs
+pub set_absent : (xs : Places) (i s : ℕ) (c : EndCause) → Rises xs → IsFirstFrom xs s i
+    → (i < length xs → (d : ℕ × EndCause) → (get_or xs i d).0 ≢ s) → with_cause xs s c ≡ xs
 set_absent xs i s c h first other =
     absent xs s c (λ j d lt e.
     let lower : j < i → ⊥ = λ below. let k = first.0 j d below in omega (arith, k, e) in
@@ -81,7 +87,8 @@ cause_apart (x ∷ xs) s t c ne =
     (λ (e : x.0 ≡ t).
     let x_ne : x.0 ≢ s = λ q. ne (sym e ∙ q) in
     ap (λ (y : ℕ × EndCause). cond (y.0 == s) (Some y.1) (cause_of (with_cause xs t c) s)) (written x t c e)
-    ∙ ap (λ b. cond b (Some c) (cause_of (with_cause xs t c) s)) (ne_eqb t s ne) ∙ below ∙ sym (ap (λ b. cond b (Some x.1) (cause_of xs s)) (ne_eqb x.0 s x_ne)))
+    ∙ ap (λ b. cond b (Some c) (cause_of (with_cause xs t c) s)) (ne_eqb t s ne) ∙ below
+    ∙ sym (ap (λ b. cond b (Some x.1) (cause_of xs s)) (ne_eqb x.0 s x_ne)))
     (λ (apart : x.0 ≢ t).
     ap (λ (y : ℕ × EndCause). cond (y.0 == s) (Some y.1) (cause_of (with_cause xs t c) s)) (kept_apart x t c apart)
     ∙ ap (λ k. cond (x.0 == s) (Some x.1) k) below)
@@ -91,15 +98,18 @@ cause_here [] s c old e = absurd (cc)
 cause_here (x ∷ xs) s c old e =
     either_way x.0 s
     (λ (q : x.0 ≡ s).
-    ap (λ (y : ℕ × EndCause). cond (y.0 == s) (Some y.1) (cause_of (with_cause xs s c) s)) (written x s c q) ∙ ap (λ b. cond b (Some c) (cause_of (with_cause xs s c) s)) (eq-eqb s s refl))
+    ap (λ (y : ℕ × EndCause). cond (y.0 == s) (Some y.1) (cause_of (with_cause xs s c) s)) (written x s c q)
+    ∙ ap (λ b. cond b (Some c) (cause_of (with_cause xs s c) s)) (eq-eqb s s refl))
     (λ (ne : x.0 ≢ s).
-    ap (λ (y : ℕ × EndCause). cond (y.0 == s) (Some y.1) (cause_of (with_cause xs s c) s)) (kept_apart x s c ne) ∙ ap (λ b. cond b (Some x.1) (cause_of (with_cause xs s c) s)) (ne_eqb x.0 s ne)
+    ap (λ (y : ℕ × EndCause). cond (y.0 == s) (Some y.1) (cause_of (with_cause xs s c) s)) (kept_apart x s c ne)
+    ∙ ap (λ b. cond b (Some x.1) (cause_of (with_cause xs s c) s)) (ne_eqb x.0 s ne)
     ∙ cause_here xs s c old (sym (ap (λ b. cond b (Some x.1) (cause_of xs s)) (ne_eqb x.0 s ne)) ∙ e))
 
 with_rises : (n : ℕ) (xs : Places) (s : ℕ) (c : EndCause) → RisesFrom n xs → RisesFrom n (with_cause xs s c)
 with_rises n [] s c h = tt
 with_rises n (x ∷ xs) s c h =
-    let same : (cond (x.0 == s) (s, c) x).0 ≡ x.0 = either_way x.0 s (λ (e : x.0 ≡ s). ap (λ (y : ℕ × EndCause). y.0) (written x s c e) ∙ sym e) (λ (ne : x.0 ≢ s). ap (λ (y : ℕ × EndCause). y.0) (kept_apart x s c ne)) in (
+    let same : (cond (x.0 == s) (s, c) x).0 ≡ x.0 = either_way x.0 s (λ (e : x.0 ≡ s). ap (λ (y : ℕ × EndCause). y.0) (written x s c e) ∙ sym e)
+    (λ (ne : x.0 ≢ s). ap (λ (y : ℕ × EndCause). y.0) (kept_apart x s c ne)) in (
       subst (λ k. n < k) (sym same) h.0,
       subst (λ k. RisesFrom k (with_cause xs s c)) (sym same) (with_rises x.0 xs s c h.1),
     )
@@ -122,9 +132,11 @@ cause_new (x ∷ xs) s c e =
     either_way x.0 s
     (λ (q : x.0 ≡ s). let bad : Some x.1 ≡ None = sym (ap (λ b. cond b (Some x.1) (cause_of xs s)) (eq-eqb x.0 s q)) ∙ e in absurd (cc))
     (λ (ne : x.0 ≢ s).
-    ap (λ b. cond b (Some x.1) (cause_of (xs ++ (s, c) ∷ []) s)) (ne_eqb x.0 s ne) ∙ cause_new xs s c (sym (ap (λ b. cond b (Some x.1) (cause_of xs s)) (ne_eqb x.0 s ne)) ∙ e))
+    ap (λ b. cond b (Some x.1) (cause_of (xs ++ (s, c) ∷ []) s)) (ne_eqb x.0 s ne)
+    ∙ cause_new xs s c (sym (ap (λ b. cond b (Some x.1) (cause_of xs s)) (ne_eqb x.0 s ne)) ∙ e))
 
-more_from : (n : ℕ) (xs : Places) (t : ℕ) (c : EndCause) → RisesFrom n xs → n < t → ((s : ℕ) (d : EndCause) → cause_of xs s ≡ Some d → s < t) → RisesFrom n (xs ++ (t, c) ∷ [])
+more_from : (n : ℕ) (xs : Places) (t : ℕ) (c : EndCause) → RisesFrom n xs → n < t → ((s : ℕ) (d : EndCause) → cause_of xs s ≡ Some d → s < t)
+    → RisesFrom n (xs ++ (t, c) ∷ [])
 more_from n [] t c h lt below = (lt, tt)
 more_from n (x ∷ xs) t c h lt below = (
   h.0,

@@ -1,7 +1,7 @@
 -- What an event of the port leaves true of a worker.
-use Rattle.std.proofs.Common.{◌≡◌, ◌≢◌, ℕ, ◌+◌, ◌-◌, ◌^◌, ◌<◌, ◌≤◌, ◌==◌, Bool, true, false, true≢false, ◌||◌, ◌&&◌, not, cond, ne_eqb, List, [], ◌∷◌, ◌++◌, length, min, refl, sym, ap, subst, ◌∙◌, arith, Option, Some, None, is_some, ◌⊎◌, ⊎_elim}
+use Rattle.std.proofs.Common.{◌≡◌, ◌≢◌, ℕ, ◌+◌, ◌-◌, ◌^◌, ◌<◌, ◌≤◌, ◌==◌, Bool, true, false, true≢false, ◌||◌, ◌&&◌, not, cond, eq-eqb, ne_eqb, List, [], ◌∷◌, ◌++◌, length, min, refl, sym, ap, subst, ◌∙◌, append-nil, arith, Option, Some, None, is_some, ◌⊎◌, ⊎_elim}
 use Rattle.std.proofs.lemmas.List.{length-append}
-use Rattle.std.specs.Option.{option_and_then}
+use Rattle.std.specs.Option.{option_map, option_and_then}
 use Rattle.proto.specs.declared.history.Posted.{Posted}
 use Rattle.proto.proofs.Options.{some_is}
 use Rattle.exchange.specs.Ends.{WorkerView}
@@ -11,17 +11,17 @@ use Rattle.session_book.specs.Session.{SessionState, new_session, finished_by}
 use Rattle.session_book.specs.Book.{BookState, session_of}
 use Rattle.worker.specs.declared.port.PortRecord.{PortRecord}
 use Rattle.worker.specs.declared.port.PortRecord.TheVariants as was
-use Rattle.worker.specs.declared.port.PortEvent.TheVariants as event
 use Rattle.worker.specs.declared.worker.Worker.{Worker}
-use Rattle.worker.specs.Ports.{is_open, was_opened, has_ended, AcceptsOnlyOpen, MayCome}
+use Rattle.worker.specs.Ports.{PortStory, then_told, with_pause, IsOpenIn, is_open, was_opened, has_ended, AcceptsOnlyOpen}
 use Rattle.worker.specs.Sessions.{PortFacts, port_facts, RunView, facts, cause_of, IsConsistent}
 use Rattle.worker.specs.Places.{Rises, piece_of}
 use Rattle.worker.specs.Workers.{posted_by, IsSteady, IsCounted, IsTold, run_view, IsServing, GoesOn, Closes, Shuts, Leaves, Receives, feeds, holds, shuts, drops, Admits, Refuses, SameRest}
-use Rattle.worker.proofs.PlaceLemmas.{rises_more, rises_with, length-with, cause_more, cause_new}
+use Rattle.worker.proofs.PlaceLemmas.{either_way, rises_more, rises_with, length-with, cause_more, cause_new}
 use Rattle.worker.proofs.Facts.{elsewhere, opened_here, fed_here, shut_here}
 use Rattle.worker.proofs.SessionSteps.{Stays, served_came, closed_no_memory, runs, runs_at_port, untouched, is_running, is_unopened, served_new, opened_if_placed}
 use Rattle.worker.proofs.RunViews.{facts_equal, change_at, at_other, at_same, ended_same, ended_now, count_same, count_more, accepts_more, ClosesIn, shuts_here, close_all, apart_shut}
-use Rattle.worker.proofs.WorkerSteps.{steady_same, same_end, told_finished, told_gone, closes_in, steady_closed, shut_goes_on, told_fed, told_held, open_here}
+use Rattle.worker.proofs.StoryLaws.{told_before, two_calls, paused_elsewhere, paused_kept, paused_but, paused_more, resumed_holds_none}
+use Rattle.worker.proofs.WorkerSteps.{OwnFacts, StoryFacts, steps, steps_on, steady_same, same_end, told_finished, told_gone, closes_in, steady_closed, shut_goes_on, told_fed, told_held, open_here, open_at}
 
 bool_false : (b : Bool) → (b ≡ true → ⊥) → b ≡ false
 bool_false true h = absurd (h refl)
@@ -38,32 +38,46 @@ and_parts true true e = (refl, refl)
 and_parts true false e = absurd (true≢false (sym e))
 and_parts false b e = absurd (true≢false (sym e))
 
-no_length : {A : Type 0} (xs : List A) → (length xs == 0) ≡ true → xs ≡ []
+pub no_length : {A : Type 0} (xs : List A) → (length xs == 0) ≡ true → xs ≡ []
 no_length [] e = refl
 no_length (x ∷ xs) e = absurd (true≢false (sym e ∙ ne_eqb (length (x ∷ xs)) 0 (λ q. omega arith)))
 
-finished_is : (o : Option SessionState) (c : EndCause) → option_and_then finished_by o ≡ Some c → (s : SessionState) × (o ≡ Some s) × (s.queue ≡ []) × (s.out ≡ []) × (s.ended ≡ Some c)
+finished_is : (o : Option SessionState) (c : EndCause) → option_and_then finished_by o ≡ Some c
+    → (s : SessionState) × (o ≡ Some s) × (s.queue ≡ []) × (s.out ≡ []) × (s.ended ≡ Some c)
 finished_is None c e = absurd (cc)
 finished_is (Some s) c e =
     let p = finished_if (length s.queue == 0 && length s.out == 0) s.ended c e in let q = and_parts (length s.queue == 0) (length s.out == 0) p.0 in
     (s, refl, no_length s.queue q.0, no_length s.out q.1, p.1)
 
-pub finish_goes_on : {P : Type 0} (tells : P → Bool) (events : P → List PortRecord) (old new : Worker P) (t : ℕ) (c : EndCause) → Shuts tells events old new t c → IsServing tells events old → option_and_then finished_by (session_of old.book t) ≡ Some c → GoesOn tells events old new
-finish_goes_on tells events old new t c k h e =
+pub finished_open : {P : Type 0} (told : P → Option PortStory) (w : Worker P) (t : ℕ) (c : EndCause) → IsServing told w
+    → option_and_then finished_by (session_of w.book t) ≡ Some c → IsOpenIn t (told w.port)
+finished_open told w t c h e = let f = finished_is (session_of w.book t) c e in open_at told w t f.0 h f.1
+
+pub finish_goes_on : {P : Type 0} (told : P → Option PortStory) (old new : Worker P) (t : ℕ) (c : EndCause) → Shuts told old new t c
+    → IsServing told old → option_and_then finished_by (session_of old.book t) ≡ Some c → GoesOn told old new
+finish_goes_on told old new t c k h e =
     let f = finished_is (session_of old.book t) c e in
-    shut_goes_on tells events old new t c k h
-    (λ tell told closes.
-    let v = run_view events old in
-    let r = runs (facts v t) f.0 (told.each t) f.1 in
+    shut_goes_on told old new t c k h
+    (λ story was_told closes.
+    let v = run_view story old in
+    let r = runs (facts v t) f.0 (was_told.each t) f.1 in
     let same : f.0 ≡ r.running.s = some_is f.0 r.running.s (sym f.1 ∙ r.running.state) in
-    told_finished v (run_view events new) old.unopened old.ended t c told closes r (ap (λ (s : SessionState). s.queue) (sym same) ∙ f.2) (ap (λ (s : SessionState). s.out) (sym same) ∙ f.3) (ap (λ (s : SessionState). s.ended) (sym same) ∙ f.4))
+    told_finished v (run_view (then_told (was.Shut t ∷ []) story) new) old.unopened old.ended t c was_told closes r
+    (ap (λ (s : SessionState). s.queue) (sym same) ∙ f.2) (ap (λ (s : SessionState). s.out) (sym same) ∙ f.3)
+    (ap (λ (s : SessionState). s.ended) (sym same) ∙ f.4))
 
 -- ---- a session is opened
 
-pub fresh : (l : List PortRecord) (t : ℕ) → MayCome l (event.Opened t) → was_opened t l ≡ false
+-- what may be opened next
+abbrev pub MayOpen : List PortRecord → ℕ → Type 0
+MayOpen l t = (0 < t) × ((u : ℕ) → was_opened u l ≡ true → u < t) × (has_ended l ≡ false)
+
+-- such a session wasn't opened before
+pub fresh : (l : List PortRecord) (t : ℕ) → MayOpen l t → was_opened t l ≡ false
 fresh l t may = bool_false (was_opened t l) (λ e. let lt = may.1 t e in omega (arith, lt))
 
-pub told_admitted : (v v' : RunView) (unopened : ℕ) (ended : Bool) (t : ℕ) → IsTold v unopened ended → MayCome v.events (event.Opened t) → v'.events ≡ v.events ++ was.Opened t ∷ [] → v'.posted ≡ v.posted → v'.back ≡ v.back → v'.sessions ≡ v.sessions ++ (t, causes.Drained) ∷ []
+pub told_admitted : (v v' : RunView) (unopened : ℕ) (ended : Bool) (t : ℕ) → IsTold v unopened ended → MayOpen v.events t
+    → v'.events ≡ v.events ++ was.Opened t ∷ [] → v'.posted ≡ v.posted → v'.back ≡ v.back → v'.sessions ≡ v.sessions ++ (t, causes.Drained) ∷ []
     → ((s : ℕ) → session_of v'.book s ≡ cond (s == t) (Some new_session) (session_of v.book s)) → v'.piece ≡ v.piece → IsTold v' unopened ended
 told_admitted v v' unopened ended t h may e p k r book piece =
     let l = v.events in let x = was.Opened t in
@@ -71,22 +85,29 @@ told_admitted v v' unopened ended t h may e p k r book piece =
     let port = record (port_facts l t) { opened = true } in
     let f' = record (facts v t) { port = port; cause = Some causes.Drained; state = Some new_session } in
     let here : facts v' t ≡ f' =
-    facts_equal (facts v' t) f' (ap (λ y. port_facts y t) e ∙ opened_here l t) (λ i. (facts (record v { posted = p i }) t).asked) (λ i. (facts (record v { back = k i }) t).had) (ap (λ y. cause_of y t) r ∙ cause_new v.sessions t causes.Drained u.1) (book t ∙ at_same t (Some new_session) (session_of v.book t)) (λ i. piece i t) in
+    facts_equal (facts v' t) f' (ap (λ y. port_facts y t) e ∙ opened_here l t) (λ i. (facts (record v { posted = p i }) t).asked)
+    (λ i. (facts (record v { back = k i }) t).had) (ap (λ y. cause_of y t) r ∙ cause_new v.sessions t causes.Drained u.1)
+    (book t ∙ at_same t (Some new_session) (session_of v.book t)) (λ i. piece i t) in
     let served = served_new f' u.0.fed u.0.given u.0.had u.0.asked u.0.piece in
     let now = is_running f' refl refl (record { gone = u.0.gone; shut = u.0.shut; s = new_session; state = refl; served = served }) in
     let others : (s : ℕ) → t ≢ s → facts v' s ≡ facts v s =
     λ s ne.
-    facts_equal (facts v' s) (facts v s) (ap (λ y. port_facts y s) e ∙ elsewhere l x s (ne_eqb t s ne)) (λ i. (facts (record v { posted = p i }) s).asked) (λ i. (facts (record v { back = k i }) s).had) (ap (λ y. cause_of y s) r ∙ cause_more v.sessions s t causes.Drained ne) (book s ∙ at_other t s (Some new_session) (session_of v.book s) ne) (λ i. piece i s) in
+    facts_equal (facts v' s) (facts v s) (ap (λ y. port_facts y s) e ∙ elsewhere l x s (ne_eqb t s ne))
+    (λ i. (facts (record v { posted = p i }) s).asked) (λ i. (facts (record v { back = k i }) s).had)
+    (ap (λ y. cause_of y s) r ∙ cause_more v.sessions s t causes.Drained ne) (book s ∙ at_other t s (Some new_session) (session_of v.book s) ne)
+    (λ i. piece i s) in
     let below : (s : ℕ) (d : EndCause) → cause_of v.sessions s ≡ Some d → s < t = λ s d q. may.1 s (opened_if_placed (facts v s) d (h.each s) q) in
     let len = length-append v.sessions ((t, causes.Drained) ∷ []) in let more = count_more l t in record {
       each = change_at t v v' others (subst IsConsistent (sym here) now) (λ s ne. h.each s);
       rising = subst Rises (sym r) (rises_more v.sessions t causes.Drained h.rising may.0 below);
-      counted = subst (λ (y : List PortRecord × List (ℕ × EndCause)). IsCounted y.0 y.1 unopened) (λ i. (sym e i, sym r i)) (omega (arith, len, more, h.counted.0), omega (arith, len, more, h.counted.0, h.counted.1));
+      counted = subst (λ (y : List PortRecord × List (ℕ × EndCause)). IsCounted y.0 y.1 unopened) (λ i. (sym e i, sym r i))
+          (omega (arith, len, more, h.counted.0), omega (arith, len, more, h.counted.0, h.counted.1));
       at_end = ap has_ended e ∙ ended_same l x refl ∙ h.at_end;
       accepts = subst AcceptsOnlyOpen (sym e) (accepts_more l x h.accepts tt);
     }
 
-pub told_refused : (v v' : RunView) (unopened : ℕ) (ended : Bool) (t : ℕ) → IsTold v unopened ended → MayCome v.events (event.Opened t) → v'.events ≡ (v.events ++ was.Opened t ∷ []) ++ was.Shut t ∷ [] → v'.posted ≡ v.posted → v'.back ≡ v.back → v'.sessions ≡ v.sessions
+pub told_refused : (v v' : RunView) (unopened : ℕ) (ended : Bool) (t : ℕ) → IsTold v unopened ended → MayOpen v.events t
+    → v'.events ≡ (v.events ++ was.Opened t ∷ []) ++ was.Shut t ∷ [] → v'.posted ≡ v.posted → v'.back ≡ v.back → v'.sessions ≡ v.sessions
     → v'.book ≡ v.book → v'.piece ≡ v.piece → IsTold v' (min (unopened + 1) (2 ^ 64 - 1)) ended
 told_refused v v' unopened ended t h may e p k r book piece =
     let l = v.events in let x = was.Opened t in let y = was.Shut t in let m = l ++ x ∷ [] in
@@ -94,82 +115,119 @@ told_refused v v' unopened ended t h may e p k r book piece =
     let port = record (port_facts l t) { opened = true; shut = true } in
     let f' = record (facts v t) { port = port } in
     let here : facts v' t ≡ f' =
-    facts_equal (facts v' t) f' (ap (λ z. port_facts z t) e ∙ shut_here m t ∙ ap (λ (q : PortFacts). record q { shut = true }) (opened_here l t)) (λ i. (facts (record v { posted = p i }) t).asked) (λ i. (facts (record v { back = k i }) t).had) (ap (λ z. cause_of z t) r) (ap (λ z. session_of z t) book) (λ i. piece i t) in
+    facts_equal (facts v' t) f' (ap (λ z. port_facts z t) e ∙ shut_here m t ∙ ap (λ (q : PortFacts). record q { shut = true }) (opened_here l t))
+    (λ i. (facts (record v { posted = p i }) t).asked) (λ i. (facts (record v { back = k i }) t).had) (ap (λ z. cause_of z t) r)
+    (ap (λ z. session_of z t) book) (λ i. piece i t) in
     let now = is_unopened f' refl u.1 (record { given = u.0.given; shut = refl; asked = u.0.asked; state = u.0.state }) in
     let others : (s : ℕ) → t ≢ s → facts v' s ≡ facts v s =
     λ s ne.
-    facts_equal (facts v' s) (facts v s) (ap (λ z. port_facts z s) e ∙ elsewhere m y s (ne_eqb t s ne) ∙ elsewhere l x s (ne_eqb t s ne)) (λ i. (facts (record v { posted = p i }) s).asked) (λ i. (facts (record v { back = k i }) s).had) (ap (λ z. cause_of z s) r) (ap (λ z. session_of z s) book) (λ i. piece i s) in
+    facts_equal (facts v' s) (facts v s) (ap (λ z. port_facts z s) e ∙ elsewhere m y s (ne_eqb t s ne) ∙ elsewhere l x s (ne_eqb t s ne))
+    (λ i. (facts (record v { posted = p i }) s).asked) (λ i. (facts (record v { back = k i }) s).had) (ap (λ z. cause_of z s) r)
+    (ap (λ z. session_of z s) book) (λ i. piece i s) in
     let more = count_more l t in let same = count_same m y refl in record {
       each = change_at t v v' others (subst IsConsistent (sym here) now) (λ s ne. h.each s);
       rising = subst Rises (sym r) h.rising;
-      counted = subst (λ (z : List PortRecord × List (ℕ × EndCause)). IsCounted z.0 z.1 (min (unopened + 1) (2 ^ 64 - 1))) (λ i. (sym e i, sym r i)) (omega (arith, same, more, h.counted.0), omega (arith, same, more, h.counted.0, h.counted.1));
+      counted = subst (λ (z : List PortRecord × List (ℕ × EndCause)). IsCounted z.0 z.1 (min (unopened + 1) (2 ^ 64 - 1))) (λ i. (sym e i, sym r i))
+          (omega (arith, same, more, h.counted.0), omega (arith, same, more, h.counted.0, h.counted.1));
       at_end = ap has_ended e ∙ ended_same m y refl ∙ ended_same l x refl ∙ h.at_end;
       accepts = subst AcceptsOnlyOpen (sym e) (accepts_more m y (accepts_more l x h.accepts tt) tt);
     }
 
 -- ---- the worker after an event
 
--- its port has told the event
-pub record Told {P : Type 0} (tells : P → Bool) (events : P → List PortRecord) (old : P) (port : P) (x : PortRecord) : Type 0 where
-  pub tells_as : tells port ≡ tells old
-  pub told : tells old ≡ true → events port ≡ events old ++ x ∷ []
+-- the port opened a session, and may have
+pub record OpensAt {P : Type 0} (told : P → Option PortStory) (old port : P) (t : ℕ) : Type 0 where
+  pub told_is : told port ≡ option_map (then_told (was.Opened t ∷ [])) (told old)
+  pub may : (story : PortStory) → told old ≡ Some story → MayOpen story.events t
 
-admit_goes_on : {P : Type 0} (tells : P → Bool) (events : P → List PortRecord) (old new : Worker P) (port : P) (t : ℕ) → Told tells events old.port port (was.Opened t) → (tells old.port ≡ true → MayCome (events old.port) (event.Opened t)) → SameRest (record old { port = port }) new → IsServing tells events old → Admits tells events (record old { port = port }) new t → GoesOn tells events old new
-admit_goes_on tells events old new port t told may rest h k = record {
-  tells_as = ap tells k.port ∙ told.tells_as;
-  same_end = same_end old new rest.end;
-  serving = record {
-    steady = subst (λ (y : WorkerView × Option Posted). IsSteady y.0 y.1 new.book) (λ i. (sym rest.end i, sym rest.request i)) (steady_same old.worker_end old.request old.book new.book k.counts.0 k.counts.1 h.steady);
-    strangers = rest.strangers ∙ h.strangers;
-    told = λ e.
-        let e' = sym (ap tells k.port ∙ told.tells_as) ∙ e in
-        subst (λ (y : ℕ × Bool). IsTold (run_view events new) y.0 y.1) (λ i. (sym k.unopened i, sym rest.ended i))
-        (told_admitted (run_view events old) (run_view events new) old.unopened old.ended t (h.told e') (may e') (ap events k.port ∙ told.told e') (λ i. posted_by (rest.end i) (rest.request i)) (ap (λ (w : WorkerView). w.back) rest.end) k.sessions k.book (ap piece_of rest.pieces));
-  };
-}
+admit_goes_on : {P : Type 0} (told : P → Option PortStory) (old new : Worker P) (port : P) (t : ℕ) → OpensAt told old.port port t
+    → SameRest (record old { port = port }) new → IsServing told old → Admits told (record old { port = port }) new t → GoesOn told old new
+admit_goes_on told old new port t opens rest h k =
+    let f = then_told (was.Opened t ∷ []) in
+    steps_on told old new f (ap told k.port ∙ opens.told_is) (record {
+      same_end = same_end old new rest.end;
+      steady = subst (λ (y : WorkerView × Option Posted). IsSteady y.0 y.1 new.book) (λ i. (sym rest.end i, sym rest.request i))
+          (steady_same old.worker_end old.request old.book new.book k.counts.0 k.counts.1 h.steady);
+      strangers = rest.strangers ∙ h.strangers;
+      unopened = k.unopened;
+      ended = rest.ended;
+    }) h
+    (λ story e was_so. (
+      told_admitted (run_view story old) (run_view (f story) new) old.unopened old.ended t was_so.0 (opens.may story e) refl
+          (λ i. posted_by (rest.end i) (rest.request i)) (ap (λ (w : WorkerView). w.back) rest.end) k.sessions k.book (ap piece_of rest.pieces),
+      paused_kept story (f story) (piece_of old.pieces) (piece_of new.pieces) (λ s i. piece_of (rest.pieces i) s) (λ s. refl) was_so.1,
+    ))
 
-refuse_goes_on : {P : Type 0} (tells : P → Bool) (events : P → List PortRecord) (old new : Worker P) (port : P) (t : ℕ) → Told tells events old.port port (was.Opened t) → (tells old.port ≡ true → MayCome (events old.port) (event.Opened t)) → SameRest (record old { port = port }) new → IsServing tells events old → Refuses tells events (record old { port = port }) new t → GoesOn tells events old new
-refuse_goes_on tells events old new port t told may rest h k = record {
-  tells_as = k.tells_as ∙ told.tells_as;
-  same_end = same_end old new rest.end;
-  serving = record {
-    steady = subst (λ (y : WorkerView × Option Posted × BookState). IsSteady y.0 y.1 y.2) (λ i. (sym rest.end i, sym rest.request i, sym k.book i)) h.steady;
-    strangers = rest.strangers ∙ h.strangers;
-    told = λ e.
-        let e' = sym (k.tells_as ∙ told.tells_as) ∙ e in
-        subst (λ (y : ℕ × Bool). IsTold (run_view events new) y.0 y.1) (λ i. (sym k.unopened i, sym rest.ended i))
-        (told_refused (run_view events old) (run_view events new) old.unopened old.ended t (h.told e') (may e') (k.port (told.tells_as ∙ e') ∙ ap (λ l. l ++ was.Shut t ∷ []) (told.told e')) (λ i. posted_by (rest.end i) (rest.request i)) (ap (λ (w : WorkerView). w.back) rest.end) k.sessions k.book (ap piece_of rest.pieces));
-  };
-}
+refuse_goes_on : {P : Type 0} (told : P → Option PortStory) (old new : Worker P) (port : P) (t : ℕ) → OpensAt told old.port port t
+    → SameRest (record old { port = port }) new → IsServing told old → Refuses told (record old { port = port }) new t → GoesOn told old new
+refuse_goes_on told old new port t opens rest h k =
+    let f = then_told (was.Opened t ∷ []) in let g = then_told (was.Shut t ∷ []) in
+    steps told old new (λ story. g (f story)) (two_calls f g (told old.port) (told port) (told new.port) opens.told_is k.port) (same_end old new rest.end)
+    (subst (λ (y : WorkerView × Option Posted × BookState). IsSteady y.0 y.1 y.2) (λ i. (sym rest.end i, sym rest.request i, sym k.book i)) h.steady)
+    (rest.strangers ∙ h.strangers) h
+    (λ story e was_so.
+    let none : piece_of old.pieces t ≡ [] = (untouched (facts (run_view story old) t) (was_so.0.each t) (fresh story.events t (opens.may story e))).0.piece in (
+      subst (λ (y : ℕ × Bool). IsTold (run_view (g (f story)) new) y.0 y.1) (λ i. (sym k.unopened i, sym rest.ended i))
+          (told_refused (run_view story old) (run_view (g (f story)) new) old.unopened old.ended t was_so.0 (opens.may story e) refl
+          (λ i. posted_by (rest.end i) (rest.request i)) (ap (λ (w : WorkerView). w.back) rest.end) k.sessions k.book (ap piece_of rest.pieces)),
+      paused_but story (g (f story)) t (piece_of old.pieces) (piece_of new.pieces)
+          (λ s. ap (λ p. piece_of p s) rest.pieces ∙ still_none t s (piece_of old.pieces) none)
+          (λ s ne. paused_elsewhere (f story) (was.Shut t) s (ne_eqb t s ne)) was_so.1,
+    ))
+  where
+    still_none : (t s : ℕ) (piece : ℕ → List ℕ) → piece t ≡ [] → piece s ≡ cond (s == t) [] (piece s)
+    still_none t s piece none = either_way t s (λ (e : t ≡ s). ap piece (sym e) ∙ none ∙ sym (ap (λ b. cond b [] (piece s)) (eq-eqb s t (sym e))))
+        (λ (ne : t ≢ s). sym (at_other t s [] (piece s) ne))
 
-pub opened_goes_on : {P : Type 0} (tells : P → Bool) (events : P → List PortRecord) (old new : Worker P) (port : P) (t : ℕ) → Told tells events old.port port (was.Opened t) → (tells old.port ≡ true → MayCome (events old.port) (event.Opened t)) → SameRest (record old { port = port }) new → IsServing tells events old → Admits tells events (record old { port = port }) new t ⊎ Refuses tells events (record old { port = port }) new t → GoesOn tells events old new
-opened_goes_on tells events old new port t told may rest h k = ⊎_elim (admit_goes_on tells events old new port t told may rest h) (refuse_goes_on tells events old new port t told may rest h) k
+pub opened_goes_on : {P : Type 0} (told : P → Option PortStory) (old new : Worker P) (port : P) (t : ℕ) → OpensAt told old.port port t
+    → SameRest (record old { port = port }) new → IsServing told old
+    → Admits told (record old { port = port }) new t ⊎ Refuses told (record old { port = port }) new t → GoesOn told old new
+opened_goes_on told old new port t opens rest h k = ⊎_elim (admit_goes_on told old new port t opens rest h) (refuse_goes_on told old new port t opens rest h) k
 
 -- a session that has just been opened is open
-pub opened_is_open : (l m : List PortRecord) (v : RunView) (t : ℕ) → v.events ≡ l → IsConsistent (facts v t) → MayCome l (event.Opened t) → m ≡ l ++ was.Opened t ∷ [] → is_open t m ≡ true
-opened_is_open l m v t e h may q =
-    let may' = subst (λ z. MayCome z (event.Opened t)) (sym e) may in
-    let u = untouched (facts v t) h (fresh v.events t may') in
-    let o = opened_here v.events t in
-    let m_is : m ≡ v.events ++ was.Opened t ∷ [] = q ∙ ap (λ z. z ++ was.Opened t ∷ []) (sym e) in
-    ap (is_open t) m_is ∙ ap (λ (p : PortFacts). p.opened && not (p.gone || p.shut)) o ∙ ap (λ (b : Bool × Bool). true && not (b.0 || b.1)) (λ i. (u.0.gone i, u.0.shut i))
+pub opened_is_open : {P : Type 0} (told : P → Option PortStory) (w : Worker P) (port : P) (t : ℕ) → IsServing told w → OpensAt told w.port port t
+    → IsOpenIn t (told port)
+opened_is_open told w port t h opens =
+    λ after e.
+    let b = told_before (then_told (was.Opened t ∷ [])) (told w.port) (told port) opens.told_is after e in let story = b.0 in
+    let u = untouched (facts (run_view story w) t) ((h.known story b.1).each t) (fresh story.events t (opens.may story b.1)) in
+    let o = opened_here story.events t in
+    ap (λ (y : PortStory). is_open t y.events) (sym b.2) ∙ ap (λ (p : PortFacts). p.opened && not (p.gone || p.shut)) o
+    ∙ ap (λ (b : Bool × Bool). true && not (b.0 || b.1)) (λ i. (u.0.gone i, u.0.shut i))
 
--- the parts that receiving leaves
-received_rest : {P : Type 0} (tells : P → Bool) (events : P → List PortRecord) (old new : Worker P) (port : P) → Leaves (record old { port = port }) new → tells new.port ≡ tells old.port → (new.book.posted ≡ old.book.posted) × (new.book.unsettled ≡ old.book.unsettled) → IsServing tells events old → (tells old.port ≡ true → IsTold (run_view events old) old.unopened old.ended → IsTold (run_view events new) old.unopened old.ended) → GoesOn tells events old new
-received_rest tells events old new port rest t b h told = record {
-  tells_as = t;
+-- an entry that leaves a session open
+pub still_open : {P : Type 0} (told : P → Option PortStory) (old port : P) (t : ℕ) (b : List ℕ)
+    → told port ≡ option_map (then_told (was.Data t b ∷ [])) (told old)
+    → ((story : PortStory) → told old ≡ Some story → is_open t story.events ≡ true) → IsOpenIn t (told port)
+still_open told old port t b told_is opened =
+    λ after e.
+    let q = told_before (then_told (was.Data t b ∷ [])) (told old) (told port) told_is after e in
+    ap (λ (y : PortStory). is_open t y.events) (sym q.2) ∙ ap (λ (p : PortFacts). p.opened && not (p.gone || p.shut)) (fed_here q.0.events t b) ∙ opened q.0 q.1
+
+-- of a session whose data came no bytes are held
+pub came_unheld : {P : Type 0} (told : P → Option PortStory) (w : Worker P) (port : P) (t : ℕ) (b : List ℕ) → IsServing told w
+    → told port ≡ option_map (then_told (was.Data t b ∷ [])) (told w.port) → ((story : PortStory) → told w.port ≡ Some story → story.paused t ≡ false)
+    → (after : PortStory) → told port ≡ Some after → piece_of w.pieces t ≡ []
+came_unheld told w port t b h told_is resumed =
+    λ after e.
+    let q = told_before (then_told (was.Data t b ∷ [])) (told w.port) (told port) told_is after e in
+    resumed_holds_none (piece_of w.pieces t) (q.0.paused t) (h.paused q.0 q.1 t) (resumed q.0 q.1)
+
+-- receiving leaves the rest
+rest_facts : {P : Type 0} (told : P → Option PortStory) (old new : Worker P) (port : P) → Leaves (record old { port = port }) new
+    → (new.book.posted ≡ old.book.posted) × (new.book.unsettled ≡ old.book.unsettled) → IsServing told old → OwnFacts old new
+rest_facts told old new port rest b h = record {
   same_end = same_end old new rest.end;
-  serving = record {
-    steady = subst (λ (y : WorkerView × Option Posted). IsSteady y.0 y.1 new.book) (λ i. (sym rest.end i, sym rest.request i)) (steady_same old.worker_end old.request old.book new.book b.0 b.1 h.steady);
-    strangers = rest.strangers ∙ h.strangers;
-    told = λ e.
-        let e' = sym t ∙ e in
-        subst (λ (y : ℕ × Bool). IsTold (run_view events new) y.0 y.1) (λ i. (sym rest.unopened i, sym rest.ended i)) (told e' (h.told e'));
-  };
+  steady = subst (λ (y : WorkerView × Option Posted). IsSteady y.0 y.1 new.book) (λ i. (sym rest.end i, sym rest.request i))
+      (steady_same old.worker_end old.request old.book new.book b.0 b.1 h.steady);
+  strangers = rest.strangers ∙ h.strangers;
+  unopened = rest.unopened;
+  ended = rest.ended;
 }
 
 -- a session of which bytes just came, and which is shut
-told_data_shut : (v v' : RunView) (unopened : ℕ) (ended : Bool) (t : ℕ) (b : List ℕ) → IsTold v unopened ended → is_open t v.events ≡ true → ClosesIn (record v { events = v.events ++ was.Data t b ∷ [] }) v' t causes.NoMemory (was.Shut t) → IsTold v' unopened ended
+told_data_shut : (v v' : RunView) (unopened : ℕ) (ended : Bool) (t : ℕ) (b : List ℕ) → IsTold v unopened ended → is_open t v.events ≡ true
+    → ClosesIn (record v { events = v.events ++ was.Data t b ∷ [] }) v' t causes.NoMemory (was.Shut t) → IsTold v' unopened ended
 told_data_shut v v' unopened ended t b h opened k =
     let l = v.events in let m = l ++ was.Data t b ∷ [] in let u = record v { events = m } in
     let o = open_here l t opened in
@@ -186,9 +244,11 @@ told_data_shut v v' unopened ended t b h opened k =
       state = here.state;
     } in
     let closed = closed_no_memory f (facts v' t) run.running.s ((facts v t).piece ++ b) served st (ap (λ (p : PortFacts). p.shut) here.port_is) in
-    let before : (s : ℕ) → t ≢ s → IsConsistent (facts u s) = λ s ne. subst IsConsistent (ap (λ (p : PortFacts). record (facts v s) { port = p }) (sym (elsewhere l (was.Data t b) s (ne_eqb t s ne)))) (h.each s) in
+    let before : (s : ℕ) → t ≢ s → IsConsistent (facts u s) = λ s ne. subst IsConsistent
+    (ap (λ (p : PortFacts). record (facts v s) { port = p }) (sym (elsewhere l (was.Data t b) s (ne_eqb t s ne)))) (h.each s) in
     let len = length-with v.sessions t causes.NoMemory in let one = count_same l (was.Data t b) refl in let two = count_same m (was.Shut t) refl in record {
-      each = close_all u v' t causes.NoMemory (was.Shut t) (record (port_facts m t) { shut = true }) k (apart_shut t) here (ap (λ (p : PortFacts). p.opened) came ∙ run.opened) closed before;
+      each = close_all u v' t causes.NoMemory (was.Shut t) (record (port_facts m t) { shut = true }) k (apart_shut t) here
+          (ap (λ (p : PortFacts). p.opened) came ∙ run.opened) closed before;
       rising = subst Rises (sym k.sessions) (rises_with v.sessions t causes.NoMemory h.rising);
       counted = subst (λ (y : List PortRecord × List (ℕ × EndCause)). IsCounted y.0 y.1 unopened) (λ i. (sym k.events i, sym k.sessions i))
           (subst (λ (y : ℕ × ℕ). (y.1 ≤ y.0) × (unopened ≡ min (y.0 - y.1) (2 ^ 64 - 1))) (λ i. (sym (two ∙ one) i, sym len i)) h.counted);
@@ -196,71 +256,130 @@ told_data_shut v v' unopened ended t b h opened k =
       accepts = subst AcceptsOnlyOpen (sym k.events) (accepts_more m (was.Shut t) (accepts_more l (was.Data t b) h.accepts tt) tt);
     }
 
-pub received_goes_on : {P : Type 0} (tells : P → Bool) (events : P → List PortRecord) (old new : Worker P) (port : P) (t : ℕ) (b : List ℕ) → Told tells events old.port port (was.Data t b) → (tells old.port ≡ true → is_open t (events old.port) ≡ true) → IsServing tells events old → Receives tells events (record old { port = port }) t b new → GoesOn tells events old new
-received_goes_on tells events old new port t b told opened h (feeds none book port_is pieces rest) =
-    received_rest tells events old new port rest (ap tells port_is ∙ told.tells_as) (ap (λ (x : BookState). x.posted) book.rest, ap (λ (x : BookState). x.unsettled) book.rest) h
-    (λ e was_told.
-    told_fed (run_view events old) (run_view events new) old.unopened old.ended t b was_told (opened e) none (ap events port_is ∙ told.told e) (λ i. posted_by (rest.end i) (rest.request i)) (ap (λ (w : WorkerView). w.back) rest.end) rest.sessions book.only_at (λ s i. piece_of (pieces i) s))
-received_goes_on tells events old new port t b told opened h (holds none k) =
-    received_rest tells events old new port k.leaves (k.tells_as ∙ told.tells_as) (ap (λ (x : BookState). x.posted) k.book, ap (λ (x : BookState). x.unsettled) k.book) h
-    (λ e was_told.
-    told_held (run_view events old) (run_view events new) old.unopened old.ended t b was_told (opened e) none (k.port (told.tells_as ∙ e) ∙ told.told e) (λ i. posted_by (k.leaves.end i) (k.leaves.request i)) (ap (λ (w : WorkerView). w.back) k.leaves.end) k.leaves.sessions k.book k.pieces)
-received_goes_on tells events old new port t b told opened h (shuts k) = record {
-  tells_as = k.tells_as ∙ told.tells_as;
-  same_end = same_end old new k.closes.end;
-  serving = record {
-    steady = steady_closed (record old { port = port }) new t causes.NoMemory k.closes h.steady;
-    strangers = k.closes.strangers ∙ h.strangers;
-    told = λ e.
-        let e' = sym (k.tells_as ∙ told.tells_as) ∙ e in let was_told = h.told e' in
-        let c = closes_in events (record old { port = port }) new t causes.NoMemory (was.Shut t) k.closes was_told.rising (k.port (told.tells_as ∙ e')) in
-        subst (λ (y : ℕ × Bool). IsTold (run_view events new) y.0 y.1) (λ i. (sym k.closes.unopened i, sym k.closes.ended i))
-        (told_data_shut (run_view events old) (run_view events new) old.unopened old.ended t b was_told (opened e')
-        (record { events = c.events ∙ ap (λ l. l ++ was.Shut t ∷ []) (told.told e'); posted = c.posted; back = c.back; sessions = c.sessions; book = c.book; piece = c.piece }));
-  };
-}
-received_goes_on tells events old new port t b told opened h (drops none book port_is pieces rest) =
-    received_rest tells events old new port rest (ap tells port_is ∙ told.tells_as) (ap (λ (x : BookState). x.posted) book, ap (λ (x : BookState). x.unsettled) book) h
-    (λ e was_told.
-    let o = open_here (events old.port) t (opened e) in
-    let run = runs_at_port (facts (run_view events old) t) (was_told.each t) o.0 o.1 o.2 in
-    absurd (true≢false (sym (ap is_some run.running.state) ∙ ap is_some none)))
+-- a session that is open at a port that tells is open in the book
+pub open_in_book : {P : Type 0} (story : PortStory) (w : Worker P) (t : ℕ) → IsTold (run_view story w) w.unopened w.ended
+    → is_open t story.events ≡ true → session_of w.book t ≡ None → ⊥
+open_in_book story w t h opened none =
+    let o = open_here story.events t opened in
+    let run = runs_at_port (facts (run_view story w) t) (h.each t) o.0 o.1 o.2 in
+    true≢false (sym (ap is_some run.running.state) ∙ ap is_some none)
+
+-- the port told data of a session, and may have
+pub record FeedsAt {P : Type 0} (told : P → Option PortStory) (old port : P) (t : ℕ) (b : List ℕ) : Type 0 where
+  pub told_is : told port ≡ option_map (then_told (was.Data t b ∷ [])) (told old)
+  pub opened : (story : PortStory) → told old ≡ Some story → is_open t story.events ≡ true
+
+pub received_goes_on : {P : Type 0} (told : P → Option PortStory) (old new : Worker P) (port : P) (t : ℕ) (b : List ℕ)
+    → FeedsAt told old.port port t b → IsServing told old → Receives told (record old { port = port }) t b new → GoesOn told old new
+received_goes_on told old new port t b came h (feeds none book port_is pieces rest) =
+    let f = then_told (was.Data t b ∷ []) in
+    steps_on told old new f (ap told port_is ∙ came.told_is) (rest_facts told old new port rest
+    (ap (λ (x : BookState). x.posted) book.rest, ap (λ (x : BookState). x.unsettled) book.rest) h) h
+    (λ story e was_so. (
+      told_fed (run_view story old) (run_view (f story) new) old.unopened old.ended t b was_so.0 (came.opened story e) none refl
+          (λ i. posted_by (rest.end i) (rest.request i)) (ap (λ (w : WorkerView). w.back) rest.end) rest.sessions book.only_at (λ s i. piece_of (pieces i) s),
+      paused_kept story (f story) (piece_of old.pieces) (piece_of new.pieces) (λ s i. piece_of (pieces i) s) (λ s. refl) was_so.1,
+    ))
+received_goes_on told old new port t b came h (holds none k) =
+    let f = then_told (was.Data t b ∷ []) in let g = with_pause t true in
+    steps_on told old new (λ story. g (f story)) (two_calls f g (told old.port) (told port) (told new.port) came.told_is k.port)
+    (rest_facts told old new port k.leaves (ap (λ (x : BookState). x.posted) k.book, ap (λ (x : BookState). x.unsettled) k.book) h) h
+    (λ story e was_so. (
+      told_held (run_view story old) (run_view (g (f story)) new) old.unopened old.ended t b was_so.0 (came.opened story e) none refl
+          (λ i. posted_by (k.leaves.end i) (k.leaves.request i)) (ap (λ (w : WorkerView). w.back) k.leaves.end) k.leaves.sessions k.book k.pieces,
+      paused_more story (g (f story)) t b (piece_of old.pieces) (piece_of new.pieces) k.pieces (at_same t true (story.paused t))
+          (λ s ne. at_other t s true (story.paused s) ne) was_so.1,
+    ))
+received_goes_on told old new port t b came h (shuts why k) =
+    let f = then_told (was.Data t b ∷ []) in let g = then_told (was.Shut t ∷ []) in
+    steps_on told old new (λ story. g (f story)) (two_calls f g (told old.port) (told port) (told new.port) came.told_is k.port) (record {
+      same_end = same_end old new k.closes.end;
+      steady = steady_closed (record old { port = port }) new t causes.NoMemory k.closes h.steady;
+      strangers = k.closes.strangers ∙ h.strangers;
+      unopened = k.closes.unopened;
+      ended = k.closes.ended;
+    }) h
+    (λ story e was_so. (
+      told_data_shut (run_view story old) (run_view (g (f story)) new) old.unopened old.ended t b was_so.0 (came.opened story e)
+          (closes_in (f story) (record old { port = port }) new t causes.NoMemory (was.Shut t) k.closes was_so.0.rising),
+      paused_but story (g (f story)) t (piece_of old.pieces) (piece_of new.pieces) k.closes.pieces
+          (λ s ne. paused_elsewhere (f story) (was.Shut t) s (ne_eqb t s ne)) was_so.1,
+    ))
+received_goes_on told old new port t b came h (drops none book port_is pieces rest) =
+    let f = then_told (was.Data t b ∷ []) in
+    steps_on told old new f (ap told port_is ∙ came.told_is) (rest_facts told old new port rest
+    (ap (λ (x : BookState). x.posted) book, ap (λ (x : BookState). x.unsettled) book) h) h
+    (λ story e was_so. absurd (open_in_book story old t was_so.0 (came.opened story e) none))
+
+-- the port told that a session has gone, and may have
+pub record LosesAt {P : Type 0} (told : P → Option PortStory) (old port : P) (t : ℕ) : Type 0 where
+  pub told_is : told port ≡ option_map (then_told (was.Gone t ∷ [])) (told old)
+  pub opened : (story : PortStory) → told old ≡ Some story → is_open t story.events ≡ true
 
 -- a session goes
-pub gone_goes_on : {P : Type 0} (tells : P → Bool) (events : P → List PortRecord) (old new : Worker P) (port : P) (t : ℕ) → Told tells events old.port port (was.Gone t) → (tells old.port ≡ true → is_open t (events old.port) ≡ true) → IsServing tells events old → new.port ≡ port → Closes (record old { port = port }) new t causes.Gone → GoesOn tells events old new
-gone_goes_on tells events old new port t told opened h port_is k = record {
-  tells_as = ap tells port_is ∙ told.tells_as;
-  same_end = same_end old new k.end;
-  serving = record {
-    steady = steady_closed (record old { port = port }) new t causes.Gone k h.steady;
-    strangers = k.strangers ∙ h.strangers;
-    told = λ e.
-        let e' = sym (ap tells port_is ∙ told.tells_as) ∙ e in let was_told = h.told e' in
-        let o = open_here (events old.port) t (opened e') in
-        let run = runs_at_port (facts (run_view events old) t) (was_told.each t) o.0 o.1 o.2 in
-        subst (λ (y : ℕ × Bool). IsTold (run_view events new) y.0 y.1) (λ i. (sym k.unopened i, sym k.ended i))
-        (told_gone (run_view events old) (run_view events new) old.unopened old.ended t was_told
-        (record { events = ap events port_is ∙ told.told e'; posted = λ i. posted_by (k.end i) (k.request i); back = ap (λ (w : WorkerView). w.back) k.end; sessions = k.sessions was_told.rising; book = k.book.only_at; piece = k.pieces }) run);
-  };
-}
+pub gone_goes_on : {P : Type 0} (told : P → Option PortStory) (old new : Worker P) (port : P) (t : ℕ) → LosesAt told old.port port t
+    → IsServing told old → new.port ≡ port → Closes (record old { port = port }) new t causes.Gone → GoesOn told old new
+gone_goes_on told old new port t loses h port_is k =
+    let f = then_told (was.Gone t ∷ []) in
+    steps_on told old new f (ap told port_is ∙ loses.told_is) (record {
+      same_end = same_end old new k.end;
+      steady = steady_closed (record old { port = port }) new t causes.Gone k h.steady;
+      strangers = k.strangers ∙ h.strangers;
+      unopened = k.unopened;
+      ended = k.ended;
+    }) h
+    (λ story e was_so.
+    let o = open_here story.events t (loses.opened story e) in
+    let run = runs_at_port (facts (run_view story old) t) (was_so.0.each t) o.0 o.1 o.2 in (
+      told_gone (run_view story old) (run_view (f story) new) old.unopened old.ended t was_so.0
+          (closes_in story (record old { port = port }) new t causes.Gone (was.Gone t) k was_so.0.rising) run,
+      paused_but story (f story) t (piece_of old.pieces) (piece_of new.pieces) k.pieces
+          (λ s ne. paused_elsewhere story (was.Gone t) s (ne_eqb t s ne)) was_so.1,
+    ))
+
+-- what a port that tells nothing has gone of
+pub stranger_goes_on : {P : Type 0} (told : P → Option PortStory) (old : Worker P) (port : P) (t : ℕ) → LosesAt told old.port port t
+    → IsServing told old → session_of old.book t ≡ None → GoesOn told old (record old { port = port })
+stranger_goes_on told old port t loses h none =
+    let f = then_told (was.Gone t ∷ []) in
+    steps_on told old (record old { port = port }) f loses.told_is
+    (record { same_end = record { exchange = refl; worker = refl }; steady = h.steady; strangers = h.strangers; unopened = refl; ended = refl }) h
+    (λ story e was_so. absurd (open_in_book story old t was_so.0 (loses.opened story e) none))
+
+-- what the worker does where a session has gone
+pub lose_goes_on : {P : Type 0} (told : P → Option PortStory) (old new : Worker P) (port : P) (t : ℕ) (o : Option SessionState)
+    → o ≡ session_of old.book t → LosesAt told old.port port t → IsServing told old → new.port ≡ port
+    → (is_some (session_of old.book t) ≡ true → Closes (record old { port = port }) new t causes.Gone)
+    → (session_of old.book t ≡ None → new ≡ record old { port = port }) → GoesOn told old new
+lose_goes_on told old new port t None o loses h port_is closes keeps = subst (λ w. GoesOn told old w) (sym (keeps (sym o)))
+    (stranger_goes_on told old port t loses h (sym o))
+lose_goes_on told old new port t (Some s) o loses h port_is closes keeps = gone_goes_on told old new port t loses h port_is (closes (ap is_some (sym o)))
+
+-- nothing came
+pub idle_goes_on : {P : Type 0} (told : P → Option PortStory) (old : Worker P) (port : P) → told port ≡ option_map (then_told []) (told old.port)
+    → IsServing told old → GoesOn told old (record old { port = port })
+idle_goes_on told old port told_is h =
+    steps_on told old (record old { port = port }) (then_told []) told_is
+    (record { same_end = record { exchange = refl; worker = refl }; steady = h.steady; strangers = h.strangers; unopened = refl; ended = refl }) h
+    (λ story e was_so. subst (λ (l : List PortRecord). StoryFacts (record { events = l; paused = story.paused })
+    (record old { port = port }) old.unopened old.ended) (sym (append-nil story.events)) was_so)
 
 -- the port has ended
-pub ended_goes_on : {P : Type 0} (tells : P → Bool) (events : P → List PortRecord) (old : Worker P) (port : P) → Told tells events old.port port was.Ended → IsServing tells events old → GoesOn tells events old (record old { port = port; ended = true })
-ended_goes_on tells events old port told h = record {
-  tells_as = told.tells_as;
-  same_end = record { exchange = refl; worker = refl };
-  serving = record {
-    steady = h.steady;
-    strangers = h.strangers;
-    told = λ e.
-        let e' = sym told.tells_as ∙ e in let k = h.told e' in let l = events old.port in let q = told.told e' in
-        let same = count_same l was.Ended refl in
-        let v' = run_view events (record old { port = port; ended = true }) in record {
-          each = λ s. subst IsConsistent (ap (λ (p : PortFacts). record (facts (run_view events old) s) { port = p }) (sym (ap (λ z. port_facts z s) q ∙ elsewhere l was.Ended s refl))) (k.each s);
-          rising = k.rising;
-          counted = subst (λ z. IsCounted z old.sessions.items old.unopened) (sym q) (subst (λ (y : ℕ). (length old.sessions.items ≤ y) × (old.unopened ≡ min (y - length old.sessions.items) (2 ^ 64 - 1))) (sym same) k.counted);
-          at_end = ap has_ended q ∙ ended_now l;
-          accepts = subst AcceptsOnlyOpen (sym q) (accepts_more l was.Ended k.accepts tt);
-        };
-  };
-}
+pub ended_goes_on : {P : Type 0} (told : P → Option PortStory) (old : Worker P) (port : P)
+    → told port ≡ option_map (then_told (was.Ended ∷ [])) (told old.port) → IsServing told old → GoesOn told old (record old { port = port; ended = true })
+ended_goes_on told old port told_is h =
+    let f = then_told (was.Ended ∷ []) in let new = record old { port = port; ended = true } in
+    steps told old new f told_is (record { exchange = refl; worker = refl }) h.steady h.strangers h
+    (λ story e was_so.
+    let k = was_so.0 in let l = story.events in
+    let same = count_same l was.Ended refl in (
+      record {
+        each = λ s. subst IsConsistent (ap (λ (p : PortFacts). record (facts (run_view story old) s) { port = p })
+            (sym (elsewhere l was.Ended s refl))) (k.each s);
+        rising = k.rising;
+        counted = subst (λ (y : ℕ). (length old.sessions.items ≤ y) × (old.unopened ≡ min (y - length old.sessions.items) (2 ^ 64 - 1))) (sym same) k.counted;
+        at_end = ended_now l;
+        accepts = accepts_more l was.Ended k.accepts tt;
+      },
+      paused_kept story (f story) (piece_of old.pieces) (piece_of old.pieces) (λ s. refl) (λ s. refl) was_so.1,
+    ))

@@ -31,10 +31,12 @@ ended-append (m ∷ []) (n ∷ ns) e = refl
 ended-append (m ∷ n ∷ ms) ns e = ended-append (n ∷ ms) ns e
 
 -- read on behind what was read, where it has not ended
-pub read_on : (b middle rest : List ℕ) (ms ns : List Message) → has_ended ms ≡ false → BeginsWith b ms middle → BeginsWith middle ns rest → BeginsWith b (ms ++ ns) rest
+pub read_on : (b middle rest : List ℕ) (ms ns : List Message) → has_ended ms ≡ false → BeginsWith b ms middle → BeginsWith middle ns rest
+    → BeginsWith b (ms ++ ns) rest
 read_on b middle rest ms ns e h k = record {
   pieces = h.pieces ++ k.pieces;
-  whole = h.whole ∙ ap (λ (x : List ℕ). concat h.pieces ++ x) k.whole ∙ sym (append_assoc (concat h.pieces) (concat k.pieces) rest) ∙ ap (λ (x : List ℕ). x ++ rest) (sym (concat-append h.pieces k.pieces));
+  whole = h.whole ∙ ap (λ (x : List ℕ). concat h.pieces ++ x) k.whole ∙ sym (append_assoc (concat h.pieces) (concat k.pieces) rest)
+      ∙ ap (λ (x : List ℕ). x ++ rest) (sym (concat-append h.pieces k.pieces));
   spelled = spelled-append h.pieces k.pieces ms ns h.spelled k.spelled;
   ends_at_last = ends-append ms ns e h.ends_at_last k.ends_at_last;
 }

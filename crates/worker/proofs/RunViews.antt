@@ -17,7 +17,8 @@ pub facts_equal : (f g : SessionFacts) → f.port ≡ g.port → f.asked ≡ g.a
 facts_equal f g p a h c s q = λ i. record { port = p i; asked = a i; had = h i; cause = c i; state = s i; piece = q i }
 
 -- one session changes
-pub change_at : (t : ℕ) (w w' : RunView) → ((s : ℕ) → t ≢ s → facts w' s ≡ facts w s) → IsConsistent (facts w' t) → ((s : ℕ) → t ≢ s → IsConsistent (facts w s)) → (s : ℕ) → IsConsistent (facts w' s)
+pub change_at : (t : ℕ) (w w' : RunView) → ((s : ℕ) → t ≢ s → facts w' s ≡ facts w s) → IsConsistent (facts w' t)
+    → ((s : ℕ) → t ≢ s → IsConsistent (facts w s)) → (s : ℕ) → IsConsistent (facts w' s)
 change_at t w w' same here h s = either_way t s (λ e. subst (λ k. IsConsistent (facts w' k)) e here) (λ ne. subst IsConsistent (sym (same s ne)) (h s ne))
 
 pub at_other : {A : Type 0} (t s : ℕ) (x y : A) → t ≢ s → cond (s == t) x y ≡ y
@@ -35,7 +36,8 @@ pub ended_now : (l : List PortRecord) → has_ended (l ++ Ended ∷ []) ≡ true
 ended_now l = any_yes is_end l Ended refl
 
 pub count_same : (l : List PortRecord) (x : PortRecord) → opens x ≡ false → opened_count (l ++ x ∷ []) ≡ opened_count l
-count_same l x e = let h = sum_by-append (λ (y : PortRecord). cond (opens y) 1 0) l (x ∷ []) in let k : sum_by (λ (y : PortRecord). cond (opens y) 1 0) (x ∷ []) ≡ 0 = ap (λ b. 0 + cond b 1 0) e in omega (arith, h, k)
+count_same l x e = let h = sum_by-append (λ (y : PortRecord). cond (opens y) 1 0) l (x ∷ []) in
+    let k : sum_by (λ (y : PortRecord). cond (opens y) 1 0) (x ∷ []) ≡ 0 = ap (λ b. 0 + cond b 1 0) e in omega (arith, h, k)
 
 pub count_more : (l : List PortRecord) (t : ℕ) → opened_count (l ++ Opened t ∷ []) ≡ opened_count l + 1
 count_more l t = let h = sum_by-append (λ (y : PortRecord). cond (opens y) 1 0) l (Opened t ∷ []) in omega (arith, h)
@@ -57,7 +59,8 @@ pub record ClosesIn (w w' : RunView) (t : ℕ) (cause : EndCause) (x : PortRecor
   pub book : (s : ℕ) → session_of w'.book s ≡ cond (s == t) None (session_of w.book s)
   pub piece : (s : ℕ) → w'.piece s ≡ cond (s == t) [] (w.piece s)
 
-pub closes_elsewhere : (w w' : RunView) (t : ℕ) (c : EndCause) (x : PortRecord) → ClosesIn w w' t c x → ((s : ℕ) → t ≢ s → about s x ≡ false) → (s : ℕ) → t ≢ s → facts w' s ≡ facts w s
+pub closes_elsewhere : (w w' : RunView) (t : ℕ) (c : EndCause) (x : PortRecord) → ClosesIn w w' t c x → ((s : ℕ) → t ≢ s → about s x ≡ false)
+    → (s : ℕ) → t ≢ s → facts w' s ≡ facts w s
 closes_elsewhere w w' t c x h other s ne =
     facts_equal (facts w' s) (facts w s)
     (ap (λ l. port_facts l s) h.events ∙ elsewhere w.events x s (other s ne))
@@ -74,7 +77,8 @@ pub record ClosedHere (f g : SessionFacts) (port : PortFacts) (cause : EndCause)
   pub cause_is : g.cause ≡ Some cause
   pub state : g.state ≡ None
 
-closes_here : (w w' : RunView) (t : ℕ) (c old : EndCause) (x : PortRecord) (port : PortFacts) → ClosesIn w w' t c x → port_facts (w.events ++ x ∷ []) t ≡ port → cause_of w.sessions t ≡ Some old → ClosedHere (facts w t) (facts w' t) port c
+closes_here : (w w' : RunView) (t : ℕ) (c old : EndCause) (x : PortRecord) (port : PortFacts) → ClosesIn w w' t c x
+    → port_facts (w.events ++ x ∷ []) t ≡ port → cause_of w.sessions t ≡ Some old → ClosedHere (facts w t) (facts w' t) port c
 closes_here w w' t c old x port h p e = record {
   port_is = ap (λ l. port_facts l t) h.events ∙ p;
   asked = ap (λ l. asked_by l t) h.posted;
@@ -83,10 +87,12 @@ closes_here w w' t c old x port h p e = record {
   state = h.book t ∙ at_same t None (session_of w.book t);
 }
 
-pub shuts_here : (w w' : RunView) (t : ℕ) (c old : EndCause) → ClosesIn w w' t c (Shut t) → cause_of w.sessions t ≡ Some old → ClosedHere (facts w t) (facts w' t) (record (port_facts w.events t) { shut = true }) c
+pub shuts_here : (w w' : RunView) (t : ℕ) (c old : EndCause) → ClosesIn w w' t c (Shut t) → cause_of w.sessions t ≡ Some old
+    → ClosedHere (facts w t) (facts w' t) (record (port_facts w.events t) { shut = true }) c
 shuts_here w w' t c old h e = closes_here w w' t c old (Shut t) (record (port_facts w.events t) { shut = true }) h (shut_here w.events t) e
 
-pub goes_here : (w w' : RunView) (t : ℕ) (c old : EndCause) → ClosesIn w w' t c (Gone t) → cause_of w.sessions t ≡ Some old → ClosedHere (facts w t) (facts w' t) (record (port_facts w.events t) { gone = true }) c
+pub goes_here : (w w' : RunView) (t : ℕ) (c old : EndCause) → ClosesIn w w' t c (Gone t) → cause_of w.sessions t ≡ Some old
+    → ClosedHere (facts w t) (facts w' t) (record (port_facts w.events t) { gone = true }) c
 goes_here w w' t c old h e = closes_here w w' t c old (Gone t) (record (port_facts w.events t) { gone = true }) h (gone_here w.events t) e
 
 pub stays : (f g : SessionFacts) (port : PortFacts) (c : EndCause) → ClosedHere f g port c → port.fed ≡ f.port.fed → port.given ≡ f.port.given → Stays f g
@@ -99,9 +105,12 @@ stays f g port c h fed given = record {
 }
 
 -- all are consistent afterwards
-pub close_all : (w w' : RunView) (t : ℕ) (c : EndCause) (x : PortRecord) (port : PortFacts) → ClosesIn w w' t c x → ((s : ℕ) → t ≢ s → about s x ≡ false) → ClosedHere (facts w t) (facts w' t) port c → port.opened ≡ true → IsClosed (facts w' t) c → ((s : ℕ) → t ≢ s → IsConsistent (facts w s)) → (s : ℕ) → IsConsistent (facts w' s)
+pub close_all : (w w' : RunView) (t : ℕ) (c : EndCause) (x : PortRecord) (port : PortFacts) → ClosesIn w w' t c x
+    → ((s : ℕ) → t ≢ s → about s x ≡ false) → ClosedHere (facts w t) (facts w' t) port c → port.opened ≡ true → IsClosed (facts w' t) c
+    → ((s : ℕ) → t ≢ s → IsConsistent (facts w s)) → (s : ℕ) → IsConsistent (facts w' s)
 close_all w w' t c x port h other k opened closed before =
-    change_at t w w' (closes_elsewhere w w' t c x h other) (is_closed (facts w' t) c (ap (λ (p : PortFacts). p.opened) k.port_is ∙ opened) k.cause_is closed) before
+    change_at t w w' (closes_elsewhere w w' t c x h other) (is_closed (facts w' t) c
+    (ap (λ (p : PortFacts). p.opened) k.port_is ∙ opened) k.cause_is closed) before
 
 pub apart_shut : (t s : ℕ) → t ≢ s → about s (Shut t) ≡ false
 apart_shut t s ne = ne_eqb t s ne

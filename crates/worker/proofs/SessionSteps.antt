@@ -28,7 +28,8 @@ pub record Runs (f : SessionFacts) : Type 0 where
   pub cause : f.cause ≡ Some causes.Drained
   pub running : IsRunning f
 
-runs_as : (f : SessionFacts) (s : SessionState) (o : Bool) (c : Option EndCause) → IsKnownAs o c f → f.state ≡ Some s → (o ≡ true) × (c ≡ Some causes.Drained) × IsRunning f
+runs_as : (f : SessionFacts) (s : SessionState) (o : Bool) (c : Option EndCause) → IsKnownAs o c f → f.state ≡ Some s
+    → (o ≡ true) × (c ≡ Some causes.Drained) × IsRunning f
 runs_as f s false c h e = absurd (not_both f.state s h.0.state e)
 runs_as f s true None h e = absurd (not_both f.state s h.state e)
 runs_as f s true (Some causes.Drained) h e = (refl, refl, h)
@@ -41,7 +42,8 @@ pub runs : (f : SessionFacts) (s : SessionState) → IsConsistent f → f.state 
 runs f s h e = let r = runs_as f s f.port.opened f.cause h.known e in record { opened = r.0; cause = r.1; running = r.2 }
 
 -- the same of a session that the port's list has open
-runs_from : (f : SessionFacts) (o : Bool) (c : Option EndCause) → IsKnownAs o c f → o ≡ true → f.port.gone ≡ false → f.port.shut ≡ false → (c ≡ Some causes.Drained) × IsRunning f
+runs_from : (f : SessionFacts) (o : Bool) (c : Option EndCause) → IsKnownAs o c f → o ≡ true → f.port.gone ≡ false → f.port.shut ≡ false
+    → (c ≡ Some causes.Drained) × IsRunning f
 runs_from f false c h o g s = absurd (true≢false (sym o))
 runs_from f true None h o g s = absurd (true≢false (sym h.shut ∙ s))
 runs_from f true (Some causes.Drained) h o g s = (refl, h)
@@ -90,7 +92,8 @@ served_new f fed_is given_is had_is asked_is piece_is = record {
 }
 
 -- bytes came, which are held at first
-pub served_came : (f : SessionFacts) (s : SessionState) (held more : List ℕ) → IsServed held f s → IsServed (held ++ more) (record f { port = record f.port { fed = f.port.fed ++ more } }) s
+pub served_came : (f : SessionFacts) (s : SessionState) (held more : List ℕ) → IsServed held f s
+    → IsServed (held ++ more) (record f { port = record f.port { fed = f.port.fed ++ more } }) s
 served_came f s held more h = record {
   bytes = h.bytes;
   messages = h.messages;
@@ -113,7 +116,8 @@ served_fed f s held h =
     }
 
 -- messages are read, and their requests asked
-pub served_read : (f : SessionFacts) (s after : SessionState) (held : List ℕ) (more : List Message) → ReadsOn s more after → IsServed held f s → IsServed held (record f { asked = f.asked ++ asks more }) after
+pub served_read : (f : SessionFacts) (s after : SessionState) (held : List ℕ) (more : List Message) → ReadsOn s more after → IsServed held f s
+    → IsServed held (record f { asked = f.asked ++ asks more }) after
 served_read f s after held more r h =
     let k = read_keeps h.bytes f.port.given h.messages more f.had s after r h.has_read h.has_said in record {
       bytes = h.bytes;
@@ -125,7 +129,8 @@ served_read f s after held more r h =
     }
 
 -- a reply is settled
-pub served_settled : (f : SessionFacts) (s : SessionState) (held : List ℕ) (r : Reply) → 0 < length (asks s.queue) → IsServed held f s → IsServed held (record f { had = f.had ++ r ∷ [] }) (settled s r)
+pub served_settled : (f : SessionFacts) (s : SessionState) (held : List ℕ) (r : Reply) → 0 < length (asks s.queue) → IsServed held f s
+    → IsServed held (record f { had = f.had ++ r ∷ [] }) (settled s r)
 served_settled f s held r some h =
     let k = settle_keeps h.bytes f.port.given h.messages f.had r s some h.has_read h.has_said in record {
       bytes = h.bytes;
@@ -137,7 +142,8 @@ served_settled f s held r some h =
     }
 
 -- output is given
-pub served_gave : (f : SessionFacts) (s : SessionState) (held : List ℕ) (n : ℕ) → IsServed held f s → IsServed held (record f { port = record f.port { given = f.port.given ++ take n s.out } }) (gave s n)
+pub served_gave : (f : SessionFacts) (s : SessionState) (held : List ℕ) (n : ℕ) → IsServed held f s
+    → IsServed held (record f { port = record f.port { given = f.port.given ++ take n s.out } }) (gave s n)
 served_gave f s held n h =
     let k = give_keeps h.bytes f.port.given n h.messages f.had s h.has_read h.has_said in record {
       bytes = h.bytes;
@@ -150,12 +156,14 @@ served_gave f s held n h =
 
 -- ---- closing
 
-begins : (bytes held total : List ℕ) (ms : List Message) (s : SessionState) → total ≡ bytes ++ held → HasRead bytes ms s → (rest : List ℕ) × BeginsWith total ms rest
+begins : (bytes held total : List ℕ) (ms : List Message) (s : SessionState) → total ≡ bytes ++ held → HasRead bytes ms s
+    → (rest : List ℕ) × BeginsWith total ms rest
 begins bytes held total ms s e h = (
   (s.unread ++ h.dropped) ++ held,
   record {
     pieces = h.pieces;
-    whole = e ∙ ap (λ (x : List ℕ). x ++ held) (h.whole ∙ append_assoc (concat h.pieces) s.unread h.dropped) ∙ append_assoc (concat h.pieces) (s.unread ++ h.dropped) held;
+    whole = e ∙ ap (λ (x : List ℕ). x ++ held) (h.whole ∙ append_assoc (concat h.pieces) s.unread h.dropped)
+        ∙ append_assoc (concat h.pieces) (s.unread ++ h.dropped) held;
     spelled = h.spelled;
     ends_at_last = h.ends_at_last;
   },
@@ -169,7 +177,8 @@ pub record Stays (f g : SessionFacts) : Type 0 where
   pub had : g.had ≡ f.had
   pub state : g.state ≡ None
 
-closed_as : (f g : SessionFacts) (s : SessionState) (held : List ℕ) (c : EndCause) (h : IsServed held f s) → Stays f g → IsCaused g h.messages c → (g.port.gone ≡ true) ⊎ (g.port.shut ≡ true) → IsClosed g c
+closed_as : (f g : SessionFacts) (s : SessionState) (held : List ℕ) (c : EndCause) (h : IsServed held f s) → Stays f g → IsCaused g h.messages c
+    → (g.port.gone ≡ true) ⊎ (g.port.shut ≡ true) → IsClosed g c
 closed_as f g s held c h k caused over =
     let b = begins h.bytes held g.port.fed h.messages s (k.fed ∙ h.fed) h.has_read in record {
       messages = h.messages;
@@ -189,7 +198,8 @@ pub closed_no_memory : (f g : SessionFacts) (s : SessionState) (held : List ℕ)
 closed_no_memory f g s held h k shut = closed_as f g s held causes.NoMemory h k shut (inr shut)
 
 -- the same where one more reply came back, which found no memory
-pub closed_starved : (f g : SessionFacts) (s : SessionState) (held : List ℕ) (r : Reply) → IsServed held f s → Stays (record f { had = f.had ++ r ∷ [] }) g → g.port.shut ≡ true → IsClosed g causes.NoMemory
+pub closed_starved : (f g : SessionFacts) (s : SessionState) (held : List ℕ) (r : Reply) → IsServed held f s
+    → Stays (record f { had = f.had ++ r ∷ [] }) g → g.port.shut ≡ true → IsClosed g causes.NoMemory
 closed_starved f g s held r h k shut =
     let b = begins h.bytes held g.port.fed h.messages s (k.fed ∙ h.fed) h.has_read in
     let first : StartsWith (said h.messages f.had) f.port.given = (s.out, sym h.has_said.whole) in
@@ -222,10 +232,12 @@ ending o (Quit ∷ ms) h = ending (Some causes.Quit) ms quits
 ending o (Fatal kind ∷ ms) h = ending (Some causes.Fatal) ms fails
 
 -- all was answered and given: it is closed with what has ended it
-whole_as : (f g : SessionFacts) (s : SessionState) (held : List ℕ) (c : EndCause) (h : IsServed held f s) → Stays f g → s.queue ≡ [] → s.out ≡ [] → s.ended ≡ Some c → IsWhole g h.messages c
+whole_as : (f g : SessionFacts) (s : SessionState) (held : List ℕ) (c : EndCause) (h : IsServed held f s) → Stays f g → s.queue ≡ [] → s.out ≡ []
+    → s.ended ≡ Some c → IsWhole g h.messages c
 whole_as f g s held c h k queue out ended = (
   k.given ∙ sym (append-nil f.port.given) ∙ ap (λ (x : List ℕ). f.port.given ++ x) (sym out) ∙ h.has_said.whole ∙ ap (said h.messages) (sym k.had),
-  (let none : length (asks s.queue) ≡ 0 = ap (λ ms. length (asks ms)) queue in let had_is : length g.had ≡ length f.had = ap (length {A = Reply}) k.had in omega (arith, h.has_said.replied)),
+  (let none : length (asks s.queue) ≡ 0 = ap (λ ms. length (asks ms)) queue in
+      let had_is : length g.had ≡ length f.had = ap (length {A = Reply}) k.had in omega (arith, h.has_said.replied)),
   sym h.has_read.ended ∙ ended,
 )
 
@@ -242,7 +254,8 @@ caused_by g ms causes.NoMemory (inl e) shut w = cc
 caused_by g ms causes.NoMemory (inr (inl e)) shut w = cc
 caused_by g ms causes.NoMemory (inr (inr e)) shut w = cc
 
-pub closed_finished : (f g : SessionFacts) (s : SessionState) (held : List ℕ) (c : EndCause) → IsServed held f s → Stays f g → s.queue ≡ [] → s.out ≡ [] → s.ended ≡ Some c → g.port.shut ≡ true → IsClosed g c
+pub closed_finished : (f g : SessionFacts) (s : SessionState) (held : List ℕ) (c : EndCause) → IsServed held f s → Stays f g → s.queue ≡ []
+    → s.out ≡ [] → s.ended ≡ Some c → g.port.shut ≡ true → IsClosed g c
 closed_finished f g s held c h k queue out ended shut =
     let is : IsEnding (Some c) = subst IsEnding (sym h.has_read.ended ∙ ended) (ending None h.messages (inl refl)) in
     closed_as f g s held c h k (caused_by g h.messages c is shut (whole_as f g s held c h k queue out ended)) (inr shut)
@@ -268,7 +281,8 @@ closed_dropped f r c h = record {
   state = h.state;
 }
 
-dropped_as : (f : SessionFacts) (r : Reply) (o : Bool) (c : Option EndCause) → f.state ≡ None → (f.asked ≡ [] → ⊥) → IsKnownAs o c f → IsKnownAs o c (record f { had = f.had ++ r ∷ [] })
+dropped_as : (f : SessionFacts) (r : Reply) (o : Bool) (c : Option EndCause) → f.state ≡ None → (f.asked ≡ [] → ⊥) → IsKnownAs o c f
+    → IsKnownAs o c (record f { had = f.had ++ r ∷ [] })
 dropped_as f r false c none some h = absurd (some h.0.asked)
 dropped_as f r true None none some h = absurd (some h.asked)
 dropped_as f r true (Some causes.Drained) none some h = absurd (not_both f.state h.s none h.state)

@@ -1,10 +1,10 @@
 -- What taking an answer and settling it leaves true of a worker.
-use Rattle.std.proofs.Common.{◌≡◌, ◌≢◌, ℕ, zero, suc, ◌-◌, ◌^◌, ◌<◌, ◌≤◌, ◌==◌, Bool, true, false, cond, eq-eqb, List, [], ◌∷◌, ◌++◌, length, take, drop, min, map, refl, sym, ap, subst, ◌∙◌, arith, Option, Some, None, length-append}
+use Rattle.std.proofs.Common.{◌≡◌, ◌≢◌, ℕ, zero, suc, ◌-◌, ◌^◌, ◌<◌, ◌≤◌, ◌==◌, Bool, true, false, cond, eq-eqb, ne_eqb, List, [], ◌∷◌, ◌++◌, length, take, drop, min, map, refl, sym, ap, subst, ◌∙◌, arith, Option, Some, None, length-append}
 use Rattle.std.specs.Prelude.{slice_get}
 use mathlib.Core.Option.{some}
 use lib.ListN.{get_elem?}
 use Rattle.std.specs.List.{filter}
-use Rattle.std.specs.Option.{option_to_list}
+use Rattle.std.specs.Option.{option_to_list, option_map}
 use Rattle.proto.specs.declared.history.Posted.{Posted}
 use Rattle.proto.specs.declared.history.Answered.{Answered}
 use Rattle.proto.proofs.Options.{some_is}
@@ -22,14 +22,15 @@ use Rattle.worker.specs.declared.port.PortRecord.{PortRecord}
 use Rattle.worker.specs.declared.port.PortRecord.TheVariants as was
 use Rattle.worker.specs.declared.worker.Worker.{Worker}
 use Rattle.worker.specs.Sessions.{PortFacts, port_facts, RunView, facts, asked_by, had_by, cause_of, IsConsistent, IsServed}
-use Rattle.worker.specs.Ports.{has_ended, AcceptsOnlyOpen}
+use Rattle.worker.specs.Ports.{PortStory, then_told, has_ended, AcceptsOnlyOpen}
 use Rattle.worker.specs.Places.{Rises, piece_of}
 use Rattle.worker.specs.Workers.{posted_by, unsettled_of, IsNumbered, IsSteady, IsCounted, IsTold, run_view, IsServing, IsSameEnd, GoesOn, Shuts}
 use Rattle.worker.proofs.Facts.{had_here, had_elsewhere}
 use Rattle.worker.proofs.SessionSteps.{runs, is_running, Stays, served_settled, closed_starved, dropped}
 use Rattle.worker.proofs.PlaceLemmas.{rises_with, length-with}
 use Rattle.worker.proofs.RunViews.{facts_equal, change_at, at_other, at_same, ended_same, count_same, accepts_more, ClosesIn, close_all, shuts_here, apart_shut}
-use Rattle.worker.proofs.WorkerSteps.{steady_closed, same_end, closes_in}
+use Rattle.worker.proofs.StoryLaws.{same_story, paused_kept, paused_but, paused_elsewhere}
+use Rattle.worker.proofs.WorkerSteps.{steps_on, steady_closed, same_end, closes_in}
 use Rattle.worker.proofs.OutputSteps.{told_within}
 
 -- ---- lists
@@ -37,7 +38,9 @@ use Rattle.worker.proofs.OutputSteps.{told_within}
 some_same : {A : Type 0} (x y : A) → some x ≡ some y → x ≡ y
 some_same x y e = cc
 
-none_behind : (b : Bool) (x : Posted) (l : List Posted) (t : ℕ) → map (λ (y : Posted). y.request) (cond b (x ∷ filter (λ (y : Posted). y.session == t) l) (filter (λ (y : Posted). y.session == t) l)) ≡ [] → asked_by l t ≡ []
+none_behind : (b : Bool) (x : Posted) (l : List Posted) (t : ℕ)
+    → map (λ (y : Posted). y.request) (cond b (x ∷ filter (λ (y : Posted). y.session == t) l) (filter (λ (y : Posted). y.session == t) l)) ≡ []
+    → asked_by l t ≡ []
 none_behind true x l t e = absurd (cc)
 none_behind false x l t e = e
 
@@ -59,7 +62,8 @@ some_asked : (l : List Posted) (n t : ℕ) (p : Posted) → get_elem? l n ≡ so
 some_asked [] n t p e q none = absurd (cc)
 some_asked (x ∷ l) zero t p e q none =
     let same : x ≡ p = some_same x p e in let here : (x.session == t) ≡ true = eq-eqb x.session t (ap (λ (y : Posted). y.session) same ∙ q) in
-    let bad : x.request ∷ asked_by l t ≡ [] = sym (ap (λ b. map (λ (y : Posted). y.request) (cond b (x ∷ filter (λ (y : Posted). y.session == t) l) (filter (λ (y : Posted). y.session == t) l))) here) ∙ none in absurd (cc)
+    let bad : x.request ∷ asked_by l t ≡ [] = sym (ap (λ b. map (λ (y : Posted). y.request)
+    (cond b (x ∷ filter (λ (y : Posted). y.session == t) l) (filter (λ (y : Posted). y.session == t) l))) here) ∙ none in absurd (cc)
 some_asked (x ∷ l) (suc n) t p e q none = some_asked l n t p e q (none_behind (x.session == t) x l t none)
 
 -- ---- what was taken
@@ -77,17 +81,23 @@ at_append [] m n x e = absurd (cc)
 at_append (y ∷ l) m zero x e = e
 at_append (y ∷ l) m (suc n) x e = at_append l m n x e
 
-pub at_posted : (end : WorkerView) (request : Option Posted) (a : Answered) → get_elem? end.sent (length end.back) ≡ some (posted_of a) → get_elem? (posted_by end request) (length end.back) ≡ some (posted_of a)
+pub at_posted : (end : WorkerView) (request : Option Posted) (a : Answered) → get_elem? end.sent (length end.back) ≡ some (posted_of a)
+    → get_elem? (posted_by end request) (length end.back) ≡ some (posted_of a)
 at_posted end request a e = at_append end.sent (option_to_list request) (length end.back) (posted_of a) e
 
 -- the answer is that of the book's oldest unsettled request
-pub oldest_first : (end : WorkerView) (request : Option Posted) (book : BookState) (a : Answered) → IsSteady end request book → get_elem? end.sent (length end.back) ≡ some (posted_of a) → book.unsettled ≡ unsettled_of (posted_of a) ∷ map unsettled_of (drop (suc (length end.back)) (posted_by end request))
-oldest_first end request book a h e = h.unsettled ∙ ap (map unsettled_of) (rest_at (posted_by end request) (length end.back) (posted_of a) (at_posted end request a e))
+pub oldest_first : (end : WorkerView) (request : Option Posted) (book : BookState) (a : Answered) → IsSteady end request book
+    → get_elem? end.sent (length end.back) ≡ some (posted_of a) → book.unsettled ≡ unsettled_of (posted_of a) ∷ map unsettled_of
+    (drop (suc (length end.back)) (posted_by end request))
+oldest_first end request book a h e = h.unsettled ∙ ap (map unsettled_of)
+    (rest_at (posted_by end request) (length end.back) (posted_of a) (at_posted end request a e))
 
-pub is_oldest : (end : WorkerView) (request : Option Posted) (book : BookState) (a : Answered) → IsSteady end request book → get_elem? end.sent (length end.back) ≡ some (posted_of a) → IsOldest book a
+pub is_oldest : (end : WorkerView) (request : Option Posted) (book : BookState) (a : Answered) → IsSteady end request book
+    → get_elem? end.sent (length end.back) ≡ some (posted_of a) → IsOldest book a
 is_oldest end request book a h e = ap (λ (l : List Unsettled). slice_get l 0) (oldest_first end request book a h e)
 
-pub steady_taken : (end end' : WorkerView) (request : Option Posted) (book book' : BookState) (a : Answered) → IsSteady end request book → TakesBack end end' a → book'.posted ≡ book.posted → book'.unsettled ≡ drop 1 book.unsettled → IsSteady end' request book'
+pub steady_taken : (end end' : WorkerView) (request : Option Posted) (book book' : BookState) (a : Answered) → IsSteady end request book
+    → TakesBack end end' a → book'.posted ≡ book.posted → book'.unsettled ≡ drop 1 book.unsettled → IsSteady end' request book'
 steady_taken end end' request book book' a h k p u =
     let len : length end'.back ≡ suc (length end.back) = ap (length {A = Answered}) k.back ∙ (let x = length-append end.back (a ∷ []) in omega arith) in
     let posted : posted_by end' request ≡ posted_by end request = ap (λ (l : List Posted). l ++ option_to_list request) k.sent in record {
@@ -95,7 +105,8 @@ steady_taken end end' request book book' a h k p u =
       posted = p ∙ h.posted ∙ ap (length {A = Posted}) (sym posted);
       numbered = numbered_as end end' request (ap (length {A = Posted}) k.sent) h.numbered;
       unsettled = u ∙ ap (drop 1) (oldest_first end request book a h k.own) ∙ (λ i. map unsettled_of (drop (sym len i) (sym posted i)));
-      back = ap asked_posted k.back ∙ asked_more end.back a ∙ ap (λ (l : List Posted). l ++ posted_of a ∷ []) h.back ∙ sym (take_more end.sent (length end.back) (posted_of a) k.own) ∙ (λ i. take (sym len i) (sym k.sent i));
+      back = ap asked_posted k.back ∙ asked_more end.back a ∙ ap (λ (l : List Posted). l ++ posted_of a ∷ []) h.back
+          ∙ sym (take_more end.sent (length end.back) (posted_of a) k.own) ∙ (λ i. take (sym len i) (sym k.sent i));
     }
 
 -- ---- what is told
@@ -110,14 +121,20 @@ record TakesIn (v v' : RunView) (a : Answered) (st : Option SessionState) : Type
 
 taken_elsewhere : (v v' : RunView) (a : Answered) (st : Option SessionState) → TakesIn v v' a st → (k : ℕ) → a.session ≢ k → facts v' k ≡ facts v k
 taken_elsewhere v v' a st h k ne =
-    facts_equal (facts v' k) (facts v k) (ap (λ l. port_facts l k) h.events) (λ i. (facts (record v { posted = h.posted i }) k).asked) (ap (λ l. had_by l k) h.back ∙ had_elsewhere v.back a k ne) (λ i. (facts (record v { sessions = h.sessions i }) k).cause) (h.book k ∙ at_other a.session k st (session_of v.book k) ne) (λ i. h.piece i k)
+    facts_equal (facts v' k) (facts v k) (ap (λ l. port_facts l k) h.events) (λ i. (facts (record v { posted = h.posted i }) k).asked)
+    (ap (λ l. had_by l k) h.back ∙ had_elsewhere v.back a k ne) (λ i. (facts (record v { sessions = h.sessions i }) k).cause)
+    (h.book k ∙ at_other a.session k st (session_of v.book k) ne) (λ i. h.piece i k)
 
-taken_here : (v v' : RunView) (a : Answered) (st : Option SessionState) → TakesIn v v' a st → facts v' a.session ≡ record (facts v a.session) { had = had_by v.back a.session ++ a.reply ∷ []; state = st }
+taken_here : (v v' : RunView) (a : Answered) (st : Option SessionState) → TakesIn v v' a st
+    → facts v' a.session ≡ record (facts v a.session) { had = had_by v.back a.session ++ a.reply ∷ []; state = st }
 taken_here v v' a st h =
     let t = a.session in
-    facts_equal (facts v' t) (record (facts v t) { had = had_by v.back t ++ a.reply ∷ []; state = st }) (ap (λ l. port_facts l t) h.events) (λ i. (facts (record v { posted = h.posted i }) t).asked) (ap (λ l. had_by l t) h.back ∙ had_here v.back a t refl) (λ i. (facts (record v { sessions = h.sessions i }) t).cause) (h.book t ∙ at_same t st (session_of v.book t)) (λ i. h.piece i t)
+    facts_equal (facts v' t) (record (facts v t) { had = had_by v.back t ++ a.reply ∷ []; state = st }) (ap (λ l. port_facts l t) h.events)
+    (λ i. (facts (record v { posted = h.posted i }) t).asked) (ap (λ l. had_by l t) h.back ∙ had_here v.back a t refl)
+    (λ i. (facts (record v { sessions = h.sessions i }) t).cause) (h.book t ∙ at_same t st (session_of v.book t)) (λ i. h.piece i t)
 
-told_kept : (v v' : RunView) (unopened : ℕ) (ended : Bool) (a : Answered) (s : SessionState) → IsTold v unopened ended → session_of v.book a.session ≡ Some s → 0 < length (asks s.queue) → TakesIn v v' a (Some (settled s a.reply)) → IsTold v' unopened ended
+told_kept : (v v' : RunView) (unopened : ℕ) (ended : Bool) (a : Answered) (s : SessionState) → IsTold v unopened ended
+    → session_of v.book a.session ≡ Some s → 0 < length (asks s.queue) → TakesIn v v' a (Some (settled s a.reply)) → IsTold v' unopened ended
 told_kept v v' unopened ended a s h open_is has k =
     let t = a.session in
     let run = runs (facts v t) s (h.each t) open_is in
@@ -125,15 +142,20 @@ told_kept v v' unopened ended a s h open_is has k =
     let was_served : IsServed (v.piece t) (facts v t) s = subst (λ (x : SessionState). IsServed (v.piece t) (facts v t) x) (sym same) run.running.served in
     let served = served_settled (facts v t) s (v.piece t) a.reply has was_served in
     let f' = record (facts v t) { had = had_by v.back t ++ a.reply ∷ []; state = Some (settled s a.reply) } in
-    let now : IsConsistent f' = is_running f' run.opened run.cause (record { gone = run.running.gone; shut = run.running.shut; s = settled s a.reply; state = refl; served = record { bytes = served.bytes; messages = served.messages; fed = served.fed; has_read = served.has_read; has_said = served.has_said; asked = served.asked } }) in
-    told_within v v' unopened ended h k.events k.sessions (change_at t v v' (taken_elsewhere v v' a (Some (settled s a.reply)) k) (subst IsConsistent (sym (taken_here v v' a (Some (settled s a.reply)) k)) now) (λ j ne. h.each j))
+    let now : IsConsistent f' = is_running f' run.opened run.cause
+    (record { gone = run.running.gone; shut = run.running.shut; s = settled s a.reply; state = refl; served = record { bytes = served.bytes; messages = served.messages; fed = served.fed; has_read = served.has_read; has_said = served.has_said; asked = served.asked } }) in
+    told_within v v' unopened ended h k.events k.sessions (change_at t v v' (taken_elsewhere v v' a (Some (settled s a.reply)) k)
+    (subst IsConsistent (sym (taken_here v v' a (Some (settled s a.reply)) k)) now) (λ j ne. h.each j))
 
-told_dropped : (v v' : RunView) (unopened : ℕ) (ended : Bool) (a : Answered) → IsTold v unopened ended → session_of v.book a.session ≡ None → (asked_by v.posted a.session ≡ [] → ⊥) → TakesIn v v' a None → IsTold v' unopened ended
+told_dropped : (v v' : RunView) (unopened : ℕ) (ended : Bool) (a : Answered) → IsTold v unopened ended → session_of v.book a.session ≡ None
+    → (asked_by v.posted a.session ≡ [] → ⊥) → TakesIn v v' a None → IsTold v' unopened ended
 told_dropped v v' unopened ended a h closed has k =
     let t = a.session in
     let now = dropped (facts v t) a.reply closed has (h.each t) in
-    let here : facts v' t ≡ record (facts v t) { had = had_by v.back t ++ a.reply ∷ [] } = taken_here v v' a None k ∙ ap (λ (o : Option SessionState). record (facts v t) { had = had_by v.back t ++ a.reply ∷ []; state = o }) (sym closed) in
-    told_within v v' unopened ended h k.events k.sessions (change_at t v v' (taken_elsewhere v v' a None k) (subst IsConsistent (sym here) now) (λ j ne. h.each j))
+    let here : facts v' t ≡ record (facts v t) { had = had_by v.back t ++ a.reply ∷ [] } = taken_here v v' a None k
+    ∙ ap (λ (o : Option SessionState). record (facts v t) { had = had_by v.back t ++ a.reply ∷ []; state = o }) (sym closed) in
+    told_within v v' unopened ended h k.events k.sessions (change_at t v v' (taken_elsewhere v v' a None k) (subst IsConsistent (sym here) now)
+    (λ j ne. h.each j))
 
 -- ---- the worker after an answer
 
@@ -147,9 +169,11 @@ pub record KeepsRest {P : Type 0} (old new : Worker P) : Type 0 where
   pub strangers : new.strangers ≡ old.strangers
   pub ended : new.ended ≡ old.ended
 
-taken_in : {P : Type 0} (events : P → List PortRecord) (old new : Worker P) (a : Answered) (st : Option SessionState) → KeepsRest old new → TakesBack old.worker_end new.worker_end a → ((k : ℕ) → session_of new.book k ≡ cond (k == a.session) st (session_of old.book k)) → TakesIn (run_view events old) (run_view events new) a st
-taken_in events old new a st k b book = record {
-  events = ap events k.port;
+taken_in : {P : Type 0} (story : PortStory) (old new : Worker P) (a : Answered) (st : Option SessionState) → KeepsRest old new
+    → TakesBack old.worker_end new.worker_end a → ((k : ℕ) → session_of new.book k ≡ cond (k == a.session) st (session_of old.book k))
+    → TakesIn (run_view story old) (run_view story new) a st
+taken_in story old new a st k b book = record {
+  events = refl;
   posted = λ i. b.sent i ++ option_to_list (k.request i);
   back = b.back;
   sessions = λ i. (k.sessions i).items;
@@ -157,30 +181,78 @@ taken_in events old new a st k b book = record {
   piece = λ i. piece_of (k.pieces i);
 }
 
-answer_goes_on : {P : Type 0} (tells : P → Bool) (events : P → List PortRecord) (old new : Worker P) (a : Answered) → KeepsRest old new → TakesBack old.worker_end new.worker_end a → IsServing tells events old → new.book.posted ≡ old.book.posted → new.book.unsettled ≡ drop 1 old.book.unsettled → (IsTold (run_view events old) old.unopened old.ended → IsTold (run_view events new) old.unopened old.ended) → GoesOn tells events old new
-answer_goes_on tells events old new a k b h p u told = record {
-  tells_as = ap tells k.port;
-  same_end = b.same;
-  serving = record {
-    steady = subst (λ (r : Option Posted). IsSteady new.worker_end r new.book) (sym k.request) (steady_taken old.worker_end new.worker_end old.request old.book new.book a h.steady b p u);
-    strangers = k.strangers ∙ h.strangers;
-    told = λ e. subst (λ (y : ℕ × Bool). IsTold (run_view events new) y.0 y.1) (λ i. (sym k.unopened i, sym k.ended i)) (told (h.told (sym (ap tells k.port) ∙ e)));
-  };
-}
+answer_goes_on : {P : Type 0} (told : P → Option PortStory) (old new : Worker P) (a : Answered) → KeepsRest old new
+    → TakesBack old.worker_end new.worker_end a → IsServing told old → new.book.posted ≡ old.book.posted → new.book.unsettled ≡ drop 1 old.book.unsettled
+    → ((story : PortStory) → IsTold (run_view story old) old.unopened old.ended → IsTold (run_view story new) old.unopened old.ended) → GoesOn told old new
+answer_goes_on told old new a k b h p u is_told =
+    steps_on told old new (λ story. story) (same_story (told old.port) (told new.port) (ap told k.port)) (record {
+      same_end = b.same;
+      steady = subst (λ (r : Option Posted). IsSteady new.worker_end r new.book) (sym k.request)
+          (steady_taken old.worker_end new.worker_end old.request old.book new.book a h.steady b p u);
+      strangers = k.strangers ∙ h.strangers;
+      unopened = k.unopened;
+      ended = k.ended;
+    }) h
+    (λ story e was_so. (
+      is_told story was_so.0,
+      paused_kept story story (piece_of old.pieces) (piece_of new.pieces) (λ q i. piece_of (k.pieces i) q)
+          (λ q. refl) was_so.1,
+    ))
 
-pub kept_goes_on : {P : Type 0} (tells : P → Bool) (events : P → List PortRecord) (old new : Worker P) (a : Answered) → KeepsRest old new → TakesBack old.worker_end new.worker_end a → IsServing tells events old → SettlesReply old.book new.book a → GoesOn tells events old new
-kept_goes_on tells events old new a k b h r =
-    answer_goes_on tells events old new a k b h (ap (λ (x : BookState). x.posted) r.settles.rest) (ap (λ (x : BookState). x.unsettled) r.settles.rest)
-    (λ told. told_kept (run_view events old) (run_view events new) old.unopened old.ended a r.s told r.was_open r.unsettled (taken_in events old new a (Some (settled r.s a.reply)) k b r.settles.only_at))
+-- the end has learnt more of the history, and took nothing back
+pub record TakesNone (end end' : WorkerView) : Type 0 where
+  pub sent : end'.sent ≡ end.sent
+  pub back : end'.back ≡ end.back
+  pub running : end'.said_bye ≡ end.said_bye
+  pub same : IsSameEnd end end'
 
-pub dropped_goes_on : {P : Type 0} (tells : P → Bool) (events : P → List PortRecord) (old new : Worker P) (a : Answered) → KeepsRest old new → TakesBack old.worker_end new.worker_end a → IsServing tells events old → session_of old.book a.session ≡ None → SettlesOldest old.book new.book a None → GoesOn tells events old new
-dropped_goes_on tells events old new a k b h closed r =
-    answer_goes_on tells events old new a k b h (ap (λ (x : BookState). x.posted) r.rest) (ap (λ (x : BookState). x.unsettled) r.rest)
-    (λ told.
-    told_dropped (run_view events old) (run_view events new) old.unopened old.ended a told closed
-    (some_asked (posted_by old.worker_end old.request) (length old.worker_end.back) a.session (posted_of a) (at_posted old.worker_end old.request a b.own) refl) (taken_in events old new a None k b r.only_at))
+steady_still : (end end' : WorkerView) (request : Option Posted) (book : BookState) → TakesNone end end' → IsSteady end request book
+    → IsSteady end' request book
+steady_still end end' request book k h =
+    let posted : posted_by end' request ≡ posted_by end request = ap (λ (l : List Posted). l ++ option_to_list request) k.sent in record {
+      running = k.running ∙ h.running;
+      posted = h.posted ∙ ap (length {A = Posted}) (sym posted);
+      numbered = numbered_as end end' request (ap (length {A = Posted}) k.sent) h.numbered;
+      unsettled = h.unsettled ∙ (λ i. map unsettled_of (drop (length (sym k.back i)) (sym posted i)));
+      back = ap asked_posted k.back ∙ h.back ∙ (λ i. take (length (sym k.back i)) (sym k.sent i));
+    }
 
-told_starved : (v u v' : RunView) (unopened : ℕ) (ended : Bool) (a : Answered) (s : SessionState) → IsTold v unopened ended → session_of v.book a.session ≡ Some s → TakesIn v u a None → ClosesIn u v' a.session causes.NoMemory (was.Shut a.session) → IsTold v' unopened ended
+pub none_taken_goes_on : {P : Type 0} (told : P → Option PortStory) (old : Worker P) (end : WorkerView) → TakesNone old.worker_end end
+    → IsServing told old → GoesOn told old (record old { worker_end = end })
+none_taken_goes_on told old end k h =
+    let new = record old { worker_end = end } in
+    steps_on told old new (λ story. story) (same_story (told old.port) (told old.port) refl) (record {
+      same_end = k.same;
+      steady = steady_still old.worker_end end old.request old.book k h.steady;
+      strangers = h.strangers;
+      unopened = refl;
+      ended = refl;
+    }) h
+    (λ story e was_so. (
+      subst (λ (v : RunView). IsTold v old.unopened old.ended)
+          (λ i. record (run_view story old) { posted = sym k.sent i ++ option_to_list old.request; back = sym k.back i }) was_so.0,
+      was_so.1,
+    ))
+
+pub kept_goes_on : {P : Type 0} (told : P → Option PortStory) (old new : Worker P) (a : Answered) → KeepsRest old new
+    → TakesBack old.worker_end new.worker_end a → IsServing told old → SettlesReply old.book new.book a → GoesOn told old new
+kept_goes_on told old new a k b h r =
+    answer_goes_on told old new a k b h (ap (λ (x : BookState). x.posted) r.settles.rest) (ap (λ (x : BookState). x.unsettled) r.settles.rest)
+    (λ story was_told. told_kept (run_view story old) (run_view story new) old.unopened old.ended a r.s was_told r.was_open r.unsettled
+    (taken_in story old new a (Some (settled r.s a.reply)) k b r.settles.only_at))
+
+pub dropped_goes_on : {P : Type 0} (told : P → Option PortStory) (old new : Worker P) (a : Answered) → KeepsRest old new
+    → TakesBack old.worker_end new.worker_end a → IsServing told old → session_of old.book a.session ≡ None → SettlesOldest old.book new.book a None
+    → GoesOn told old new
+dropped_goes_on told old new a k b h closed r =
+    answer_goes_on told old new a k b h (ap (λ (x : BookState). x.posted) r.rest) (ap (λ (x : BookState). x.unsettled) r.rest)
+    (λ story was_told.
+    told_dropped (run_view story old) (run_view story new) old.unopened old.ended a was_told closed
+    (some_asked (posted_by old.worker_end old.request) (length old.worker_end.back) a.session (posted_of a)
+    (at_posted old.worker_end old.request a b.own) refl) (taken_in story old new a None k b r.only_at))
+
+told_starved : (v u v' : RunView) (unopened : ℕ) (ended : Bool) (a : Answered) (s : SessionState) → IsTold v unopened ended
+    → session_of v.book a.session ≡ Some s → TakesIn v u a None → ClosesIn u v' a.session causes.NoMemory (was.Shut a.session) → IsTold v' unopened ended
 told_starved v u v' unopened ended a s h open_is k c =
     let t = a.session in
     let run = runs (facts v t) s (h.each t) open_is in
@@ -195,10 +267,12 @@ told_starved v u v' unopened ended a s h open_is k c =
       had = here.had ∙ ap (λ l. had_by l t) k.back ∙ had_here v.back a t refl;
       state = here.state;
     } in
-    let closed = closed_starved (facts v t) (facts v' t) run.running.s (v.piece t) a.reply run.running.served st (ap (λ (p : PortFacts). p.shut) here.port_is) in
+    let closed = closed_starved (facts v t) (facts v' t) run.running.s (v.piece t) a.reply run.running.served st
+    (ap (λ (p : PortFacts). p.shut) here.port_is) in
     let before : (j : ℕ) → t ≢ j → IsConsistent (facts u j) = λ j ne. subst IsConsistent (sym (taken_elsewhere v u a None k j ne)) (h.each j) in
     let l = u.events in let len = length-with u.sessions t causes.NoMemory in let one = count_same l (was.Shut t) refl in record {
-      each = close_all u v' t causes.NoMemory (was.Shut t) (record (port_facts l t) { shut = true }) c (apart_shut t) here (ap (λ (p : PortFacts). p.opened) port_same ∙ run.opened) closed before;
+      each = close_all u v' t causes.NoMemory (was.Shut t) (record (port_facts l t) { shut = true }) c (apart_shut t) here
+          (ap (λ (p : PortFacts). p.opened) port_same ∙ run.opened) closed before;
       rising = subst Rises (sym c.sessions) (rises_with u.sessions t causes.NoMemory (subst Rises (sym k.sessions) h.rising));
       counted = subst (λ (y : List PortRecord × List (ℕ × EndCause)). IsCounted y.0 y.1 unopened) (λ i. (sym c.events i, sym c.sessions i))
           (subst (λ (y : ℕ × ℕ). (y.1 ≤ y.0) × (unopened ≡ min (y.0 - y.1) (2 ^ 64 - 1))) (λ i. (sym one i, sym len i))
@@ -207,19 +281,26 @@ told_starved v u v' unopened ended a s h open_is k c =
       accepts = subst AcceptsOnlyOpen (sym c.events) (accepts_more l (was.Shut t) (subst AcceptsOnlyOpen (sym k.events) h.accepts) tt);
     }
 
-pub starved_goes_on : {P : Type 0} (tells : P → Bool) (events : P → List PortRecord) (old mid new : Worker P) (a : Answered) (s : SessionState) → KeepsRest old mid → TakesBack old.worker_end mid.worker_end a → IsServing tells events old → session_of old.book a.session ≡ Some s → SettlesOldest old.book mid.book a None → Shuts tells events mid new a.session causes.NoMemory → GoesOn tells events old new
-starved_goes_on tells events old mid new a s k b h open_is r c =
-    let steady : IsSteady mid.worker_end mid.request mid.book = subst (λ (q : Option Posted). IsSteady mid.worker_end q mid.book) (sym k.request) (steady_taken old.worker_end mid.worker_end old.request old.book mid.book a h.steady b (ap (λ (x : BookState). x.posted) r.rest) (ap (λ (x : BookState). x.unsettled) r.rest)) in
-    let same = same_end mid new c.closes.end in record {
-      tells_as = c.tells_as ∙ ap tells k.port;
+pub starved_goes_on : {P : Type 0} (told : P → Option PortStory) (old mid new : Worker P) (a : Answered) (s : SessionState) → KeepsRest old mid
+    → TakesBack old.worker_end mid.worker_end a → IsServing told old → session_of old.book a.session ≡ Some s
+    → SettlesOldest old.book mid.book a None → Shuts told mid new a.session causes.NoMemory → GoesOn told old new
+starved_goes_on {P} told old mid new a s k b h open_is r c =
+    let steady : IsSteady mid.worker_end mid.request mid.book = subst (λ (q : Option Posted). IsSteady mid.worker_end q mid.book) (sym k.request)
+    (steady_taken old.worker_end mid.worker_end old.request old.book mid.book a h.steady b (ap (λ (x : BookState). x.posted) r.rest)
+    (ap (λ (x : BookState). x.unsettled) r.rest)) in
+    let same = same_end mid new c.closes.end in let f = then_told (was.Shut a.session ∷ []) in
+    steps_on told old new f (c.port ∙ ap (λ (p : P). option_map f (told p)) k.port) (record {
       same_end = record { exchange = same.exchange ∙ b.same.exchange; worker = same.worker ∙ b.same.worker };
-      serving = record {
-        steady = steady_closed mid new a.session causes.NoMemory c.closes steady;
-        strangers = c.closes.strangers ∙ k.strangers ∙ h.strangers;
-        told = λ e.
-            let mid_tells = sym c.tells_as ∙ e in let e' = sym (ap tells k.port) ∙ mid_tells in let was_told = h.told e' in
-            let rising : Rises mid.sessions.items = subst Rises (λ i. (sym k.sessions i).items) was_told.rising in
-            subst (λ (y : ℕ × Bool). IsTold (run_view events new) y.0 y.1) (λ i. (sym (c.closes.unopened ∙ k.unopened) i, sym (c.closes.ended ∙ k.ended) i))
-            (told_starved (run_view events old) (run_view events mid) (run_view events new) old.unopened old.ended a s was_told open_is (taken_in events old mid a None k b r.only_at) (closes_in events mid new a.session causes.NoMemory (was.Shut a.session) c.closes rising (c.port mid_tells)));
-      };
-    }
+      steady = steady_closed mid new a.session causes.NoMemory c.closes steady;
+      strangers = c.closes.strangers ∙ k.strangers ∙ h.strangers;
+      unopened = c.closes.unopened ∙ k.unopened;
+      ended = c.closes.ended ∙ k.ended;
+    }) h
+    (λ story e was_so.
+    let rising : Rises mid.sessions.items = subst Rises (λ i. (sym k.sessions i).items) was_so.0.rising in (
+      told_starved (run_view story old) (run_view story mid) (run_view (f story) new) old.unopened old.ended a s was_so.0 open_is
+          (taken_in story old mid a None k b r.only_at) (closes_in story mid new a.session causes.NoMemory (was.Shut a.session) c.closes rising),
+      paused_but story (f story) a.session (piece_of mid.pieces) (piece_of new.pieces) c.closes.pieces
+          (λ q ne. paused_elsewhere story (was.Shut a.session) q (ne_eqb a.session q ne))
+          (paused_kept story story (piece_of old.pieces) (piece_of mid.pieces) (λ q i. piece_of (k.pieces i) q) (λ q. refl) was_so.1),
+    ))

@@ -1,5 +1,5 @@
 -- What the list of a port says.
-use Rattle.std.specs.Prelude.{◌≡◌, ℕ, ◌<◌, ◌≤◌, ⊤, Bool, true, false, not, ◌&&◌, ◌||◌, ◌==◌, if◌then◌else◌, List, [], ◌∷◌, ◌++◌, length, take, Ok, Err, Result, flat_map, count_by}
+use Rattle.std.specs.Prelude.{◌≡◌, ℕ, ◌<◌, ◌≤◌, ⊤, Bool, true, false, not, ◌&&◌, ◌||◌, ◌==◌, if◌then◌else◌, List, [], ◌∷◌, ◌++◌, length, take, Ok, Err, Result, Option, Some, flat_map, count_by}
 use Rattle.std.specs.List.{list_any}
 use Rattle.worker.specs.declared.port.PortRecord.{PortRecord}
 use Rattle.worker.specs.declared.port.PortRecord.TheVariants as was
@@ -86,6 +86,26 @@ was_shut s events = list_any (is_shutting s) events
 abbrev pub is_open : ℕ → List PortRecord → Bool
 is_open s events = was_opened s events && not (has_gone s events || was_shut s events)
 
+-- ---- what a port tells
+
+-- the list of its events, and which sessions are paused
+pub record PortStory : Type 0 where
+  pub events : List PortRecord
+  pub paused : ℕ → Bool
+
+-- these entries end the session
+abbrev pub are_end_of : ℕ → List PortRecord → Bool
+are_end_of s entries = list_any (λ (x : PortRecord). is_leaving s x || is_shutting s x) entries
+
+-- the port has told these further entries, and what they end is paused no more
+abbrev pub then_told : List PortRecord → PortStory → PortStory
+then_told entries story =
+    record { events = story.events ++ entries; paused = λ s. if are_end_of s entries then false else story.paused s }
+
+-- the session is paused from now on, or no longer
+abbrev pub with_pause : ℕ → Bool → PortStory → PortStory
+with_pause s is_paused story = record story { paused = λ t. if t == s then is_paused else story.paused t }
+
 -- ---- what the list says as a whole
 
 abbrev pub is_end : PortRecord → Bool
@@ -129,12 +149,17 @@ AreProperAfter before (x ∷ events) = IsProper before x × AreProperAfter (befo
 abbrev pub AcceptsOnlyOpen : List PortRecord → Type 0
 AcceptsOnlyOpen events = AreProperAfter [] events
 
+-- the session is open, where the port tells
+abbrev pub IsOpenIn : ℕ → Option PortStory → Type 0
+IsOpenIn s told = (story : PortStory) → told ≡ Some story → is_open s story.events ≡ true
+
 -- What may come next: rising numbers above 0 are opened, only an open session has data, of at most 16,384
--- bytes, or goes, and nothing comes after the end.
-abbrev pub MayCome : List PortRecord → PortEvent → Type 0
-MayCome events (event.Opened s) =
-    (0 < s) × ((t : ℕ) → was_opened t events ≡ true → t < s) × (has_ended events ≡ false)
-MayCome events (event.Data s bytes) = (is_open s events ≡ true) × (length bytes ≤ 16384) × (has_ended events ≡ false)
-MayCome events (event.Gone s) = (is_open s events ≡ true) × (has_ended events ≡ false)
-MayCome events event.Idle = ⊤
-MayCome events event.Ended = has_ended events ≡ false
+-- bytes and not while it is paused, or goes, and nothing comes after the end.
+abbrev pub MayCome : PortStory → PortEvent → Type 0
+MayCome story (event.Opened s) =
+    (0 < s) × ((t : ℕ) → was_opened t story.events ≡ true → t < s) × (has_ended story.events ≡ false)
+MayCome story (event.Data s bytes) =
+    (is_open s story.events ≡ true) × (story.paused s ≡ false) × (length bytes ≤ 16384) × (has_ended story.events ≡ false)
+MayCome story (event.Gone s) = (is_open s story.events ≡ true) × (has_ended story.events ≡ false)
+MayCome story event.Idle = ⊤
+MayCome story event.Ended = has_ended story.events ≡ false

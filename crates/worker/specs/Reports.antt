@@ -12,7 +12,7 @@ use Rattle.session_book.specs.declared.causes.EndCause.{EndCause}
 use Rattle.session_book.specs.declared.causes.EndCause.TheVariants as causes
 use Rattle.session_book.specs.Session.{ended_by}
 use Rattle.worker.specs.declared.port.PortRecord.{PortRecord}
-use Rattle.worker.specs.Ports.{fed, given, has_gone, was_shut, has_ended, AcceptsOnlyOpen}
+use Rattle.worker.specs.Ports.{fed, given, was_opened, has_gone, was_shut, has_ended, AcceptsOnlyOpen}
 use Rattle.worker.specs.Sessions.{cause_of}
 use Rattle.worker.specs.Places.{Rises}
 use Rattle.worker.specs.Workers.{IsCounted}
@@ -53,12 +53,14 @@ SessionHolds events end s cause =
     → (messages : List Message) (rest : List ℕ) → Reads (fed s events) messages rest
     → IsAnswered events history end.worker s cause messages
 
--- What a worker's report says of a port that tells its list: the list has Ended; each session opened stands in the
--- report once, or is counted; nothing was accepted for a session after its close, nor for one that isn't in the report,
--- and nothing was asked for one; and the sessions were answered.
+-- What a worker's report says of a port that tells its list: the list has Ended; each session of the report was
+-- opened; each opened session stands in the report once, or was shut and is counted; nothing was accepted for a session
+-- after its close, nor for one that isn't in the report, and nothing was asked for one; and the sessions were answered.
 pub record IsReported (events : List PortRecord) (end : WorkerView) (sessions : List (ℕ × EndCause)) (unopened : ℕ) : Type 0 where
   pub ended : has_ended events ≡ true
   pub once : Rises sessions
+  pub opened : (s : ℕ) → IsSome (cause_of sessions s) → was_opened s events ≡ true
+  pub refused : (s : ℕ) → was_opened s events ≡ true → cause_of sessions s ≡ None → was_shut s events ≡ true
   pub counted : IsCounted events sessions unopened
   pub accepts : AcceptsOnlyOpen events
   pub no_stranger : (s : ℕ) → cause_of sessions s ≡ None → given s events ≡ []

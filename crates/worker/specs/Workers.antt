@@ -1,5 +1,5 @@
 -- What stays true of a worker while it runs.
-use Rattle.std.specs.Prelude.{◌≡◌, ℕ, ◌+◌, ◌-◌, ◌^◌, ◌<◌, ◌≤◌, slice_index_or, ⊤, Bool, true, false, List, [], ◌∷◌, ◌++◌, length, map, take, drop, min, Option, Some, None, ◌==◌, if◌then◌else◌}
+use Rattle.std.specs.Prelude.{◌≡◌, ℕ, ◌+◌, ◌-◌, ◌^◌, ◌<◌, ◌≤◌, slice_index_or, ⊤, Bool, true, false, is_some, List, [], ◌∷◌, ◌++◌, length, map, take, drop, min, Option, Some, None, ◌==◌, if◌then◌else◌}
 use Rattle.std.specs.Option.{option_to_list, option_map}
 use Rattle.proto.specs.declared.history.Posted.{Posted}
 use Rattle.proto.specs.History.{asked_posted}
@@ -12,7 +12,7 @@ use Rattle.session_book.specs.Book.{BookState, session_of, Changes, OnlyAt, Give
 use Rattle.worker.specs.declared.port.PortRecord.{PortRecord}
 use Rattle.worker.specs.declared.port.PortRecord.TheVariants as was
 use Rattle.worker.specs.declared.worker.Worker.{Worker}
-use Rattle.worker.specs.Ports.{has_ended, opened_count, is_open, AcceptsOnlyOpen}
+use Rattle.worker.specs.Ports.{PortStory, then_told, with_pause, has_ended, opened_count, AcceptsOnlyOpen}
 use Rattle.worker.specs.Sessions.{RunView, facts, IsConsistent}
 use Rattle.worker.specs.Places.{Rises, with_cause, piece_of}
 
@@ -50,15 +50,20 @@ pub record IsTold (v : RunView) (unopened : ℕ) (ended : Bool) : Type 0 where
   pub at_end : has_ended v.events ≡ ended
   pub accepts : AcceptsOnlyOpen v.events
 
-abbrev pub run_view : {P : Type 0} → (P → List PortRecord) → Worker P → RunView
-run_view events w =
-    record { events = events w.port; posted = posted_by w.worker_end w.request; back = w.worker_end.back; sessions = w.sessions.items; book = w.book; piece = piece_of w.pieces }
+abbrev pub run_view : {P : Type 0} → PortStory → Worker P → RunView
+run_view story w =
+    record { events = story.events; posted = posted_by w.worker_end w.request; back = w.worker_end.back; sessions = w.sessions.items; book = w.book; piece = piece_of w.pieces }
+
+-- each session of which bytes are held is paused
+abbrev pub ArePaused : PortStory → (ℕ → List ℕ) → Type 0
+ArePaused story piece = (s : ℕ) → (piece s ≡ [] → ⊥) → story.paused s ≡ true
 
 -- what stays true of a worker over a port
-pub record IsServing {P : Type 0} (tells : P → Bool) (events : P → List PortRecord) (w : Worker P) : Type 0 where
+pub record IsServing {P : Type 0} (told : P → Option PortStory) (w : Worker P) : Type 0 where
   pub steady : IsSteady w.worker_end w.request w.book
   pub strangers : w.strangers ≡ 0
-  pub told : tells w.port ≡ true → IsTold (run_view events w) w.unopened w.ended
+  pub known : (story : PortStory) → told w.port ≡ Some story → IsTold (run_view story w) w.unopened w.ended
+  pub paused : (story : PortStory) → told w.port ≡ Some story → ArePaused story (piece_of w.pieces)
 
 -- it is the same end, later
 pub record IsSameEnd (old new : WorkerView) : Type 0 where
@@ -66,10 +71,10 @@ pub record IsSameEnd (old new : WorkerView) : Type 0 where
   pub worker : new.worker ≡ old.worker
 
 -- the worker went on
-pub record GoesOn {P : Type 0} (tells : P → Bool) (events : P → List PortRecord) (old new : Worker P) : Type 0 where
-  pub tells_as : tells new.port ≡ tells old.port
+pub record GoesOn {P : Type 0} (told : P → Option PortStory) (old new : Worker P) : Type 0 where
+  pub tells : is_some (told new.port) ≡ is_some (told old.port)
   pub same_end : IsSameEnd old.worker_end new.worker_end
-  pub serving : IsServing tells events new
+  pub serving : IsServing told new
 
 -- Of a worker only the port and what it knows of this session change: it is no longer in the book, no piece of it
 -- is held, and the cause stands at its place.
@@ -84,26 +89,20 @@ pub record Closes {P : Type 0} (old new : Worker P) (session : ℕ) (cause : End
   pub ended : new.ended ≡ old.ended
 
 -- the session is shut at the port, and closed
-pub record Shuts {P : Type 0} (tells : P → Bool) (events : P → List PortRecord) (old new : Worker P) (session : ℕ) (cause : EndCause) : Type 0 where
-  pub tells_as : tells new.port ≡ tells old.port
-  pub port : tells old.port ≡ true → events new.port ≡ events old.port ++ was.Shut session ∷ []
+pub record Shuts {P : Type 0} (told : P → Option PortStory) (old new : Worker P) (session : ℕ) (cause : EndCause) : Type 0 where
+  pub port : told new.port ≡ option_map (then_told (was.Shut session ∷ [])) (told old.port)
   pub closes : Closes old new session cause
 
--- the session is in the book, so it is open at a port that tells
-abbrev pub IsOpenAt : {P : Type 0} → (P → Bool) → (P → List PortRecord) → P → ℕ → Type 0
-IsOpenAt tells events port session = tells port ≡ true → is_open session (events port) ≡ true
-
 -- A session was just opened: it has a place in the report and is in the book; or it is shut and counted.
-pub record Admits {P : Type 0} (tells : P → Bool) (events : P → List PortRecord) (old new : Worker P) (session : ℕ) : Type 0 where
+pub record Admits {P : Type 0} (told : P → Option PortStory) (old new : Worker P) (session : ℕ) : Type 0 where
   pub port : new.port ≡ old.port
   pub sessions : new.sessions.items ≡ old.sessions.items ++ (session, causes.Drained) ∷ []
   pub book : OnlyAt old.book new.book session (Some new_session)
   pub counts : (new.book.posted ≡ old.book.posted) × (new.book.unsettled ≡ old.book.unsettled)
   pub unopened : new.unopened ≡ old.unopened
 
-pub record Refuses {P : Type 0} (tells : P → Bool) (events : P → List PortRecord) (old new : Worker P) (session : ℕ) : Type 0 where
-  pub tells_as : tells new.port ≡ tells old.port
-  pub port : tells old.port ≡ true → events new.port ≡ events old.port ++ was.Shut session ∷ []
+pub record Refuses {P : Type 0} (told : P → Option PortStory) (old new : Worker P) (session : ℕ) : Type 0 where
+  pub port : told new.port ≡ option_map (then_told (was.Shut session ∷ [])) (told old.port)
   pub sessions : new.sessions.items ≡ old.sessions.items
   pub book : new.book ≡ old.book
   pub unopened : new.unopened ≡ min (old.unopened + 1) (2 ^ 64 - 1)
@@ -126,20 +125,19 @@ pub record Leaves {P : Type 0} (old new : Worker P) : Type 0 where
   pub ended : new.ended ≡ old.ended
 
 -- the piece is held, and nothing else changes but for a pause
-pub record Holds {P : Type 0} (tells : P → Bool) (events : P → List PortRecord) (old : Worker P) (session : ℕ) (bytes : List ℕ) (new : Worker P) : Type 0 where
+pub record Holds {P : Type 0} (told : P → Option PortStory) (old : Worker P) (session : ℕ) (bytes : List ℕ) (new : Worker P) : Type 0 where
   pub book : new.book ≡ old.book
-  pub tells_as : tells new.port ≡ tells old.port
-  pub port : tells old.port ≡ true → events new.port ≡ events old.port
+  pub port : told new.port ≡ option_map (with_pause session true) (told old.port)
   pub pieces : (t : ℕ) → piece_of new.pieces t ≡ (if t == session then bytes else piece_of old.pieces t)
   pub leaves : Leaves old new
 
 -- A piece of input came: it is fed, or held, or its session is shut for want of memory; a session that isn't
--- open drops it.
-pub data Receives {P : Type 0} (tells : P → Bool) (events : P → List PortRecord) (old : Worker P) (session : ℕ) (bytes : List ℕ) (new : Worker P) : Type 0 where
-  feeds : piece_of old.pieces session ≡ [] → Changes old.book new.book session (option_map (λ s. fed s bytes) (session_of old.book session)) → new.port ≡ old.port → new.pieces ≡ old.pieces → Leaves old new → Receives tells events old session bytes new
-  holds : piece_of old.pieces session ≡ [] → Holds tells events old session bytes new → Receives tells events old session bytes new
-  shuts : Shuts tells events old new session causes.NoMemory → Receives tells events old session bytes new
-  drops : session_of old.book session ≡ None → new.book ≡ old.book → new.port ≡ old.port → new.pieces ≡ old.pieces → Leaves old new → Receives tells events old session bytes new
+-- open drops it. That bytes are held already is a reason to shut only at a port that tells nothing.
+pub data Receives {P : Type 0} (told : P → Option PortStory) (old : Worker P) (session : ℕ) (bytes : List ℕ) (new : Worker P) : Type 0 where
+  feeds : piece_of old.pieces session ≡ [] → Changes old.book new.book session (option_map (λ s. fed s bytes) (session_of old.book session)) → new.port ≡ old.port → new.pieces ≡ old.pieces → Leaves old new → Receives told old session bytes new
+  holds : piece_of old.pieces session ≡ [] → Holds told old session bytes new → Receives told old session bytes new
+  shuts : ((piece_of old.pieces session ≡ [] → ⊥) → told old.port ≡ None) → Shuts told old new session causes.NoMemory → Receives told old session bytes new
+  drops : session_of old.book session ≡ None → new.book ≡ old.book → new.port ≡ old.port → new.pieces ≡ old.pieces → Leaves old new → Receives told old session bytes new
 
 -- The session was asked and gave no request; nothing else of the worker changed but what was read of it.
 pub record IsQuiet {P : Type 0} (old new : Worker P) (session : ℕ) : Type 0 where

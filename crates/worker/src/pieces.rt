@@ -20,6 +20,16 @@ pub(crate) fn hold(pieces: &mut Pieces, session: u64, piece: Bytes) -> Result<()
     }
 }
 
+// The bytes that are held of a session.
+pub(crate) fn held(pieces: &Pieces, session: u64) -> &[u8]
+    ensures { result.now ≡ piece_of pieces.now session }
+{
+    match pieces.get(&session) {
+        Some(piece) => piece,
+        None => &[],
+    }
+}
+
 // Lets go of the session's piece, if one is held.
 pub(crate) fn release(pieces: &mut Pieces, session: u64)
     ensures { (s : ℕ) → piece_of pieces.new s ≡ (if s == session then [] else piece_of pieces.old s) }

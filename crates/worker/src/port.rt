@@ -1,7 +1,8 @@
 //! What a worker reads from and writes to.
-ghost use Rattle.std.specs.Prelude.{◌≡◌, ◌++◌, [], ◌∷◌, ◌≤◌, true, length, IfOk};
+ghost use Rattle.std.specs.Prelude.{◌≡◌, [], ◌∷◌, ◌≤◌, true, false, length, IfOk};
+ghost use Rattle.std.specs.Option.{option_map};
 ghost use Rattle.worker.specs.declared.port.PortRecord.TheVariants.{Shut};
-ghost use Rattle.worker.specs.Ports.{event_records, give_records, is_open, MayCome};
+ghost use Rattle.worker.specs.Ports.{PortStory, then_told, with_pause, event_records, give_records, IsOpenIn, MayCome};
 
 use bytes::Bytes;
 
@@ -35,42 +36,52 @@ pub enum PortRecord {
     Shut(u64),
 }
 
-/// A port, by the list of its events. The list is known where the port tells it.
+/// A port, by what it tells: the list of its events, and which sessions are paused. A port may tell nothing; whether it
+/// tells never changes.
 ///
-/// A paused session has no data until it is resumed. After `Ended`, `give` and `shut` still work.
+/// A paused session has no data until it is resumed. After `Ended`, `give` and `shut` still work. What is always true
+/// between a port as it was and the same port after some calls is its `leads_to`: for a port that plays a script, that
+/// it plays the same one.
 pub trait Port: Drop {
-    ghost use Rattle.std.specs.Prelude.{Bool, List};
-    ghost use Rattle.worker.specs.declared.port.PortRecord.{PortRecord};
+    ghost use Rattle.std.specs.Prelude.{Option};
+    ghost use Rattle.worker.specs.Ports.{PortStory};
 
-    ghost tells: { Self → Bool };
+    ghost told: { Self → Option PortStory };
 
-    ghost events: { Self → List PortRecord };
+    ghost leads_to: { Self → Self → Type 0 };
 
-    fn next(&mut self) -> PortEvent
-        ensures tells { tells self.new ≡ tells self.old }
-        ensures events { tells self.old ≡ true → events self.new ≡ events self.old ++ event_records result }
-        ensures may { tells self.old ≡ true → MayCome (events self.old) result };
+    /// What came. The worker says whether the port may wait for an event: so it is where no request is outstanding or
+    /// held back, and no input is left to be read and no output to be given. A port that waits at another time delays
+    /// work that is there; no clause says so.
+    fn next(&mut self, may_wait: bool) -> PortEvent
+        ensures leads { leads_to self.old self.new }
+        ensures told { told self.new ≡ option_map (then_told (event_records result)) (told self.old) }
+        ensures may { (story : PortStory) → told self.old ≡ Some story → MayCome story result };
 
     /// Offers bytes, and says how many of the first were accepted.
     fn give(&mut self, session: u64, bytes: &[u8]) -> Result<usize, Gone>
-        requires { tells self.old ≡ true → is_open session (events self.old) ≡ true }
+        requires { IsOpenIn session (told self.old) }
         ensures within { IfOk result (λ n. n ≤ length bytes.now) }
-        ensures tells { tells self.new ≡ tells self.old }
-        ensures events { tells self.old ≡ true → events self.new ≡ events self.old ++ give_records session bytes.now result };
+        ensures leads { leads_to self.old self.new }
+        ensures told { told self.new ≡ option_map (then_told (give_records session bytes.now result)) (told self.old) };
 
     fn pause(&mut self, session: u64)
-        requires { tells self.old ≡ true → is_open session (events self.old) ≡ true }
-        ensures tells { tells self.new ≡ tells self.old }
-        ensures events { tells self.old ≡ true → events self.new ≡ events self.old };
+        requires { IsOpenIn session (told self.old) }
+        ensures leads { leads_to self.old self.new }
+        ensures told { told self.new ≡ option_map (with_pause session true) (told self.old) };
 
     fn resume(&mut self, session: u64)
-        requires { tells self.old ≡ true → is_open session (events self.old) ≡ true }
-        ensures tells { tells self.new ≡ tells self.old }
-        ensures events { tells self.old ≡ true → events self.new ≡ events self.old };
+        requires { IsOpenIn session (told self.old) }
+        ensures leads { leads_to self.old self.new }
+        ensures told { told self.new ≡ option_map (with_pause session false) (told self.old) };
 
     /// Ends a session for good.
     fn shut(&mut self, session: u64)
-        requires { tells self.old ≡ true → is_open session (events self.old) ≡ true }
-        ensures tells { tells self.new ≡ tells self.old }
-        ensures events { tells self.old ≡ true → events self.new ≡ events self.old ++ Shut session ∷ [] };
+        requires { IsOpenIn session (told self.old) }
+        ensures leads { leads_to self.old self.new }
+        ensures told { told self.new ≡ option_map (then_told (Shut session ∷ [])) (told self.old) };
+
+    ghost leads_reflexive: { (p : Self) → leads_to p p };
+
+    ghost leads_transitive: { (p q r : Self) → leads_to p q → leads_to q r → leads_to p r };
 }

@@ -12,13 +12,24 @@ struct Listed {
     give: bool,
 }
 
-// The lists, in which a session stands once at most. Their room is taken when the session is admitted.
+// The lists, in which a session stands once at most: to be given output it stands in one of two, that of the sessions
+// whose peer accepted nothing when it was last offered some being gone through slowly. The room for a session is taken
+// when it is admitted.
 #[derive(Drop)]
 pub(crate) struct Ready {
     listed: BTreeMap<u64, Listed>,
     feed: VecDeque<u64>,
     ask: VecDeque<u64>,
     give: VecDeque<u64>,
+    slow: VecDeque<u64>,
+}
+
+// Takes room for so many more entries, twice as much as needed where there is none.
+fn take_room(list: &mut VecDeque<u64>, room: usize) -> Result<(), AllocError> {
+    if list.capacity().saturating_sub(list.len()) < room {
+        list.reserve(room.saturating_mul(2))?;
+    }
+    Ok(())
 }
 
 impl Ready {
@@ -28,15 +39,17 @@ impl Ready {
             feed: VecDeque::new(alloc),
             ask: VecDeque::new(alloc),
             give: VecDeque::new(alloc),
+            slow: VecDeque::new(alloc),
         }
     }
 
     // Takes the room that one more session needs.
     pub(crate) fn admit(&mut self, session: u64) -> Result<(), AllocError> {
         let room = self.listed.len() + 1;
-        self.feed.reserve(room)?;
-        self.ask.reserve(room)?;
-        self.give.reserve(room)?;
+        take_room(&mut self.feed, room)?;
+        take_room(&mut self.ask, room)?;
+        take_room(&mut self.give, room)?;
+        take_room(&mut self.slow, room)?;
         let none = Listed {
             feed: false,
             ask: false,
@@ -77,14 +90,20 @@ impl Ready {
         }
     }
 
-    // The session was asked: it may have output, room for its held piece, and a further request.
-    pub(crate) fn asked(&mut self, session: u64, holds_piece: bool, found: bool) {
+    // The session is offered its output again, though its peer accepted nothing.
+    fn give_slowly(&mut self, session: u64) {
+        if let Some(listed) = self.listed.get_mut(&session) {
+            if !listed.give {
+                listed.give = self.slow.push_back(session).is_ok();
+            }
+        }
+    }
+
+    // The session was asked: it may have output, and room for its held piece.
+    pub(crate) fn asked(&mut self, session: u64, holds_piece: bool) {
         self.give_later(session);
         if holds_piece {
             self.feed_later(session);
-        }
-        if found {
-            self.ask_later(session);
         }
     }
 
@@ -93,8 +112,18 @@ impl Ready {
         if offered > MAX_WAITING {
             self.ask_later(session);
         }
-        if accepted < offered {
+        if accepted == 0 {
+            self.give_slowly(session);
+        } else if accepted < offered {
             self.give_later(session);
+        }
+    }
+
+    // Whether the session stands in the list of those to ask.
+    pub(crate) fn is_asking(&self, session: u64) -> bool {
+        match self.listed.get(&session) {
+            Some(listed) => listed.ask,
+            None => false,
         }
     }
 
@@ -122,6 +151,14 @@ impl Ready {
         Some(session)
     }
 
+    pub(crate) fn next_to_give_slowly(&mut self) -> Option<u64> {
+        let session = self.slow.pop_front()?;
+        if let Some(listed) = self.listed.get_mut(&session) {
+            listed.give = false;
+        }
+        Some(session)
+    }
+
     pub(crate) fn to_feed(&self) -> usize {
         self.feed.len()
     }
@@ -134,8 +171,12 @@ impl Ready {
         self.give.len()
     }
 
+    pub(crate) fn to_give_slowly(&self) -> usize {
+        self.slow.len()
+    }
+
     // No session has anything to do.
     pub(crate) fn is_empty(&self) -> bool {
-        self.feed.is_empty() && self.ask.is_empty() && self.give.is_empty()
+        self.feed.is_empty() && self.ask.is_empty() && self.give.is_empty() && self.slow.is_empty()
     }
 }

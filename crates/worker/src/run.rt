@@ -1,9 +1,10 @@
 //! The loop of a worker.
 
-ghost use Rattle.std.specs.Prelude.{◌≡◌, ◌<◌, [], true, false};
+ghost use Rattle.std.specs.Prelude.{◌≡◌, ◌<◌, [], true, false, is_some};
 ghost use Rattle.session_book.specs.Session.{SessionState};
 ghost use Rattle.session_book.specs.Book.{session_of};
 ghost use Rattle.worker.specs.Workers.{IsServing, GoesOn, IsStill, IsEmptied, IsDrained};
+ghost use Rattle.worker.specs.Ports.{PortStory};
 ghost use Rattle.worker.specs.Reports.{IsReported, IsOver};
 
 use crate::gate::Gate;
@@ -20,48 +21,106 @@ use std::alloc::Global;
 use std::collections::BTreeMap;
 use std::sync::Wait;
 
-// Feeds each held piece that may fit by now.
-fn feed_pieces<P: Port>(worker: &mut Worker<P>) -> bool
-    requires { IsServing P.tells P.events worker.old }
-    ensures { GoesOn P.tells P.events worker.old worker.new }
+/// The most events that are taken in a turn.
+const EVENTS_A_TURN: usize = 8;
+
+/// So many sessions whose peer accepted nothing are offered their output again in a turn.
+const SLOW_A_TURN: usize = 2;
+
+// Takes what has come, in a few events, up to the first input that may hold a request: what a session has sent is
+// asked before it is taken that its peer has gone.
+fn take_events<P: Port>(worker: &mut Worker<P>) -> bool
+    requires { IsServing P.told worker.old }
+    ensures goes_on { GoesOn P.told worker.old worker.new }
+    ensures leads { P.leads_to worker.old.port worker.new.port }
 {
     let mut moved = false;
-    for _ in 0..worker.ready.to_feed() {
-        if let Some(session) = worker.ready.next_to_feed() {
-            if worker.feed_again(session) {
-                moved = true;
-            }
+    for _ in 0..EVENTS_A_TURN {
+        if !worker.take_event() {
+            break;
+        }
+        moved = true;
+        if worker.ready.to_ask() > 0 {
+            break;
         }
     }
     moved
 }
 
-// Posts the held request, and then asks the sessions in turn while the window has room.
-fn post_requests<P: Port, G: Gate>(worker: &mut Worker<P>, gate: &G) -> bool
-    requires { IsServing P.tells P.events worker.old }
-    ensures { GoesOn P.tells P.events worker.old worker.new }
+// Feeds each held piece that may fit by now.
+fn feed_pieces<P: Port>(worker: &mut Worker<P>) -> bool
+    requires { IsServing P.told worker.old }
+    ensures goes_on { GoesOn P.told worker.old worker.new }
+    ensures leads { P.leads_to worker.old.port worker.new.port }
 {
-    let mut moved = worker.post(gate);
-    let turns = worker.ready.to_ask().saturating_add(MAX_UNSETTLED);
-    for _ in 0..turns {
-        if worker.request.is_some() || worker.worker_end.outstanding() >= MAX_UNSETTLED as u64 {
-            break;
-        }
-        let Some(session) = worker.ready.next_to_ask() else {
-            break;
-        };
-        worker.ask(session);
-        if worker.post(gate) {
-            moved = true;
-        }
+    let mut moved = false;
+    for _ in 0..worker.ready.to_feed() {
+        moved |= worker.feed_next();
     }
     moved
+}
+
+// Asks the session for requests until it has none left or the window is full.
+fn ask_session<P: Port, G: Gate>(worker: &mut Worker<P>, session: u64, gate: &G)
+    requires { IsServing P.told worker.old }
+    ensures goes_on { GoesOn P.told worker.old worker.new }
+    ensures leads { P.leads_to worker.old.port worker.new.port }
+{
+    for _ in 0..=MAX_UNSETTLED {
+        if !worker.ask_and_post(session, gate) {
+            break;
+        }
+    }
+}
+
+// Asks the next session that has input, unless no request can be asked now.
+fn ask_next<P: Port, G: Gate>(worker: &mut Worker<P>, gate: &G) -> bool
+    requires { IsServing P.told worker.old }
+    ensures goes_on { GoesOn P.told worker.old worker.new }
+    ensures leads { P.leads_to worker.old.port worker.new.port }
+{
+    if worker.is_busy() {
+        return false;
+    }
+    match worker.ready.next_to_ask() {
+        Some(session) => {
+            ask_session(worker, session, gate);
+            true
+        }
+        None => false,
+    }
+}
+
+// Asks the sessions in turn while the window has room.
+fn ask_sessions<P: Port, G: Gate>(worker: &mut Worker<P>, gate: &G)
+    requires { IsServing P.told worker.old }
+    ensures goes_on { GoesOn P.told worker.old worker.new }
+    ensures leads { P.leads_to worker.old.port worker.new.port }
+{
+    for _ in 0..worker.ready.to_ask() {
+        if !ask_next(worker, gate) {
+            break;
+        }
+    }
+}
+
+// Posts the held request, and then asks for more.
+fn post_requests<P: Port, G: Gate>(worker: &mut Worker<P>, gate: &G) -> bool
+    requires { IsServing P.told worker.old }
+    ensures goes_on { GoesOn P.told worker.old worker.new }
+    ensures leads { P.leads_to worker.old.port worker.new.port }
+{
+    let sent = worker.worker_end.sent();
+    worker.post(gate);
+    ask_sessions(worker, gate);
+    worker.worker_end.sent() > sent
 }
 
 // Takes and settles all answers that are there.
 fn settle_answers<P: Port, G: Gate>(worker: &mut Worker<P>, gate: &G) -> bool
-    requires { IsServing P.tells P.events worker.old }
-    ensures { GoesOn P.tells P.events worker.old worker.new }
+    requires { IsServing P.told worker.old }
+    ensures goes_on { GoesOn P.told worker.old worker.new }
+    ensures leads { P.leads_to worker.old.port worker.new.port }
 {
     let mut moved = false;
     for _ in 0..worker.worker_end.outstanding() {
@@ -75,41 +134,51 @@ fn settle_answers<P: Port, G: Gate>(worker: &mut Worker<P>, gate: &G) -> bool
 
 // Gives the output of each session that has some, and shuts those that have finished.
 fn give_output<P: Port>(worker: &mut Worker<P>) -> bool
-    requires { IsServing P.tells P.events worker.old }
-    ensures { GoesOn P.tells P.events worker.old worker.new }
+    requires { IsServing P.told worker.old }
+    ensures goes_on { GoesOn P.told worker.old worker.new }
+    ensures leads { P.leads_to worker.old.port worker.new.port }
 {
     let mut moved = false;
     for _ in 0..worker.ready.to_give() {
-        if let Some(session) = worker.ready.next_to_give() {
-            if worker.offer(session) {
-                moved = true;
-            }
-            if worker.finish(session) {
-                moved = true;
-            }
-        }
+        moved |= worker.give_next();
+    }
+    moved
+}
+
+// The same of a few of the sessions whose peer accepted nothing.
+fn give_slowly<P: Port>(worker: &mut Worker<P>) -> bool
+    requires { IsServing P.told worker.old }
+    ensures goes_on { GoesOn P.told worker.old worker.new }
+    ensures leads { P.leads_to worker.old.port worker.new.port }
+{
+    let mut moved = false;
+    for _ in 0..worker.ready.to_give_slowly().min(SLOW_A_TURN) {
+        moved |= worker.give_next_slow();
     }
     moved
 }
 
 // One turn. False where there was nothing to do.
 fn take_turn<P: Port, G: Gate>(worker: &mut Worker<P>, gate: &G) -> bool
-    requires { IsServing P.tells P.events worker.old }
-    ensures { GoesOn P.tells P.events worker.old worker.new }
+    requires { IsServing P.told worker.old }
+    ensures goes_on { GoesOn P.told worker.old worker.new }
+    ensures leads { P.leads_to worker.old.port worker.new.port }
 {
-    let came = worker.take_event();
+    let came = take_events(worker);
     let fed = feed_pieces(worker);
     let posted = post_requests(worker, gate);
     let settled = settle_answers(worker, gate);
     let given = give_output(worker);
-    came || fed || posted || settled || given
+    let given_slowly = give_slowly(worker);
+    came || fed || posted || settled || given || given_slowly
 }
 
 // Whether all is done: the port has ended, nothing is held or outstanding, and no open session has a message or
 // output left. A request that is found is held.
 fn has_drained<P: Port>(worker: &mut Worker<P>) -> bool
-    requires { IsServing P.tells P.events worker.old }
-    ensures goes_on { GoesOn P.tells P.events worker.old worker.new }
+    requires { IsServing P.told worker.old }
+    ensures goes_on { GoesOn P.told worker.old worker.new }
+    ensures leads { P.leads_to worker.old.port worker.new.port }
     ensures drained { result ≡ true → IsDrained worker.new }
 {
     if !worker.ended || worker.request.is_some() || worker.worker_end.outstanding() > 0 {
@@ -132,26 +201,33 @@ fn has_drained<P: Port>(worker: &mut Worker<P>) -> bool
 
 // Whether a session that is still open has nothing left to read and to give.
 fn is_emptied<P: Port>(worker: &mut Worker<P>, session: u64, cause: EndCause) -> bool
-    requires serving { IsServing P.tells P.events worker.old }
+    requires serving { IsServing P.told worker.old }
     requires none { worker.old.request ≡ None }
     requires settled { worker.old.book.unsettled ≡ [] }
     requires few { worker.old.book.posted < MAX_POSTS }
-    ensures goes_on { GoesOn P.tells P.events worker.old worker.new }
+    ensures goes_on { GoesOn P.told worker.old worker.new }
+    ensures leads { P.leads_to worker.old.port worker.new.port }
     ensures still { result ≡ true → IsStill worker.old worker.new session cause }
     ensures emptied { result ≡ true → cause ≡ EndCause.Drained → (s : SessionState) → session_of worker.new.book session ≡ Some s → IsEmptied s }
 {
     match cause {
-        EndCause::Drained => worker.ask(session) && worker.has_no_output(session),
+        EndCause::Drained => {
+            if !worker.ask(session) {
+                worker.ready.ask_later(session);
+                return false;
+            }
+            worker.has_no_output(session)
+        }
         _ => true,
     }
 }
 
 fn new_worker<P: Port>(alloc: Global, port: P, worker_end: WorkerEnd) -> Worker<P>
-    requires port { P.tells port ≡ true → P.events port ≡ [] }
+    requires port { (story : PortStory) → P.told port ≡ Some story → story.events ≡ [] }
     requires fresh { (worker_end.sent ≡ []) × (worker_end.back ≡ []) × (worker_end.said_bye ≡ false) }
     ensures port { result.port ≡ port }
     ensures end { result.worker_end ≡ worker_end }
-    ensures serving { IsServing P.tells P.events result }
+    ensures serving { IsServing P.told result }
 {
     let book = Book::new(alloc, worker_end.worker());
     Worker {
@@ -179,12 +255,13 @@ pub fn run_worker<P: Port, G: Gate, R: Wait>(
     worker_end: WorkerEnd,
     gate: &G,
 ) -> WorkerReport<P>
-    requires port { P.tells port ≡ true → P.events port ≡ [] }
+    requires port { (story : PortStory) → P.told port ≡ Some story → story.events ≡ [] }
     requires fresh { (worker_end.sent ≡ []) × (worker_end.back ≡ []) × (worker_end.said_bye ≡ false) }
-    ensures tells { P.tells result.port ≡ P.tells port }
+    ensures leads { P.leads_to port result.port }
+    ensures tells { is_some (P.told result.port) ≡ is_some (P.told port) }
     ensures over { IsOver worker_end result.worker_end }
     ensures strangers { result.strangers ≡ 0 }
-    ensures reported { P.tells result.port ≡ true → IsReported (P.events result.port) result.worker_end result.sessions.items result.unopened }
+    ensures reported { (story : PortStory) → P.told result.port ≡ Some story → IsReported story.events result.worker_end result.sessions.items result.unopened }
 {
     let mut worker = new_worker(alloc, port, worker_end);
     let backoff = Backoff::new();
@@ -202,12 +279,12 @@ pub fn run_worker<P: Port, G: Gate, R: Wait>(
 
 // Says bye, and leaves the report.
 fn leave<P: Port>(worker: Worker<P>) -> WorkerReport<P>
-    requires serving { IsServing P.tells P.events worker }
+    requires serving { IsServing P.told worker }
     requires drained { IsDrained worker }
     ensures port { result.port ≡ worker.port }
     ensures over { IsOver worker.worker_end result.worker_end }
     ensures strangers { result.strangers ≡ 0 }
-    ensures reported { P.tells result.port ≡ true → IsReported (P.events result.port) result.worker_end result.sessions.items result.unopened }
+    ensures reported { (story : PortStory) → P.told result.port ≡ Some story → IsReported story.events result.worker_end result.sessions.items result.unopened }
 {
     let Worker {
         port,

@@ -1,12 +1,14 @@
 //! What a worker holds while it runs, and its steps.
 
-ghost use Rattle.std.specs.Prelude.{◌≡◌, ◌⊎◌, true, None, []};
+ghost use Rattle.std.specs.Prelude.{◌≡◌, ◌⊎◌, true, false, Some, None, IsSome, []};
 ghost use Rattle.session_book.specs.Session.{SessionState, finished_by};
 ghost use Rattle.session_book.specs.Book.{session_of};
-ghost use Rattle.worker.specs.Workers.{Closes, Shuts, IsServing, GoesOn, IsOpenAt, Admits, Refuses, SameRest, Holds, Receives, IsQuiet};
+ghost use Rattle.worker.specs.Places.{piece_of};
+ghost use Rattle.worker.specs.Ports.{PortStory, IsOpenIn};
+ghost use Rattle.worker.specs.Workers.{Closes, Shuts, IsServing, GoesOn, Admits, Refuses, SameRest, Holds, Receives, IsQuiet};
 
 use crate::gate::Gate;
-use crate::pieces::{Pieces, hold, release};
+use crate::pieces::{Pieces, held, hold, release};
 use crate::places::set_cause;
 use crate::port::{Gone, Port, PortEvent};
 use crate::ready::Ready;
@@ -15,6 +17,10 @@ use exchange::WorkerEnd;
 use proto::history::Posted;
 use session_book::book::Book;
 use session_book::causes::{EndCause, FeedFault, Settled};
+use session_book::limits::MAX_UNSETTLED;
+
+/// So many bytes of output are given though more will stand behind them.
+const WORTH_GIVING: usize = 16_384;
 
 #[derive(Drop)]
 pub(crate) struct Worker<P> {
@@ -36,6 +42,7 @@ impl<P: Port> Worker<P> {
     // Takes a session out of the book, and writes why it ended.
     pub(crate) fn close(&mut self, session: u64, cause: EndCause)
         ensures port { self.new.port ≡ self.old.port }
+        ensures leads { P.leads_to self.old.port self.new.port }
         ensures closes { Closes self.old self.new session cause }
     {
         self.book.close(session);
@@ -45,28 +52,32 @@ impl<P: Port> Worker<P> {
     }
 
     pub(crate) fn shut(&mut self, session: u64, cause: EndCause)
-        requires { IsOpenAt P.tells P.events self.old.port session }
-        ensures { Shuts P.tells P.events self.old self.new session cause }
+        requires { IsOpenIn session (P.told self.old.port) }
+        ensures shuts { Shuts P.told self.old self.new session cause }
+        ensures leads { P.leads_to self.old.port self.new.port }
     {
         self.port.shut(session);
         self.close(session, cause);
     }
 
     // Shuts a session that was just opened, as there is no room for it.
-    fn refuse(&mut self, session: u64)
-        requires { IsOpenAt P.tells P.events self.old.port session }
+    fn refuse(&mut self, newcomer: u64)
+        requires { IsOpenIn newcomer (P.told self.old.port) }
+        ensures leads { P.leads_to self.old.port self.new.port }
         ensures rest { SameRest self.old self.new }
-        ensures refuses { Refuses P.tells P.events self.old self.new session }
+        ensures refuses { Refuses P.told self.old self.new newcomer }
     {
-        self.port.shut(session);
+        self.port.shut(newcomer);
+        self.ready.dismiss(newcomer);
         self.unopened = self.unopened.saturating_add(1);
     }
 
     // Takes a session's place in the report and opens it in the book.
     fn admit(&mut self, session: u64)
-        requires { IsOpenAt P.tells P.events self.old.port session }
+        requires { IsOpenIn session (P.told self.old.port) }
+        ensures leads { P.leads_to self.old.port self.new.port }
         ensures rest { SameRest self.old self.new }
-        ensures admits { Admits P.tells P.events self.old self.new session ⊎ Refuses P.tells P.events self.old self.new session }
+        ensures admits { Admits P.told self.old self.new session ⊎ Refuses P.told self.old self.new session }
     {
         if self.ready.admit(session).is_err()
             || self.sessions.push((session, EndCause::Drained)).is_err()
@@ -82,8 +93,9 @@ impl<P: Port> Worker<P> {
 
     // Holds a piece that doesn't fit, and pauses its session.
     fn wait_for_room(&mut self, session: u64, bytes: Bytes)
-        requires { IsOpenAt P.tells P.events self.old.port session }
-        ensures { Holds P.tells P.events self.old session bytes self.new ⊎ Shuts P.tells P.events self.old self.new session EndCause.NoMemory }
+        requires { IsOpenIn session (P.told self.old.port) }
+        ensures waits { Holds P.told self.old session bytes self.new ⊎ Shuts P.told self.old self.new session EndCause.NoMemory }
+        ensures leads { P.leads_to self.old.port self.new.port }
     {
         if hold(&mut self.pieces, session, bytes).is_err() {
             self.shut(session, EndCause::NoMemory);
@@ -92,12 +104,19 @@ impl<P: Port> Worker<P> {
         self.port.pause(session);
     }
 
-    // Feeds a piece of input that came, or holds it until it fits.
+    // Feeds a piece of input that came, or holds it until it fits. Input of a session that isn't open is dropped.
     fn receive(&mut self, session: u64, bytes: Bytes)
-        requires { IsOpenAt P.tells P.events self.old.port session }
-        ensures { Receives P.tells P.events self.old session bytes self.new }
+        requires open { IsOpenIn session (P.told self.old.port) }
+        requires resumed { (story : PortStory) → P.told self.old.port ≡ Some story → piece_of self.old.pieces session ≡ [] }
+        ensures receives { Receives P.told self.old session bytes self.new }
+        ensures leads { P.leads_to self.old.port self.new.port }
+        ensures drops { session_of self.old.book session ≡ None → self.new ≡ self.old }
     {
-        if self.pieces.contains_key(&session) {
+        if !self.book.is_open(session) {
+            return;
+        }
+        // At a port that tells, a session of which bytes are held is paused and has no data.
+        if !held(&self.pieces, session).is_empty() {
             self.shut(session, EndCause::NoMemory);
             return;
         }
@@ -109,18 +128,37 @@ impl<P: Port> Worker<P> {
         }
     }
 
+    // The session's peer has gone. A session that isn't open keeps the cause that it has.
+    fn lose(&mut self, session: u64)
+        ensures port { self.new.port ≡ self.old.port }
+        ensures leads { P.leads_to self.old.port self.new.port }
+        ensures loses { IsSome (session_of self.old.book session) → Closes self.old self.new session EndCause.Gone }
+        ensures drops { session_of self.old.book session ≡ None → self.new ≡ self.old }
+    {
+        if self.book.is_open(session) {
+            self.close(session, EndCause::Gone);
+        }
+    }
+
+    // Whether the port may wait: nothing is outstanding or held back, and no session has anything to do.
+    fn may_wait(&self) -> bool {
+        self.request.is_none() && self.worker_end.outstanding() == 0 && self.ready.is_empty()
+    }
+
     // One event of the port, unless it has ended. False where there was none.
     pub(crate) fn take_event(&mut self) -> bool
-        requires { IsServing P.tells P.events self.old }
-        ensures { GoesOn P.tells P.events self.old self.new }
+        requires { IsServing P.told self.old }
+        ensures goes_on { GoesOn P.told self.old self.new }
+        ensures leads { P.leads_to self.old.port self.new.port }
     {
         if self.ended {
             return false;
         }
-        match self.port.next() {
+        let may_wait = self.may_wait();
+        match self.port.next(may_wait) {
             PortEvent::Opened(session) => self.admit(session),
             PortEvent::Data(session, bytes) => self.receive(session, bytes),
-            PortEvent::Gone(session) => self.close(session, EndCause::Gone),
+            PortEvent::Gone(session) => self.lose(session),
             PortEvent::Idle => return false,
             PortEvent::Ended => self.ended = true,
         }
@@ -129,8 +167,9 @@ impl<P: Port> Worker<P> {
 
     // Feeds the session's held piece, if it fits by now.
     pub(crate) fn feed_again(&mut self, session: u64) -> bool
-        requires { IsServing P.tells P.events self.old }
-        ensures { GoesOn P.tells P.events self.old self.new }
+        requires { IsServing P.told self.old }
+        ensures goes_on { GoesOn P.told self.old self.new }
+        ensures leads { P.leads_to self.old.port self.new.port }
     {
         let Some(piece) = self.pieces.get(&session) else {
             return false;
@@ -152,9 +191,10 @@ impl<P: Port> Worker<P> {
 
     // Reads up to the session's next request, which is held until it is posted. True where none is left for now.
     pub(crate) fn ask(&mut self, session: u64) -> bool
-        requires serving { IsServing P.tells P.events self.old }
+        requires serving { IsServing P.told self.old }
         requires none { self.old.request ≡ None }
-        ensures goes_on { GoesOn P.tells P.events self.old self.new }
+        ensures goes_on { GoesOn P.told self.old self.new }
+        ensures leads { P.leads_to self.old.port self.new.port }
         ensures quiet { result ≡ true → IsQuiet self.old self.new session }
     {
         match self.book.next_ask(session) {
@@ -164,13 +204,13 @@ impl<P: Port> Worker<P> {
                     number,
                     request,
                 });
-                let held = self.pieces.contains_key(&session);
-                self.ready.asked(session, held, true);
+                let holds_piece = self.pieces.contains_key(&session);
+                self.ready.asked(session, holds_piece);
                 false
             }
             Ok(None) => {
-                let held = self.pieces.contains_key(&session);
-                self.ready.asked(session, held, false);
+                let holds_piece = self.pieces.contains_key(&session);
+                self.ready.asked(session, holds_piece);
                 true
             }
             Err(_) => {
@@ -180,10 +220,36 @@ impl<P: Port> Worker<P> {
         }
     }
 
+    // Whether no further request can be asked now: one is held, or the window is full.
+    pub(crate) fn is_busy(&self) -> bool
+        ensures { result ≡ false → self.now.request ≡ None }
+    {
+        self.request.is_some() || self.worker_end.outstanding() >= MAX_UNSETTLED as u64
+    }
+
+    // Reads the session's next request and posts it. False where none is left for now, or none can be asked: then the
+    // session is asked again later.
+    pub(crate) fn ask_and_post<G: Gate>(&mut self, session: u64, gate: &G) -> bool
+        requires { IsServing P.told self.old }
+        ensures goes_on { GoesOn P.told self.old self.new }
+        ensures leads { P.leads_to self.old.port self.new.port }
+    {
+        if self.is_busy() {
+            self.ready.ask_later(session);
+            return false;
+        }
+        if self.ask(session) {
+            return false;
+        }
+        self.post(gate);
+        true
+    }
+
     // Posts the held request, if the gate lets it and there is room.
     pub(crate) fn post<G: Gate>(&mut self, gate: &G) -> bool
-        requires { IsServing P.tells P.events self.old }
-        ensures goes_on { GoesOn P.tells P.events self.old self.new }
+        requires { IsServing P.told self.old }
+        ensures goes_on { GoesOn P.told self.old self.new }
+        ensures leads { P.leads_to self.old.port self.new.port }
         ensures posted { result ≡ true → self.new.request ≡ None }
     {
         let Some(posted) = self.request.take() else {
@@ -204,8 +270,9 @@ impl<P: Port> Worker<P> {
 
     // Takes the next answer and settles it. False where there is none.
     pub(crate) fn settle_next<G: Gate>(&mut self, gate: &G) -> bool
-        requires { IsServing P.tells P.events self.old }
-        ensures { GoesOn P.tells P.events self.old self.new }
+        requires { IsServing P.told self.old }
+        ensures goes_on { GoesOn P.told self.old self.new }
+        ensures leads { P.leads_to self.old.port self.new.port }
     {
         let Some(answered) = self.worker_end.take() else {
             return false;
@@ -221,14 +288,19 @@ impl<P: Port> Worker<P> {
         true
     }
 
-    // Offers the session's output in one call.
+    // Offers the session's output in one call, unless more is about to stand behind it: little output waits for the
+    // answers that are outstanding, and for the input that is left to be read.
     pub(crate) fn offer(&mut self, session: u64) -> bool
-        requires { IsServing P.tells P.events self.old }
-        ensures { GoesOn P.tells P.events self.old self.new }
+        requires { IsServing P.told self.old }
+        ensures goes_on { GoesOn P.told self.old self.new }
+        ensures leads { P.leads_to self.old.port self.new.port }
     {
         let out = self.book.out(session);
         let offered = out.len();
         if offered == 0 {
+            return false;
+        }
+        if offered < WORTH_GIVING && (self.book.awaits(session) || self.ready.is_asking(session)) {
             return false;
         }
         match self.port.give(session, out) {
@@ -251,10 +323,58 @@ impl<P: Port> Worker<P> {
         self.book.out(session).is_empty() && self.book.finished(session).is_none()
     }
 
+    // Feeds the next held piece that may fit by now.
+    pub(crate) fn feed_next(&mut self) -> bool
+        requires { IsServing P.told self.old }
+        ensures goes_on { GoesOn P.told self.old self.new }
+        ensures leads { P.leads_to self.old.port self.new.port }
+    {
+        match self.ready.next_to_feed() {
+            Some(session) => self.feed_again(session),
+            None => false,
+        }
+    }
+
+    // Offers the output of the next session that has some, and shuts it where it has finished.
+    pub(crate) fn give_next(&mut self) -> bool
+        requires { IsServing P.told self.old }
+        ensures goes_on { GoesOn P.told self.old self.new }
+        ensures leads { P.leads_to self.old.port self.new.port }
+    {
+        match self.ready.next_to_give() {
+            Some(session) => self.give(session),
+            None => false,
+        }
+    }
+
+    // The same of the next session whose peer accepted nothing when it was last offered some.
+    pub(crate) fn give_next_slow(&mut self) -> bool
+        requires { IsServing P.told self.old }
+        ensures goes_on { GoesOn P.told self.old self.new }
+        ensures leads { P.leads_to self.old.port self.new.port }
+    {
+        match self.ready.next_to_give_slowly() {
+            Some(session) => self.give(session),
+            None => false,
+        }
+    }
+
+    // Offers the session's output, and shuts it where it has finished.
+    fn give(&mut self, session: u64) -> bool
+        requires { IsServing P.told self.old }
+        ensures goes_on { GoesOn P.told self.old self.new }
+        ensures leads { P.leads_to self.old.port self.new.port }
+    {
+        let offered = self.offer(session);
+        let finished = self.finish(session);
+        offered || finished
+    }
+
     // Shuts a session that has ended itself, once all was answered and given.
     pub(crate) fn finish(&mut self, session: u64) -> bool
-        requires { IsServing P.tells P.events self.old }
-        ensures { GoesOn P.tells P.events self.old self.new }
+        requires { IsServing P.told self.old }
+        ensures goes_on { GoesOn P.told self.old self.new }
+        ensures leads { P.leads_to self.old.port self.new.port }
     {
         match self.book.finished(session) {
             Some(cause) => {

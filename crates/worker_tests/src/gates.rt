@@ -19,6 +19,8 @@ impl Gate for OpenGate {
 pub(crate) struct RefusingGate {
     /// How often it was asked.
     pub(crate) asked: AtomicU64,
+    /// How often it was told of an answer.
+    pub(crate) told: AtomicU64,
     /// Answers of worker 0 whose number is one above the last.
     pub(crate) answered: AtomicU64,
 }
@@ -29,6 +31,7 @@ impl Gate for RefusingGate {
     }
 
     fn answered(&self, worker: usize, number: u64) {
+        self.told.fetch_add(1, Ordering::SeqCst);
         let before = self.answered.load(Ordering::SeqCst);
         if worker == 0 && before.checked_add(1) == Some(number) {
             self.answered.fetch_add(1, Ordering::SeqCst);

@@ -4,6 +4,8 @@
 #[cfg(test)]
 mod gates;
 #[cfg(test)]
+mod live;
+#[cfg(test)]
 mod port;
 #[cfg(test)]
 mod records;

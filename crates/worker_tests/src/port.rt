@@ -1,7 +1,7 @@
 //! A port of the tests' own, which plays a list of steps and keeps its records.
 
-ghost use Rattle.std.specs.Prelude.{◌≡◌, ◌++◌, ◌∷◌, [], ◌≤◌, length, IfOk};
-ghost use Rattle.worker.specs.Ports.{event_records, give_records, is_open, MayCome};
+ghost use Rattle.std.specs.Prelude.{◌≡◌, ◌==◌, ◌++◌, ◌∷◌, [], false, ℕ, if◌then◌else◌};
+ghost use Rattle.std.specs.Option.{option_map_or};
 
 use crate::records::{has_ended_in, is_new_in, is_open_in};
 use bytes::Bytes;
@@ -68,6 +68,16 @@ impl<R: Abort + Drop> TestPort<R> {
         self.manners.slow_gives
     }
 
+    // A session that has ended is paused no more.
+    fn forget_pause(&mut self, session: u64)
+        ensures rest { self.new ≡ record self.old { paused = self.new.paused } }
+        ensures forgets { (s : ℕ) → option_map_or (λ t. t == s) self.new.paused false ≡ (if s == session then false else option_map_or (λ t. t == s) self.old.paused false) }
+    {
+        if self.paused == Some(session) {
+            self.paused = None;
+        }
+    }
+
     // Whether the next step has to wait until its session is resumed.
     fn is_paused(&self) -> bool {
         match self.steps.front() {
@@ -77,20 +87,22 @@ impl<R: Abort + Drop> TestPort<R> {
     }
 
     fn note(&mut self, entry: PortRecord)
-        ensures { self.new.records.items ≡ self.old.records.items ++ entry ∷ [] }
+        ensures records { self.new.records.items ≡ self.old.records.items ++ entry ∷ [] }
+        ensures paused { self.new.paused ≡ self.old.paused }
     {
         self.records.push(entry).expect(&self.rt, "memory");
     }
 }
 
 impl<R: Abort + Drop> Port for TestPort<R> {
-    ghost use Rattle.std.specs.Prelude.{true};
+    ghost use Rattle.std.specs.Prelude.{Some, false, ◌==◌};
+    ghost use Rattle.std.specs.Option.{option_map_or};
 
-    ghost tells = { λ _. true };
+    ghost told = { λ p. Some (record { events = p.records.items; paused = λ s. option_map_or (λ t. t == s) p.paused false }) };
 
-    ghost events = { λ p. p.records.items };
+    ghost leads_to = { λ _ _. Unit {0} };
 
-    fn next(&mut self) -> PortEvent {
+    fn next(&mut self, _may_wait: bool) -> PortEvent {
         if has_ended_in(self.records.as_slice()) || self.is_paused() {
             return PortEvent::Idle;
         }
@@ -103,7 +115,10 @@ impl<R: Abort + Drop> Port for TestPort<R> {
                 PortEvent::Opened(session)
             }
             Some(Step::Send(session, bytes)) => {
-                if bytes.len() > MAX_PIECE || !is_open_in(self.records.as_slice(), session) {
+                if bytes.len() > MAX_PIECE
+                    || self.paused == Some(session)
+                    || !is_open_in(self.records.as_slice(), session)
+                {
                     return PortEvent::Idle;
                 }
                 let copy = bytes.clone().expect(&self.rt, "memory");
@@ -114,6 +129,7 @@ impl<R: Abort + Drop> Port for TestPort<R> {
                 if !is_open_in(self.records.as_slice(), session) {
                     return PortEvent::Idle;
                 }
+                self.forget_pause(session);
                 self.note(PortRecord::Gone(session));
                 PortEvent::Gone(session)
             }
@@ -132,6 +148,7 @@ impl<R: Abort + Drop> Port for TestPort<R> {
         if session == 1 {
             self.gives = self.gives.saturating_add(1);
             if self.gives == self.manners.gone_at {
+                self.forget_pause(session);
                 self.note(PortRecord::Gone(session));
                 return Err(Gone);
             }
@@ -159,6 +176,11 @@ impl<R: Abort + Drop> Port for TestPort<R> {
     }
 
     fn shut(&mut self, session: u64) {
+        self.forget_pause(session);
         self.note(PortRecord::Shut(session));
     }
+
+    ghost leads_reflexive = { λ _. tt };
+
+    ghost leads_transitive = { λ _ _ _ _ _. tt };
 }

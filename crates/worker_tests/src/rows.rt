@@ -222,6 +222,7 @@ fn a_held_request_is_posted_once(rt: HostRuntime) {
     let alloc: Global = rt.alloc();
     let gate = RefusingGate {
         asked: AtomicU64::new(0),
+        told: AtomicU64::new(0),
         answered: AtomicU64::new(0),
     };
     let mut script = Script::new(&rt, alloc);
@@ -235,6 +236,7 @@ fn a_held_request_is_posted_once(rt: HostRuntime) {
     );
     assert_eq!(rt; outcome.sent, 100);
     assert_eq!(rt; outcome.executed, 100);
+    assert_eq!(rt; gate.told.load(Ordering::SeqCst), 100);
     assert_eq!(rt; gate.answered.load(Ordering::SeqCst), 100);
     assert_eq!(rt; gate.asked.load(Ordering::SeqCst), 400);
     let output = outcome.given_to(&rt, alloc, 1);

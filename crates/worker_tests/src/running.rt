@@ -6,8 +6,8 @@ ghost use Rattle.storage_thread.specs.Serving.{IsUnused};
 
 use crate::port::TestPort;
 use exchange::{StorageEnd, WorkerEnd, make};
+use plain_store::Store;
 use proto::geometry::Geometry;
-use segcache::plain::Store;
 use session_book::causes::EndCause;
 use std::alloc::Global;
 use std::process::Abort;
@@ -22,14 +22,18 @@ use worker::run::run_worker;
 
 /// It is 1000 at all times.
 #[derive(Drop)]
-struct SteadyClock;
+pub(crate) struct SteadyClock;
 
 impl Clock for SteadyClock {
-    ghost use Rattle.std.specs.Prelude.{false, []};
+    ghost use Rattle.std.specs.Prelude.{⊤, None};
 
-    ghost tells = { λ _. false };
+    ghost told = { λ _. None };
 
-    ghost answers = { λ _. [] };
+    ghost leads_to = { λ _ _. ⊤ };
+
+    ghost leads_reflexive = { λ _. tt };
+
+    ghost leads_transitive = { λ _ _ _ _ _. tt };
 
     fn now(&mut self) -> u64 {
         1000
@@ -46,7 +50,7 @@ pub(crate) struct Outcome<R: Abort + Drop> {
 }
 
 /// The ends of an exchange of one worker, and an empty store.
-fn made<R: Abort + Drop>(rt: &R, alloc: Global) -> (WorkerEnd, StorageEnd, Store)
+pub(crate) fn made<R: Abort + Drop>(rt: &R, alloc: Global) -> (WorkerEnd, StorageEnd, Store)
     ensures worker { (result.0.sent ≡ []) × (result.0.back ≡ []) × (result.0.said_bye ≡ false) }
     ensures storage { IsUnused result.1 }
     ensures store { result.2 ≡ record { sizes = result.1.geometry; cache = empty_cache 0; moment = 0 } }

@@ -13,7 +13,8 @@ store-requires c = let h = c.requires.held in let d : StorageState = storage_sta
     let me = exchanged _ _ _ _ _ None (Some (Answer a)) c.put_in_answer.ensures.put h.0 refl in (
       search rules,
       search rules,
-      answers_as _ _ _ _ d a.worker (posted_of a) a _ _ (me ∙ (λ j. (Storage d, (slot_of a.worker (sym h.1 j), Some (Answer a)) ∷ []))) refl (ap (λ (z : ℕ). z + 1) (sym h.1) ∙ (omega arith)) h.2 refl refl c.requires.table.2 c.requires.legal,
+      answers_as _ _ _ _ d a.worker (posted_of a) a _ _ (me ∙ (λ j. (Storage d, (slot_of a.worker (sym h.1 j), Some (Answer a)) ∷ []))) refl
+          (ap (λ (z : ℕ). z + 1) (sym h.1) ∙ (omega arith)) h.2 refl refl c.requires.table.2 c.requires.legal,
     )
 
 pub returns-clause-answered : goal.returns-clause-answered

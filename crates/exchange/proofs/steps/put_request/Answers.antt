@@ -10,19 +10,24 @@ use Rattle.exchange.proofs.Known.{exchanged, in_front, posts_as}
 use Rattle.exchange.proofs.steps.put_request.Goals as goal
 
 pub load-requires : goal.load-requires
-load-requires c = let room = c.requires.room in (search rules, search rules, begins_post _ _ _ _ (worker_state_in c.args.seat.now.me.0) _ (ap (λ (m : SeatState). m.0) room.0) room.3 room.4 room.5)
+load-requires c = let room = c.requires.room in
+    (search rules, search rules, begins_post _ _ _ _ (worker_state_in c.args.seat.now.me.0) _ (ap (λ (m : SeatState). m.0) room.0) room.3 room.4 room.5)
 
 pub put_message-requires-clause-empty : goal.put_message-requires-clause-empty
 put_message-requires-clause-empty c = let room = c.requires.room in let d : WorkerState = worker_state_in c.args.seat.now.me.0 in let k : ℕ = length d.sent in
-    let did = c.load.ensures.2 d (ap (λ (m : SeatState). m.0) room.0) ∙ (λ j. (Worker (holding_slot d (suc k)), (slot_of d.worker k, None) ∷ (room.0 j).1)) in in_front _ _ _ _ _ _ did (λ j. slot_of (sym room.1 j) (sym room.2 j))
+    let did = c.load.ensures.2 d (ap (λ (m : SeatState). m.0) room.0)
+    ∙ (λ j. (Worker (holding_slot d (suc k)), (slot_of d.worker k, None) ∷ (room.0 j).1)) in
+    in_front _ _ _ _ _ _ did (λ j. slot_of (sym room.1 j) (sym room.2 j))
 
 pub store-requires : goal.store-requires
 store-requires c = let room = c.requires.room in let d : WorkerState = worker_state_in c.args.seat.now.me.0 in let k : ℕ = length d.sent in
     let did = c.load.ensures.2 d (ap (λ (m : SeatState). m.0) room.0) ∙ (λ j. (Worker (holding_slot d (suc k)), (slot_of d.worker k, None) ∷ (room.0 j).1)) in
-    let slot : slot_of c.args.worker c.args.number ≡ slot_of d.worker k = λ j. slot_of (sym room.1 j) (sym room.2 j) in let many : k ≡ c.args.number = room.2 in (
+    let slot : slot_of c.args.worker c.args.number ≡ slot_of d.worker k = λ j. slot_of (sym room.1 j) (sym room.2 j) in
+    let many : k ≡ c.args.number = room.2 in (
       search rules,
       search rules,
-      posts_as _ _ _ _ (holding_slot d (suc k)) c.args.posted _ _ (exchanged _ _ _ _ _ None (Some (Ask c.args.posted)) c.put_message.ensures.put did slot) (ap (λ (z : ℕ). 16 * z) (sym room.1)) (omega arith) (c.requires.next ∙ (omega arith)) refl room.4,
+      posts_as _ _ _ _ (holding_slot d (suc k)) c.args.posted _ _ (exchanged _ _ _ _ _ None (Some (Ask c.args.posted)) c.put_message.ensures.put did slot)
+          (ap (λ (z : ℕ). 16 * z) (sym room.1)) (omega arith) (c.requires.next ∙ (omega arith)) refl room.4,
     )
 
 pub returns-clause-sent : goal.returns-clause-sent

@@ -1,4 +1,4 @@
-use Rattle.std.proofs.Common.{◌≡◌, [], ◌++◌, All, map, ◌+◌, ◌≤◌, vec_len, vec_capacity}
+use Rattle.std.proofs.Common.{◌≡◌, ◌++◌, All, map, ◌+◌, ◌≤◌, vec_len, vec_capacity}
 use Rattle.group.specs.Threads.{IsFresh, IsSilent}
 use Rattle.group.proofs.threads.start_workers.Given as goal
 
@@ -7,7 +7,7 @@ invariant-loop-end g l = record {
   ended : l.yielded ++ l.end-iterator.rest.items ≡ l.fn.ends.items;
   ported : map (λ h. h.promise.port.value) l.handles.items ++ l.ports.rest.items ≡ l.fn.ports.items;
   lengths : l.ports.rest.len ≡ l.end-iterator.rest.len;
-  silent : All (IsSilent g.P.Port.tells g.P.Port.events) l.ports.rest.items;
+  silent : All (IsSilent g.P.Port.told) l.ports.rest.items;
   fresh : All IsFresh l.end-iterator.rest.items;
   started : All (λ h. h.promise.start.now.id ≡ l.fn.start.id) l.handles.items;
   ends : map (λ h. h.promise.end.value) l.handles.items ≡ l.yielded;

@@ -1,6 +1,8 @@
-use Rattle.std.proofs.Common.{rules, arith, ℕ, ◌<◌, All, subst, ◌∙◌}
+use Rattle.std.proofs.Common.{rules, arith, ℕ, ◌<◌, All, sym, subst, ◌∙◌}
 use Rattle.proto.specs.declared.history.Posted.{Posted}
 use Rattle.exchange.specs.Ends.{StorageView}
+use Rattle.storage_thread.specs.Keeping.{LeadsKeeping, MayForgetNothing}
+use Rattle.storage_thread.proofs.Kept.{none_forgotten}
 use Rattle.storage_thread.proofs.Turns.{longer, same_sizes, same_byes, same_workers, serving_asked, timed_asked, all_said}
 use Rattle.storage_thread.proofs.serving.run_storage.Goals as goal
 
@@ -14,9 +16,10 @@ loop-preserved-in-Some-Asked g c = let i = c.loop.invariant in let f = rw c.in-S
       serving_asked now mid w p f new m a c.args.storage_end (g.S.StorageEngine.cache c.loop.store) (g.S.StorageEngine.cache c.execute.new.store) (g.S.StorageEngine.moment c.loop.store) i.2 c.execute.ensures.reaches,
       c.execute.ensures.sizes ∙ (i.3 ∙ same_sizes now mid w p f new m a),
       omega (arith, all, byes, workers),
-      c.execute.ensures.tells ∙ i.5,
-      (λ t. let n = c.execute.ensures.moment (i.5 ∙ t) in timed_asked now mid w p f new m a _ _ _ n.0 (g.S.StorageEngine.moment c.loop.store) i.2.reaches.moment_is (i.6 t) n.1 n.2),
+      g.met.C.Clock.leads_transitive c.args.clock c.loop.clock c.execute.new.clock i.5 c.execute.ensures.leads,
+      timed_asked now mid w p f new m a _ _ _ (g.S.StorageEngine.moment c.loop.store) i.2.reaches.moment_is i.6 c.execute.ensures.moment,
       omega (arith, added, so_far, long),
+      λ start. c.execute.ensures.kept (subst (λ (z : StorageView). LeadsKeeping z.geometry z.history (g.S.StorageEngine.cache c.loop.store) (g.S.StorageEngine.keeps c.loop.store)) (sym f.after) (i.8 start)),
     )
 
 pub returns-then-left-eq0-clause-bye : goal.returns-then-left-eq0-clause-bye
@@ -24,3 +27,7 @@ returns-then-left-eq0-clause-bye g c = let i = c.loop.invariant in let all = i.4
 
 pub returns-then-left-eq0-clause-inside : goal.returns-then-left-eq0-clause-inside
 returns-then-left-eq0-clause-inside g c = let i = c.loop.invariant in subst (λ n. All (λ e. e.worker < n) c.loop.end.history) i.2.same.1 i.2.known
+
+pub returns-then-left-eq0-clause-bounded : goal.returns-then-left-eq0-clause-bounded
+returns-then-left-eq0-clause-bounded g c start = let i = c.loop.invariant in
+    subst (λ sizes. MayForgetNothing sizes c.loop.end.history) i.2.same.2 (none_forgotten c.loop.end.geometry c.loop.end.history _ _ (i.8 start))

@@ -1,9 +1,16 @@
-use Rattle.std.proofs.Common.{◌≡◌, ◌≤◌, ◌<◌, ℕ, List, [], length, map, take, refl, ap, subst, ◌∙◌, arith}
+use Rattle.std.proofs.Common.{◌≡◌, ◌≤◌, ◌<◌, ℕ, List, [], length, map, take, Some, refl, ap, subst, ◌∙◌, arith}
 use Rattle.std.proofs.lemmas.List.{take_all, length-take}
 use Rattle.std.proofs.lemmas.Option.{IfSome_then}
 use Rattle.std.proofs.lemmas.Result.{on_ok_weaker}
 use Rattle.script.specs.Scripts.{AreEventsOf, max_script}
+use Rattle.clocks.specs.declared.told_clock.ToldClock.{ToldClock}
+use Rattle.clocks.specs.Answers.{listed}
+use Rattle.clocks.specs.Leading.{GivesAnswers}
+use Rattle.script_port.specs.Events.{is_playable}
+use Rattle.script_port.specs.States.{PortState, told_of, PlaysOn}
+use Rattle.group.specs.Headline.{IsRun}
 use Rattle.subcommands.specs.Printed.{lines_from, events_of}
+use Rattle.subcommands.proofs.ReplayLemmas.{replayed}
 use Rattle.subcommands.proofs.Lines.{silent}
 use Rattle.subcommands.proofs.replay.replay.Goals as goal
 
@@ -12,15 +19,15 @@ whole : (text bytes : List ℕ) → bytes ≡ take 16777217 text → length byte
 whole text bytes is small = is ∙ take_all 16777217 text (omega (arith, length-take 16777217 text, ap length is))
 
 pub run_group-requires-clause-ports : goal.run_group-requires-clause-ports
-run_group-requires-clause-ports g c κs within = λ k d low tells. silent c.args.options.now.accept c.args.options.now.fail_give c.in-Ok.scripts.items c.in_ok-ports.ports.items c.in_ok-ports.ensures k d low
+run_group-requires-clause-ports g c κs within = silent c.args.options.now.accept c.args.options.now.fail_give c.in-Ok.scripts.items c.in_ok-ports.ports.items c.in_ok-ports.ensures
 
-pub returns : goal.returns
-returns g c =
+pub returns-clause-ran : goal.returns-clause-ran
+returns-clause-ran g c =
     let read = c.in-Ok.ensures in let scripts = c.in-Ok.scripts.items in
     let bytes = c.in_ok-bytes.bytes.items in
     let small : length bytes ≤ max_script = rw c.as_slice.ensures.value at read.small in
     on_ok_weaker c.write_lines.result
-    (λ appends.
+    (λ wrote.
     IfSome_then (g.R.Read.remaining c.args.script) c.in_ok-bytes.ensures
     (λ text is. (
       lines_from 0 (map events_of c.in_ok-report.report.workers.items),
@@ -32,9 +39,29 @@ returns g c =
         told = c.new-clock.result;
         told_is = (c.new-clock.ensures.clock ∙ c.new.ensures, c.new-clock.ensures.answers);
         report = c.in_ok-report.report;
-        run = c.in_ok-report.ensures.run;
+        run = subst (λ sizes. IsRun told_of PlaysOn (λ (k : ToldClock). Some (listed k.answers)) GivesAnswers ⊥ sizes c.in_ok-ports.ports.items c.new-clock.result c.in_ok-report.report) c.in_ok-store.ensures.sizes c.in_ok-report.ensures.run;
         printed_is = refl;
       },
-      rw c.as_slice-2.ensures.value at appends,
+      (rw c.as_slice-2.ensures.value at wrote).0,
+    )))
+    c.write_lines.ensures
+
+pub returns-clause-printed : goal.returns-clause-printed
+returns-clause-printed g c =
+    let read = c.in-Ok.ensures in let scripts = c.in-Ok.scripts.items in
+    let bytes = c.in_ok-bytes.bytes.items in
+    let small : length bytes ≤ max_script = rw c.as_slice.ensures.value at read.small in
+    on_ok_weaker c.write_lines.result
+    (λ wrote.
+    let all = rw c.as_slice-2.ensures.value at wrote in
+    IfSome_then (g.R.Read.remaining c.args.script) c.in_ok-bytes.ensures
+    (λ text is. (
+      lines_from 0 (map events_of c.in_ok-report.report.workers.items),
+      replayed c.args.geometry _ c.args.options.now.workers c.args.options.now.accept c.args.options.now.fail_give text scripts
+          (subst (λ (b : List ℕ). AreEventsOf c.args.options.now.workers b scripts) (c.as_slice.ensures.value ∙ whole text bytes is small) read)
+          c.in_ok-ports.ports.items c.in_ok-ports.ensures c.new-clock.result (c.new-clock.ensures.clock ∙ c.new.ensures) c.new-clock.ensures.answers c.in_ok-report.report
+          (subst (λ sizes. IsRun told_of PlaysOn (λ (k : ToldClock). Some (listed k.answers)) GivesAnswers ⊥ sizes c.in_ok-ports.ports.items c.new-clock.result c.in_ok-report.report) c.in_ok-store.ensures.sizes c.in_ok-report.ensures.run)
+          all.1,
+      all.0,
     )))
     c.write_lines.ensures

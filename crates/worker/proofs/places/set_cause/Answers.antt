@@ -18,9 +18,13 @@ pub returns-else-place-len : goal.returns-else-place-len
 returns-else-place-len c =
     let xs = c.args.sessions.now.items in let place = c.first_from-place.result in
     λ rises.
-    let first = subst (λ (x : List (ℕ × EndCause)). Rises x → IsFirstFrom x c.args.session place) c.as_slice.ensures.value c.first_from-place.ensures.first rises in
+    let first = subst (λ (x : List (ℕ × EndCause)). Rises x
+    → IsFirstFrom x c.args.session place) c.as_slice.ensures.value c.first_from-place.ensures.first rises in
     elim c.else-place-len.branch [
       | else-place-len-via-then-place-len+else-index-session w ↦
-          sym (set_absent xs place c.args.session c.args.cause rises first (λ lt d e. w.if-index-session.false (sym (ap (λ (e : ℕ × EndCause). e.0) (get_or_default xs place d w.index.result.now lt ∙ sym w.index.ensures)) ∙ e)))
-      | else-place-len-via-else-place-len w ↦ sym (set_absent xs place c.args.session c.args.cause rises first (λ lt. absurd (omega (arith, lt, w.if-place-len.false, c.len.ensures))))
+          sym (set_absent xs place c.args.session c.args.cause rises first
+          (λ lt d e. w.if-index-session.false (sym (ap (λ (e : ℕ × EndCause). e.0)
+          (get_or_default xs place d w.index.result.now lt ∙ sym w.index.ensures)) ∙ e)))
+      | else-place-len-via-else-place-len w ↦ sym (set_absent xs place c.args.session c.args.cause rises first
+          (λ lt. absurd (omega (arith, lt, w.if-place-len.false, c.len.ensures))))
     ]

@@ -14,7 +14,8 @@ loop-place-preserved g c =
     let w = c.loop-place.worker in let new = c.is_emptied.new.worker in let xs = w.sessions.items in let x = c.index.result.now in let n = c.loop-place.place in
     let lt : n < length xs = omega (arith, ap (length {A = ℕ × EndCause}) i.sessions, c.len-place-end.ensures, c.loop-place-test.true) in
     let same : new.sessions.items ≡ xs = λ j. (still.sessions j).items in record {
-      goes_on = goes_on_trans g.P.Port.tells g.P.Port.events c.args.worker.now w new i.goes_on e.goes_on;
+      goes_on = goes_on_trans g.P.Port.told c.args.worker.now w new i.goes_on e.goes_on;
+      leads = g.met.P.Port.leads_transitive c.args.worker.now.port w.port new.port i.leads e.leads;
       request = still.request ∙ i.request;
       back = ap (λ (v : WorkerView). length v.back) still.end ∙ i.back ∙ sym (ap (λ (v : WorkerView). length v.sent) still.end);
       few = subst (λ (v : WorkerView). length v.sent < MAX_POSTS) (sym still.end) i.few;
@@ -33,5 +34,12 @@ returns-clause-drained g c =
       request = i.request;
       back = i.back;
       pieces = i.pieces;
-      emptied = λ k d lt e s q. i.emptied k d (omega (arith, lt, ap (length {A = ℕ × EndCause}) i.sessions, c.len-place-end.ensures, c.loop-place-test.false)) e s q;
+      emptied = λ k d lt e s q. i.emptied k d (omega (
+        arith,
+        lt,
+        ap
+            (length {A = ℕ × EndCause}) i.sessions,
+        c.len-place-end.ensures,
+        c.loop-place-test.false,
+      )) e s q;
     }

@@ -7,7 +7,8 @@ use Rattle.worker.proofs.run.has_drained.Given as goal
 
 abbrev pub invariant-loop-place : goal.invariant-loop-place
 invariant-loop-place g l = record {
-  goes_on : GoesOn g.P.Port.tells g.P.Port.events l.fn.worker l.worker;
+  goes_on : GoesOn g.P.Port.told l.fn.worker l.worker;
+  leads : g.P.Port.leads_to l.fn.worker.port l.worker.port;
   request : l.worker.request ≡ None;
   back : length l.worker.worker_end.back ≡ length l.worker.worker_end.sent;
   few : length l.worker.worker_end.sent < MAX_POSTS;

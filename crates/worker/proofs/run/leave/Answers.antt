@@ -11,11 +11,13 @@ use Rattle.worker.proofs.run.leave.Goals as goal
 
 pub returns-clause-reported : goal.returns-clause-reported
 returns-clause-reported g c =
-    λ tell.
+    λ story e.
     let w = c.args.worker in let k = c.requires.serving in let d = c.requires.drained in let bye = c.bye.ensures in
-    let v = run_view g.P.Port.events w in
-    let all : asked_posted w.worker_end.back ≡ w.worker_end.sent = k.steady.back ∙ take_all (length w.worker_end.back) w.worker_end.sent (omega (arith, d.back)) in
-    reported v c.bye.new.self w.unopened (subst (λ b. IsTold v w.unopened b) d.ended (k.told tell))
+    let v = run_view story w in
+    let all : asked_posted w.worker_end.back ≡ w.worker_end.sent = k.steady.back
+    ∙ take_all (length w.worker_end.back) w.worker_end.sent (omega (arith, d.back)) in
+    reported v c.bye.new.self w.unopened (subst (λ b. IsTold v w.unopened b) d.ended (k.known story e))
     (sent_posted w.worker_end w.request d.request ∙ sym (ap (λ (e : WorkerView). e.sent) bye)) (sym (ap (λ (e : WorkerView). e.back) bye))
     (ap (λ (e : WorkerView). asked_posted e.back) bye ∙ all ∙ sym (ap (λ (e : WorkerView). e.sent) bye)) d.pieces
-    (λ s e st q. let p = place_of_cause w.sessions.items s Drained e in let at = p.2 (0, Drained) in d.emptied p.0 (0, Drained) p.1 at.1 st (ap (session_of w.book) at.0 ∙ q))
+    (λ s cause st q. let p = place_of_cause w.sessions.items s Drained cause in let at = p.2 (0, Drained) in
+    d.emptied p.0 (0, Drained) p.1 at.1 st (ap (session_of w.book) at.0 ∙ q))

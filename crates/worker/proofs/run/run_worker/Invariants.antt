@@ -2,4 +2,7 @@ use Rattle.worker.specs.Workers.{GoesOn}
 use Rattle.worker.proofs.run.run_worker.Given as goal
 
 abbrev pub invariant-loop : goal.invariant-loop
-invariant-loop g l = GoesOn g.P.Port.tells g.P.Port.events l.initial.worker l.worker
+invariant-loop g l = record {
+  goes_on : GoesOn g.P.Port.told l.initial.worker l.worker;
+  leads : g.P.Port.leads_to l.initial.worker.port l.worker.port;
+}

@@ -17,10 +17,14 @@ loop-lane-2-preserved c = let inv = c.loop-lane-2.invariant in let l = c.in_defa
 }
 
 pub returns-in-Some-clause-next : goal.returns-in-Some-clause-next
-returns-in-Some-clause-next c = let inv = c.loop-lane.invariant in found_above _ _ _ _ _ c.loop-lane.lane inv.same.0 inv.same.1 inv.looks.0 _ inv.looks.1 c.loop-lane-test.true inv.looks.3 c.in-Some.ensures
+returns-in-Some-clause-next c = let inv = c.loop-lane.invariant in
+    found_above _ _ _ _ _ c.loop-lane.lane inv.same.0 inv.same.1 inv.looks.0 _ inv.looks.1 c.loop-lane-test.true inv.looks.3 c.in-Some.ensures
 
 pub returns-in-Some-look-clause-next : goal.returns-in-Some-look-clause-next
-returns-in-Some-look-clause-next c = let inv = c.loop-lane-2.invariant in found_below _ _ _ _ _ c.loop-lane-2.lane inv.same.0 inv.same.1 _ c.loop-lane-2-test.true inv.same.2 inv.looks.1 c.in-Some-look.ensures
+returns-in-Some-look-clause-next c = let inv = c.loop-lane-2.invariant in
+    found_below _ _ _ _ _ c.loop-lane-2.lane inv.same.0 inv.same.1 _ c.loop-lane-2-test.true inv.same.2 inv.looks.1 c.in-Some-look.ensures
 
 pub returns-clause-every_lane : goal.returns-clause-every_lane
-returns-clause-every_lane c = let inv = c.loop-lane-2.invariant in λ w l. each_once c.args.self.now c.loop-lane-2.self w (let a = inv.same.0 in let b = inv.same.1 in let d = inv.same.2 in omega arith) l (all_looked _ _ c.loop-lane-2.self _ _ c.loop-lane-2.lane inv.same.0 inv.same.1 inv.looks.0 (let h = c.loop-lane-2-test.false in omega arith) inv.looks.1)
+returns-clause-every_lane c = let inv = c.loop-lane-2.invariant in
+    λ w l. each_once c.args.self.now c.loop-lane-2.self w (let a = inv.same.0 in let b = inv.same.1 in let d = inv.same.2 in omega arith) l
+    (all_looked _ _ c.loop-lane-2.self _ _ c.loop-lane-2.lane inv.same.0 inv.same.1 inv.looks.0 (let h = c.loop-lane-2-test.false in omega arith) inv.looks.1)

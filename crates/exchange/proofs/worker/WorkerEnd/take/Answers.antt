@@ -10,10 +10,17 @@ use Rattle.exchange.proofs.Fields.{taken_more, takes_outside, taken_own, taken_n
 use Rattle.exchange.proofs.worker.WorkerEnd.take.Goals as goal
 
 pub invariant_of-self : goal.invariant_of-self
-invariant_of-self c = let inv = c.self.invariant in (search rules, search rules, taken_more _ _ _ _ _ _ _ inv.2 (sym c.is_some.ensures ∙ c.if-is_some.true) c.take_answer-answer.ensures.taken c.take_answer-answer.ensures.seat)
+invariant_of-self c = let inv = c.self.invariant in (
+  search rules,
+  search rules,
+  taken_more _ _ _ _ _ _ _ inv.2
+      (sym c.is_some.ensures ∙ c.if-is_some.true) c.take_answer-answer.ensures.taken c.take_answer-answer.ensures.seat,
+)
 
 pub returns-then-is_some-clause-own : goal.returns-then-is_some-clause-own
-returns-then-is_some-clause-own c = subst (λ (z : WorkerView). IfSome c.take_answer-answer.result (λ a. (a.worker ≡ z.worker) × (get_elem? z.sent (length z.back) ≡ some (posted_of a)))) c.self.view_is
+returns-then-is_some-clause-own c = subst
+    (λ (z : WorkerView). IfSome c.take_answer-answer.result
+    (λ a. (a.worker ≡ z.worker) × (get_elem? z.sent (length z.back) ≡ some (posted_of a)))) c.self.view_is
     (taken_own _ _ _ (takes_outside c.self.inside.seat.table_id _ _ _ c.take_answer-answer.ensures.taken))
 
 pub returns-then-is_some-clause-in_order : goal.returns-then-is_some-clause-in_order
@@ -22,4 +29,5 @@ returns-then-is_some-clause-in_order c = subst (λ (z : WorkerView). IfSome c.ta
 
 pub returns-then-is_some-clause-back : goal.returns-then-is_some-clause-back
 returns-then-is_some-clause-back c = let now = worker_state_in c.take_answer-answer.new.seat.me.0 in
-    subst (λ (z : WorkerView). StartsWith (worker_share now.seen z.worker) now.back) c.self.view_is (taken_back _ _ _ (takes_outside c.self.inside.seat.table_id _ _ _ c.take_answer-answer.ensures.taken))
+    subst (λ (z : WorkerView). StartsWith (worker_share now.seen z.worker) now.back) c.self.view_is
+    (taken_back _ _ _ (takes_outside c.self.inside.seat.table_id _ _ _ c.take_answer-answer.ensures.taken))

@@ -1,16 +1,17 @@
 use Rattle.std.proofs.Common.{◌≡◌, ◌≢◌, ℕ, false, [], ◌∷◌, ◌++◌, refl, subst, sym, ◌∙◌, ap, arith, not, ne_eqb, ⊎_elim}
 use Rattle.worker.specs.declared.port.PortRecord.{PortRecord}
 use Rattle.worker.specs.declared.port.PortRecord.TheVariants as was
-use Rattle.worker.specs.Ports.{has_ended, is_end}
+use Rattle.worker.specs.Ports.{has_ended, is_end, fed_by}
 use Rattle.worker.specs.Sessions.{port_facts}
 use Rattle.worker.proofs.Facts.{about}
 use Rattle.worker.proofs.RunViews.{ended_same}
 use Rattle.script_port.specs.declared.stage.Stage.TheVariants.{Closed}
-use Rattle.script_port.specs.Sessions.{SessionState, newest, last_from, entry_of, is_open, is_closed, is_waiting, with_stage}
+use Rattle.script_port.specs.Sessions.{SessionState, newest, last_from, entry_of, is_open, is_some_and, is_closed, was_closed, is_waiting, with_stage}
 use Rattle.script_port.specs.Events.{plays_from}
 use Rattle.script_port.specs.Records.{RecordsState, opened_by}
 use Rattle.script_port.specs.Players.{Agrees, events_left}
 use Rattle.script_port.proofs.EventLemmas.{leave_out}
+use Rattle.script_port.proofs.FollowLemmas.{follows_close, opens_without}
 use Rattle.script_port.proofs.PlayerLemmas.{opened_more, each_step, open_entry, rising_at, test_here, test_other, left_without, agrees_gone, agrees_shut}
 use Rattle.script_port.proofs.player.Player.close.Goals as goal
 
@@ -38,6 +39,15 @@ returns-then-change-clause-consistent c =
       at_end = ap has_ended l_is ∙ ended_same l e no_end ∙ k.at_end;
       plays = λ tells. (λ i. plays_from (ap (last_from 0) a.at.numbers_are i) (is_open ss') (left i))
           ∙ leave_out (newest ss) (is_open ss) (is_open ss') s (events_left ss p.events.items) (k.rising s x.0 x.1) (test_other (λ (y : SessionState). not (is_closed y.stage)) ss ss' s (with_stage Closed) a.at) (k.plays tells);
+      follows = λ tells.
+          let nothing : (t : ℕ) → fed_by t e ≡ [] = λ t. ⊎_elim (λ (q : e ≡ was.Gone s). ap (fed_by t) q) (λ (q : e ≡ was.Shut s). ap (fed_by t) q) c.requires.ends in
+          follows_close p.script.value.items (events_left ss p.events.items) (events_left ss' p.events.items) l l' e s (was_closed ss) (was_closed ss') left l_is none nothing
+          (opens_without (newest ss) (is_open ss) s (events_left ss p.events.items) (k.rising s x.0 x.1) (k.plays tells))
+          (ap (is_some_and (λ (y : SessionState). is_closed y.stage)) x.1 ∙ x.2)
+          (test_here (λ (y : SessionState). is_closed y.stage) ss ss' s (with_stage Closed) x.0 a.at x.1)
+          (test_other (λ (y : SessionState). is_closed y.stage) ss ss' s (with_stage Closed) a.at)
+          (k.follows tells);
+      finished = k.finished;
     }
 
 pub returns-then-change-clause-closes : goal.returns-then-change-clause-closes
@@ -49,6 +59,7 @@ returns-then-change-clause-closes c _ =
       records_are = ap (λ (r : RecordsState). r.entries) c.write_promised.ensures;
       shuts = record {
         left = left_without ss ss' s p.events.items (test_here (λ (y : SessionState). is_closed y.stage) ss ss' s (with_stage Closed) x.0 a.at x.1) (test_other (λ (y : SessionState). is_closed y.stage) ss ss' s (with_stage Closed) a.at);
+        here = test_here (λ (y : SessionState). is_waiting y.stage) ss ss' s (with_stage Closed) x.0 a.at x.1;
         others = test_other (λ (y : SessionState). is_waiting y.stage) ss ss' s (with_stage Closed) a.at;
         faults = (refl, refl, refl);
       };

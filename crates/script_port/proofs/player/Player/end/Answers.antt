@@ -5,9 +5,10 @@ use Rattle.worker.specs.Ports.{has_ended}
 use Rattle.worker.specs.Sessions.{port_facts}
 use Rattle.worker.proofs.Facts.{elsewhere}
 use Rattle.worker.proofs.RunViews.{ended_now}
-use Rattle.script_port.specs.Sessions.{entry_of}
+use Rattle.script_port.specs.Sessions.{entry_of, was_closed}
 use Rattle.script_port.specs.Records.{RecordsState}
-use Rattle.script_port.specs.Players.{Agrees}
+use Rattle.script_port.specs.Players.{Agrees, events_left}
+use Rattle.script_port.proofs.FollowLemmas.{follows_still}
 use Rattle.script_port.proofs.PlayerLemmas.{opened_more}
 use Rattle.script_port.proofs.player.Player.end.Goals as goal
 
@@ -22,4 +23,7 @@ returns-clause-consistent c =
       promised = omega (arith, k.promised, promised_is, c.reserve.ensures.promised);
       at_end = ap has_ended l_is ∙ ended_now l;
       plays = k.plays;
+      follows = λ tells. let left = events_left p.sessions p.events.items in
+          follows_still p.script.value.items left left l l' was.Ended (was_closed p.sessions) (was_closed p.sessions) refl l_is refl (λ t. refl) (λ t. refl) (k.follows tells);
+      finished = λ _. c.requires.none;
     }

@@ -18,10 +18,11 @@ pub returns-clause-consistent : goal.returns-clause-consistent
 returns-clause-consistent c =
     let p = c.args.self.now in let m = c.close.new.self in let s = c.args.session in
     bool_cases (is_open p.sessions s)
-    (λ active. let closes = c.close.ensures.closes active in gone_consistent p m _ c.args.at s c.requires.first closes (goes c closes) c.close.ensures.consistent)
+    (λ active. let closes = c.close.ensures.closes active in gone_consistent p m _ c.args.at s c.requires.consistent c.requires.first closes (goes c closes) c.close.ensures.consistent)
     (λ not_open.
     let same = c.close.ensures.same not_open in
     odd_consistent p _ c.requires.consistent (ap (λ (x : Player). x.sessions) same) (ap (λ (x : Player). x.records.entries) same) (ap (λ (x : Player). x.records.promised) same) (ap (λ (x : Player). x.ended) same) (ap (λ (x : Player). x.script) same)
+    (λ over. absurd (true≢false (sym over ∙ ap (λ (x : Player). x.ended) same ∙ c.requires.running)))
     (λ tells. true≢false (sym (goes_open p c.args.at s c.requires.consistent c.requires.first tells) ∙ not_open)))
 
 pub returns-clause-played : goal.returns-clause-played

@@ -1,9 +1,10 @@
 use Rattle.std.proofs.Common.{◌≡◌, ℕ, List, subst, sym, ◌∙◌, ap, arith, not, ◌+◌, cond}
 use Rattle.worker.specs.Sessions.{port_facts}
-use Rattle.script_port.specs.Sessions.{SessionState, newest, last_from, entry_of, is_open, is_closed, open_count, with_stage}
+use Rattle.script_port.specs.Sessions.{SessionState, newest, last_from, entry_of, is_open, is_closed, was_closed, open_count, with_stage}
 use Rattle.script_port.specs.Players.{Agrees, events_left, IsConsistent}
 use Rattle.script_port.proofs.SessionLemmas.{either_way}
 use Rattle.script_port.proofs.EventLemmas.{bool_cases}
+use Rattle.script_port.proofs.FollowLemmas.{follows_as}
 use Rattle.script_port.proofs.PlayerLemmas.{open_entry, rising_at, test_same, left_same, plays_along, agrees_held}
 use Rattle.script_port.proofs.player.Player.hold.Goals as goal
 
@@ -31,5 +32,9 @@ returns-clause-consistent c =
           (test_same (λ (y : SessionState). not (is_closed y.stage)) ss ss' s (with_stage stage) x.0 a.at x.1 (ap not same))
           (left_same ss ss' p.events.items (test_same (λ (y : SessionState). is_closed y.stage) ss ss' s (with_stage stage) x.0 a.at x.1 same))
           (k.plays tells);
+      follows = λ tells.
+          let closed_as = test_same (λ (y : SessionState). is_closed y.stage) ss ss' s (with_stage stage) x.0 a.at x.1 same in
+          follows_as p.script.value.items (events_left ss p.events.items) (events_left ss' p.events.items) l (was_closed ss) (was_closed ss') (left_same ss ss' p.events.items closed_as) closed_as (k.follows tells);
+      finished = k.finished;
     })
     (λ no. subst (λ (q : List SessionState). IsConsistent (record p { sessions = q })) (sym (c.change.ensures.same no)) k)

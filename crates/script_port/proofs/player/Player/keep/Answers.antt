@@ -2,10 +2,11 @@ use Rattle.std.proofs.Common.{◌≡◌, ℕ, List, [], ◌∷◌, ◌++◌, ref
 use Rattle.worker.specs.declared.port.PortRecord.TheVariants as was
 use Rattle.worker.specs.Ports.{has_ended}
 use Rattle.worker.proofs.RunViews.{ended_same}
-use Rattle.script_port.specs.Sessions.{SessionState, newest, last_from, is_open, is_closed, with_output, AcceptsAt}
+use Rattle.script_port.specs.Sessions.{SessionState, newest, last_from, is_open, is_closed, was_closed, with_output, AcceptsAt}
 use Rattle.script_port.specs.Records.{RecordsState}
 use Rattle.script_port.specs.Players.{events_left}
 use Rattle.script_port.proofs.SessionLemmas.{ok_of}
+use Rattle.script_port.proofs.FollowLemmas.{follows_still}
 use Rattle.script_port.proofs.PlayerLemmas.{opened_more, each_step, open_entry, rising_at, test_same, left_same, plays_along, agrees_accepted}
 use Rattle.script_port.proofs.player.Player.keep.Goals as goal
 
@@ -28,4 +29,9 @@ returns-clause-consistent c =
           (test_same (λ (y : SessionState). not (is_closed y.stage)) ss ss' s (with_output b) x.0 a.at x.1 refl)
           (left_same ss ss' p.events.items (test_same (λ (y : SessionState). is_closed y.stage) ss ss' s (with_output b) x.0 a.at x.1 refl))
           (k.plays tells);
+      follows = λ tells.
+          let same = test_same (λ (y : SessionState). is_closed y.stage) ss ss' s (with_output b) x.0 a.at x.1 refl in
+          follows_still p.script.value.items (events_left ss p.events.items) (events_left ss' p.events.items) l l' (was.Accepted s b) (was_closed ss) (was_closed ss')
+          (left_same ss ss' p.events.items same) l_is refl (λ t. refl) same (k.follows tells);
+      finished = k.finished;
     }

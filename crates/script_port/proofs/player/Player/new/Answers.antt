@@ -8,6 +8,7 @@ pub returns-clause-consistent : goal.returns-clause-consistent
 returns-clause-consistent c =
     no_sessions _ c.new.ensures c.new-2.ensures.list c.new-2.ensures.promised refl
     (λ tells. ap (plays_from 0 (λ (t : ℕ). false)) (c.from_vec.ensures.items ∙ sym (ap (λ v. v.items) c.of-script.ensures)) ∙ tells)
+    (c.from_vec.ensures.items ∙ sym (ap (λ v. v.items) c.of-script.ensures))
 
 pub returns-clause-fresh : goal.returns-clause-fresh
 returns-clause-fresh c =

@@ -1,4 +1,4 @@
-use Rattle.std.proofs.Common.{◌≡◌, ℕ, ◌<◌, List, [], ◌∷◌, ◌++◌, refl, sym, ap, subst, ◌∙◌, arith}
+use Rattle.std.proofs.Common.{◌≡◌, ℕ, ◌<◌, List, [], ◌∷◌, ◌++◌, true≢false, refl, sym, ap, subst, ◌∙◌, arith}
 use Rattle.script.specs.declared.event.ScriptEvent.TheVariants.{Open}
 use Rattle.worker.specs.declared.port.PortRecord.{PortRecord}
 use Rattle.worker.specs.declared.port.PortRecord.TheVariants as was
@@ -32,7 +32,7 @@ returns-clause-played c tells = open_told c.args.self.now _ c.args.at c.args.ses
 
 pub returns-then-session-newest-clause-consistent : goal.returns-then-session-newest-clause-consistent
 returns-then-session-newest-clause-consistent c =
-    odd_consistent c.args.self.now _ c.requires.consistent refl refl refl refl refl
+    odd_consistent c.args.self.now _ c.requires.consistent refl refl refl refl refl (λ over. absurd (true≢false (sym over ∙ c.requires.running)))
     (λ tells. let lt = opens_new c.args.self.now c.args.at c.args.session c.requires.consistent c.requires.first tells in omega (arith, lt, c.newest.ensures, c.if-session-newest.true))
 
 pub returns-then-session-newest-clause-played : goal.returns-then-session-newest-clause-played

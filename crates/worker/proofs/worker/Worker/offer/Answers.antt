@@ -1,23 +1,36 @@
-use Rattle.std.proofs.Common.{◌≡◌, ℕ, List, ◌++◌, refl, ap, subst, Ok}
+use Rattle.std.proofs.Common.{ℕ, List, ◌++◌, refl, ap, Ok}
 use Rattle.session_book.specs.Book.{BookState, session_of}
-use Rattle.worker.specs.Ports.{give_records}
+use Rattle.worker.specs.Ports.{then_told, give_records}
+use Rattle.worker.specs.Places.{piece_of}
+use Rattle.worker.proofs.StoryLaws.{paused_kept, paused_given}
+use Rattle.worker.proofs.WorkerSteps.{open_at}
 use Rattle.worker.specs.Workers.{run_view}
 use Rattle.worker.proofs.OutputSteps.{told_gave, lost_goes_on, within_goes_on, some_out}
 use Rattle.worker.proofs.worker.Worker.offer.Goals as goal
 
-pub returns-in-Ok : goal.returns-in-Ok
-returns-in-Ok g c =
-    let w = c.args.self.now in let n = c.in-Ok.ensures in
-    let new = record w { port = c.give.new.self; book = c.gave.new.self; ready = c.given.new.self } in
+pub give-requires : goal.give-requires
+give-requires g c =
+    let w = c.args.self.now in
     let s = some_out (session_of w.book c.args.session) c.out-out.result.now c.out-out.ensures c.if-offered-eq0.false in
-    within_goes_on g.P.Port.tells g.P.Port.events w new (record { end = refl; request = refl; sessions = refl; unopened = refl; strangers = refl; ended = refl }) n.tells
-    (ap (λ (b : BookState). b.posted) c.gave.ensures.rest) (ap (λ (b : BookState). b.unsettled) c.gave.ensures.rest) c.requires
-    (λ e told.
-    told_gave (run_view g.P.Port.events w) (run_view g.P.Port.events new) w.unopened w.ended c.args.session c.in-Ok.accepted s.0 told s.1
-    (subst (λ (b : List ℕ). g.P.Port.events c.give.new.self ≡ g.P.Port.events w.port ++ give_records c.args.session b (Ok c.in-Ok.accepted)) s.2 (n.events e)) refl refl refl c.gave.ensures.only_at refl)
+    open_at g.P.Port.told w c.args.session s.0 c.requires s.1
 
-pub returns-in-Err : goal.returns-in-Err
-returns-in-Err g c =
-    let w = c.args.self.now in let n = c.in-Err.ensures in
+pub returns-in-Ok-clause-goes_on : goal.returns-in-Ok-clause-goes_on
+returns-in-Ok-clause-goes_on g c =
+    let w = c.args.self.now in let t = c.args.session in let out = c.out-out.result.now in let n = c.in-Ok.accepted in
+    let new = record w { port = c.give.new.self; book = c.gave.new.self; ready = c.given.new.self } in
+    let f = then_told (give_records t out (Ok n)) in
+    let s = some_out (session_of w.book t) out c.out-out.ensures c.if-offered-eq0.false in
+    within_goes_on g.P.Port.told w new f
+    (record { end = refl; request = refl; sessions = refl; unopened = refl; strangers = refl; ended = refl }) c.in-Ok.ensures.told
+    (ap (λ (b : BookState). b.posted) c.gave.ensures.rest) (ap (λ (b : BookState). b.unsettled) c.gave.ensures.rest) c.requires
+    (λ story was_so. (
+      told_gave (run_view story w) (run_view (f story) new) w.unopened w.ended t n s.0 was_so.0 s.1
+          (ap (λ (b : List ℕ). story.events ++ give_records t b (Ok n)) s.2) refl refl refl c.gave.ensures.only_at refl,
+      paused_kept story (f story) (piece_of w.pieces) (piece_of w.pieces) (λ q. refl) (λ q. paused_given story t n out q) was_so.1,
+    ))
+
+pub returns-in-Err-clause-goes_on : goal.returns-in-Err-clause-goes_on
+returns-in-Err-clause-goes_on g c =
+    let w = c.args.self.now in
     let s = some_out (session_of w.book c.args.session) c.out-out.result.now c.out-out.ensures c.if-offered-eq0.false in
-    lost_goes_on g.P.Port.tells g.P.Port.events w c.close.new.self c.give.new.self c.args.session s.0 s.1 n.tells n.events c.requires c.close.ensures.port c.close.ensures.closes
+    lost_goes_on g.P.Port.told w c.close.new.self c.give.new.self c.args.session s.0 s.1 c.in-Err.ensures.told c.requires c.close.ensures.port c.close.ensures.closes

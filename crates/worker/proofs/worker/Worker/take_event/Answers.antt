@@ -1,30 +1,40 @@
-use Rattle.std.proofs.Common.{sym, ◌∙◌, refl}
-use Rattle.worker.specs.Workers.{run_view}
-use Rattle.worker.proofs.PortSteps.{opened_goes_on, opened_is_open, received_goes_on, gone_goes_on, ended_goes_on}
+use Rattle.std.proofs.Common.{refl}
+use Rattle.session_book.specs.Book.{session_of}
+use Rattle.worker.proofs.PortSteps.{opened_goes_on, opened_is_open, still_open, came_unheld, received_goes_on, lose_goes_on, idle_goes_on, ended_goes_on}
 use Rattle.worker.proofs.worker.Worker.take_event.Goals as goal
 
 pub admit-requires : goal.admit-requires
-admit-requires g c =
-    λ tell.
-    let w = c.args.self.now in let n = c.in-Opened.ensures in let was = sym n.tells ∙ tell in
-    opened_is_open (g.P.Port.events w.port) (g.P.Port.events c.next.new.self) (run_view g.P.Port.events w) c.in-Opened.session refl ((c.requires.told was).each c.in-Opened.session) (n.may was) (n.events was)
+admit-requires g c = let n = c.in-Opened.ensures in opened_is_open g.P.Port.told c.args.self.now c.next.new.self c.in-Opened.session c.requires
+    (record { told_is = n.told; may = n.may })
 
-pub returns-in-Opened : goal.returns-in-Opened
-returns-in-Opened g c =
+pub receive-requires-clause-open : goal.receive-requires-clause-open
+receive-requires-clause-open g c = let n = c.in-Data.ensures in
+    still_open g.P.Port.told c.args.self.now.port c.next.new.self c.in-Data.session c.in-Data.bytes n.told (λ story e. (n.may story e).0)
+
+pub receive-requires-clause-resumed : goal.receive-requires-clause-resumed
+receive-requires-clause-resumed g c = let n = c.in-Data.ensures in
+    came_unheld g.P.Port.told c.args.self.now c.next.new.self c.in-Data.session c.in-Data.bytes c.requires n.told (λ story e. (n.may story e).1)
+
+pub returns-in-Opened-clause-goes_on : goal.returns-in-Opened-clause-goes_on
+returns-in-Opened-clause-goes_on g c =
     let n = c.in-Opened.ensures in
-    opened_goes_on g.P.Port.tells g.P.Port.events c.args.self.now c.admit.new.self c.next.new.self c.in-Opened.session (record { tells_as = n.tells; told = n.events }) n.may c.admit.ensures.rest c.requires c.admit.ensures.admits
+    opened_goes_on g.P.Port.told c.args.self.now c.admit.new.self c.next.new.self c.in-Opened.session
+    (record { told_is = n.told; may = n.may }) c.admit.ensures.rest c.requires c.admit.ensures.admits
 
-pub returns-in-Data : goal.returns-in-Data
-returns-in-Data g c =
+pub returns-in-Data-clause-goes_on : goal.returns-in-Data-clause-goes_on
+returns-in-Data-clause-goes_on g c =
     let n = c.in-Data.ensures in
-    received_goes_on g.P.Port.tells g.P.Port.events c.args.self.now c.receive.new.self c.next.new.self c.in-Data.session c.in-Data.bytes (record { tells_as = n.tells; told = n.events }) (λ t. (n.may t).0) c.requires c.receive.ensures
+    received_goes_on g.P.Port.told c.args.self.now c.receive.new.self c.next.new.self c.in-Data.session c.in-Data.bytes
+    (record { told_is = n.told; opened = λ story e. (n.may story e).0 }) c.requires c.receive.ensures.receives
 
-pub returns-in-Gone : goal.returns-in-Gone
-returns-in-Gone g c =
-    let n = c.in-Gone.ensures in
-    gone_goes_on g.P.Port.tells g.P.Port.events c.args.self.now c.close.new.self c.next.new.self c.in-Gone.session (record { tells_as = n.tells; told = n.events }) (λ t. (n.may t).0) c.requires c.close.ensures.port c.close.ensures.closes
+pub returns-in-Gone-clause-goes_on : goal.returns-in-Gone-clause-goes_on
+returns-in-Gone-clause-goes_on g c =
+    let n = c.in-Gone.ensures in let w = c.args.self.now in
+    lose_goes_on g.P.Port.told w c.lose.new.self c.next.new.self c.in-Gone.session (session_of w.book c.in-Gone.session) refl
+    (record { told_is = n.told; opened = λ story e. (n.may story e).0 }) c.requires c.lose.ensures.port c.lose.ensures.loses c.lose.ensures.drops
 
-pub returns-in-Ended : goal.returns-in-Ended
-returns-in-Ended g c =
-    let n = c.in-Ended.ensures in
-    ended_goes_on g.P.Port.tells g.P.Port.events c.args.self.now c.next.new.self (record { tells_as = n.tells; told = n.events }) c.requires
+pub returns-in-Idle-clause-goes_on : goal.returns-in-Idle-clause-goes_on
+returns-in-Idle-clause-goes_on g c = idle_goes_on g.P.Port.told c.args.self.now c.next.new.self c.in-Idle.ensures.told c.requires
+
+pub returns-in-Ended-clause-goes_on : goal.returns-in-Ended-clause-goes_on
+returns-in-Ended-clause-goes_on g c = ended_goes_on g.P.Port.told c.args.self.now c.next.new.self c.in-Ended.ensures.told c.requires

@@ -1,0 +1,153 @@
+-- What an engine makes of a request is a step, and only want of memory is answered by `NoMemory`.
+use Rattle.std.proofs.Common.{◌≡◌, ◌≢◌, ℕ, Bool, true, false, List, [], Option, Some, None, refl, sym, ap, subst, ◌∙◌, inl, inr}
+use Rattle.std.specs.Prelude.{◌||◌, ◌&&◌, is_some}
+use Rattle.std.specs.FinMap as map
+use Rattle.proto.specs.declared.message.Request.{Request}
+use Rattle.proto.specs.declared.message.Reply.{Reply}
+use Rattle.proto.specs.declared.message.Reply.TheVariants.{NoMemory}
+use Rattle.proto.specs.Sizes.{Sizes, item_limit}
+use Rattle.proto.specs.Cache.{Entry, Entries, Cache, found_at}
+use Rattle.proto.specs.Commands.{Outcome, act}
+use Rattle.proto.specs.Steps.{Step, MayForget, IsDated, IsRefused, has_hits, without}
+use Rattle.proto.proofs.CacheLemmas.{without-nil}
+use Rattle.proto.proofs.StepLemmas.{dated-insert, forgets_nothing}
+use Rattle.proto.proofs.DeadlineLemmas.{may_be_exact}
+use Rattle.proto.specs.Cache.{has_arrived}
+use Rattle.engine.specs.declared.commands.Engine.{Engine}
+use Rattle.engine.specs.Written.{IsWritten}
+use Rattle.engine.specs.Members.{MapOf}
+use Rattle.engine.specs.Keeping.{StaysKept}
+use Rattle.engine.specs.Counting.{CountsReads}
+use Rattle.engine.specs.Outcomes.{outcome_at, needs_memory}
+use Rattle.engine.specs.Engines.{cache_in, Changes, IsDenied, Leaves, IsHandled}
+use Rattle.engine.proofs.Refusals.{answers_act}
+
+-- ---- a write that forgets nothing and gives exactly the deadline asked for
+
+pub written_exactly : (sizes : Sizes) (t : ℕ) (old : Entries) (key : List ℕ) (e : Entry) (new : Entries)
+    → has_arrived e.deadline t ≡ false → new ≡ map.insert old key e → IsWritten sizes t old key e new
+written_exactly sizes t old key e new waits is =
+    record {
+      deadline = e.deadline;
+      may_live = may_be_exact t e.deadline waits;
+      forgotten = [];
+      may_forget = forgets_nothing sizes old (map.insert old key e) (Some key);
+      entries = is ∙ sym (without-nil (map.insert old key e));
+    }
+
+-- ---- first to the moment, and then the request
+
+pub handled_by : {M P : Type 0} (m : MapOf M P) (old found : Engine M) (t : ℕ) (q : Request) (reply : Reply) (new : Engine M)
+    → cache_in m.entries found ≡ found_at (cache_in m.entries old) t → m.sizes found.map ≡ m.sizes old.map → m.moment found.map ≡ t
+    → StaysKept m.keeps old.map found.map → CountsReads m.reads found.map q reply new.map
+    → Leaves m found new (act (item_limit (m.sizes found.map)) (cache_in m.entries found) (m.moment found.map) q) reply
+    → IsHandled m old t q reply new
+handled_by m old found t q reply new cache same at kept counts leaves =
+    let same_outcome : act (item_limit (m.sizes found.map)) (cache_in m.entries found) (m.moment found.map) q ≡ outcome_at (m.sizes old.map)
+    (cache_in m.entries old) t q =
+    λ i. act (item_limit (same i)) (cache i) (at i) q in
+    record {
+      found = found;
+      found_is = cache;
+      sizes_same = same;
+      moment_is = at;
+      kept = kept;
+      counts = counts;
+      leaves = subst (λ (done : Outcome). Leaves m found new done reply) same_outcome leaves;
+    }
+
+-- ---- what a step asks of the entries
+
+record IsReached (sizes : Sizes) (t : ℕ) (old asked : Entries) (stored : Option (List ℕ)) (new : Entries) : Type 0 where
+  dated : Entries
+  is_dated : IsDated t asked stored dated
+  forgotten : List (List ℕ)
+  may_forget : MayForget sizes old dated stored forgotten
+  entries : new ≡ without dated forgotten
+
+reached : {M P : Type 0} (m : MapOf M P) (old : M) (asked : Entries) (stored : Option (List ℕ)) (new : M)
+    → Changes m old asked stored new → IsReached (m.sizes old) (m.moment old) (m.entries old) asked stored (m.entries new)
+reached m old asked None new is =
+    record { dated = asked; is_dated = refl; forgotten = []; may_forget = refl; entries = is.entries ∙ sym (without-nil asked) }
+reached m old asked (Some key) new s =
+    let w = s.written in
+    let dated : Entries = map.insert (m.entries old) key (record s.entry { deadline = w.deadline }) in
+    let is_dated : IsDated (m.moment old) (map.insert (m.entries old) key s.entry) (Some key) dated = dated-insert (m.moment old)
+    (m.entries old) key s.entry w.deadline w.may_live in
+    record {
+      dated = dated;
+      is_dated = subst (λ (asks : Entries). IsDated (m.moment old) asks (Some key) dated) (sym s.asked_is) is_dated;
+      forgotten = w.forgotten;
+      may_forget = w.may_forget;
+      entries = w.entries;
+    }
+
+moved : (s u : Sizes) (t v : ℕ) (m n asked : Entries) (stored : Option (List ℕ)) (new : Entries) → s ≡ u → t ≡ v → m ≡ n
+    → IsReached s t m asked stored new → IsReached u v n asked stored new
+moved s u t v m n asked stored new su tv mn h =
+    subst (λ (x : Sizes). IsReached x v n asked stored new) su
+    (subst (λ (x : ℕ). IsReached s x n asked stored new) tv
+    (subst (λ (x : Entries). IsReached s t x asked stored new) mn h))
+
+asks_memory : (b stored hits : Bool) → ((b && stored) || hits) ≡ true → (stored || hits) ≡ true
+asks_memory true stored hits e = e
+asks_memory false true hits e = refl
+asks_memory false false hits e = e
+
+-- what was found stays, seen as a refusal of the cache
+denied : {M P : Type 0} (m : MapOf M P) (old new : Engine M) (found : Cache) (done : Outcome) (reply : Reply)
+    → cache_in m.entries old ≡ found → IsDenied m old new done reply → IsRefused found done reply (cache_in m.entries new)
+denied m old new found done reply is d =
+    record {
+      reply_is = d.reply_is;
+      entries = d.entries_same ∙ ap (λ (c : Cache). c.entries) is;
+      last_cas = d.last_cas ∙ ap (λ (c : Cache). c.last_cas) is;
+      pending = d.pending ∙ ap (λ (c : Cache). c.pending) is;
+      cause = asks_memory m.may_refuse (is_some done.stored) (has_hits done.reply) d.cause;
+    }
+
+pub step_from_handled : {M P : Type 0} (m : MapOf M P) (old : Engine M) (t : ℕ) (q : Request) (reply : Reply) (new : Engine M)
+    → IsHandled m old t q reply new
+    → Step (m.sizes old.map) (cache_in m.entries old) t q reply (cache_in m.entries new)
+step_from_handled m old t q reply new h =
+    let done = outcome_at (m.sizes old.map) (cache_in m.entries old) t q in
+    elim h.leaves.gives [
+      | inl d ↦
+          let r = moved (m.sizes h.found.map) (m.sizes old.map) (m.moment h.found.map) t (m.entries h.found.map)
+          (found_at (cache_in m.entries old) t).entries done.entries done.stored (m.entries new.map)
+          h.sizes_same h.moment_is (ap (λ (c : Cache). c.entries) h.found_is)
+          (reached m h.found.map done.entries done.stored new.map d.changes) in
+          inl (record {
+            reply_is = d.reply_is;
+            last_cas = d.last_cas;
+            pending = d.pending;
+            dated = r.dated;
+            is_dated = r.is_dated;
+            forgotten = r.forgotten;
+            may_forget = r.may_forget;
+            entries = r.entries;
+          })
+      | inr d ↦ inr (denied m h.found new (found_at (cache_in m.entries old) t) done reply h.found_is d)
+    ]
+
+-- where memory was refused, the cache that was found stays
+pub refused_stays : {M P : Type 0} (m : MapOf M P) (old : Engine M) (t : ℕ) (q : Request) (reply : Reply) (new : Engine M)
+    → IsHandled m old t q reply new
+    → reply ≡ NoMemory → cache_in m.entries new ≡ found_at (cache_in m.entries old) t
+refused_stays m old t q reply new h is =
+    elim h.leaves.gives [
+      | inl d ↦ absurd (answers_act (item_limit (m.sizes old.map)) (found_at (cache_in m.entries old) t) t q (sym d.reply_is ∙ is))
+      | inr d ↦
+          let same : cache_in m.entries new ≡ cache_in m.entries h.found = λ i. record { entries = d.entries_same i; last_cas = d.last_cas i; pending = d.pending i } in
+          same ∙ h.found_is
+    ]
+
+-- what needs no memory isn't refused any
+pub none_refused : {M P : Type 0} (m : MapOf M P) (old : Engine M) (t : ℕ) (q : Request) (reply : Reply) (new : Engine M)
+    → IsHandled m old t q reply new
+    → needs_memory m.may_refuse (outcome_at (m.sizes old.map) (cache_in m.entries old) t q) ≡ false → reply ≢ NoMemory
+none_refused m old t q reply new h free is =
+    elim h.leaves.gives [
+      | inl d ↦ answers_act (item_limit (m.sizes old.map)) (found_at (cache_in m.entries old) t) t q (sym d.reply_is ∙ is)
+      | inr d ↦ let both = sym free ∙ d.cause in cc
+    ]

@@ -1,0 +1,7 @@
+pub mod Digits
+pub mod HitLemmas
+pub mod CountLemmas
+pub mod Refusals
+pub mod NoDeadlines
+pub mod EngineLemmas
+pub mod KeepingLemmas

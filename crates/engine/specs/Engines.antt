@@ -1,0 +1,69 @@
+-- What an engine makes of requests, over any map of live entries.
+use Rattle.std.specs.Prelude.{◌≡◌, ℕ, ◌⊎◌, true, false, List, Option, Some, None}
+use Rattle.std.specs.FinMap as map
+use Rattle.proto.specs.declared.message.Request.{Request}
+use Rattle.proto.specs.declared.message.Reply.{Reply}
+use Rattle.proto.specs.declared.message.Reply.TheVariants.{NoMemory}
+use Rattle.proto.specs.Cache.{Entry, Entries, Cache, has_arrived, found_at}
+use Rattle.proto.specs.Commands.{Outcome}
+use Rattle.engine.specs.declared.commands.Engine.{Engine}
+use Rattle.engine.specs.Members.{MapOf}
+use Rattle.engine.specs.Written.{IsWritten}
+use Rattle.engine.specs.Keeping.{StaysKept, KeepsEntry}
+use Rattle.engine.specs.Counting.{CountsReads}
+use Rattle.engine.specs.Outcomes.{outcome_at, needs_memory}
+
+-- the cache of an engine, where these are its map's entries
+abbrev pub cache_in : {M : Type 0} → (M → Entries) → Engine M → Cache
+cache_in entries engine = record { entries = entries engine.map; last_cas = engine.last_cas; pending = engine.pending }
+
+-- the map wrote the entry that was asked for
+pub record IsStored {M P : Type 0} (m : MapOf M P) (old : M) (key : List ℕ) (asked : Entries) (new : M) : Type 0 where
+  pub entry : Entry
+  pub asked_is : asked ≡ map.insert (m.entries old) key entry
+  pub waits : has_arrived entry.deadline (m.moment old) ≡ false
+  pub written : IsWritten (m.sizes old) (m.moment old) (m.entries old) key entry (m.entries new)
+  pub exactly : m.writes old key entry new
+  pub kept : KeepsEntry m.sizes m.entries m.moment m.keeps old key entry new
+
+-- the map has the entries asked for
+pub record IsLeft {M P : Type 0} (m : MapOf M P) (old : M) (asked : Entries) (new : M) : Type 0 where
+  pub entries : m.entries new ≡ asked
+  pub kept : StaysKept m.keeps old new
+
+-- the entries of the map are those asked for, up to what a write may change
+abbrev pub Changes : {M P : Type 0} → MapOf M P → M → Entries → Option (List ℕ) → M → Type 0
+Changes m old asked None new = IsLeft m old asked new
+Changes m old asked (Some key) new = IsStored m old key asked new
+
+-- the engine did what the outcome says
+pub record IsDone {M P : Type 0} (m : MapOf M P) (old new : Engine M) (done : Outcome) (reply : Reply) : Type 0 where
+  pub reply_is : reply ≡ done.reply
+  pub last_cas : new.last_cas ≡ done.last_cas
+  pub pending : new.pending ≡ done.pending
+  pub changes : Changes m old.map done.entries done.stored new.map
+
+-- memory was refused, and the cache stays
+pub record IsDenied {M P : Type 0} (m : MapOf M P) (old new : Engine M) (done : Outcome) (reply : Reply) : Type 0 where
+  pub reply_is : reply ≡ NoMemory
+  pub entries_same : m.entries new.map ≡ m.entries old.map
+  pub last_cas : new.last_cas ≡ old.last_cas
+  pub pending : new.pending ≡ old.pending
+  pub kept : StaysKept m.keeps old.map new.map
+  pub cause : needs_memory m.may_refuse done ≡ true
+
+-- this outcome came of the cache that an engine had, or memory was refused
+pub record Leaves {M P : Type 0} (m : MapOf M P) (old new : Engine M) (done : Outcome) (reply : Reply) : Type 0 where
+  pub sizes_same : m.sizes new.map ≡ m.sizes old.map
+  pub moment_same : m.moment new.map ≡ m.moment old.map
+  pub gives : IsDone m old new done reply ⊎ IsDenied m old new done reply
+
+-- the engine went on to the moment, and the request was executed on what was found there
+pub record IsHandled {M P : Type 0} (m : MapOf M P) (old : Engine M) (t : ℕ) (q : Request) (reply : Reply) (new : Engine M) : Type 0 where
+  pub found : Engine M
+  pub found_is : cache_in m.entries found ≡ found_at (cache_in m.entries old) t
+  pub sizes_same : m.sizes found.map ≡ m.sizes old.map
+  pub moment_is : m.moment found.map ≡ t
+  pub kept : StaysKept m.keeps old.map found.map
+  pub counts : CountsReads m.reads found.map q reply new.map
+  pub leaves : Leaves m found new (outcome_at (m.sizes old.map) (cache_in m.entries old) t q) reply

@@ -1,0 +1,9 @@
+pub mod Number
+pub mod Change
+pub mod Shown
+pub mod Written
+pub mod Outcomes
+pub mod Keeping
+pub mod Counting
+pub mod Members
+pub mod Engines

@@ -1,0 +1,309 @@
+//! The commands, over any map of live entries.
+
+ghost use Rattle.std.specs.Prelude.{◌≡◌, ◌≢◌, ◌≤◌, None, false};
+ghost use Rattle.std.specs.FinMap as map;
+ghost use Rattle.proto.specs.Cache.{Cache, found_at, has_arrived};
+ghost use Rattle.proto.specs.Commands.{write, put, take_out, change, flush, is_too_large, only_reply, hits_of, act};
+ghost use Rattle.proto.specs.Sizes.{item_limit};
+ghost use Rattle.proto.specs.Steps.{Step};
+ghost use Rattle.proto.specs.History.{max_moment};
+ghost use Rattle.engine.specs.Written.{MayBeWritten};
+ghost use Rattle.engine.specs.Shown.{entry_of};
+ghost use Rattle.engine.specs.Change.{changed_by};
+ghost use Rattle.engine.specs.Keeping.{StaysKept, KeepsAll};
+ghost use Rattle.engine.specs.Counting.{CountsShown, CountsReads};
+ghost use Rattle.engine.specs.Outcomes.{outcome_at, needs_memory};
+
+use crate::deadline::{deadline_of, has_arrived};
+use crate::entry_ref::EntryRef;
+use crate::hits::hits_of;
+use crate::live_map::LiveMap;
+use crate::number::{Change, number_of};
+use crate::size::is_too_large;
+use crate::storage_engine::StorageEngine;
+use itoa::Buffer;
+use proto::keys::Keys;
+use proto::message::{Put, Reply, Request};
+use std::alloc::Global;
+
+/// A cache over a map of live entries.
+#[derive(Drop)]
+pub struct Engine<M> {
+    alloc: Global,
+    map: M,
+    last_cas: u64,
+    pending: Option<u64>,
+}
+
+impl<M: LiveMap> Engine<M> {
+    ghost use Rattle.engine.specs.Engines.{cache_in, Leaves, IsHandled};
+
+    /// An engine over a map that has given out this cas number last.
+    pub fn over(alloc: Global, map: M, last_cas: u64) -> Self
+        ensures cache { cache_in M.entries result ≡ record { entries = M.entries map; last_cas = last_cas; pending = None } }
+        ensures map { result.map ≡ map }
+    {
+        Engine {
+            alloc,
+            map,
+            last_cas,
+            pending: None,
+        }
+    }
+
+    /// The moment of the last request in seconds, 0 before the first one.
+    pub fn last_moment(&self) -> u64
+        ensures { result ≡ M.moment self.now.map }
+    {
+        self.map.last_moment()
+    }
+
+    /// The moment of a flush that is still to come.
+    pub fn pending(&self) -> Option<u64>
+        ensures { result ≡ (cache_in M.entries self.now).pending }
+    {
+        self.pending
+    }
+
+    /// Stores an entry with the next cas number.
+    fn write(
+        &mut self,
+        key: &[u8],
+        value: &[u8],
+        flags: u32,
+        deadline: Option<u64>,
+        reply: Reply,
+    ) -> Reply
+        requires waits { has_arrived deadline (M.moment self.old.map) ≡ false }
+        requires fits { MayBeWritten (M.sizes self.old.map) (M.entries self.old.map) key.now value.now }
+        ensures { Leaves M.LiveMap self.old self.new (write (cache_in M.entries self.old) key.now
+            (λ cas. record { value = value.now; flags = flags; deadline = deadline; cas = cas }) reply) result }
+    {
+        if self.last_cas == u64::MAX {
+            return Reply::NoCas;
+        }
+        let cas = self.last_cas + 1;
+        let entry = EntryRef {
+            value,
+            flags,
+            deadline,
+            cas,
+        };
+        if self.map.write(key, entry).is_err() {
+            return Reply::NoMemory;
+        }
+        self.last_cas = cas;
+        reply
+    }
+
+    /// A put that nothing stands against. Where its deadline has come already, its key is taken out.
+    fn put(&mut self, item: &Put) -> Reply
+        requires in_range { M.moment self.old.map ≤ max_moment }
+        requires small { is_too_large (item_limit (M.sizes self.old.map)) item.now ≡ false }
+        ensures { Leaves M.LiveMap self.old self.new (put (cache_in M.entries self.old) (M.moment self.old.map) item.now) result }
+    {
+        let deadline = deadline_of(item.exptime, self.map.last_moment());
+        if has_arrived(deadline, self.map.last_moment()) {
+            self.map.remove(item.key.as_slice());
+            return Reply::Stored;
+        }
+        self.write(
+            item.key.as_slice(),
+            item.value.as_slice(),
+            item.flags,
+            deadline,
+            Reply::Stored,
+        )
+    }
+
+    fn delete(&mut self, key: &[u8]) -> Reply
+        ensures { Leaves M.LiveMap self.old self.new (take_out (cache_in M.entries self.old) key.now) result }
+    {
+        if !self.map.contains_key(key) {
+            return Reply::NotFound;
+        }
+        self.map.remove(key);
+        Reply::Deleted
+    }
+
+    /// Changes the number at the key.
+    fn change(&mut self, key: &[u8], by: Change) -> Reply
+        ensures { Leaves M.LiveMap self.old self.new (change (changed_by by) (map.get (M.entries self.old.map) key.now) (cache_in M.entries self.old) key.now) result }
+    {
+        let Some((entry, _)) = self.map.get(key) else {
+            return Reply::NotFound;
+        };
+        let Some(number) = number_of(entry.value) else {
+            return Reply::NotNumber;
+        };
+        let flags = entry.flags;
+        let deadline = entry.deadline;
+        let number = by.applied_to(number);
+        let mut buffer = Buffer::new();
+        self.write(
+            key,
+            buffer.format(number).as_bytes(),
+            flags,
+            deadline,
+            Reply::Number(number),
+        )
+    }
+
+    fn flush(&mut self, delay: u64) -> Reply
+        requires { M.moment self.old.map ≤ max_moment }
+        ensures { Leaves M.LiveMap self.old self.new (flush (cache_in M.entries self.old) (M.moment self.old.map) delay) result }
+    {
+        if delay == 0 {
+            self.map.clear();
+            self.pending = None;
+        } else {
+            self.pending = Some(self.map.last_moment().saturating_add(delay));
+        }
+        Reply::Flushed
+    }
+
+    /// Time goes on to this moment, at which a pending flush may have come.
+    fn advance(&mut self, now: u64)
+        requires not_before { M.moment self.old.map ≤ now }
+        requires in_range { now ≤ max_moment }
+        ensures cache { cache_in M.entries self.new ≡ found_at (cache_in M.entries self.old) now }
+        ensures sizes { M.sizes self.new.map ≡ M.sizes self.old.map }
+        ensures moment { M.moment self.new.map ≡ now }
+        ensures kept { StaysKept M.keeps self.old.map self.new.map }
+    {
+        self.map.advance(now);
+        if has_arrived(self.pending, now) {
+            self.map.clear();
+            self.pending = None;
+        }
+    }
+
+    fn is_too_large(&self, item: &Put) -> bool
+        ensures { result ≡ is_too_large (item_limit (M.sizes self.now.map)) item.now }
+    {
+        is_too_large(self.map.item_limit(), item)
+    }
+
+    fn get(&mut self, keys: &Keys) -> Reply
+        ensures counts { CountsShown M.reads self.old.map result self.new.map }
+        ensures leaves { Leaves M.LiveMap self.old self.new (only_reply (cache_in M.entries self.old) (Reply.Values (hits_of (M.entries self.old.map) keys.now))) result }
+    {
+        match hits_of(self.alloc, &mut self.map, keys) {
+            Ok(hits) => Reply::Values(hits.finish()),
+            Err(_) => Reply::NoMemory,
+        }
+    }
+
+    fn set(&mut self, item: &Put) -> Reply
+        requires { M.moment self.old.map ≤ max_moment }
+        ensures { Leaves M.LiveMap self.old self.new (act (item_limit (M.sizes self.old.map)) (cache_in M.entries self.old) (M.moment self.old.map) (Request.Set item.now)) result }
+    {
+        if self.is_too_large(item) {
+            return Reply::TooLarge;
+        }
+        self.put(item)
+    }
+
+    fn add(&mut self, item: &Put) -> Reply
+        requires { M.moment self.old.map ≤ max_moment }
+        ensures { Leaves M.LiveMap self.old self.new (act (item_limit (M.sizes self.old.map)) (cache_in M.entries self.old) (M.moment self.old.map) (Request.Add item.now)) result }
+    {
+        if self.is_too_large(item) {
+            return Reply::TooLarge;
+        }
+        if self.map.contains_key(item.key.as_slice()) {
+            return Reply::NotStored;
+        }
+        self.put(item)
+    }
+
+    fn replace(&mut self, item: &Put) -> Reply
+        requires { M.moment self.old.map ≤ max_moment }
+        ensures { Leaves M.LiveMap self.old self.new (act (item_limit (M.sizes self.old.map)) (cache_in M.entries self.old) (M.moment self.old.map) (Request.Replace item.now)) result }
+    {
+        if self.is_too_large(item) {
+            return Reply::TooLarge;
+        }
+        if !self.map.contains_key(item.key.as_slice()) {
+            return Reply::NotStored;
+        }
+        self.put(item)
+    }
+
+    fn cas(&mut self, item: &Put, unique: u64) -> Reply
+        requires { M.moment self.old.map ≤ max_moment }
+        ensures { Leaves M.LiveMap self.old self.new (act (item_limit (M.sizes self.old.map)) (cache_in M.entries self.old) (M.moment self.old.map) (Request.Cas item.now unique)) result }
+    {
+        if self.is_too_large(item) {
+            return Reply::TooLarge;
+        }
+        let Some((entry, _)) = self.map.get(item.key.as_slice()) else {
+            return Reply::NotFound;
+        };
+        if entry.cas != unique {
+            return Reply::Exists;
+        }
+        self.put(item)
+    }
+
+    /// Executes the request at the last moment.
+    fn execute(&mut self, request: &Request) -> Reply
+        requires { M.moment self.old.map ≤ max_moment }
+        ensures counts { CountsReads M.reads self.old.map request.now result self.new.map }
+        ensures leaves { Leaves M.LiveMap self.old self.new (act (item_limit (M.sizes self.old.map)) (cache_in M.entries self.old) (M.moment self.old.map) request.now) result }
+    {
+        match request {
+            Request::Get { keys, .. } => self.get(keys),
+            Request::Set(item) => self.set(item),
+            Request::Add(item) => self.add(item),
+            Request::Replace(item) => self.replace(item),
+            Request::Cas(item, unique) => self.cas(item, *unique),
+            Request::Delete { key } => self.delete(key.as_slice()),
+            Request::Incr { key, amount } => self.change(key.as_slice(), Change::Add(*amount)),
+            Request::Decr { key, amount } => self.change(key.as_slice(), Change::Subtract(*amount)),
+            Request::FlushAll { delay } => self.flush(*delay),
+        }
+    }
+
+    /// Executes the request at this moment, in seconds.
+    pub fn execute_at(&mut self, now: u64, request: &Request) -> Reply
+        requires not_before { M.moment self.old.map ≤ now }
+        requires in_range { now ≤ max_moment }
+
+        // what the map does beyond what any map does
+        ensures handled { IsHandled M.LiveMap self.old now request.now result self.new }
+        ensures step { Step (M.sizes self.old.map) (cache_in M.entries self.old) now request.now result (cache_in M.entries self.new) }
+        ensures sizes { M.sizes self.new.map ≡ M.sizes self.old.map }
+        ensures moment { M.moment self.new.map ≡ now }
+
+        // where memory was refused, what was found stays; and only what shows something needs any, or stores, where the map may refuse
+        ensures refused { result ≡ Reply.NoMemory → cache_in M.entries self.new ≡ found_at (cache_in M.entries self.old) now }
+        ensures succeeds { needs_memory M.may_refuse (outcome_at (M.sizes self.old.map) (cache_in M.entries self.old) now request.now) ≡ false → result ≢ Reply.NoMemory }
+
+        // nothing is forgotten while little is stored, and nothing with a deadline
+        ensures kept { KeepsAll (λ (engine : Engine M). M.sizes engine.map) (cache_in M.entries) (λ (engine : Engine M) items. M.keeps engine.map items) self.old now request.now result self.new }
+    {
+        self.advance(now);
+        self.execute(request)
+    }
+}
+
+impl<M: LiveMap> StorageEngine for Engine<M> {
+    ghost use Rattle.engine.specs.Engines.{cache_in};
+
+    ghost sizes = { λ s. M.sizes s.map };
+
+    ghost cache = { λ s. cache_in M.entries s };
+
+    ghost moment = { λ s. M.moment s.map };
+
+    ghost keeps = { λ s items. M.keeps s.map items };
+
+    fn last_moment(&self) -> u64 {
+        Engine::last_moment(self)
+    }
+
+    fn handle(&mut self, now: u64, request: &Request) -> Reply {
+        self.execute_at(now, request)
+    }
+}

@@ -1,0 +1,107 @@
+//! What an engine asks of the map that has its entries.
+
+ghost use Rattle.std.specs.Prelude.{◌≡◌, ℕ, ◌≤◌, Bool, List, OnOk, OnErr, IfSome, IsTrue, false};
+ghost use Rattle.std.specs.Option.{option_map};
+ghost use Rattle.std.specs.FinMap as map;
+ghost use Rattle.proto.specs.Sizes.{Sizes, IsGeometry, item_limit};
+ghost use Rattle.proto.specs.Cache.{Entry, Entries, no_entries, live, has_arrived};
+ghost use Rattle.proto.specs.History.{max_moment};
+ghost use Rattle.proto.specs.Stored.{StoredItem};
+ghost use Rattle.engine.specs.Shown.{entry_of};
+ghost use Rattle.engine.specs.Written.{MayBeWritten, IsWritten};
+ghost use Rattle.engine.specs.Keeping.{StaysKept, KeepsEntry};
+
+use crate::entry_ref::EntryRef;
+use proto::no_memory::NoMemory;
+
+/// Entries by their keys, as they are seen at the last moment.
+pub trait LiveMap {
+    /// Where an entry stands, as long as the map stays as it is.
+    type Place: Copy;
+
+    /// The sizes that it was made for.
+    ghost sizes: { Self → Sizes };
+
+    /// The entries that are live at the last moment.
+    ghost entries: { Self → Entries };
+
+    /// The last moment.
+    ghost moment: { Self → ℕ };
+
+    /// Whether a write may want memory that is refused.
+    ghost may_refuse: { Bool };
+
+    /// The entry of the key stands at the place.
+    ghost stands: { Self → List ℕ → Self.Place → Type 0 };
+
+    /// What a write does to this map, beyond what one does to any.
+    ghost writes: { Self → List ℕ → Entry → Self → Type 0 };
+
+    /// What counting a read of the entry at the key does to this map.
+    ghost reads: { Self → List ℕ → Self → Type 0 };
+
+    /// These items were stored so far, none with a deadline, and nothing was forgotten for want of room.
+    ghost keeps: { Self → List StoredItem → Type 0 };
+
+    /// The largest size of an item.
+    fn item_limit(&self) -> u32
+        ensures value { result ≡ item_limit (sizes self.now) }
+        ensures in_range { IsGeometry (sizes self.now) };
+
+    fn last_moment(&self) -> u64
+        ensures { result ≡ moment self.now };
+
+    /// Time goes on to this moment.
+    fn advance(&mut self, now: u64)
+        requires not_before { moment self.old ≤ now }
+        requires in_range { now ≤ max_moment }
+        ensures entries { entries self.new ≡ live (entries self.old) now }
+        ensures sizes { sizes self.new ≡ sizes self.old }
+        ensures moment { moment self.new ≡ now }
+        ensures kept { StaysKept keeps self.old self.new };
+
+    /// The entry at the key, and where it stands.
+    fn get<'a>(&'a self, key: &[u8]) -> Option<(EntryRef<'a>, Self::Place)>
+        ensures found { option_map (λ r. entry_of r.0) result ≡ map.get (entries self.now) key.now }
+        ensures stands { IfSome result (λ r. stands self.now key.now r.1) }
+        ensures waits { IfSome result (λ r. has_arrived r.0.deadline (moment self.now) ≡ false) };
+
+    fn contains_key(&self, key: &[u8]) -> bool
+        ensures { result ≡ map.contains_key (entries self.now) key.now };
+
+    /// Counts a read of the entry at the key, which stands at the place.
+    fn count_read(&mut self, key: &[u8], place: Self::Place)
+        requires { stands self.old key.now place }
+        ensures counted { reads self.old key.now self.new }
+        ensures entries { entries self.new ≡ entries self.old }
+        ensures sizes { sizes self.new ≡ sizes self.old }
+        ensures moment { moment self.new ≡ moment self.old }
+        ensures kept { StaysKept keeps self.old self.new };
+
+    /// Copies the entry into the map, in place of what the key has.
+    fn write(&mut self, key: &[u8], entry: EntryRef) -> Result<(), NoMemory>
+        requires waits { has_arrived entry.deadline (moment self.old) ≡ false }
+        requires fits { MayBeWritten (sizes self.old) (entries self.old) key.now entry.value.now }
+        ensures written { OnOk result (IsWritten (sizes self.old) (moment self.old) (entries self.old) key.now (entry_of entry.entry) (entries self.new)) }
+        ensures exactly { OnOk result (writes self.old key.now (entry_of entry.entry) self.new) }
+        ensures kept { OnOk result (KeepsEntry sizes entries moment keeps self.old key.now (entry_of entry.entry) self.new) }
+        ensures refused { OnErr result (IsTrue may_refuse) }
+        ensures err { OnErr result (entries self.new ≡ entries self.old) }
+        ensures err_kept { OnErr result (StaysKept keeps self.old self.new) }
+        ensures sizes { sizes self.new ≡ sizes self.old }
+        ensures moment { moment self.new ≡ moment self.old };
+
+    /// Takes the entry at the key out, if there is one.
+    fn remove(&mut self, key: &[u8])
+        ensures entries { entries self.new ≡ map.remove (entries self.old) key.now }
+        ensures sizes { sizes self.new ≡ sizes self.old }
+        ensures moment { moment self.new ≡ moment self.old }
+        ensures kept { StaysKept keeps self.old self.new };
+
+    /// Takes all entries out.
+    fn clear(&mut self)
+        ensures entries { entries self.new ≡ no_entries }
+        ensures sizes { sizes self.new ≡ sizes self.old }
+        ensures moment { moment self.new ≡ moment self.old }
+        ensures kept { StaysKept keeps self.old self.new };
+}

@@ -1,0 +1,49 @@
+//! What the storage thread asks of a store.
+
+ghost use Rattle.std.specs.Prelude.{◌≡◌, ◌≢◌, ℕ, ◌≤◌, List, true, false};
+ghost use Rattle.proto.specs.Sizes.{Sizes};
+ghost use Rattle.proto.specs.Cache.{Cache};
+ghost use Rattle.proto.specs.Steps.{Step};
+ghost use Rattle.proto.specs.Stored.{StoredItem};
+ghost use Rattle.proto.specs.History.{max_moment};
+ghost use Rattle.engine.specs.Outcomes.{outcome_at, needs_memory};
+ghost use Rattle.engine.specs.Keeping.{KeepsAll};
+
+use proto::message::{Reply, Request};
+
+/// The greatest moment in seconds.
+pub const MAX_MOMENT: u64 = 4_611_686_018_427_387_904;
+
+/// A cache that executes one request at a time. However it stores its entries, each request is a step
+/// of the cache's definition.
+pub trait StorageEngine {
+    /// The sizes that the cache was made for.
+    ghost sizes: { Self → Sizes };
+
+    /// The entries that were live at the last moment, the last cas number and the pending flush.
+    ghost cache: { Self → Cache };
+
+    /// The moment of the last request, 0 before the first one.
+    ghost moment: { Self → ℕ };
+
+    /// These items were stored so far, none with a deadline, and nothing was forgotten for want of room.
+    ghost keeps: { Self → List StoredItem → Type 0 };
+
+    /// The moment of the last request in seconds, 0 before the first one.
+    fn last_moment(&self) -> u64
+        ensures { result ≡ moment self.now };
+
+    /// Executes the request at this moment in seconds, which is at most `MAX_MOMENT`.
+    fn handle(&mut self, now: u64, request: &Request) -> Reply
+        requires not_before { moment self.old ≤ now }
+        requires in_range { now ≤ max_moment }
+        ensures step { Step (sizes self.old) (cache self.old) now request.now result (cache self.new) }
+        ensures sizes { sizes self.new ≡ sizes self.old }
+        ensures moment { moment self.new ≡ now }
+
+        // want of memory is answered only where an item would be stored or a hit be shown
+        ensures succeeds { needs_memory true (outcome_at (sizes self.old) (cache self.old) now request.now) ≡ false → result ≢ Reply.NoMemory }
+
+        // nothing is forgotten while little is stored, and nothing with a deadline
+        ensures kept { KeepsAll sizes cache keeps self.old now request.now result self.new };
+}

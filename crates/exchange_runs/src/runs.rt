@@ -1,0 +1,123 @@
+//! A run through one exchange: a thread for each worker, and one for storage over the plain store.
+
+ghost use Rattle.std.specs.Prelude.{◌≡◌};
+ghost use Rattle.proto.specs.Cache.{empty_cache};
+ghost use Rattle.exchange_runs.specs.Serving.{IsUntouched};
+
+use crate::caller::{Caller, Load, Player};
+use crate::serving::serve_queues;
+use plain_store::Store;
+use proto::geometry::Geometry;
+use queue_exchange::StorageEnd;
+use std::alloc::{AllocError, Global};
+use std::sync::Wait;
+use std::thread::Threads;
+use std::time::{Duration, Instant};
+use std::{thread, time};
+use storage_thread::clock::Clock;
+use storage_thread::serving::run_storage;
+
+/// Answers 0 always.
+#[derive(Drop)]
+struct Stopped;
+
+impl Clock for Stopped {
+    ghost use Rattle.std.specs.Prelude.{⊤, None};
+
+    ghost told = { λ _. None };
+
+    ghost leads_to = { λ _ _. ⊤ };
+
+    ghost leads_reflexive = { λ _. tt };
+
+    ghost leads_transitive = { λ _ _ _ _ _. tt };
+
+    fn now(&mut self) -> u64 {
+        0
+    }
+}
+
+/// The players of a run once all have had their answers, and how long that took.
+#[derive(Drop)]
+pub struct Run<C: Caller + Drop> {
+    pub players: Vec<Player<C>>,
+    pub elapsed: Duration,
+}
+
+fn players<C: Caller + Drop>(
+    alloc: Global,
+    ends: Vec<C>,
+    load: Load,
+) -> Result<Vec<Player<C>>, AllocError> {
+    let mut players = Vec::with_capacity(alloc, ends.len())?;
+    for (worker, end) in ends.into_iter().enumerate() {
+        players.push(Player::new(alloc, end, worker, load))?;
+    }
+    Ok(players)
+}
+
+/// The load through the lanes. None where memory or a clock is wanting.
+pub fn run_lanes<R: Threads + Wait + time::Clock + Sync>(
+    rt: &R,
+    alloc: Global,
+    workers: usize,
+    load: Load,
+) -> Option<Run<exchange::WorkerEnd>> {
+    let geometry = Geometry::new(4096, 8).ok()?;
+    let (ends, storage) = exchange::make(alloc, workers, geometry).ok()?;
+    let mut players = players(alloc, ends, load).ok()?;
+    let store = Store::new(alloc, geometry);
+    let start = Instant::now(rt).ok()?;
+    thread::join(
+        rt,
+        move || run_storage(rt, store, Stopped, storage),
+        || thread::for_each_mut(
+            rt,
+            players.as_mut_slice(),
+            8,
+            &|_, player: &mut Player<exchange::WorkerEnd>| player.play(rt),
+        ),
+    );
+    let elapsed = start.elapsed(rt).ok()?;
+    Some(Run { players, elapsed })
+}
+
+// The players, each in a thread, beside the storage loop.
+fn play_queues<R: Threads + Wait + Sync>(
+    rt: &R,
+    players: &mut [Player<queue_exchange::WorkerEnd>],
+    store: Store,
+    storage: StorageEnd,
+)
+    requires empty { (store.cache ≡ empty_cache 0) × (store.moment ≡ 0) }
+    requires sizes { store.sizes ≡ storage.geometry }
+    requires unused { IsUntouched storage }
+{
+    thread::join(
+        rt,
+        move || serve_queues(rt, store, storage),
+        || thread::for_each_mut(
+            rt,
+            players,
+            8,
+            &|_, player: &mut Player<queue_exchange::WorkerEnd>| player.play(rt),
+        ),
+    );
+}
+
+/// The load through the queues. None where memory or a clock is wanting.
+pub fn run_queues<R: Threads + Wait + time::Clock + Sync>(
+    rt: &R,
+    alloc: Global,
+    workers: usize,
+    load: Load,
+) -> Option<Run<queue_exchange::WorkerEnd>> {
+    let geometry = Geometry::new(4096, 8).ok()?;
+    let (ends, storage) = queue_exchange::make(alloc, workers, geometry).ok()?;
+    let mut players = players(alloc, ends, load).ok()?;
+    let store = Store::new(alloc, geometry);
+    let start = Instant::now(rt).ok()?;
+    play_queues(rt, players.as_mut_slice(), store, storage);
+    let elapsed = start.elapsed(rt).ok()?;
+    Some(Run { players, elapsed })
+}

@@ -1,0 +1,96 @@
+//! Executes and answers requests until each worker has said bye.
+
+ghost use Rattle.std.specs.Prelude.{◌≡◌, ◌+◌, ◌++◌, ◌∷◌, [], length, Some, None};
+ghost use Rattle.proto.specs.Cache.{empty_cache};
+ghost use Rattle.proto.specs.History.{worker_share, Legal};
+ghost use Rattle.exchange.specs.Beginnings.{posted_of};
+ghost use Rattle.storage_thread.specs.Serving.{Reaches};
+ghost use Rattle.queue_exchange.specs.Queues.{after_answering};
+ghost use Rattle.exchange_runs.specs.Serving.{IsSameQueues, IsUntouched};
+
+use engine::StorageEngine;
+use queue_exchange::{Answered, Posted, StorageEnd, Taken};
+use std::sync::Wait;
+use std::thread;
+
+// Answers the open request, as soon as the queue of its worker has room.
+fn answer_when_room<R: Wait>(rt: &R, end: &mut StorageEnd, answered: Answered)
+    requires open_request { end.old.open_request ≡ Some (answered.worker, posted_of answered) }
+    requires legal { Legal end.old.geometry (end.old.history ++ answered ∷ []) }
+    ensures { end.new ≡ after_answering end.old answered }
+{
+    let mut answered = answered;
+    for _ in rt.forever() {
+        match end.answer(rt, answered) {
+            Ok(()) => return,
+            Err(back) => answered = back,
+        }
+        thread::yield_now();
+    }
+    unreachable!()
+}
+
+/// Executes the open request at the store's last moment, and answers it.
+pub fn execute<R: Wait, S: StorageEngine>(
+    rt: &R,
+    store: &mut S,
+    end: &mut StorageEnd,
+    worker: usize,
+    posted: Posted,
+)
+    requires reaches { Reaches end.old.geometry end.old.history (S.cache store.old) (S.moment store.old) }
+    requires sizes { S.sizes store.old ≡ end.old.geometry }
+    requires open_request { end.old.open_request ≡ Some (worker, posted) }
+    requires next { posted.number ≡ length (worker_share end.old.history worker) + 1 }
+    ensures reaches { Reaches end.new.geometry end.new.history (S.cache store.new) (S.moment store.new) }
+    ensures sizes { S.sizes store.new ≡ S.sizes store.old }
+    ensures same { IsSameQueues end.old end.new }
+    ensures shut { end.new.open_request ≡ None }
+{
+    let moment = store.last_moment();
+    let reply = store.handle(moment, &posted.request);
+    let Posted {
+        session,
+        number,
+        request,
+    } = posted;
+    let answered = Answered {
+        worker,
+        session,
+        number,
+        request,
+        moment,
+        reply,
+    };
+    answer_when_room(rt, end, answered);
+}
+
+/// Serves until as many byes were taken as there are workers. The store is empty, and
+/// nothing was taken from the end.
+pub fn serve_queues<R: Wait, S: StorageEngine + Drop>(
+    rt: &R,
+    store: S,
+    storage_end: StorageEnd,
+) -> StorageEnd
+    requires empty { (S.cache store ≡ empty_cache 0) × (S.moment store ≡ 0) }
+    requires sizes { S.sizes store ≡ storage_end.geometry }
+    requires unused { IsUntouched storage_end }
+    ensures same { IsSameQueues storage_end result }
+{
+    let mut store = store;
+    let mut end = storage_end;
+    let mut left = end.workers();
+    for _ in rt.forever() {
+        if left == 0 {
+            return end;
+        }
+        match end.next(rt) {
+            Some(Taken::Asked { worker, posted }) => {
+                execute(rt, &mut store, &mut end, worker, posted);
+            }
+            Some(Taken::Bye { worker: _ }) => left = left.saturating_sub(1),
+            None => thread::yield_now(),
+        }
+    }
+    unreachable!()
+}

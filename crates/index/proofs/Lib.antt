@@ -1,0 +1,14 @@
+pub mod Rounds
+pub mod Finding
+pub mod Mapping
+pub mod Placing
+pub mod Emptying
+pub mod Agreeing
+pub mod PoolKeys
+pub mod PoolPlaces
+pub mod Counting
+pub mod FollowingLemmas
+pub mod Relocating
+pub mod Followed
+pub mod InTurn
+pub mod FollowedPlans

@@ -1,0 +1,72 @@
+//! Changes of many places at once.
+
+ghost use Rattle.std.specs.Prelude.{◌≡◌, ◌<◌, None, All, IsSome};
+ghost use Rattle.segments.specs.Pools.{item_in};
+ghost use Rattle.segments.specs.Merges.{planned_moves};
+ghost use Rattle.segments.specs.Places.{moved_by};
+ghost use Rattle.index.specs.Keys.{key_at};
+ghost use Rattle.index.specs.Table.{IsIndex, IsSameSize, Holds};
+ghost use Rattle.index.specs.Following.{IsFollowed, CanFollow, forget_segment, forget_lost, keys_behind};
+
+use crate::index::Index;
+use segments::place::Move;
+use segments::pool::Pool;
+
+impl Index {
+    /// Takes out the keys of a segment's items: before the segment is cleared, or once its deadline has come.
+    pub fn forget(&mut self, pool: &Pool, segment: u32)
+        requires index { IsIndex (key_at pool.now) self.old }
+        requires segment { segment < pool.now.sizes.segments }
+        ensures followed { IsFollowed (key_at pool.now) (key_at pool.now) (forget_segment segment) self.old self.new }
+        ensures size { IsSameSize self.old self.new }
+    {
+        let mut walk = pool.walk(segment);
+        while let Some((place, item)) = walk.next() {
+            self.take_out(pool, item.key, place);
+        }
+    }
+
+    /// Takes out the keys of the items that moves forget.
+    fn drop_lost(&mut self, pool: &Pool, moves: &[Move])
+        requires index { IsIndex (key_at pool.now) self.old }
+        requires sources { All (λ m. IsSome (item_in pool.now m.source)) moves.now }
+        ensures followed { IsFollowed (key_at pool.now) (key_at pool.now) (forget_lost moves.now) self.old self.new }
+        ensures size { IsSameSize self.old self.new }
+    {
+        for step in moves {
+            if step.target.is_none() {
+                let item = pool.item(step.source);
+                self.take_out(pool, item.key, step.source);
+            }
+        }
+    }
+
+    /// Gives the keys of the items that moves keep their new places.
+    fn relocate(&mut self, pool: &Pool, moves: &[Move])
+        requires index { IsIndex (key_at pool.now) self.old }
+        requires sources { All (λ m. IsSome (item_in pool.now m.source)) moves.now }
+        requires can { CanFollow (key_at pool.now) (keys_behind pool.now) self.old moves.now }
+        requires lost { All (λ m. m.target ≡ None → ¬ (Holds self.old m.source)) moves.now }
+        ensures followed { IsFollowed (key_at pool.now) (keys_behind pool.now) (moved_by moves.now) self.old self.new }
+        ensures size { IsSameSize self.old self.new }
+    {
+        for step in moves {
+            if let Some(target) = step.target {
+                let item = pool.item(step.source);
+                self.replace(item.key, step.source, target);
+            }
+        }
+    }
+
+    /// Follows the merge that is planned, before it is carried out: one hash and one search for each move.
+    pub fn follow(&mut self, pool: &Pool)
+        requires index { IsIndex (key_at pool.now) self.old }
+        requires can { CanFollow (key_at pool.now) (keys_behind pool.now) self.old (planned_moves pool.now.plan) }
+        ensures followed { IsFollowed (key_at pool.now) (keys_behind pool.now) (moved_by (planned_moves pool.now.plan)) self.old self.new }
+        ensures size { IsSameSize self.old self.new }
+    {
+        let moves = pool.moves();
+        self.drop_lost(pool, moves);
+        self.relocate(pool, moves);
+    }
+}

@@ -1,0 +1,161 @@
+//! The index.
+
+ghost use Rattle.std.specs.Prelude.{◌≡◌, ◌≢◌, ◌+◌, ◌*◌, ◌<◌, ◌≤◌, ◌^◌, List, ℕ, length, IfOk, Some, None, IsTrue, ◌↔◌, IfSome, IsSome, replicate};
+ghost use Rattle.std.specs.FinMap as map;
+ghost use Rattle.segments.specs.declared.place.Place.{Place as Spot};
+ghost use Rattle.segments.specs.Pools.{item_in};
+ghost use Rattle.index.specs.Keys.{KeysOf, key_at};
+ghost use Rattle.index.specs.Slots.{used_in, empty_slot};
+ghost use Rattle.index.specs.Following.{IsFollowed, forget_place};
+ghost use Rattle.index.specs.Table.{IsIndex, IsMap, IsSameSize, IsTable, places, place_at, Holds};
+
+use crate::closing;
+use crate::hash::{hash_of, home_of, seeded, tag_of};
+use crate::search::{find_key, find_place, first_gap};
+use crate::slot::{EMPTY, Slot};
+use proto::no_memory::NoMemory;
+use segments::place::Place;
+use segments::pool::Pool;
+use std::alloc::Global;
+use std::hash::FoldHasher;
+use std::marker::Model;
+
+/// The places of items by their keys, in a table that was made once and is never more than half full.
+#[derive(Drop)]
+pub struct Index {
+    slots: Vec<Slot>,
+    hasher: FoldHasher,
+    /// How many slots have a place.
+    used: usize,
+}
+
+impl Model for Index {
+    ghost use Rattle.index.specs.Table.{Table, IsTable, IsCounted};
+
+    ghost Value = { Table };
+
+    ghost view = { λ a. record { slots = a.slots.items; hasher = a.hasher } };
+
+    ghost invariant = { λ a. IsCounted (record { slots = a.slots.items; hasher = a.hasher }) a.used };
+}
+
+impl Index {
+    /// A table of so many empty slots. The seed is hashed before each key, so that who doesn't know it can't choose keys
+    /// that meet in few slots.
+    pub fn new(alloc: Global, count: usize, seed: u64) -> Result<Index, NoMemory>
+        requires { 1 ≤ count }
+        ensures slots { IfOk result (λ index. index.slots ≡ replicate count empty_slot) }
+        ensures map { IfOk result (λ index. (keys : KeysOf) → IsMap keys index map.empty) }
+    {
+        let mut slots = Vec::with_capacity(alloc, count)?;
+        slots.resize(count, EMPTY)?;
+        Ok(Index {
+            slots,
+            hasher: seeded(seed),
+            used: 0,
+        })
+    }
+
+    /// How many keys have a place.
+    pub fn len(&self) -> usize
+        ensures count { result ≡ used_in self.now.slots }
+        ensures half { IsTable self.now }
+    {
+        self.used
+    }
+
+    /// Whether one more key may have a place.
+    pub fn has_room(&self) -> bool
+        ensures { IsTrue result ↔ (2 * (used_in self.now.slots + 1) ≤ length self.now.slots) }
+    {
+        self.used < self.slots.len() / 2
+    }
+
+    /// The place of the key.
+    pub fn look_up(&self, pool: &Pool, key: &[u8]) -> Option<Place>
+        requires { IsIndex (key_at pool.now) self.now }
+        ensures place { result ≡ place_at (key_at pool.now) self.now key.now }
+        ensures key { IfSome result (λ place. key_at pool.now place ≡ Some key.now) }
+        ensures item { IfSome result (λ place. IsSome (item_in pool.now place)) }
+    {
+        let hash = hash_of(self.hasher, key);
+        let home = home_of(self.slots.len(), hash);
+        let at = find_key(&self.slots, pool, home, tag_of(hash), key)?;
+        Some(self.slots[at].place())
+    }
+
+    /// Adds the place of a key that has none.
+    pub fn insert(&mut self, key: &[u8], place: Place)
+        requires room { 2 * (used_in self.old.slots + 1) ≤ length self.old.slots }
+        requires segment { place.segment < 2 ^ 16 }
+        ensures map { (keys : KeysOf) → IsIndex keys self.old → keys place ≡ Some key.now
+            → place_at keys self.old key.now ≡ None
+            → IsMap keys self.new (map.insert (places keys self.old) key.now place) }
+        ensures size { IsSameSize self.old self.new }
+        ensures count { used_in self.new.slots ≡ used_in self.old.slots + 1 }
+    {
+        let hash = hash_of(self.hasher, key);
+        let home = home_of(self.slots.len(), hash);
+        let at = first_gap(&self.slots, home);
+        self.slots[at] = Slot::new(tag_of(hash), place);
+        self.used += 1;
+    }
+
+    /// Gives the key another place.
+    pub fn replace(&mut self, key: &[u8], source: Place, target: Place)
+        requires segment { target.segment < 2 ^ 16 }
+        requires there { (keys : KeysOf) × IsIndex keys self.old × (place_at keys self.old key.now ≡ Some source) }
+        ensures map { (before after : KeysOf) → IsIndex before self.old → place_at before self.old key.now ≡ Some source
+            → after target ≡ Some key.now
+            → ((p : Spot) → Holds self.old p → p ≢ source → after p ≡ before p)
+            → IsMap after self.new (map.insert (places before self.old) key.now target) }
+        ensures size { IsSameSize self.old self.new }
+        ensures count { used_in self.new.slots ≡ used_in self.old.slots }
+    {
+        let hash = hash_of(self.hasher, key);
+        let home = home_of(self.slots.len(), hash);
+        let at = find_place(&self.slots, home, source).unwrap();
+        self.slots[at] = Slot::new(self.slots[at].tag, target);
+    }
+
+    /// Takes a key out.
+    pub fn remove(&mut self, pool: &Pool, key: &[u8], place: Place)
+        requires index { IsIndex (key_at pool.now) self.old }
+        requires there { place_at (key_at pool.now) self.old key.now ≡ Some place }
+        ensures map { IsMap (key_at pool.now) self.new (map.remove (places (key_at pool.now) self.old) key.now) }
+        ensures size { IsSameSize self.old self.new }
+        ensures count { used_in self.new.slots + 1 ≡ used_in self.old.slots }
+    {
+        let hash = hash_of(self.hasher, key);
+        let home = home_of(self.slots.len(), hash);
+        let at = find_place(&self.slots, home, place).unwrap();
+        closing::empty(&mut self.slots, at, self.hasher, pool);
+        self.used -= 1;
+    }
+
+    /// Takes a key out where this is its place.
+    pub fn take_out(&mut self, pool: &Pool, key: &[u8], place: Place)
+        requires index { IsIndex (key_at pool.now) self.old }
+        requires key { key_at pool.now place ≡ Some key.now }
+        ensures followed { IsFollowed (key_at pool.now) (key_at pool.now) (forget_place place) self.old self.new }
+        ensures size { IsSameSize self.old self.new }
+    {
+        let home = home_of(self.slots.len(), hash_of(self.hasher, key));
+        if let Some(at) = find_place(&self.slots, home, place) {
+            closing::empty(&mut self.slots, at, self.hasher, pool);
+            self.used -= 1;
+        }
+    }
+
+    /// Takes all keys out.
+    pub fn clear(&mut self)
+        ensures map { (keys : KeysOf) → IsMap keys self.new map.empty }
+        ensures size { IsSameSize self.old self.new }
+        ensures count { used_in self.new.slots ≡ 0 }
+    {
+        for slot in self.slots.iter_mut() {
+            *slot = EMPTY;
+        }
+        self.used = 0;
+    }
+}

@@ -1,0 +1,15 @@
+//! How large an index is.
+
+ghost use Rattle.std.specs.Prelude.{◌*◌};
+ghost use Rattle.std.specs.Int.{IsNextPowerOfTwo};
+ghost use Rattle.index.specs.Sizing.{most_items};
+
+use proto::geometry::Geometry;
+
+/// How many slots the index of a pool of these sizes has, of which the items of a full pool use half at most.
+pub fn slots_for(geometry: Geometry) -> usize
+    ensures { IsNextPowerOfTwo (2 * most_items geometry) result }
+{
+    let items = geometry.segments() as usize * (geometry.segment_size() / 32) as usize;
+    (2 * items).next_power_of_two()
+}

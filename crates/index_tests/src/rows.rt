@@ -1,0 +1,107 @@
+//! Writes and deletes in turn, each look-up compared with a map.
+
+use crate::shelf::Shelf;
+use crate::small::Small;
+use proto::geometry::Geometry;
+use std::collections::BTreeMap;
+use std::test::Fail;
+
+/// The next of numbers that look random.
+fn next(state: u64) -> u64 {
+    state
+        .wrapping_mul(6_364_136_223_846_793_005)
+        .wrapping_add(1_442_695_040_888_963_407)
+}
+
+/// In a table of 64 slots, with up to 32 of 40 keys: keys meet, runs of used slots go over the end, and most deletes
+/// have places behind them.
+#[test]
+fn small_table(rt: HostRuntime) -> Result<(), Fail> {
+    let mut shelf = Small::new(
+        rt.alloc(),
+        Geometry::new(65_536, 8)?,
+        88_172_645_463_325_252,
+    )?;
+    let mut map: BTreeMap<u64, u64> = BTreeMap::new(rt.alloc());
+    let mut state = 1;
+    for step in 0..10_000u64 {
+        state = next(state);
+        let number = (state >> 40) % 40;
+        if (state >> 20) % 4 != 0 {
+            if shelf.put(&number.to_le_bytes(), step) {
+                map.insert(number, step)?;
+            } else {
+                assert_eq!(rt; shelf.len(), 32);
+            }
+        } else {
+            let was_there = map.remove(&number).is_some();
+            assert_eq!(rt; shelf.delete(&number.to_le_bytes()), was_there);
+        }
+        for other in 0..40u64 {
+            assert_eq!(rt;
+                shelf.cas_of(&other.to_le_bytes()),
+                map.get(&other).copied()
+            );
+        }
+        assert_eq!(rt; shelf.len(), map.len());
+    }
+    shelf.clear();
+    assert_eq!(rt; shelf.len(), 0);
+    Ok(())
+}
+
+/// A pool of eight segments of 4,096 bytes is full with 1,024 items of 32 bytes, which use half of the 2,048 slots.
+/// Then the keys of one segment are forgotten, which are as many as the bytes of a segment hold.
+#[test]
+fn a_full_pool(rt: HostRuntime) -> Result<(), Fail> {
+    let mut shelf = Shelf::new(rt.alloc(), Geometry::new(4096, 8)?, 7)?;
+    for n in 0..1_024u64 {
+        assert!(rt; shelf.put(&n.to_le_bytes(), b"", n));
+    }
+    assert!(rt; !shelf.put(&1_024u64.to_le_bytes(), b"", 1_024));
+    for n in 0..1_024u64 {
+        assert_eq!(rt; shelf.cas_of(&n.to_le_bytes()), Some(n));
+    }
+    shelf.forget(3);
+    assert_eq!(rt; shelf.len(), 896);
+    let mut found: u64 = 0;
+    for n in 0..1_024u64 {
+        match shelf.cas_of(&n.to_le_bytes()) {
+            None => {}
+            Some(cas) => {
+                assert_eq!(rt; cas, n);
+                found = found.wrapping_add(1);
+            }
+        }
+    }
+    assert_eq!(rt; found, 896);
+    Ok(())
+}
+
+/// 10,000 keys written, and from the 5,000th on one deleted with each write.
+#[test]
+fn many_keys(rt: HostRuntime) -> Result<(), Fail> {
+    let mut shelf = Shelf::new(rt.alloc(), Geometry::new(65_536, 16)?, 1)?;
+    let mut map: BTreeMap<u64, u64> = BTreeMap::new(rt.alloc());
+    for n in 0..10_000u64 {
+        assert!(rt; shelf.put(&n.to_le_bytes(), b"value", n));
+        map.insert(n, n)?;
+        if n >= 5_000 {
+            let old = n - 5_000;
+            assert!(rt; shelf.delete(&old.to_le_bytes()));
+            map.remove(&old);
+        }
+        for other in n.saturating_sub(5_050)..n.saturating_add(2) {
+            if other % 97 == n % 97 {
+                assert_eq!(rt;
+                    shelf.cas_of(&other.to_le_bytes()),
+                    map.get(&other).copied()
+                );
+            }
+        }
+    }
+    for n in 0..10_000u64 {
+        assert_eq!(rt; shelf.cas_of(&n.to_le_bytes()), map.get(&n).copied());
+    }
+    Ok(())
+}

@@ -1,0 +1,91 @@
+//! A pool and an index of the size that goes with it, as a map from keys to values.
+
+use index::index::Index;
+use index::sizing::slots_for;
+use index::write::write;
+use proto::geometry::Geometry;
+use proto::no_memory::NoMemory;
+use segments::bucket::LASTING;
+use segments::item::{ItemRef, size_of};
+use segments::pool::Pool;
+use std::alloc::Global;
+use std::marker::Model;
+
+/// The values of keys, each in the segments, with its place in the index.
+#[derive(Drop)]
+pub struct Shelf {
+    geometry: Geometry,
+    pool: Pool,
+    index: Index,
+}
+
+impl Model for Shelf {
+    ghost use Rattle.std.specs.Prelude.{◌≡◌, ◌≤◌, ◌*◌, length};
+    ghost use Rattle.index.specs.Sizing.{most_items};
+    ghost use Rattle.index_tests.specs.Pairs.{Pairs};
+    ghost use Rattle.index.specs.Keys.{key_at};
+    ghost use Rattle.index.specs.Table.{IsIndex};
+
+    ghost Value = { Pairs };
+
+    ghost view = { λ a. record { pool = a.pool; index = a.index } };
+
+    ghost invariant = { λ a. IsIndex (key_at a.pool) a.index × (a.pool.sizes ≡ a.geometry)
+        × (2 * most_items a.geometry ≤ length a.index.slots) };
+}
+
+impl Shelf {
+    /// No key.
+    pub fn new(alloc: Global, geometry: Geometry, seed: u64) -> Result<Shelf, NoMemory> {
+        Ok(Shelf {
+            geometry,
+            pool: Pool::new(alloc, geometry)?,
+            index: Index::new(alloc, slots_for(geometry).max(1), seed)?,
+        })
+    }
+
+    /// Gives the key a value, where there is room for it.
+    pub fn put(&mut self, key: &[u8], value: &[u8], cas: u64) -> bool {
+        if key.is_empty() || key.len() > 250 || value.len() > 131_072 {
+            return false;
+        }
+        let item = ItemRef {
+            key,
+            value,
+            flags: 0,
+            deadline: None,
+            cas,
+            reads: 0,
+        };
+        if size_of(item) > self.geometry.item_limit() {
+            return false;
+        }
+        write(&mut self.index, &mut self.pool, LASTING, 0, item).is_ok()
+    }
+
+    /// The cas number of the key's item.
+    pub fn cas_of(&self, key: &[u8]) -> Option<u64> {
+        let place = self.index.look_up(&self.pool, key)?;
+        Some(self.pool.item(place).cas)
+    }
+
+    /// Takes the key out.
+    pub fn delete(&mut self, key: &[u8]) -> bool {
+        let Some(place) = self.index.look_up(&self.pool, key) else {
+            return false;
+        };
+        self.index.remove(&self.pool, key, place);
+        true
+    }
+
+    /// Takes out the keys whose items stand in a segment.
+    pub fn forget(&mut self, segment: u32) {
+        if segment < self.geometry.segments() {
+            self.index.forget(&self.pool, segment);
+        }
+    }
+
+    pub fn len(&self) -> usize {
+        self.index.len()
+    }
+}

@@ -1,0 +1,159 @@
+//! Where a book stops, and one step before.
+
+use proto::history::Answered;
+use proto::hits::{HitRef, Hits};
+use proto::message::{Reply, Request};
+use session_book::book::Book;
+use session_book::causes::{FeedFault, Settled};
+use std::alloc::Global;
+use std::process::Abort;
+use std::test::Fail;
+
+/// Pieces of these lengths go to a session that reads nothing, the last of them as is said.
+const PIECES: [(usize, usize, Result<(), FeedFault>); 6] = [
+    (0, 262_144, Ok(())),
+    (0, 262_145, Err(FeedFault::Full)),
+    (262_143, 1, Ok(())),
+    (262_143, 2, Err(FeedFault::Full)),
+    (262_144, 0, Ok(())),
+    (262_144, 1, Err(FeedFault::Full)),
+];
+
+fn check_pieces(
+    rt: &impl Abort,
+    alloc: Global,
+    rows: &[(usize, usize, Result<(), FeedFault>)],
+) -> Result<(), Fail> {
+    for (held, length, wanted) in rows {
+        let mut book = Book::new(alloc, 0);
+        book.open(1)?;
+        book.feed(1, vec![in alloc; b'k'; *held]?.as_slice())?;
+        let fed = book.feed(1, vec![in alloc; b'k'; *length]?.as_slice());
+        assert_eq!(rt; fed, *wanted, "{length} behind {held}");
+    }
+    Ok(())
+}
+
+#[test]
+fn unread_bytes_end_at_their_limit(rt: HostRuntime) -> Result<(), Fail> {
+    check_pieces(&rt, rt.alloc(), &PIECES)
+}
+
+/// Reads the next `get a` of a session, and settles it with a value of this length.
+fn answer(alloc: Global, book: &mut Book, session: u64, length: usize) -> Result<Settled, Fail> {
+    book.feed(session, b"get a\r\n")?;
+    let Some((request, number)) = book.next_ask(session)? else {
+        return Err(Fail::new("no request"));
+    };
+    let reply = value_of(alloc, length)?;
+    Ok(book.settle(answered(session, number, request, reply)))
+}
+
+fn answered(session: u64, number: u64, request: Request, reply: Reply) -> Answered {
+    Answered {
+        worker: 0,
+        session,
+        number,
+        request,
+        moment: 1000,
+        reply,
+    }
+}
+
+fn value_of(alloc: Global, length: usize) -> Result<Reply, Fail> {
+    let value = vec![in alloc; b'v'; length]?;
+    let hit = HitRef {
+        key: b"a",
+        flags: 0,
+        value: value.as_slice(),
+        cas: 1,
+    };
+    let mut hits = Hits::new(alloc).into_writer();
+    if let Some(room) = hit.room() {
+        hits.reserve(room)?;
+        hits.push(hit);
+    }
+    Ok(Reply::Values(hits.finish()))
+}
+
+/// The length of a value, that of the output which shows it, and whether the session is read while it waits.
+const OUTPUTS: [(usize, usize, bool); 3] = [
+    (1_048_549, 1_048_575, true),
+    (1_048_550, 1_048_576, true),
+    (1_048_551, 1_048_577, false),
+];
+
+fn check_outputs(
+    rt: &impl Abort,
+    alloc: Global,
+    rows: &[(usize, usize, bool)],
+) -> Result<(), Fail> {
+    for (length, waiting, is_read) in rows {
+        let mut book = Book::new(alloc, 0);
+        book.open(1)?;
+        assert_eq!(rt; answer(alloc, &mut book, 1, *length)?, Settled::Kept);
+        assert_eq!(rt; book.out(1).len(), *waiting);
+        book.feed(1, b"get b\r\n")?;
+        let asked = book.next_ask(1)?;
+        let has_asked = asked.is_some();
+        drop(asked);
+        assert_eq!(rt; has_asked, *is_read, "while {waiting} bytes wait");
+    }
+    Ok(())
+}
+
+#[test]
+fn a_session_is_read_while_1_mib_waits(rt: HostRuntime) -> Result<(), Fail> {
+    check_outputs(&rt, rt.alloc(), &OUTPUTS)
+}
+
+/// The 64 requests of a session are answered with values of 131,000 bytes, and all wait.
+fn check_waiting(rt: &impl Abort, alloc: Global) -> Result<(), Fail> {
+    let mut book = Book::new(alloc, 0);
+    book.open(1)?;
+    for number in 1..=64 {
+        book.feed(1, b"get a\r\n")?;
+        let Some((request, asked)) = book.next_ask(1)? else {
+            return Err(Fail::new("no request"));
+        };
+        drop(request);
+        assert_eq!(rt; asked, number);
+    }
+    for number in 1..=64 {
+        let request = Request::FlushAll { delay: 0 };
+        let settled = book.settle(answered(1, number, request, value_of(alloc, 131_000)?));
+        assert_eq!(rt; settled, Settled::Kept, "answer {number}");
+    }
+    assert_eq!(rt; book.out(1).len(), 8_385_600);
+    Ok(())
+}
+
+#[test]
+fn answers_are_kept_while_8_mb_wait(rt: HostRuntime) -> Result<(), Fail> {
+    check_waiting(&rt, rt.alloc())
+}
+
+/// How many requests are unsettled, over so many sessions, when no further one is given.
+const SESSIONS: [u64; 3] = [1, 2, 64];
+
+fn check_unsettled(rt: &impl Abort, alloc: Global, rows: &[u64]) -> Result<(), Fail> {
+    for sessions in rows {
+        let mut book = Book::new(alloc, 0);
+        let mut asked = 0u64;
+        for turn in 0..130u64 {
+            let session = turn.min(sessions.saturating_sub(1)) + 1;
+            let _ = book.open(session);
+            book.feed(session, b"get a\r\n")?;
+            let given = book.next_ask(session)?;
+            asked = asked.saturating_add(u64::from(given.is_some()));
+            drop(given);
+        }
+        assert_eq!(rt; asked, 64, "over {sessions} sessions");
+    }
+    Ok(())
+}
+
+#[test]
+fn requests_of_all_sessions_are_64_at_most(rt: HostRuntime) -> Result<(), Fail> {
+    check_unsettled(&rt, rt.alloc(), &SESSIONS)
+}

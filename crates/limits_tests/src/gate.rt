@@ -1,0 +1,40 @@
+//! Which answers let request 2 of a worker pass a gate that holds two workers.
+
+use gates::hold::HoldGate;
+use std::process::Abort;
+use worker::gate::Gate;
+
+/// The answer that is told, by worker and number; the worker whose request 2 comes then; whether it passes.
+const ROWS: [(usize, u64, usize, bool); 12] = [
+    (0, 0, 0, false),
+    (0, 1, 0, false),
+    (0, 2, 0, false),
+    (1, 0, 0, false),
+    (1, 1, 0, true),
+    (1, 2, 0, false),
+    (1, 3, 0, false),
+    (2, 1, 0, false),
+    (0, 1, 1, true),
+    (0, 2, 1, false),
+    (1, 1, 1, false),
+    (2, 2, 1, false),
+];
+
+fn check_answers(rt: &impl Abort, rows: &[(usize, u64, usize, bool)]) {
+    for (worker, number, other, passes) in rows {
+        let gate = HoldGate::new();
+        gate.answered(*worker, *number);
+        let passed = gate.may_post(*other, 2);
+        assert_eq!(rt;
+            passed,
+            *passes,
+            "worker {other} after answer {number} of {worker}"
+        );
+        assert!(rt; !gate.spent());
+    }
+}
+
+#[test]
+fn only_the_others_first_answer_lets_pass(rt: HostRuntime) {
+    check_answers(&rt, &ROWS);
+}

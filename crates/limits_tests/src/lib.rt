@@ -1,0 +1,19 @@
+//! Tests at the limits, and of what no contract says of memory and time: that large runs find memory where there is
+//! some, where a book stops, how a gate holds, what a port plays while a session is paused, and how long requests take
+//! that come one at a time.
+#![tactic(auto)]
+
+#[cfg(test)]
+mod book;
+#[cfg(test)]
+mod gate;
+#[cfg(test)]
+mod pace;
+#[cfg(test)]
+mod pause;
+#[cfg(test)]
+mod runs;
+#[cfg(test)]
+mod serving;
+#[cfg(test)]
+mod talk;

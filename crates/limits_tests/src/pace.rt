@@ -1,0 +1,87 @@
+//! Requests that come one at a time, each once the one before was answered: a thread that sleeps for long between them
+//! is seen.
+
+use crate::runs::SteadyClock;
+use bytes::Bytes;
+use gates::open::OpenGate;
+use group::report::Config;
+use group::run::run_group;
+use plain_store::Store;
+use proto::geometry::Geometry;
+use std::test::Fail;
+use std::time::{Duration, Instant};
+use worker::port::{Gone, Port, PortEvent};
+
+/// How many requests come.
+const REQUESTS: usize = 200;
+
+/// What each of them is answered.
+const ANSWER: &[u8] = b"END\r\n";
+
+/// Opens session 1, sends it a request once the one before was answered, and ends behind the last answer.
+#[derive(Drop)]
+struct OneAtATime {
+    is_open: bool,
+    has_ended: bool,
+    sent: usize,
+    given: usize,
+}
+
+impl Port for OneAtATime {
+    ghost use Rattle.std.specs.Prelude.{None};
+
+    ghost told = { λ _. None };
+
+    ghost leads_to = { λ _ _. Unit {0} };
+
+    fn next(&mut self, _may_wait: bool) -> PortEvent {
+        if !self.is_open {
+            self.is_open = true;
+            return PortEvent::Opened(1);
+        }
+        if self.has_ended || self.given < self.sent.saturating_mul(ANSWER.len()) {
+            return PortEvent::Idle;
+        }
+        if self.sent < REQUESTS {
+            self.sent = self.sent.saturating_add(1);
+            return PortEvent::Data(1, Bytes::from_static(b"get a\r\n"));
+        }
+        self.has_ended = true;
+        PortEvent::Ended
+    }
+
+    fn give(&mut self, _session: u64, bytes: &[u8]) -> Result<usize, Gone> {
+        self.given = self.given.saturating_add(bytes.len());
+        Ok(bytes.len())
+    }
+
+    fn pause(&mut self, _session: u64) {}
+
+    fn resume(&mut self, _session: u64) {}
+
+    fn shut(&mut self, _session: u64) {}
+
+    ghost leads_reflexive = { λ _. tt };
+
+    ghost leads_transitive = { λ _ _ _ _ _. tt };
+}
+
+#[test]
+fn requests_one_at_a_time_take_no_seconds(rt: HostRuntime) -> Result<(), Fail> {
+    let alloc = rt.alloc();
+    let port = OneAtATime {
+        is_open: false,
+        has_ended: false,
+        sent: 0,
+        given: 0,
+    };
+    let geometry = Geometry::new(65_536, 64)?;
+    let config = Config { geometry };
+    let store = Store::new(alloc, geometry);
+    let ports = vec![in alloc; port]?;
+    let start = Instant::now(&rt)?;
+    let report = run_group(&rt, alloc, ports, config, store, SteadyClock, &OpenGate)?;
+    assert!(rt; start.elapsed(&rt)? < Duration::from_secs(5));
+    assert_eq!(rt; report.executed, REQUESTS as u64);
+    Ok(())
+}

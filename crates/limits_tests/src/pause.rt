@@ -1,0 +1,53 @@
+//! What a port plays while its first session is paused.
+
+ghost use Rattle.std.specs.Prelude.{◌≡◌, []};
+ghost use Rattle.worker.specs.Ports.{IsOpenIn};
+ghost use Rattle.script_port.specs.States.{told_of};
+
+use bytes::Bytes;
+use script::event::ScriptEvent;
+use script_port::port::ScriptPort;
+use std::alloc::Global;
+use std::process::Abort;
+use std::test::Fail;
+use worker::port::{Port, PortEvent};
+
+fn is_next(rt: &impl Abort, port: &mut ScriptPort, wanted: &str) {
+    let event = port.next(false);
+    let holds = match &event {
+        PortEvent::Opened(2) => wanted == "opened",
+        PortEvent::Data(2, bytes) => bytes.as_slice() == wanted.as_bytes(),
+        PortEvent::Idle => wanted == "idle",
+        _ => false,
+    };
+    drop(event);
+    assert!(rt; holds, "{wanted}");
+}
+
+/// A port at which session 1 was opened, and nothing else has happened.
+fn with_session_1(rt: &impl Abort, alloc: Global, events: Vec<ScriptEvent>) -> ScriptPort
+    ensures { IsOpenIn 1 (told_of result) }
+{
+    let mut port = ScriptPort::new(alloc, events);
+    match port.next(false) {
+        PortEvent::Opened(1) => port,
+        _ => panic!(rt; "session 1 isn't opened first"),
+    }
+}
+
+#[test]
+fn other_sessions_play_beside_a_paused_one(rt: HostRuntime) -> Result<(), Fail> {
+    let alloc = rt.alloc();
+    let events = vec![in alloc;
+        ScriptEvent::Open(1),
+        ScriptEvent::Send(1, Bytes::from_static(b"first")),
+        ScriptEvent::Open(2),
+        ScriptEvent::Send(2, Bytes::from_static(b"second")),
+    ]?;
+    let mut port = with_session_1(&rt, alloc, events);
+    port.pause(1);
+    is_next(&rt, &mut port, "opened");
+    is_next(&rt, &mut port, "second");
+    is_next(&rt, &mut port, "idle");
+    Ok(())
+}

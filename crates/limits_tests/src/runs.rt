@@ -1,0 +1,209 @@
+//! Runs that are large in one way: each finds memory, in the plain program and over the exchange.
+
+use crate::serving::serve;
+use crate::talk::{Shape, Talk, script_of, talk_of};
+use plain_store::Store;
+use proto::geometry::Geometry;
+use script::clock::ScriptClock;
+use script::reader::read_script;
+use script::worker_script::WorkerScript;
+use script_port::port::ScriptPort;
+use session_book::causes::EndCause;
+use std::alloc::Global;
+use std::process::Abort;
+use std::sync::Wait;
+use std::test::Fail;
+use std::thread::Threads;
+use std::time;
+use storage_thread::clock::Clock;
+use straight::replay::replay_straight;
+use worker::report::WorkerReport;
+
+/// The size and the number of a store's segments; and the bytes of a value, how many keys stand in a line that asks
+/// for it, and how many such lines there are.
+type Row = ((u32, u32), (usize, usize, usize));
+
+/// As many keys as a line of 2,048 bytes has room for.
+const MANY_KEYS: [Row; 1] = [((65_536, 64), (1, 1021, 3))];
+
+/// Two answers of more than 1 MiB.
+const LARGE_ANSWERS: [Row; 1] = [((65_536, 64), (8000, 150, 2))];
+
+/// The longest values, in answers of up to 4 MiB and more.
+const LONG_VALUES: [Row; 2] = [
+    ((1_048_576, 8), (131_047, 1, 3)),
+    ((1_048_576, 8), (131_000, 34, 2)),
+];
+
+/// A store of 2 GiB, the largest store, and the most segments of the smallest size.
+const LARGE_STORES: [Row; 3] = [
+    ((1_048_576, 2048), (1, 1, 1)),
+    ((1_048_576, 65_536), (131_047, 1, 1)),
+    ((4096, 65_536), (487, 2, 2)),
+];
+
+/// It is 1000 at all times.
+#[derive(Drop)]
+pub(crate) struct SteadyClock;
+
+impl Clock for SteadyClock {
+    ghost use Rattle.std.specs.Prelude.{⊤, None};
+
+    ghost told = { λ _. None };
+
+    ghost leads_to = { λ _ _. ⊤ };
+
+    ghost leads_reflexive = { λ _. tt };
+
+    ghost leads_transitive = { λ _ _ _ _ _. tt };
+
+    fn now(&mut self) -> u64 {
+        1000
+    }
+}
+
+/// The events of worker 0.
+fn events_of<R: Abort>(rt: &R, alloc: Global, script: &[u8]) -> WorkerScript {
+    let mut scripts = read_script(alloc, script, 1).expect(rt, "a script");
+    scripts.pop().expect(rt, "a worker")
+}
+
+/// What so many sessions of a script are given each, over a store of these sizes.
+#[derive(Clone, Copy)]
+struct Case<'a> {
+    geometry: Geometry,
+    sessions: u64,
+    script: &'a [u8],
+    output: &'a [u8],
+}
+
+/// The plain program gives each session its output.
+fn check_straight<R: Abort>(rt: &R, alloc: Global, case: &Case) {
+    let events = events_of(rt, alloc, case.script);
+    let store = Store::new(alloc, case.geometry);
+    let clock = ScriptClock::new(1000, 0);
+    let given = replay_straight(alloc, store, clock, events.as_slice()).expect(rt, "memory");
+    assert_eq!(*rt; given.len() as u64, case.sessions);
+    for session in given.as_slice() {
+        let number = session.session;
+        assert!(*rt;
+            session.output.as_slice() == case.output,
+            "session {number}"
+        );
+    }
+}
+
+/// The most bytes that a give accepts, and the give at which the peer is gone; 0 is none for either.
+type Faults = (usize, u64);
+
+/// A worker over a port that plays the script.
+fn run_script<R>(
+    rt: &R,
+    alloc: Global,
+    case: &Case,
+    (accept, fail_give): Faults,
+) -> WorkerReport<ScriptPort>
+where
+    R: Abort + Threads + Wait + time::Clock + Copy + Drop + Send + Sync + 'static,
+{
+    let events = events_of(rt, alloc, case.script).into_events();
+    let port = ScriptPort::new(alloc, events).with_faults(accept, fail_give);
+    serve(rt, alloc, case.geometry, port)
+}
+
+/// Each session of the case drained, and was given its output.
+fn check_report<R: Abort>(rt: &R, worker: &WorkerReport<ScriptPort>, case: &Case) {
+    assert_eq!(*rt; worker.unopened, 0);
+    assert_eq!(*rt; worker.sessions.len() as u64, case.sessions);
+    for (session, cause) in worker.sessions.as_slice() {
+        assert_eq!(*rt; *cause, EndCause::Drained, "session {session}");
+        assert!(*rt;
+            worker.port.given(*session) == case.output,
+            "session {session}"
+        );
+    }
+}
+
+/// A worker gives each session its output, over a port with these faults.
+fn check_worker<R: Abort + Threads + Wait + time::Clock + Copy + Drop + Send + Sync + 'static>(
+    rt: &R,
+    alloc: Global,
+    case: &Case,
+    faults: Faults,
+) {
+    check_report(rt, &run_script(rt, alloc, case, faults), case);
+}
+
+/// So many sessions send what the talk says and are given what it says: by the plain program; by a worker, in at most
+/// as many gives as there are lines; and by a worker whose port accepts little at once.
+fn check_run<R: Abort + Threads + Wait + time::Clock + Copy + Drop + Send + Sync + 'static>(
+    rt: &R,
+    alloc: Global,
+    geometry: Geometry,
+    sessions: u64,
+    talk: &Talk,
+    lines: u64,
+) {
+    let script = script_of(rt, alloc, sessions, talk.input.as_slice());
+    let case = &Case {
+        geometry,
+        sessions,
+        script: script.as_slice(),
+        output: talk.output.as_slice(),
+    };
+    check_straight(rt, alloc, case);
+    let gives = sessions.saturating_mul(lines);
+    check_worker(rt, alloc, case, (0, gives.saturating_add(1)));
+    check_worker(rt, alloc, case, (65_536, 0));
+}
+
+fn check_rows<R: Abort + Threads + Wait + time::Clock + Copy + Drop + Send + Sync + 'static>(
+    rt: &R,
+    alloc: Global,
+    rows: &[Row],
+) -> Result<(), Fail> {
+    for ((segment_size, segments), (value, keys, lines)) in rows {
+        let geometry = Geometry::new(*segment_size, *segments)?;
+        let shape = Shape {
+            value: *value,
+            keys: *keys,
+            lines: *lines,
+        };
+        let talk = talk_of(rt, alloc, shape);
+        check_run(rt, alloc, geometry, 1, &talk, *lines as u64);
+    }
+    Ok(())
+}
+
+#[test]
+fn lines_of_1021_keys(rt: HostRuntime) -> Result<(), Fail> {
+    check_rows(&rt, rt.alloc(), &MANY_KEYS)
+}
+
+#[test]
+fn answers_above_1_mib(rt: HostRuntime) -> Result<(), Fail> {
+    check_rows(&rt, rt.alloc(), &LARGE_ANSWERS)
+}
+
+#[test]
+fn the_longest_values(rt: HostRuntime) -> Result<(), Fail> {
+    check_rows(&rt, rt.alloc(), &LONG_VALUES)
+}
+
+#[test]
+fn stores_of_2_gib_and_more(rt: HostRuntime) -> Result<(), Fail> {
+    check_rows(&rt, rt.alloc(), &LARGE_STORES)
+}
+
+#[test]
+fn many_sessions_are_open_at_once(rt: HostRuntime) -> Result<(), Fail> {
+    let alloc = rt.alloc();
+    let shape = Shape {
+        value: 1,
+        keys: 1,
+        lines: 1,
+    };
+    let talk = talk_of(&rt, alloc, shape);
+    check_run(&rt, alloc, Geometry::new(65_536, 64)?, 1500, &talk, 1);
+    Ok(())
+}

@@ -1,0 +1,81 @@
+//! Sessions whose peers send no more, and may still read answers.
+
+ghost use Rattle.std.specs.Prelude.{◌≡◌};
+
+use crate::streams::Streams;
+use std::alloc::{AllocError, Global};
+use std::collections::VecDeque;
+use std::time::{Clock, Duration, Instant};
+
+/// So long no output is offered to a session before its answers are taken to have ceased, in milliseconds: where its worker
+/// owes no answer to any session, and where it may still owe this one some.
+const QUIET_MILLIS: u64 = 20;
+
+const OWED_MILLIS: u64 = 250;
+
+/// A session, and when it was last seen to have answers.
+#[derive(Clone, Copy)]
+struct Ceasing {
+    session: u64,
+    since: Instant,
+}
+
+/// Such sessions in the order in which they were last looked at.
+#[derive(Drop)]
+pub(crate) struct CeasingSessions {
+    sessions: VecDeque<Ceasing>,
+}
+
+impl CeasingSessions {
+    pub(crate) fn new(alloc: Global) -> CeasingSessions {
+        CeasingSessions {
+            sessions: VecDeque::new(alloc),
+        }
+    }
+
+    pub(crate) fn is_empty(&self) -> bool {
+        self.sessions.is_empty()
+    }
+
+    // Follows a session from now on. False where it can't.
+    pub(crate) fn add<R: Clock>(&mut self, rt: &R, session: u64) -> bool {
+        let Ok(since) = Instant::now(rt) else {
+            return false;
+        };
+        self.sessions.push_back(Ceasing { session, since }).is_ok()
+    }
+
+    // The session that was looked at longest ago, if that is long enough ago.
+    fn next_due<R: Clock>(&mut self, rt: &R, quiet: Duration) -> Option<u64> {
+        let Ceasing { session, since } = *self.sessions.front()?;
+        if let Ok(elapsed) = since.elapsed(rt) {
+            if elapsed < quiet {
+                return None;
+            }
+        }
+        self.sessions.pop_front();
+        Some(session)
+    }
+
+    // The next session that is still open and had no answers for long enough.
+    pub(crate) fn next_ceased<R: Clock>(
+        &mut self,
+        rt: &R,
+        streams: &mut Streams,
+        owes_none: bool,
+    ) -> Option<u64>
+        ensures { streams.new.last ≡ streams.old.last }
+    {
+        let millis = if owes_none { QUIET_MILLIS } else { OWED_MILLIS };
+        let quiet = Duration::from_millis(millis);
+        for _ in 0..self.sessions.len() {
+            let session = self.next_due(rt, quiet)?;
+            if let Some(has_answers) = streams.has_answers(session) {
+                if !has_answers || !self.add(rt, session) {
+                    return Some(session);
+                }
+            }
+        }
+        None
+    }
+}

@@ -1,0 +1,70 @@
+//! Streams on their way from the listener to a worker.
+
+use crossbeam_queue::ArrayQueue;
+use mio::net::{TcpStream, UnixStream};
+use mio::{Interest, Poll, Token};
+use std::alloc::Global;
+use std::io::{self, Read, Write};
+use std::sync::atomic::{AtomicBool, Ordering};
+use std::sync::{Arc, Wait};
+
+/// The bell's token in a port's poll: sessions are numbered from 1.
+pub(crate) const BELL: Token = Token(0);
+
+/// Bytes of the bell that are read at once.
+const RINGS: usize = 128;
+
+/// One end of a queue of streams: the listener's, or a port's.
+#[derive(Drop)]
+pub struct Hand {
+    pub(crate) streams: Arc<ArrayQueue<TcpStream>, Global>,
+    pub(crate) has_ended: Arc<AtomicBool, Global>,
+    /// For each stream the listener's end writes a byte, so that a port that waits for its sockets wakes.
+    pub(crate) bell: UnixStream,
+}
+
+impl Hand {
+    // Offers a stream, which comes back where the queue is full.
+    pub(crate) fn offer<R: Wait>(&self, rt: &R, stream: TcpStream) -> Result<(), TcpStream> {
+        self.streams.push(rt, stream)?;
+        self.ring();
+        Ok(())
+    }
+
+    pub(crate) fn take<R: Wait>(&self, rt: &R) -> Option<TcpStream> {
+        self.streams.pop(rt)
+    }
+
+    // No stream comes any more.
+    pub(crate) fn end(&self) {
+        self.has_ended.store(true, Ordering::SeqCst);
+        self.ring();
+    }
+
+    // Whether no stream waits and none comes.
+    pub(crate) fn is_over(&self) -> bool {
+        self.has_ended.load(Ordering::SeqCst) && self.streams.is_empty()
+    }
+
+    // A bell whose bytes nobody has read yet may be full, and rings all the same.
+    fn ring(&self) {
+        let _ = (&self.bell).write(&[1]);
+    }
+
+    // Has the poll return when the bell rings.
+    pub(crate) fn register(&mut self, poll: &Poll) -> io::Result<()> {
+        poll.registry()
+            .register(&mut self.bell, BELL, Interest::READABLE)
+    }
+
+    // Takes the bell's bytes, so that it has room to ring again.
+    pub(crate) fn hear(&self) {
+        let mut rings = [0u8; RINGS];
+        for _ in 0..RINGS {
+            match (&self.bell).read(&mut rings) {
+                Ok(count) if count == RINGS => {}
+                _ => return,
+            }
+        }
+    }
+}

@@ -1,0 +1,244 @@
+//! The open streams of a port, by their sessions' numbers.
+
+ghost use Rattle.std.specs.Prelude.{◌≡◌, ◌≤◌, ◌+◌, length, IfOk, MatchOption, vec_len};
+ghost use Rattle.net.specs.Events.{IsPiece};
+
+use bytes::Bytes;
+use mio::net::TcpStream;
+use mio::{Events, Interest, Poll, Token};
+use std::alloc::{AllocError, Global};
+use std::collections::{HashMap, VecDeque};
+use std::io::{ErrorKind, Read, Write};
+use worker::port::Gone;
+
+/// The greatest piece of input.
+const PIECE: usize = 16_384;
+
+/// The most sessions of a port that are open at a time.
+const OPEN_SESSIONS: usize = 1024;
+
+/// One open stream.
+#[derive(Drop)]
+struct OpenStream {
+    stream: TcpStream,
+    is_paused: bool,
+    // Stands in the list of what is ready.
+    is_queued: bool,
+    // The peer sends no more, or the stream failed: it is read until a read says so.
+    has_closed: bool,
+    // Some input came: answers may be owed.
+    has_input: bool,
+    // A read of no bytes came: the stream isn't read any more.
+    has_ended: bool,
+    // The last write was short, and no room was told since.
+    is_blocked: bool,
+    // Output was offered, or room for it was told, since the end of the input was last looked at.
+    was_offered: bool,
+}
+
+/// What a read came to.
+pub(crate) enum Reading {
+    Bytes(Bytes),
+    Nothing,
+    /// The peer sends no more. It may still read.
+    Ended,
+    Gone,
+}
+
+/// The streams, and the list of those that may have something to read.
+#[derive(Drop)]
+pub(crate) struct Streams {
+    alloc: Global,
+    open: HashMap<u64, OpenStream>,
+    ready: VecDeque<u64>,
+    scratch: Vec<u8>,
+    // The number of the session that was opened last.
+    pub(crate) last: u64,
+    ghost room: { vec_len scratch ≡ 16384 },
+}
+
+impl Streams {
+    pub(crate) fn new(alloc: Global) -> Result<Streams, AllocError> {
+        Ok(Streams {
+            alloc,
+            open: HashMap::with_capacity(alloc, OPEN_SESSIONS)?,
+            ready: VecDeque::with_capacity(alloc, OPEN_SESSIONS)?,
+            scratch: Vec::from_elem(alloc, 0u8, PIECE)?,
+            last: 0,
+        })
+    }
+
+    pub(crate) fn is_empty(&self) -> bool {
+        self.open.is_empty()
+    }
+
+    pub(crate) fn is_full(&self) -> bool {
+        self.open.len() >= OPEN_SESSIONS
+    }
+
+    // The number of the new session. None where the stream can't be served; it is closed.
+    pub(crate) fn open(&mut self, poll: &Poll, mut stream: TcpStream) -> Option<u64>
+        ensures { MatchOption result (self.new.last ≡ self.old.last) (λ n. (n ≡ self.old.last + 1) × (self.new.last ≡ n)) }
+    {
+        let number = self.last.checked_add(1)?;
+        stream.set_nodelay(true).ok()?;
+        self.ready.reserve(OPEN_SESSIONS).ok()?;
+        let both = Interest::READABLE | Interest::WRITABLE;
+        poll.registry()
+            .register(&mut stream, Token(number as usize), both)
+            .ok()?;
+        let open = OpenStream {
+            stream,
+            is_paused: false,
+            is_queued: false,
+            has_closed: false,
+            has_input: false,
+            has_ended: false,
+            is_blocked: false,
+            was_offered: false,
+        };
+        self.open.insert(number, open).ok()?;
+        self.last = number;
+        Some(number)
+    }
+
+    pub(crate) fn close(&mut self, session: u64)
+        ensures { self.new.last ≡ self.old.last }
+    {
+        let _ = self.open.remove(&session);
+    }
+
+    // Notes which streams have something to read or room to write. True where one has room that had none.
+    pub(crate) fn mark(&mut self, events: &Events) -> bool
+        ensures { self.new.last ≡ self.old.last }
+    {
+        let mut has_room = false;
+        for event in events {
+            let number = event.token().0 as u64;
+            let Some(open) = self.open.get_mut(&number) else {
+                continue;
+            };
+            if event.is_writable() && open.is_blocked {
+                open.is_blocked = false;
+                open.was_offered = true;
+                has_room = true;
+            }
+            if event.is_read_closed() || event.is_error() {
+                open.has_closed = true;
+            }
+            if (event.is_readable() || open.has_closed) && !open.is_queued {
+                open.is_queued = self.ready.push_back(number).is_ok();
+            }
+        }
+        has_room
+    }
+
+    // A session that may have something to read. A paused one is queued again when it is resumed.
+    pub(crate) fn next_ready(&mut self) -> Option<u64>
+        ensures { self.new.last ≡ self.old.last }
+    {
+        for _ in 0..self.ready.len() {
+            let number = self.ready.pop_front()?;
+            if let Some(open) = self.open.get_mut(&number) {
+                open.is_queued = false;
+                if !open.is_paused {
+                    return Some(number);
+                }
+            }
+        }
+        None
+    }
+
+    // Reads once. A full read, or one of a peer that has closed, is followed by another.
+    pub(crate) fn read(&mut self, session: u64) -> Reading
+        ensures last { self.new.last ≡ self.old.last }
+        ensures piece { IsPiece result }
+    {
+        let Some(open) = self.open.get_mut(&session) else {
+            return Reading::Nothing;
+        };
+        match (&open.stream).read(self.scratch.as_mut_slice()) {
+            Ok(0) if open.has_ended => Reading::Nothing,
+            Ok(0) if !open.has_input => self.lose(session),
+            Ok(0) => {
+                open.has_ended = true;
+                open.was_offered = false;
+                Reading::Ended
+            }
+            Ok(count) => {
+                open.has_input = true;
+                if count == self.scratch.len() || open.has_closed {
+                    open.is_queued = self.ready.push_back(session).is_ok();
+                }
+                match Bytes::copy_from_slice(self.alloc, &self.scratch[..count]) {
+                    Ok(piece) => Reading::Bytes(piece),
+                    Err(_) => self.lose(session),
+                }
+            }
+            Err(error) if error.kind() == ErrorKind::WouldBlock => Reading::Nothing,
+            Err(_) => self.lose(session),
+        }
+    }
+
+    fn lose(&mut self, session: u64) -> Reading
+        ensures last { self.new.last ≡ self.old.last }
+        ensures piece { IsPiece result }
+    {
+        self.close(session);
+        Reading::Gone
+    }
+
+    // Whether the session has answers still: its last write was short, or output was offered since this was last asked.
+    // None where it isn't open any more.
+    pub(crate) fn has_answers(&mut self, session: u64) -> Option<bool>
+        ensures { self.new.last ≡ self.old.last }
+    {
+        let open = self.open.get_mut(&session)?;
+        let has_answers = open.was_offered || open.is_blocked;
+        open.was_offered = false;
+        Some(has_answers)
+    }
+
+    // Writes once, unless the stream is known to have no room.
+    pub(crate) fn write(&mut self, session: u64, bytes: &[u8]) -> Result<usize, Gone>
+        ensures { IfOk result (λ n. n ≤ length bytes.now) }
+    {
+        let Some(open) = self.open.get_mut(&session) else {
+            return Err(Gone);
+        };
+        open.was_offered = true;
+        if open.is_blocked || bytes.is_empty() {
+            return Ok(0);
+        }
+        match (&open.stream).write(bytes) {
+            Ok(count) => {
+                open.is_blocked = count < bytes.len();
+                Ok(count)
+            }
+            Err(error) if error.kind() == ErrorKind::WouldBlock => {
+                open.is_blocked = true;
+                Ok(0)
+            }
+            Err(_) => {
+                self.close(session);
+                Err(Gone)
+            }
+        }
+    }
+
+    pub(crate) fn pause(&mut self, session: u64) {
+        if let Some(open) = self.open.get_mut(&session) {
+            open.is_paused = true;
+        }
+    }
+
+    // What came meanwhile may not be told again, so the session is read from.
+    pub(crate) fn resume(&mut self, session: u64) {
+        if let Some(open) = self.open.get_mut(&session) {
+            open.is_paused = false;
+            if !open.is_queued {
+                open.is_queued = self.ready.push_back(session).is_ok();
+            }
+        }
+    }
+}

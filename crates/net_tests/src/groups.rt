@@ -1,0 +1,118 @@
+//! Groups of workers over sockets.
+
+use crate::clients::{ANSWER_A, ANSWER_B, ROW_A, ROW_B, ask, connect, send};
+use clocks::unix_clock::UnixClock;
+use gates::open::OpenGate;
+use group::report::{Config, GroupWorker};
+use group::run::run_group;
+use net::hand::Hand;
+use net::listener::Listener;
+use net::pair::hand;
+use net::port::MioPort;
+use net::report::ListenReport;
+use plain_store::Store;
+use proto::geometry::Geometry;
+use session_book::causes::EndCause;
+use std::alloc::Global;
+use std::net::{Net, TcpStream};
+use std::process::Abort;
+use std::sync::Wait;
+use std::thread::{self, Threads};
+use std::time::Clock;
+
+/// What serves two workers' sessions.
+#[derive(Drop)]
+struct Parts<R: Drop> {
+    listener: Listener,
+    hands: Vec<Hand>,
+    ports: Vec<MioPort<R>>,
+}
+
+fn two_workers<R: Wait + Clock + Net + Abort + Copy + Drop>(rt: R, alloc: Global) -> Parts<R> {
+    let listener = Listener::bind(&rt, alloc, "127.0.0.1:0").expect(&rt, "a listener");
+    let mut hands = Vec::new(alloc);
+    let mut ports = Vec::new(alloc);
+    for _ in 0..2 {
+        let (of_listener, of_port) = hand(&rt, alloc).expect(&rt, "a hand");
+        hands.push(of_listener).expect(&rt, "memory");
+        let port = MioPort::new(rt, &rt, alloc, of_port).expect(&rt, "a port");
+        ports.push(port).expect(&rt, "memory");
+    }
+    Parts {
+        listener,
+        hands,
+        ports,
+    }
+}
+
+/// Serves two sessions, and returns what the listener and the workers report.
+fn serve_two<R>(
+    rt: R,
+    alloc: Global,
+    parts: Parts<R>,
+) -> (ListenReport, Vec<GroupWorker<MioPort<R>>>)
+where
+    R: Threads + Wait + Clock + Abort + Copy + Drop + Send + Sync + 'static,
+{
+    let Parts {
+        mut listener,
+        hands,
+        ports,
+    } = parts;
+    let listening = thread::spawn(&rt, move || listener.run(&rt, hands.as_slice(), Some(2))).expect(
+        &rt, "a thread",
+    );
+    let geometry = Geometry::new(65_536, 64).expect(&rt, "a geometry");
+    let config = Config { geometry };
+    let clock = UnixClock::new(rt);
+    let store = Store::new(alloc, geometry);
+    let report = run_group(&rt, alloc, ports, config, store, clock, &OpenGate).expect(
+        &rt, "a group",
+    );
+    (listening.join(&rt), report.workers)
+}
+
+/// Each worker had session 1 alone, which ended so.
+fn had_one_session<R: Drop>(workers: &[GroupWorker<MioPort<R>>], cause: EndCause) -> bool {
+    workers.iter().all(|worker| worker.sessions.as_slice() == [(1, cause)].as_slice())
+}
+
+#[test]
+fn each_of_two_workers_serves_a_client(rt: HostRuntime) {
+    let alloc: Global = rt.alloc();
+    let parts = two_workers(rt, alloc);
+    let port = parts.listener.port();
+    let clients = thread::spawn(
+        &rt,
+        move || (ask(&rt, alloc, port, ROW_A), ask(&rt, alloc, port, ROW_B)),
+    )
+    .expect(&rt, "a thread");
+    let (listened, workers) = serve_two(rt, alloc, parts);
+    let (first, second) = clients.join(&rt);
+    assert!(rt; first.as_slice() == ANSWER_A && second.as_slice() == ANSWER_B);
+    assert!(rt; listened.accepted == 2 && listened.closed == 0 && listened.failed == 0);
+    assert!(rt; workers.len() == 2 && had_one_session(workers.as_slice(), EndCause::Quit));
+}
+
+/// A client that closes without reading, and then one that asks for the first one's key.
+fn leave_and_ask<R: Net<Stream = TcpStream> + Abort>(rt: &R, alloc: Global, port: u16) -> Vec<u8> {
+    let first = connect(rt, alloc, port);
+    send(rt, &first, b"set a 0 0 1\r\nx\r\nget a\r\n");
+    drop(first);
+    ask(rt, alloc, port, b"get a\r\nquit\r\n")
+}
+
+#[test]
+fn a_client_that_closes_without_reading_harms_nobody(rt: HostRuntime) {
+    let alloc: Global = rt.alloc();
+    let parts = two_workers(rt, alloc);
+    let port = parts.listener.port();
+    let clients = thread::spawn(&rt, move || leave_and_ask(&rt, alloc, port)).expect(
+        &rt, "a thread",
+    );
+    let (listened, _workers) = serve_two(rt, alloc, parts);
+    let answer = clients.join(&rt);
+    let missed = answer.as_slice() == b"END\r\n".as_slice();
+    assert!(rt; missed || answer.as_slice() == b"VALUE a 0 1\r\nx\r\nEND\r\n".as_slice());
+    assert!(rt; listened.accepted == 2 && listened.closed == 0);
+}

@@ -1,0 +1,4 @@
+pub mod Live
+pub mod State
+pub mod PlainWrites
+pub mod Plain

@@ -1,0 +1,25 @@
+-- The words of a line, and keys with a space before each.
+use Rattle.std.specs.Prelude.{◌≡◌, ℕ, Bool, false, eqb, List, [], drop, Option, Some, None}
+use Rattle.std.specs.Borrow.{Bor}
+use Rattle.std.specs.List.{list_any, slice_split}
+use Rattle.proto.specs.Lines.{space}
+
+abbrev pub is_space : ℕ → Bool
+is_space b = eqb b space
+
+-- bytes without a space
+abbrev pub IsWord : List ℕ → Type 0
+IsWord word = list_any is_space word ≡ false
+
+-- the words of a line
+abbrev pub words_of : List ℕ → List (List ℕ)
+words_of line = slice_split is_space line
+
+-- the words of what is left of a line, if anything is
+abbrev pub words_behind : Option (Bor (List ℕ)) → List (List ℕ)
+words_behind None = []
+words_behind (Some rest) = words_of rest.now
+
+-- the keys in bytes where a space stands before each: the words behind the first space
+abbrev pub keys_in : List ℕ → List (List ℕ)
+keys_in b = drop 1 (words_of b)

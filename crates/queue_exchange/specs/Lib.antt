@@ -1,0 +1,5 @@
+pub mod Replies
+pub mod Requests
+pub mod Queues
+pub mod ReplySides
+pub mod Ends

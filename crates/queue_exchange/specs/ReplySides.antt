@@ -1,0 +1,14 @@
+-- What the fields of storage's side of a reply queue say.
+use Rattle.std.specs.Prelude.{◌≡◌, true}
+use Rattle.std.specs.Arc.{arc_value}
+use Rattle.crossbeam_queue.specs.Passes.{view, IsPassOf, ruled_capacity}
+use Rattle.queue_exchange.specs.Replies.{ReplyLog}
+use Rattle.queue_exchange.specs.declared.reply_side.ReplySide.TheInside as Reply
+
+abbrev pub reply_log : Reply.Inside → ReplyLog
+reply_log l = record { pushed = (view l.pass).pushed; replies = l.pass.table_id }
+
+pub record IsReplySide (l : Reply.Inside) : Type 0 where
+  pub pass : IsPassOf (arc_value l.queue) l.pass
+  pub pushes : (view l.pass).pushes ≡ true
+  pub room : ruled_capacity (arc_value l.queue) ≡ 64

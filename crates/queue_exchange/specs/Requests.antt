@@ -1,0 +1,147 @@
+-- The rule of the request queue: what each worker sent is what storage took of it, and then what the queue holds of it,
+-- in order.
+use Rattle.std.specs.Prelude.{◌≡◌, ℕ, suc, ◌+◌, ◌≤◌, ◌==◌, Bool, true, false, List, [], ◌∷◌, ◌++◌, map, filter, length, Option, Some, None}
+use mathlib.Core.Option.{some, none}
+use mathlib.Core.Option as maybe
+use lib.ListN.{get_elem?}
+use Rattle.proto.specs.declared.history.Posted.{Posted}
+use Rattle.proto.specs.declared.history.Answered.{Answered}
+use Rattle.proto.specs.declared.message.Request.TheVariants.{FlushAll}
+use Rattle.proto.specs.declared.message.Reply.TheVariants.{NoMemory}
+use Rattle.exchange.specs.declared.messages.Taken.{Taken}
+use Rattle.exchange.specs.declared.messages.Taken.TheVariants.{Asked, Bye}
+use Rattle.exchange.specs.Beginnings.{times}
+use Rattle.queue_exchange.specs.declared.views.Sending.{Sending}
+use Rattle.queue_exchange.specs.declared.views.RequestView.{RequestView}
+
+-- Messages
+
+-- the worker that sent a message
+abbrev pub sender_of : Taken → ℕ
+sender_of (Asked w p) = w
+sender_of (Bye w) = w
+
+-- the messages of one worker, in order
+abbrev pub part : ℕ → List Taken → List Taken
+part w messages = filter (λ m. sender_of m == w) messages
+
+-- the requests among some messages
+abbrev pub requests_among : List Taken → List Posted
+requests_among [] = []
+requests_among (Asked w p ∷ messages) = p ∷ requests_among messages
+requests_among (Bye w ∷ messages) = requests_among messages
+
+-- the same, each with its worker
+abbrev pub with_senders : List Taken → List (ℕ × Posted)
+with_senders [] = []
+with_senders (Asked w p ∷ messages) = (w, p) ∷ with_senders messages
+with_senders (Bye w ∷ messages) = with_senders messages
+
+-- the workers whose byes are among them
+abbrev pub byes_among : List Taken → List ℕ
+byes_among [] = []
+byes_among (Asked w p ∷ messages) = byes_among messages
+byes_among (Bye w ∷ messages) = w ∷ byes_among messages
+
+-- the open request once a message was taken: a request is open, a bye leaves it
+abbrev pub open_after : Option (ℕ × Posted) → Taken → Option (ℕ × Posted)
+open_after o (Asked w p) = Some (w, p)
+open_after o (Bye w) = o
+
+-- a bye, where it was said
+abbrev pub last_bye : ℕ → Bool → List Taken
+last_bye w true = Bye w ∷ []
+last_bye w false = []
+
+-- a worker's messages: its requests, and its bye as the last one
+abbrev pub messages_of : ℕ → Sending → List Taken
+messages_of w s = map (λ p. Asked w p) s.sent ++ last_bye w s.said_bye
+
+-- What may be taken after these messages: no bye of its worker came before, and a request has the next number.
+abbrev pub Follows : List Taken → Taken → Type 0
+Follows taken (Asked w p) = (times w (byes_among taken) ≡ 0) × (p.number ≡ length (requests_among (part w taken)) + 1)
+Follows taken (Bye w) = times w (byes_among taken) ≡ 0
+
+-- What a worker sent
+
+abbrev pub nothing_sent : Sending
+nothing_sent = record { sent = []; said_bye = false }
+
+-- with one more message
+abbrev pub after_sending : Sending → Taken → Sending
+after_sending s (Asked w p) = record s { sent = s.sent ++ p ∷ [] }
+after_sending s (Bye w) = record s { said_bye = true }
+
+-- the numbers of requests are 1, 2, 3 and so on
+abbrev pub AreNumbered : List Posted → Type 0
+AreNumbered sent = (k : ℕ) (p : Posted) → get_elem? sent k ≡ some p → p.number ≡ suc k
+
+-- Views
+
+-- a worker's pass
+abbrev pub worker_pass : ℕ → Sending → RequestView
+worker_pass w s = record { sends = true; takes = false; meets = false; worker = w; sending = s; made = 0; taken = []; open_request = None; history = [] }
+
+-- storage's pass
+abbrev pub storage_pass : ℕ → List Taken → Option (ℕ × Posted) → List Answered → RequestView
+storage_pass made taken open_request history =
+    record {
+      sends = false;
+      takes = true;
+      meets = false;
+      worker = 0;
+      sending = nothing_sent;
+      made = made;
+      taken = taken;
+      open_request = open_request;
+      history = history;
+    }
+
+-- storage's pass v, which has met the worker of the pass u again
+abbrev pub meeting_pass : RequestView → RequestView → RequestView
+meeting_pass v u =
+    record {
+      sends = false;
+      takes = true;
+      meets = true;
+      worker = u.worker;
+      sending = u.sending;
+      made = v.made;
+      taken = v.taken;
+      open_request = v.open_request;
+      history = v.history;
+    }
+
+-- a pass that does nothing
+abbrev pub idle_pass : RequestView
+idle_pass = record { sends = false; takes = false; meets = false; worker = 0; sending = nothing_sent; made = 0; taken = []; open_request = None; history = [] }
+
+-- a pass that sends is the one seated for its worker, and knows what that one sent
+abbrev pub FitsWorker : (ℕ → maybe.Option ℕ) → (ℕ → Sending) → ℕ → RequestView → Type 0
+FitsWorker seat sending pass v = v.sends ≡ true → (seat v.worker ≡ some pass) × (v.sending ≡ sending v.worker)
+
+-- A pass that takes is the reader's and knows what was taken. Workers that aren't made yet have no seat and sent nothing,
+-- and one that was met again has no seat either.
+pub record FitsReader (reader : ℕ) (seat : ℕ → maybe.Option ℕ) (sending : ℕ → Sending) (taken : List Taken) (pass : ℕ) (v : RequestView) : Type 0 where
+  pub reads : pass ≡ reader
+  pub taken_is : v.taken ≡ taken
+  pub unmade : (w : ℕ) → v.made ≤ w → (seat w ≡ none) × (sending w ≡ nothing_sent)
+  pub met : v.meets ≡ true → (seat v.worker ≡ none) × (v.sending ≡ sending v.worker)
+
+pub record FitsRequests (reader : ℕ) (seat : ℕ → maybe.Option ℕ) (sending : ℕ → Sending) (taken : List Taken) (pass : ℕ) (v : RequestView) : Type 0 where
+  pub sender : FitsWorker seat sending pass v
+  pub storage : v.takes ≡ true → FitsReader reader seat sending taken pass v
+
+-- the rule
+pub record RequestsHold (items : List Taken) (views : List RequestView) : Type 0 where
+  pub reader : ℕ
+  pub seat : ℕ → maybe.Option ℕ
+  pub sending : ℕ → Sending
+  pub taken : List Taken
+  pub each_part : (w : ℕ) → part w (taken ++ items) ≡ messages_of w (sending w)
+  pub numbered : (w : ℕ) → AreNumbered (sending w).sent
+  pub each_pass : (pass : ℕ) (v : RequestView) → get_elem? views pass ≡ some v → FitsRequests reader seat sending taken pass v
+
+-- an entry, where none is picked
+abbrev pub any_entry : Answered
+any_entry = record { worker = 0; session = 0; number = 0; request = FlushAll 0; moment = 0; reply = NoMemory }

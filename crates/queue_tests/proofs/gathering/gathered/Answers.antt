@@ -1,0 +1,9 @@
+use Rattle.std.proofs.Common.{◌≡◌, ◌⊎◌, ℕ, [], ◌∷◌, ◌++◌, length, sym, ap, subst, ◌∙◌}
+use mathlib.Core.Option.{some, some-injective, some-ne-none}
+use lib.ListN.{get_elem?}
+use Rattle.queue_exchange.specs.Queues.{WorkerQueues, StorageQueues, IsEndOf, AreOfOne}
+use Rattle.queue_tests.proofs.One.{one_end}
+use Rattle.queue_tests.proofs.gathering.gathered.Goals as goal
+
+pub gather-requires : goal.gather-requires
+gather-requires c = one_end _ c.args.storage c.args.end (c.in_ok-push.ensures.items ∙ ap (λ l. l ++ c.args.end ∷ []) c.new-ends.ensures.items) c.requires

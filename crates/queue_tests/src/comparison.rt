@@ -1,0 +1,32 @@
+//! The same requests through the lanes and through the queues.
+
+use exchange_runs::{Load, run_lanes, run_queues};
+use std::test::Fail;
+
+/// The requests of each run, of all workers together: 80,000 in all, each way.
+const REQUESTS: u64 = 10_000;
+
+#[test]
+fn both_give_each_worker_the_same_answers(rt: HostRuntime) -> Result<(), Fail> {
+    for workers in 1..9 {
+        let load = Load {
+            each: REQUESTS / workers as u64,
+            window: 64,
+            kept: true,
+        };
+        let lanes = run_lanes(&rt, rt.alloc(), workers, load);
+        let queues = run_queues(&rt, rt.alloc(), workers, load);
+        let (Some(lanes), Some(queues)) = (lanes, queues) else {
+            panic!(rt; "not made")
+        };
+        assert_eq!(rt; lanes.players.len(), workers);
+        assert_eq!(rt; queues.players.len(), workers);
+        for (lane, queue) in lanes.players.iter().zip(queues.players.iter()) {
+            assert_eq!(rt; lane.counts(), (load.each, 0));
+            assert_eq!(rt; queue.counts(), (load.each, 0));
+            assert!(rt; lane.answers().len() as u64 >= load.each);
+            assert!(rt; lane.answers() == queue.answers());
+        }
+    }
+    Ok(())
+}

@@ -1,0 +1,129 @@
+//! Where memory is refused, the plain store keeps its entries, its cas counter, its pending flush and its
+//! moment, and executes the request when it is asked again.
+
+use plain_store::Store;
+use proto::geometry::Geometry;
+use proto::message::{Message, Next, Reply, Request};
+use proto::next::next_message;
+use proto::no_memory::NoMemory;
+use proto::show::show;
+use std::alloc::Global;
+
+/// Requests that store, show, change, expire and flush.
+const INPUTS: [&[u8]; 15] = [
+    b"set a 1 0 1\r\nx\r\n",
+    b"set b 2 9 2\r\nyy\r\n",
+    b"add c 3 0 3\r\nccc\r\n",
+    b"replace a 4 0 3\r\nzzz\r\n",
+    b"cas b 5 4 2 2\r\nbb\r\n",
+    b"set n 0 0 2\r\n19\r\n",
+    b"incr n 1\r\n",
+    b"decr n 3\r\n",
+    b"gets a b c n\r\n",
+    b"flush_all 2\r\n",
+    b"delete a\r\n",
+    b"set d 0 0 1\r\nd\r\n",
+    b"set d 0 -1 1\r\nd\r\n",
+    b"set e 0 0 1\r\ne\r\n",
+    b"gets a b c d e n\r\n",
+];
+
+/// Shows all entries.
+const ALL: &[u8] = b"gets a b c d e n\r\n";
+
+/// The moment of the last request, which is later for each of them by one.
+const LAST_MOMENT: u64 = 2000;
+
+/// The message, where it is read at the first or the second try.
+fn read(alloc: Global, input: &[u8]) -> Option<Message> {
+    for _ in 0..2 {
+        if let Ok(Next::Found(message, _)) = next_message(alloc, input) {
+            return Some(message);
+        }
+    }
+    None
+}
+
+fn handle(store: &mut Store, now: u64, request: &Request) -> Option<Reply> {
+    if store.last_moment() > now || now > LAST_MOMENT {
+        return None;
+    }
+    Some(store.handle(now, request))
+}
+
+fn shown(alloc: Global, request: Request, reply: &Reply) -> Result<Vec<u8>, NoMemory> {
+    let mut out = Vec::new(alloc);
+    show(&Message::Ask(request, false), Some(reply), &mut out)?;
+    Ok(out)
+}
+
+/// What stands in the store, where it is shown at the first, the second or the third try.
+fn entries(alloc: Global, store: &mut Store, now: u64) -> Option<Vec<u8>> {
+    for _ in 0..3 {
+        let Some(Message::Ask(request, _)) = read(alloc, ALL) else {
+            return None;
+        };
+        let reply = handle(store, now, &request)?;
+        if matches!(&reply, Reply::NoMemory) {
+            continue;
+        }
+        if let Ok(out) = shown(alloc, request, &reply) {
+            return Some(out);
+        }
+    }
+    None
+}
+
+/// The answer, where the request is executed at the first or the second try, and a refusal changes
+/// nothing.
+fn answer(alloc: Global, store: &mut Store, now: u64, input: &[u8]) -> Option<Vec<u8>> {
+    let before = entries(alloc, store, now)?;
+    let pending = store.pending();
+    let Message::Ask(request, _) = read(alloc, input)? else {
+        return None;
+    };
+    let mut reply = handle(store, now, &request)?;
+    if matches!(&reply, Reply::NoMemory) {
+        let after = entries(alloc, store, now)?;
+        let is_kept = after.as_slice() == before.as_slice()
+            && store.pending() == pending
+            && store.last_moment() == now;
+        if !is_kept {
+            return None;
+        }
+        reply = handle(store, now, &request)?;
+    }
+    let mut out = Vec::new(alloc);
+    let message = Message::Ask(request, false);
+    for _ in 0..2 {
+        if show(&message, Some(&reply), &mut out).is_ok() {
+            break;
+        }
+    }
+    Some(out)
+}
+
+/// Writes the answers, and says whether each was given.
+pub fn is_repeatable<R: Print + AllocGlobal>(rt: &R) -> bool {
+    let Ok(geometry) = Geometry::new(4096, 8) else {
+        return false;
+    };
+    let mut store = Store::new(rt.alloc(), geometry);
+    let mut now = 1000;
+    for input in INPUTS {
+        let out = answer(rt.alloc(), &mut store, now, input);
+        let Some(out) = out else {
+            return false;
+        };
+        let Ok(text) = str::from_utf8(out.as_slice()) else {
+            return false;
+        };
+        if rt.print(text).is_err() {
+            return false;
+        }
+        if now < LAST_MOMENT {
+            now += 1;
+        }
+    }
+    true
+}

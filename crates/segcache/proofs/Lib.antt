@@ -1,4 +1,0 @@
-pub mod Digits
-pub mod LiveLemmas
-pub mod HitLemmas
-pub mod PlainLemmas

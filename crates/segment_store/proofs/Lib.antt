@@ -1,0 +1,15 @@
+pub mod Showing
+pub mod Tying
+pub mod Opening
+pub mod LeftPlaces
+pub mod Starting
+pub mod PlaceCounts
+pub mod Appending
+pub mod Evicting
+pub mod Giving
+pub mod RoomMade
+pub mod Putting
+pub mod Writing
+pub mod MergedMarks
+pub mod MergedRoom
+pub mod MergePlans

@@ -1,0 +1,30 @@
+use Rattle.std.proofs.Common.{[], refl, sym, subst, ◌∙◌, inl}
+use Rattle.proto.proofs.CacheLemmas.{without-nil}
+use Rattle.segments.specs.Shown.{item_of}
+use Rattle.segments.specs.Pools.{PoolState}
+use Rattle.segments.proofs.Places.{has_room}
+use Rattle.index.specs.Table.{Table}
+use Rattle.segment_store.specs.Shown.{shown}
+use Rattle.segment_store.specs.Room.{IsRoomMade}
+use Rattle.segment_store.proofs.Putting.{put_made, was_refused, was_done, never_refused}
+use Rattle.segment_store.proofs.room.put.Goals as goal
+
+pub returns-then-is_err-clause-put : goal.returns-then-is_err-clause-put
+returns-then-is_err-clause-put c =
+    let p = c.args.pool.now in
+    let i = item_of c.args.item in
+    let first = was_refused c.append.result _ _ c.append.ensures.appended (sym c.is_err.ensures.value ∙ c.if-is_err.true) in
+    let made : IsRoomMade p c.args.index.now c.args.now c.make_room.new.pool c.make_room.new.index =
+    subst (λ (q : PoolState). IsRoomMade q c.args.index.now c.args.now c.make_room.new.pool c.make_room.new.index) first.1
+    (subst (λ (x : Table). IsRoomMade c.append.new.pool x c.args.now c.make_room.new.pool c.make_room.new.index) first.2 c.make_room.ensures.made) in
+    let done = never_refused c.append-then-is_err.result _ _ c.append-then-is_err.ensures.appended (λ h. has_room c.make_room.new.pool c.args.bucket c.args.now i made.free h.0) in
+    put_made p c.args.index.now c.make_room.new.pool c.make_room.new.index c.make_room.new.tally c.args.bucket c.args.now i c.args.item.deadline c.append-then-is_err.new.pool c.append-then-is_err.new.index done.0
+    made.sizes made.kept made.past c.make_room.ensures.tied done.1.0 done.1.1 c.requires.waits c.requires.of_bucket
+
+pub returns-else-is_err-clause-put : goal.returns-else-is_err-clause-put
+returns-else-is_err-clause-put c =
+    let p = c.args.pool.now in
+    let i = item_of c.args.item in
+    let done = was_done c.append.result _ _ c.append.ensures.appended (sym c.is_err.ensures.value ∙ c.if-is_err.false) in
+    put_made p c.args.index.now p c.args.index.now c.args.tally.now c.args.bucket c.args.now i c.args.item.deadline c.append.new.pool c.append.new.index done.0
+    refl (record { forgotten = []; evicted = inl refl; entries = sym (without-nil (shown p c.args.index.now c.args.now)) }) c.requires.past c.requires.tied done.1.0 done.1.1 c.requires.waits c.requires.of_bucket

@@ -1,0 +1,39 @@
+use Rattle.std.proofs.Common.{◌≡◌, refl, ap, subst, ◌∙◌, rules}
+use Rattle.std.specs.FinMap as finite
+use Rattle.std.proofs.lemmas.Slice.Eq.{bytes_eq-Decides}
+use Rattle.proto.specs.Cache.{Entries}
+use Rattle.engine.specs.Written.{MayBeWritten}
+use Rattle.engine.specs.Shown.{entry_of}
+use Rattle.segments.specs.Items.{Item}
+use Rattle.index.specs.Table.{Places}
+use Rattle.index.proofs.Mapping.{get-remove}
+use Rattle.segment_store.specs.Shown.{current, shown, live_in}
+use Rattle.segment_store.specs.Room.{AreKept}
+use Rattle.segment_store.proofs.Showing.{shown_remove}
+use Rattle.segment_store.proofs.Writing.{written_by, may_store}
+use Rattle.segment_store.proofs.segment_map.SegmentMapLiveMap.write.Goals as goal
+
+pub put-requires-clause-storable : goal.put-requires-clause-storable
+put-requires-clause-storable c =
+    let a = c.self.inside in
+    let e = c.args.entry in
+    let i : Item = record { cas = e.cas; flags = e.flags; key = c.args.key.now; value = e.value.now; reads = 0 } in
+    let fits : MayBeWritten a.pool.sizes (shown a.pool a.index a.moment) i.key i.value = (let h = c.requires.fits in rw (← c.self.view_is) at h) in
+    may_store a.pool a.index a.tally a.moment i c.self.invariant.tied fits (search rules) (search rules) refl
+
+pub put-requires-clause-absent : goal.put-requires-clause-absent
+put-requires-clause-absent c =
+    let a = c.self.inside in
+    let key = c.args.key.now in
+    ap (λ (m : Places). finite.get m key) c.leave_key.ensures.left ∙ get-remove (current a.pool a.index) key key ∙ (let z = (bytes_eq-Decides key key).1 refl in rw z refl)
+
+pub returns-clause-written : goal.returns-clause-written
+returns-clause-written c =
+    let a = c.self.inside in
+    let key = c.args.key.now in
+    let left : shown a.pool c.leave_key.new.index a.moment ≡ finite.remove (shown a.pool a.index a.moment) key =
+    ap (λ (m : Places). live_in a.pool m a.moment) c.leave_key.ensures.left ∙ shown_remove a.pool (current a.pool a.index) a.moment key in
+    let put = c.put.ensures.put in
+    let kept : AreKept a.pool.sizes (finite.remove (shown a.pool a.index a.moment) key) put.kept = subst (λ (e : Entries). AreKept a.pool.sizes e put.kept) left put.are_kept in
+    rw (← c.self.view_is)
+    (written_by a.pool.sizes a.moment (shown a.pool a.index a.moment) put.kept (shown c.put.new.pool c.put.new.index a.moment) key (entry_of c.args.entry) put.deadline kept put.may_live put.entries)

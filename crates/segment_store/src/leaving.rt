@@ -1,0 +1,75 @@
+//! Items that leave the index: one, those of a segment, those whose deadline has come.
+
+ghost use Rattle.std.specs.Prelude.{◌≡◌, ◌<◌, Some};
+ghost use Rattle.std.specs.FinMap as map;
+ghost use Rattle.segment_store.specs.Kept.{IsTied};
+ghost use Rattle.segment_store.specs.Shown.{current};
+ghost use Rattle.segment_store.specs.Leaving.{HasLeft, HaveExpiredLeft};
+
+use engine::deadline::has_arrived;
+use index::index::Index;
+use segments::place::Place;
+use segments::pool::Pool;
+use tally::tally::Tally;
+
+/// The current item of a key, at a place, leaves.
+pub fn leave(pool: &Pool, index: &mut Index, tally: &mut Tally, key: &[u8], place: Place)
+    requires tied { IsTied pool.now index.old tally.old }
+    requires there { map.get (current pool.now index.old) key.now ≡ Some place }
+    ensures tied { IsTied pool.now index.new tally.new }
+    ensures left { current pool.now index.new ≡ map.remove (current pool.now index.old) key.now }
+{
+    index.remove(pool, key, place);
+    tally.unmark(place);
+}
+
+/// The item of a key leaves, if there is one.
+pub fn leave_key(pool: &Pool, index: &mut Index, tally: &mut Tally, key: &[u8])
+    requires tied { IsTied pool.now index.old tally.old }
+    ensures tied { IsTied pool.now index.new tally.new }
+    ensures left { current pool.now index.new ≡ map.remove (current pool.now index.old) key.now }
+{
+    if let Some(place) = index.look_up(pool, key) {
+        leave(pool, index, tally, key, place);
+    }
+}
+
+/// The current items of a segment leave.
+pub fn leave_segment(pool: &Pool, index: &mut Index, tally: &mut Tally, segment: u32)
+    requires tied { IsTied pool.now index.old tally.old }
+    requires in_range { segment < pool.now.sizes.segments }
+    ensures tied { IsTied pool.now index.new tally.new }
+    ensures left { HasLeft segment (current pool.now index.old) (current pool.now index.new) }
+{
+    let mut walk = pool.walk(segment);
+    while let Some((place, item)) = walk.next() {
+        if tally.is_marked(place) {
+            leave(pool, index, tally, item.key, place);
+        }
+    }
+}
+
+/// The current items leave whose deadline is at or before the moment.
+pub fn leave_expired(pool: &Pool, index: &mut Index, tally: &mut Tally, now: u64)
+    requires tied { IsTied pool.now index.old tally.old }
+    ensures tied { IsTied pool.now index.new tally.new }
+    ensures left { HaveExpiredLeft pool.now now (current pool.now index.old) (current pool.now index.new) }
+{
+    for segment in 0..pool.geometry().segments() {
+        if has_arrived(pool.deadline(segment), now) {
+            leave_segment(pool, index, tally, segment);
+        }
+    }
+}
+
+/// All current items leave.
+pub fn leave_all(pool: &Pool, index: &mut Index, tally: &mut Tally)
+    requires tied { IsTied pool.now index.old tally.old }
+    ensures tied { IsTied pool.now index.new tally.new }
+    ensures left { current pool.now index.new ≡ map.empty }
+{
+    index.clear();
+    for segment in 0..pool.geometry().segments() {
+        tally.clear_segment(segment);
+    }
+}

@@ -1,0 +1,13 @@
+//! The segmented store: the engine over entries in segments that are grouped by time to live, found by an index, and
+//! given back whole or merged where room is needed.
+#![tactic(auto)]
+
+pub mod finding;
+pub mod leaving;
+pub mod merging;
+pub mod room;
+mod segment_map;
+mod store;
+
+pub use segment_map::SegmentMap;
+pub use store::Store;

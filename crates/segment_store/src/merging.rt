@@ -1,0 +1,23 @@
+//! Merges, followed in the index and in the tally.
+
+ghost use Rattle.std.specs.Prelude.{ℕ};
+ghost use Rattle.segment_store.specs.Kept.{IsTied};
+ghost use Rattle.segment_store.specs.Merging.{HasPlan};
+ghost use Rattle.segment_store.specs.Room.{IsCrowded, IsRoomMade};
+
+use index::index::Index;
+use segments::pool::Pool;
+use tally::tally::Tally;
+
+/// Carries out the merge that was planned.
+pub fn merge(pool: &mut Pool, index: &mut Index, tally: &mut Tally)
+    requires tied { IsTied pool.old index.old tally.old }
+    requires planned { HasPlan pool.old tally.old }
+    ensures tied { IsTied pool.new index.new tally.new }
+    ensures made { (t : ℕ) → IsCrowded pool.old index.old t → IsRoomMade pool.old index.old t pool.new index.new }
+{
+    let moves = pool.moves();
+    index.follow(pool);
+    tally.carry(moves);
+    pool.merge_next();
+}

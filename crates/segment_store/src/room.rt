@@ -1,0 +1,116 @@
+//! How room is made for an item, and how the item is put there.
+
+ghost use Rattle.std.specs.Prelude.{◌≡◌, ◌⊎◌, ◌<◌, ◌≤◌, ◌^◌, ℕ, None, false, MatchResult};
+ghost use Rattle.std.specs.FinMap as map;
+ghost use Rattle.proto.specs.Sizes.{item_limit};
+ghost use Rattle.proto.specs.Cache.{has_arrived};
+ghost use Rattle.proto.specs.Buckets.{bucket_of, time_to_live};
+ghost use Rattle.segments.specs.Items.{IsStorable};
+ghost use Rattle.segments.specs.Shown.{item_of};
+ghost use Rattle.segments.specs.Pools.{PoolState, bucket_count};
+ghost use Rattle.segments.specs.Changes.{HasNoRoom, IsFull, IsAddedToTail, IsAddedToFree};
+ghost use Rattle.segment_store.specs.Kept.{IsTied, IsPast};
+ghost use Rattle.segment_store.specs.Shown.{current};
+ghost use Rattle.segment_store.specs.Room.{IsCrowded, IsRoomMade, IsPut};
+
+use crate::leaving::{leave_expired, leave_segment};
+use crate::merging::merge;
+use index::index::Index;
+use segments::item::ItemRef;
+use segments::place::Place;
+use segments::pool::{NoRoom, Pool};
+use tally::tally::Tally;
+
+/// Forgets the items of the segment that was opened first.
+fn clear_oldest(pool: &mut Pool, index: &mut Index, tally: &mut Tally)
+    requires tied { IsTied pool.old index.old tally.old }
+    requires full { IsFull pool.old }
+    ensures tied { IsTied pool.new index.new tally.new }
+    ensures made { (t : ℕ) → IsCrowded pool.old index.old t → IsRoomMade pool.old index.old t pool.new index.new }
+{
+    if let Some(segment) = pool.oldest() {
+        leave_segment(pool, index, tally, segment);
+        pool.clear(segment);
+    }
+}
+
+/// Forgets what has to be forgotten where each segment has a live item: what a merge doesn't keep, or where nothing can
+/// be merged the segment that was opened first.
+fn evict(pool: &mut Pool, index: &mut Index, tally: &mut Tally)
+    requires tied { IsTied pool.old index.old tally.old }
+    requires full { IsFull pool.old }
+    ensures tied { IsTied pool.new index.new tally.new }
+    ensures made { (t : ℕ) → IsCrowded pool.old index.old t → IsRoomMade pool.old index.old t pool.new index.new }
+{
+    if pool.plan_merge(tally) {
+        merge(pool, index, tally);
+    } else {
+        clear_oldest(pool, index, tally);
+    }
+}
+
+/// Makes a segment free at the moment: those without a live item are given back, and where there is none something is
+/// forgotten.
+fn make_room(pool: &mut Pool, index: &mut Index, tally: &mut Tally, now: u64)
+    requires tied { IsTied pool.old index.old tally.old }
+    requires past { IsPast pool.old now }
+    requires full { IsFull pool.old }
+    ensures tied { IsTied pool.new index.new tally.new }
+    ensures made { IsRoomMade pool.old index.old now pool.new index.new }
+{
+    leave_expired(pool, index, tally, now);
+    if pool.give_back(tally) == 0 {
+        evict(pool, index, tally);
+    }
+}
+
+/// Puts an item, of a key that has none, into its bucket's tail or a free segment.
+fn append(
+    pool: &mut Pool,
+    index: &mut Index,
+    tally: &mut Tally,
+    bucket: usize,
+    now: u64,
+    item: ItemRef,
+) -> Result<Place, NoRoom>
+    requires tied { IsTied pool.old index.old tally.old }
+    requires bucket { bucket < bucket_count }
+    requires moment { now ≤ 2 ^ 62 }
+    requires storable { IsStorable (item_limit pool.old.sizes) (item_of item) }
+    requires absent { map.get (current pool.old index.old) item.key.now ≡ None }
+    ensures tied { IsTied pool.new index.new tally.new }
+    ensures appended { MatchResult result
+        (λ place. (IsAddedToTail pool.old bucket now (item_of item.entry) pool.new place ⊎ IsAddedToFree pool.old bucket now (item_of item.entry) pool.new place)
+        × (current pool.new index.new ≡ map.insert (current pool.old index.old) item.entry.key.now place))
+        (λ _. HasNoRoom pool.old bucket now (item_of item.entry) × (pool.new ≡ pool.old) × (index.new ≡ index.old)) }
+{
+    let place = pool.append(bucket, now, item)?;
+    index.insert(item.key, place);
+    tally.mark(place);
+    Ok(place)
+}
+
+/// Puts an item, of a key that has none, into the pool, and makes room for it where there is none.
+pub fn put(
+    pool: &mut Pool,
+    index: &mut Index,
+    tally: &mut Tally,
+    bucket: usize,
+    now: u64,
+    item: ItemRef,
+)
+    requires tied { IsTied pool.old index.old tally.old }
+    requires past { IsPast pool.old now }
+    requires bucket { bucket < bucket_count }
+    requires storable { IsStorable (item_limit pool.old.sizes) (item_of item) }
+    requires absent { map.get (current pool.old index.old) item.key.now ≡ None }
+    requires waits { has_arrived item.deadline now ≡ false }
+    requires of_bucket { bucket ≡ bucket_of (time_to_live item.deadline now) }
+    ensures tied { IsTied pool.new index.new tally.new }
+    ensures put { IsPut pool.old index.old now (item_of item.entry) item.entry.deadline pool.new index.new }
+{
+    if append(pool, index, tally, bucket, now, item).is_err() {
+        make_room(pool, index, tally, now);
+        let _ = append(pool, index, tally, bucket, now, item);
+    }
+}

@@ -1,0 +1,153 @@
+//! The map of live entries that stand in segments.
+
+ghost use Rattle.std.specs.Prelude.{◌≡◌, ◌≤◌, ◌<◌, false, IfOk};
+ghost use Rattle.proto.specs.Cache.{no_entries};
+ghost use Rattle.proto.specs.Buckets.{time_to_live};
+ghost use Rattle.segment_store.specs.Kept.{IsTied};
+ghost use Rattle.segment_store.specs.Shown.{shown};
+
+use crate::finding::find;
+use crate::leaving::{leave_all, leave_key};
+use crate::room::put;
+use engine::{EntryRef, LiveMap};
+use index::index::Index;
+use index::sizing::slots_for;
+use proto::geometry::Geometry;
+use proto::no_memory::NoMemory;
+use segments::bucket::bucket_of;
+use segments::item::ItemRef;
+use segments::place::Place;
+use segments::pool::Pool;
+use std::alloc::Global;
+use std::marker::Model;
+use tally::tally::Tally;
+
+/// Entries in the segments of a pool, found by an index. All memory is taken when the map is made.
+#[derive(Drop)]
+pub struct SegmentMap {
+    pool: Pool,
+    index: Index,
+    /// Which items of the pool the index has.
+    tally: Tally,
+    moment: u64,
+}
+
+impl Model for SegmentMap {
+    ghost use Rattle.segment_store.specs.State.{MapState, IsKept};
+
+    ghost Value = { MapState };
+
+    ghost view = { λ a. record { pool = a.pool; index = a.index; tally = a.tally; moment = a.moment } };
+
+    ghost invariant = { λ a. IsKept (record { pool = a.pool; index = a.index; tally = a.tally; moment = a.moment }) };
+}
+
+/// The time to live in seconds of an entry that is written at the moment.
+fn time_to_live(deadline: Option<u64>, now: u64) -> Option<u64>
+    ensures { result ≡ time_to_live deadline now }
+{
+    let deadline = deadline?;
+    Some(deadline.saturating_sub(now).max(1))
+}
+
+impl SegmentMap {
+    /// No entry, at the moment 0. Keys are hashed with the seed.
+    pub fn new(alloc: Global, geometry: Geometry, seed: u64) -> Result<SegmentMap, NoMemory>
+        ensures sizes { IfOk result (λ m. m.pool.sizes ≡ geometry) }
+        ensures entries { IfOk result (λ m. shown m.pool m.index m.moment ≡ no_entries) }
+        ensures moment { IfOk result (λ m. m.moment ≡ 0) }
+    {
+        Ok(SegmentMap {
+            pool: Pool::new(alloc, geometry)?,
+            index: Index::new(alloc, slots_for(geometry), seed)?,
+            tally: Tally::new(alloc, geometry)?,
+            moment: 0,
+        })
+    }
+}
+
+impl LiveMap for SegmentMap {
+    ghost use Rattle.std.specs.Prelude.{false};
+    ghost use Rattle.segment_store.specs.Shown.{shown};
+    ghost use Rattle.segment_store.specs.Writes.{StandsAt, WritesToSegments, IsReadAgain, KeepsNone};
+
+    type Place = Place;
+
+    ghost sizes = { λ m. m.pool.sizes };
+
+    ghost entries = { λ m. shown m.pool m.index m.moment };
+
+    ghost moment = { λ m. m.moment };
+
+    ghost may_refuse = { false };
+
+    ghost stands = { StandsAt };
+
+    ghost writes = { WritesToSegments };
+
+    ghost reads = { IsReadAgain };
+
+    ghost keeps = { KeepsNone };
+
+    fn item_limit(&self) -> u32 {
+        self.pool.geometry().item_limit()
+    }
+
+    fn last_moment(&self) -> u64 {
+        self.moment
+    }
+
+    fn advance(&mut self, now: u64) {
+        self.moment = now;
+    }
+
+    fn get<'a>(&'a self, key: &[u8]) -> Option<(EntryRef<'a>, Place)> {
+        let place = find(&self.pool, &self.index, self.moment, key)?;
+        let item = self.pool.item(place);
+        let entry = EntryRef {
+            value: item.value,
+            flags: item.flags,
+            deadline: item.deadline,
+            cas: item.cas,
+        };
+        Some((entry, place))
+    }
+
+    fn contains_key(&self, key: &[u8]) -> bool {
+        find(&self.pool, &self.index, self.moment, key).is_some()
+    }
+
+    fn count_read(&mut self, _key: &[u8], place: Place) {
+        self.pool.touch(place);
+    }
+
+    fn write(&mut self, key: &[u8], entry: EntryRef) -> Result<(), NoMemory> {
+        leave_key(&self.pool, &mut self.index, &mut self.tally, key);
+        let item = ItemRef {
+            key,
+            value: entry.value,
+            flags: entry.flags,
+            deadline: entry.deadline,
+            cas: entry.cas,
+            reads: 0,
+        };
+        let bucket = bucket_of(time_to_live(entry.deadline, self.moment));
+        put(
+            &mut self.pool,
+            &mut self.index,
+            &mut self.tally,
+            bucket,
+            self.moment,
+            item,
+        );
+        Ok(())
+    }
+
+    fn remove(&mut self, key: &[u8]) {
+        leave_key(&self.pool, &mut self.index, &mut self.tally, key);
+    }
+
+    fn clear(&mut self) {
+        leave_all(&self.pool, &mut self.index, &mut self.tally);
+    }
+}

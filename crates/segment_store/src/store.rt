@@ -1,0 +1,97 @@
+//! The cache over segments.
+
+ghost use Rattle.std.specs.Prelude.{◌≡◌, ◌≢◌, ◌≤◌, IfOk, false};
+ghost use Rattle.proto.specs.Cache.{empty_cache, found_at};
+ghost use Rattle.proto.specs.Steps.{Step};
+ghost use Rattle.proto.specs.History.{max_moment};
+ghost use Rattle.engine.specs.Outcomes.{outcome_at, needs_memory};
+ghost use Rattle.segment_store.specs.StoreState.{sizes_in, segmented_cache, last_moment};
+
+use crate::segment_map::SegmentMap;
+use engine::{Engine, StorageEngine};
+use proto::geometry::Geometry;
+use proto::message::{Reply, Request};
+use proto::no_memory::NoMemory;
+use std::alloc::Global;
+
+/// The segmented cache.
+#[derive(Drop)]
+pub struct Store {
+    engine: Engine<SegmentMap>,
+}
+
+/// What is hashed before each key.
+const SEED: u64 = 0x9e37_79b9_7f4a_7c15;
+
+impl Store {
+    /// An empty cache, at the moment 0.
+    pub fn new(alloc: Global, geometry: Geometry) -> Result<Store, NoMemory>
+        ensures sizes { IfOk result (λ s. sizes_in s.engine ≡ geometry) }
+        ensures cache { IfOk result (λ s. segmented_cache s.engine ≡ empty_cache 0) }
+        ensures moment { IfOk result (λ s. last_moment s.engine ≡ 0) }
+    {
+        Store::starting(alloc, geometry, 0)
+    }
+
+    /// An empty cache that has given out this cas number last.
+    pub fn starting(alloc: Global, geometry: Geometry, last_cas: u64) -> Result<Store, NoMemory>
+        ensures sizes { IfOk result (λ s. sizes_in s.engine ≡ geometry) }
+        ensures cache { IfOk result (λ s. segmented_cache s.engine ≡ empty_cache last_cas) }
+        ensures moment { IfOk result (λ s. last_moment s.engine ≡ 0) }
+    {
+        let map = SegmentMap::new(alloc, geometry, SEED)?;
+        Ok(Store {
+            engine: Engine::over(alloc, map, last_cas),
+        })
+    }
+
+    /// The moment of the last request in seconds, 0 before the first one.
+    pub fn last_moment(&self) -> u64
+        ensures { result ≡ last_moment self.now.engine }
+    {
+        self.engine.last_moment()
+    }
+
+    /// The moment of a flush that is still to come.
+    pub fn pending(&self) -> Option<u64>
+        ensures { result ≡ self.now.engine.pending }
+    {
+        self.engine.pending()
+    }
+
+    /// Executes the request at this moment, in seconds.
+    pub fn handle(&mut self, now: u64, request: &Request) -> Reply
+        requires not_before { last_moment self.old.engine ≤ now }
+        requires in_range { now ≤ max_moment }
+        ensures step { Step (sizes_in self.old.engine) (segmented_cache self.old.engine) now request.now result (segmented_cache self.new.engine) }
+        ensures sizes { sizes_in self.new.engine ≡ sizes_in self.old.engine }
+        ensures moment { last_moment self.new.engine ≡ now }
+
+        // where memory was refused, what was found stays; and only what shows a hit needs any
+        ensures refused { result ≡ Reply.NoMemory → segmented_cache self.new.engine ≡ found_at (segmented_cache self.old.engine) now }
+        ensures succeeds { needs_memory false (outcome_at (sizes_in self.old.engine) (segmented_cache self.old.engine) now request.now) ≡ false → result ≢ Reply.NoMemory }
+    {
+        self.engine.execute_at(now, request)
+    }
+}
+
+impl StorageEngine for Store {
+    ghost use Rattle.segment_store.specs.StoreState.{sizes_in, segmented_cache, last_moment};
+
+    ghost sizes = { λ s. sizes_in s.engine };
+
+    ghost cache = { λ s. segmented_cache s.engine };
+
+    ghost moment = { λ s. last_moment s.engine };
+
+    // that nothing is forgotten while little is stored isn't promised
+    ghost keeps = { λ s items. ⊥ };
+
+    fn last_moment(&self) -> u64 {
+        Store::last_moment(self)
+    }
+
+    fn handle(&mut self, now: u64, request: &Request) -> Reply {
+        self.engine.execute_at(now, request)
+    }
+}

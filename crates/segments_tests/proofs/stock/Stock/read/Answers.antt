@@ -1,0 +1,15 @@
+use Rattle.std.proofs.Common.{sym, ap, subst, ◌∙◌}
+use Rattle.segments.specs.Pools.{IsPool}
+use Rattle.tally.specs.Marks.{KnowsPool}
+use Rattle.tally.proofs.MarkedPlaces.{knows_touched}
+use Rattle.segments_tests.proofs.stock.Stock.read.Goals as goal
+
+pub invariant_of-self : goal.invariant_of-self
+invariant_of-self c =
+    let s = c.args.self.now in
+    let e = c.touch.ensures.touched in
+    record {
+      sizes = ap (λ p. p.sizes) e ∙ s.sizes;
+      known = subst (KnowsPool s.tally) (sym e) (knows_touched s.tally s.pool c.args.place s.known (subst IsPool e c.touch.ensures.pool)
+          (c.has_item.ensures c.if-has_item.true));
+    }

@@ -1,0 +1,12 @@
+#!/usr/bin/env bash
+# Proves and builds segcached as crates/segcached/out/segcached.
+set -eu
+cd "$(dirname "$0")/.."
+log=$(mktemp)
+trap 'rm -f "$log"' EXIT
+echo "Proving and building segcached ..."
+python3 tools/prove.py segcached
+(cd crates/segcached && rt run -- --help) >"$log" 2>&1 || {
+  tail -n 20 "$log"
+  exit 1
+}

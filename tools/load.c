@@ -1,0 +1,367 @@
+// A load for servers of the memcached text protocol, which measures requests a second and latencies.
+//
+//   load HOST PORT [--connections N] [--threads N] [--pipeline N] [--seconds S] [--keys N] [--value BYTES]
+//                  [--sets PERCENT] [--many KEYS] [--zipf] [--rate R] [--fill] [--check]
+//
+// Each connection keeps a pipeline of requests on its way: it sends so many in one piece, reads all their answers, and sends
+// the next. A latency is the time from that send to the last byte of the request's answer. --fill writes each key once and
+// measures nothing. --many asks so many keys in one get. --rate sends so many requests a second in all, evenly, in place of as
+// many as can be. --check compares each value with what its key has to hold. The last line is of words NAME=FIGURE.
+#define _GNU_SOURCE
+#include <arpa/inet.h>
+#include <errno.h>
+#include <fcntl.h>
+#include <math.h>
+#include <netinet/in.h>
+#include <netinet/tcp.h>
+#include <pthread.h>
+#include <stdbool.h>
+#include <stdint.h>
+#include <stdio.h>
+#include <stdlib.h>
+#include <string.h>
+#include <sys/epoll.h>
+#include <sys/socket.h>
+#include <time.h>
+#include <unistd.h>
+
+struct options {
+    const char *host;
+    int port, connections, threads, pipeline, many, sets, keys, value;
+    double seconds, rate;
+    bool zipf, fill, check;
+};
+
+static struct options options = {
+    .connections = 50, .threads = 2, .pipeline = 1, .many = 1, .sets = 0, .keys = 100000, .value = 100, .seconds = 3,
+};
+
+enum { MOST_LATENCIES = 1 << 20, LONGEST_KEY = 32 };
+
+// What is asked, and how its answer is read.
+struct request {
+    bool is_set;
+    int first_key;
+};
+
+struct connection {
+    int fd;
+    struct request *asked;
+    int waiting, answered;          // requests on their way, and those of them that are answered
+    char *out;
+    size_t out_length, out_sent;
+    char *in;
+    size_t in_length, in_room;
+    double sent_at, next_at;
+    int next_fill, end_fill;
+};
+
+struct worker {
+    pthread_t thread;
+    int first, count;               // its connections
+    uint64_t seed, requests, hits, keys_asked;
+    uint32_t *latencies;            // in microseconds
+    uint64_t latencies_seen;
+    bool failed;
+};
+
+static struct connection *connections;
+static double *zipf_sums;
+static volatile bool is_over;
+
+static double now(void) {
+    struct timespec t;
+    clock_gettime(CLOCK_MONOTONIC, &t);
+    return t.tv_sec + t.tv_nsec / 1e9;
+}
+
+static void die(const char *what) {
+    perror(what);
+    exit(1);
+}
+
+static uint64_t next_random(uint64_t *seed) {
+    uint64_t z = (*seed += 0x9e3779b97f4a7c15ULL);
+    z = (z ^ (z >> 30)) * 0xbf58476d1ce4e5b9ULL;
+    z = (z ^ (z >> 27)) * 0x94d049bb133111ebULL;
+    return z ^ (z >> 31);
+}
+
+// A key by Zipf's law of exponent 0.99, or any with the same chance.
+static int pick_key(uint64_t *seed) {
+    uint64_t random = next_random(seed);
+    if (!options.zipf) return random % options.keys;
+    double at = (random >> 11) * 0x1p-53 * zipf_sums[options.keys - 1];
+    int low = 0, high = options.keys - 1;
+    while (low < high) {
+        int middle = low + (high - low) / 2;
+        if (zipf_sums[middle] < at) low = middle + 1; else high = middle;
+    }
+    // (spread over the keys, so that those asked often aren't neighbours)
+    return (int)((uint64_t)low * 2654435761u % options.keys);
+}
+
+// The byte that fills the value of a key.
+static char byte_of(int key) { return 'a' + key % 26; }
+
+static void add_set(struct connection *c, int key) {
+    c->out_length += sprintf(c->out + c->out_length, "set key-%07d 0 0 %d\r\n", key, options.value);
+    memset(c->out + c->out_length, byte_of(key), options.value);
+    c->out_length += options.value;
+    memcpy(c->out + c->out_length, "\r\n", 2);
+    c->out_length += 2;
+}
+
+static void add_get(struct connection *c, int key) {
+    c->out_length += sprintf(c->out + c->out_length, "get");
+    for (int i = 0; i < options.many; i++)
+        c->out_length += sprintf(c->out + c->out_length, " key-%07d", (key + i) % options.keys);
+    memcpy(c->out + c->out_length, "\r\n", 2);
+    c->out_length += 2;
+}
+
+// Writes the next pipeline into the buffer. False where there is nothing left to ask.
+static bool make_pipeline(struct worker *w, struct connection *c) {
+    c->out_length = c->out_sent = 0;
+    c->waiting = c->answered = 0;
+    for (int i = 0; i < options.pipeline; i++) {
+        struct request *r = &c->asked[i];
+        if (options.fill) {
+            if (c->next_fill >= c->end_fill) break;
+            *r = (struct request){true, c->next_fill++};
+        } else {
+            *r = (struct request){(int)(next_random(&w->seed) % 100) < options.sets, pick_key(&w->seed)};
+        }
+        if (r->is_set) add_set(c, r->first_key); else add_get(c, r->first_key);
+        c->waiting++;
+    }
+    return c->waiting > 0;
+}
+
+// The length of the answer that the bytes begin with, 0 where it isn't whole yet, or -1 where it is none.
+static long answer_length(struct worker *w, const struct request *r, const char *in, size_t length) {
+    size_t at = 0;
+    uint64_t hits = 0;
+    for (;;) {
+        const char *end = memmem(in + at, length - at, "\r\n", 2);
+        if (!end) return 0;
+        size_t line = end - (in + at);
+        if (r->is_set) return line == 6 && !memcmp(in + at, "STORED", 6) ? (long)(line + 2) : -1;
+        if (line == 3 && !memcmp(in + at, "END", 3)) {
+            w->hits += hits;
+            w->keys_asked += options.many;
+            return at + line + 2;
+        }
+        if (line < 6 || memcmp(in + at, "VALUE ", 6)) return -1;
+        size_t value = at + line + 2;
+        if (value + options.value + 2 > length) return 0;
+        if (options.check) {
+            int key = atoi(in + at + 10);
+            for (int i = 0; i < options.value; i++)
+                if (in[value + i] != byte_of(key)) return -1;
+        }
+        hits++;
+        at = value + options.value + 2;
+    }
+}
+
+static void note_latency(struct worker *w, double seconds) {
+    uint64_t place = w->latencies_seen++;
+    if (place >= MOST_LATENCIES) place = next_random(&w->seed) % w->latencies_seen;
+    if (place < MOST_LATENCIES) w->latencies[place] = (uint32_t)(seconds * 1e6);
+}
+
+// Reads what came. False where the server went away or answered what it must not.
+static bool read_answers(struct worker *w, struct connection *c) {
+    ssize_t got = recv(c->fd, c->in + c->in_length, c->in_room - c->in_length, 0);
+    if (got == 0) return false;
+    if (got < 0) return errno == EAGAIN;
+    c->in_length += got;
+    size_t at = 0;
+    double read_at = now();
+    while (c->answered < c->waiting) {
+        long length = answer_length(w, &c->asked[c->answered], c->in + at, c->in_length - at);
+        if (length < 0) return false;
+        if (length == 0) break;
+        at += length;
+        c->answered++;
+        w->requests++;
+        note_latency(w, read_at - c->sent_at);
+    }
+    memmove(c->in, c->in + at, c->in_length - at);
+    c->in_length -= at;
+    return true;
+}
+
+static bool send_rest(struct connection *c) {
+    while (c->out_sent < c->out_length) {
+        ssize_t sent = send(c->fd, c->out + c->out_sent, c->out_length - c->out_sent, MSG_NOSIGNAL);
+        if (sent < 0) return errno == EAGAIN;
+        c->out_sent += sent;
+    }
+    return true;
+}
+
+static bool begin_pipeline(struct worker *w, struct connection *c) {
+    if (!make_pipeline(w, c)) return true;
+    c->sent_at = now();
+    return send_rest(c);
+}
+
+static void *run_worker(void *given) {
+    struct worker *w = given;
+    int poll = epoll_create1(0), left = w->count;
+    if (poll < 0) die("epoll");
+    double each = options.rate > 0 ? options.connections * options.pipeline / options.rate : 0, begin = now();
+    for (int i = 0; i < w->count; i++) {
+        struct connection *c = &connections[w->first + i];
+        struct epoll_event e = {.events = EPOLLIN, .data.ptr = c};
+        if (epoll_ctl(poll, EPOLL_CTL_ADD, c->fd, &e)) die("epoll_ctl");
+        c->next_at = begin + each * (w->first + i) / options.connections;
+        if (each == 0 && !begin_pipeline(w, c)) w->failed = true;
+        if (c->waiting == 0 && options.fill) left--;
+    }
+    struct epoll_event events[256];
+    while (!is_over && !w->failed && left > 0) {
+        int n = epoll_wait(poll, events, 256, each > 0 ? 0 : 100);
+        for (int i = 0; i < n && !w->failed; i++) {
+            struct connection *c = events[i].data.ptr;
+            if (!read_answers(w, c) || !send_rest(c)) w->failed = true;
+            if (w->failed || c->answered < c->waiting || each > 0) continue;
+            if (!begin_pipeline(w, c)) w->failed = true;
+            if (c->waiting == 0) left--;
+        }
+        for (int i = 0; each > 0 && i < w->count; i++) {
+            struct connection *c = &connections[w->first + i];
+            if (now() < c->next_at || c->answered < c->waiting) continue;
+            c->next_at += each;
+            if (!begin_pipeline(w, c)) w->failed = true;
+        }
+        if (each > 0 && n == 0) usleep(20);
+    }
+    close(poll);
+    return NULL;
+}
+
+static int connect_to(void) {
+    struct sockaddr_in to = {.sin_family = AF_INET, .sin_port = htons(options.port)};
+    if (inet_pton(AF_INET, options.host, &to.sin_addr) != 1) die("host");
+    int fd = socket(AF_INET, SOCK_STREAM, 0), one = 1;
+    if (fd < 0 || connect(fd, (struct sockaddr *)&to, sizeof to)) die("connect");
+    setsockopt(fd, IPPROTO_TCP, TCP_NODELAY, &one, sizeof one);
+    if (fcntl(fd, F_SETFL, O_NONBLOCK)) die("fcntl");
+    return fd;
+}
+
+static void open_connections(void) {
+    connections = calloc(options.connections, sizeof *connections);
+    size_t request = 64 + (size_t)options.many * LONGEST_KEY + options.value;
+    size_t answer = 64 + (size_t)options.many * (64 + options.value);
+    int each = (options.keys + options.connections - 1) / options.connections;
+    for (int i = 0; i < options.connections; i++) {
+        struct connection *c = &connections[i];
+        c->fd = connect_to();
+        c->asked = calloc(options.pipeline, sizeof *c->asked);
+        c->out = malloc(request * options.pipeline);
+        c->in_room = answer * options.pipeline + 65536;
+        c->in = malloc(c->in_room);
+        c->next_fill = i * each;
+        c->end_fill = (i + 1) * each < options.keys ? (i + 1) * each : options.keys;
+    }
+}
+
+static void make_zipf(void) {
+    zipf_sums = malloc(options.keys * sizeof *zipf_sums);
+    double sum = 0;
+    for (int i = 0; i < options.keys; i++) zipf_sums[i] = sum += pow(i + 1, -0.99);
+}
+
+static int by_size(const void *a, const void *b) {
+    uint32_t x = *(const uint32_t *)a, y = *(const uint32_t *)b;
+    return (x > y) - (x < y);
+}
+
+static int number(const char *word, const char *text, int least, int most) {
+    char *end;
+    long n = text ? strtol(text, &end, 10) : 0;
+    if (!text || *end || n < least || n > most) {
+        fprintf(stderr, "load: %s takes a number from %d to %d\n", word, least, most);
+        exit(2);
+    }
+    return n;
+}
+
+static void read_words(int count, char **words) {
+    if (count < 3) {
+        fprintf(stderr, "load: HOST PORT, and then the words that the head of load.c lists\n");
+        exit(2);
+    }
+    options.host = words[1];
+    options.port = number("PORT", words[2], 1, 65535);
+    for (int i = 3; i < count; i++) {
+        const char *word = words[i], *next = words[i + 1];
+        if (!strcmp(word, "--zipf")) options.zipf = true;
+        else if (!strcmp(word, "--fill")) options.fill = true;
+        else if (!strcmp(word, "--check")) options.check = true;
+        else if (!strcmp(word, "--connections")) options.connections = number(word, next, 1, 20000), i++;
+        else if (!strcmp(word, "--threads")) options.threads = number(word, next, 1, 64), i++;
+        else if (!strcmp(word, "--pipeline")) options.pipeline = number(word, next, 1, 10000), i++;
+        else if (!strcmp(word, "--seconds")) options.seconds = number(word, next, 1, 86400), i++;
+        else if (!strcmp(word, "--keys")) options.keys = number(word, next, 1, 9999999), i++;
+        else if (!strcmp(word, "--value")) options.value = number(word, next, 0, 131072), i++;
+        else if (!strcmp(word, "--sets")) options.sets = number(word, next, 0, 100), i++;
+        else if (!strcmp(word, "--many")) options.many = number(word, next, 1, 100), i++;
+        else if (!strcmp(word, "--rate")) options.rate = number(word, next, 1, 100000000), i++;
+        else {
+            fprintf(stderr, "load: unknown word %s\n", word);
+            exit(2);
+        }
+    }
+    if (options.threads > options.connections) options.threads = options.connections;
+}
+
+// The figures of all threads in one line.
+static void report(struct worker *workers, double seconds) {
+    uint64_t requests = 0, hits = 0, keys = 0, kept = 0;
+    uint32_t *all = malloc((size_t)options.threads * MOST_LATENCIES * sizeof *all);
+    for (int i = 0; i < options.threads; i++) {
+        struct worker *w = &workers[i];
+        requests += w->requests, hits += w->hits, keys += w->keys_asked;
+        uint64_t n = w->latencies_seen < MOST_LATENCIES ? w->latencies_seen : MOST_LATENCIES;
+        memcpy(all + kept, w->latencies, n * sizeof *all);
+        kept += n;
+    }
+    qsort(all, kept, sizeof *all, by_size);
+#define PERCENTILE(p) (kept ? all[(uint64_t)((kept - 1) * (p))] : 0)
+    printf("requests=%lu seconds=%.3f rate=%.0f hits=%lu misses=%lu p50=%u p99=%u p999=%u most=%u\n", (unsigned long)requests,
+           seconds, requests / seconds, (unsigned long)hits, (unsigned long)(keys - hits), PERCENTILE(0.5), PERCENTILE(0.99),
+           PERCENTILE(0.999), PERCENTILE(1.0));
+}
+
+int main(int count, char **words) {
+    read_words(count, words);
+    if (options.zipf) make_zipf();
+    open_connections();
+    struct worker *workers = calloc(options.threads, sizeof *workers);
+    double began = now();
+    for (int i = 0; i < options.threads; i++) {
+        struct worker *w = &workers[i];
+        w->first = options.connections * i / options.threads;
+        w->count = options.connections * (i + 1) / options.threads - w->first;
+        w->seed = 12345 + i;
+        w->latencies = malloc(MOST_LATENCIES * sizeof *w->latencies);
+        if (pthread_create(&w->thread, NULL, run_worker, w)) die("thread");
+    }
+    if (!options.fill) {
+        usleep(options.seconds * 1e6);
+        is_over = true;
+    }
+    bool failed = false;
+    for (int i = 0; i < options.threads; i++) {
+        pthread_join(workers[i].thread, NULL);
+        failed |= workers[i].failed;
+    }
+    report(workers, now() - began);
+    if (failed) fprintf(stderr, "load: the server went away, or gave an answer that it must not\n");
+    return failed;
+}

@@ -1,0 +1,7 @@
+#!/usr/bin/env bash
+# For daily work: proves the crates that changed, over what the last run kept in their folders out/, and runs the worked rows through
+# the program's replay. The gate alone (`make test`) is the verdict.
+set -eu
+cd "$(dirname "$0")/.."
+python3 tools/prove.py --all
+(cd crates/subcommands_tests && rt test)

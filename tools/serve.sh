@@ -1,0 +1,9 @@
+#!/usr/bin/env bash
+# Builds segcached (it is proved first, which takes some minutes the first time) and serves on an address, by default
+# 127.0.0.1:11211, until it is interrupted. Usage: serve.sh [ADDR [OPTION ..]].
+set -eu
+cd "$(dirname "$0")/.."
+bash tools/build.sh
+# A worker has up to 1,024 sessions, each with a descriptor.
+ulimit -n "$(ulimit -Hn)"
+exec crates/segcached/out/segcached serve --listen "${1:-127.0.0.1:11211}" "${@:2}"

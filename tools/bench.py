@@ -1,12 +1,16 @@
 #!/usr/bin/env python3
-"""Compares segcached with memcached on the same machine in the same run, and prints one table with ratios.
+"""Compares segcached with memcached on the same machine in the same run, and prints tables with ratios.
 
-    tools/bench.py [--seconds S] [--rounds N] [--loads WORD,..] [--table FILE] [--picture FILE]
+    tools/bench.py [--quick] [--write] [--only WORD,..] [--rounds N] [--seconds S] [--program FILE]
 
 memcached (of Debian) with 1, 2 and 4 threads stands beside `segcached serve` with 1, 2 and 3 workers: a storage thread comes on
-top of the workers. Each load is run N rounds, the servers in turn, and the medians count. The load is made by tools/load.c.
+top of the workers. Each load is run some rounds, the servers in turn, and the medians count. The load is made by tools/load.c,
+which checks each answer. --write puts the tables between the marks in docs/PERFORMANCE.md, and a picture of the ratios into
+docs/performance.svg. --quick runs each load once and briefly, with 2 threads and 2 workers. --only takes loads whose names have a WORD.
+--program names another build, to compare a change with what was before.
 """
 import argparse
+import datetime
 import os
 import shutil
 import socket
@@ -18,23 +22,41 @@ import time
 
 TOP = os.path.dirname(os.path.dirname(os.path.abspath(__file__)))
 PROGRAM = f"{TOP}/crates/segcached/out/segcached"
+BEGIN, END = "<!-- bench: begin -->", "<!-- bench: end -->"
+MIB = 1 << 20
 # memcached's threads, and the workers that stand beside them
 SIZES = ((1, 1), (2, 2), (4, 3))
+# By the bytes of a value and the number of keys: each load's name and words. Those that write come last, since what they write
+# makes segcached merge segments.
 LOADS = {
-    "pipeline 1": (100, []),
-    "pipeline 16": (100, ["--pipeline", "16"]),
-    "pipeline 64": (100, ["--pipeline", "64"]),
-    "one connection at pipeline 16": (100, ["--pipeline", "16", "--connections", "1"]),
-    "one connection": (100, ["--connections", "1"]),
-    "sets at pipeline 16": (100, ["--pipeline", "16", "--sets", "100"]),
-    "one set in ten at pipeline 16": (100, ["--pipeline", "16", "--sets", "10"]),
-    "1000-byte values at pipeline 16": (1000, ["--pipeline", "16"]),
-    "10 kB values at pipeline 16": (10000, ["--pipeline", "16", "--keys", "10000"]),
-    "10 kB values": (10000, ["--keys", "10000"]),
-    "get of 16 keys": (100, ["--many", "16"]),
-    "keys by Zipf's law at pipeline 16": (100, ["--pipeline", "16", "--zipf"]),
+    (100, 100000): {
+        "pipeline 1": [],
+        "pipeline 16": ["--pipeline", "16"],
+        "pipeline 64": ["--pipeline", "64"],
+        "one connection": ["--connections", "1"],
+        "one connection, pipeline 16": ["--pipeline", "16", "--connections", "1"],
+        "get of 16 keys": ["--many", "16"],
+        "keys by Zipf's law, pipeline 16": ["--pipeline", "16", "--zipf"],
+        "one set in ten, pipeline 16": ["--pipeline", "16", "--sets", "10"],
+        "sets, pipeline 16": ["--pipeline", "16", "--sets", "100"],
+    },
+    (1000, 100000): {"1,000-byte values, pipeline 16": ["--pipeline", "16"]},
+    (10000, 10000): {"10 kB values": [], "10 kB values, pipeline 16": ["--pipeline", "16"]},
 }
-TICKS = os.sysconf("SC_CLK_TCK")
+# At a fixed rate, with 2 threads and 2 workers.
+RATES = {
+    "first answer after a pause of 10 ms": ["--connections", "1", "--rate", "100"],
+    "1,000 a second": ["--rate", "1000"],
+    "20,000 a second": ["--rate", "20000"],
+    "80,000 a second": ["--rate", "80000"],
+}
+IDLE = "idle, 50 connections"
+# At equal memory: the bytes of a value, the keys, and memcached's -m. segcached has 64 segments of 1 MiB.
+MEMORIES = ((100, 1500000, 97), (1000, 300000, 97))
+
+
+class Trouble(Exception):
+    """A run that can't count."""
 
 
 def free_port():
@@ -43,132 +65,279 @@ def free_port():
         return it.getsockname()[1]
 
 
-def await_port(port):
-    until = time.monotonic() + 10
-    while time.monotonic() < until:
-        try:
-            socket.create_connection(("127.0.0.1", port), 1).close()
-            return
-        except OSError:
-            time.sleep(0.05)
-    sys.exit(f"bench: no server came up on port {port}")
-
-
 class Server:
-    """A server on a free port: its name in the table, and the processor time that it has taken."""
+    """A server on a free port."""
 
-    def __init__(self, kind, size):
-        self.kind, self.size, self.port = kind, size, free_port()
+    def __init__(self, kind, size, megabytes):
+        self.kind, self.port = kind, free_port()
         if kind == "memcached":
-            words = ["memcached", "-u", "nobody", "-l", "127.0.0.1", "-p", str(self.port), "-t", str(size), "-m", "1024", "-c", "4096"]
+            words = ["memcached", "-u", "nobody", "-l", "127.0.0.1", "-p", str(self.port), "-t", str(size), "-m", str(megabytes), "-c", "4096"]
         else:
             words = [PROGRAM, "serve", "--listen", f"127.0.0.1:{self.port}", "--workers", str(size)]
-            words += ["--segment-size", "1048576", "--segments", "512"]
+            words += ["--segment-size", str(MIB), "--segments", str(megabytes)]
         self.process = subprocess.Popen(words, stdout=subprocess.DEVNULL, stderr=subprocess.DEVNULL)
-        await_port(self.port)
+        self.await_port()
+
+    def await_port(self):
+        until = time.monotonic() + 20
+        while time.monotonic() < until and self.process.poll() is None:
+            try:
+                socket.create_connection(("127.0.0.1", self.port), 1).close()
+                return
+            except OSError:
+                time.sleep(0.02)
+        raise Trouble(f"{self.kind} didn't come up on port {self.port}")
 
     def processor_seconds(self):
-        with open(f"/proc/{self.process.pid}/stat", encoding="ascii") as file:
-            fields = file.read().rpartition(") ")[2].split()
-        return (int(fields[11]) + int(fields[12])) / TICKS
+        """What all its threads have run (the kernel counts nanoseconds there, and ticks elsewhere)."""
+        spent, folder = 0, f"/proc/{self.process.pid}/task"
+        for task in os.listdir(folder):
+            with open(f"{folder}/{task}/schedstat", encoding="ascii") as file:
+                spent += int(file.read().split()[0])
+        return spent / 1e9
+
+    def resident_mib(self):
+        with open(f"/proc/{self.process.pid}/statm", encoding="ascii") as file:
+            return int(file.read().split()[1]) * os.sysconf("SC_PAGE_SIZE") / MIB
 
     def stop(self):
         self.process.kill()
         self.process.wait()
 
 
-def measure(load, server, words, seconds):
-    """One run of the load: the figures of its last line, and processor microseconds a request."""
-    before = server.processor_seconds()
-    ran = subprocess.run([load, "127.0.0.1", str(server.port), "--seconds", str(seconds), *words], capture_output=True, text=True)
-    if ran.returncode:
-        sys.exit(f"bench: {server.kind}: {ran.stderr.strip()}")
-    figures = {name: float(figure) for name, _, figure in (it.partition("=") for it in ran.stdout.split())}
-    figures["processor"] = (server.processor_seconds() - before) * 1e6 / max(figures["requests"], 1)
-    return figures
+def both(size, memcached_megabytes=1024, segments=512):
+    return [Server("memcached", size[0], memcached_megabytes), Server("segcached", size[1], segments)]
 
 
-def run_load(load, name, size, words):
-    """The medians of both servers for one load and one size."""
-    value, flags = LOADS[name]
-    servers = [Server("memcached", size[0]), Server("segcached", size[1])]
+class Bench:
+    """The load's program, and how long and how often it is run."""
+
+    def __init__(self, load, rounds, seconds):
+        self.load, self.rounds, self.seconds = load, rounds, seconds
+
+    def run(self, server, *words):
+        """One run of the load: the figures of its last line, and processor microseconds a request."""
+        before = server.processor_seconds()
+        try:
+            ran = subprocess.run([self.load, "127.0.0.1", str(server.port), *map(str, words)], capture_output=True, text=True, timeout=120)
+        except subprocess.TimeoutExpired:
+            raise Trouble(f"{server.kind}: no end of {' '.join(map(str, words))} in 120 seconds") from None
+        if ran.returncode:
+            raise Trouble(f"{server.kind}: {' '.join(map(str, words))}: {ran.stderr.strip()}")
+        figures = {name: float(figure) for name, _, figure in (it.partition("=") for it in ran.stdout.split())}
+        figures["processor"] = (server.processor_seconds() - before) * 1e6 / max(figures["requests"], 1)
+        return figures
+
+    def medians(self, servers, words, seconds=None):
+        """The load on both servers in turn: by kind, the median of each figure."""
+        runs = {server.kind: [] for server in servers}
+        for turn in range(self.rounds):
+            for server in servers if turn % 2 == 0 else servers[::-1]:
+                runs[server.kind].append(self.run(server, "--seconds", seconds or self.seconds, *words))
+        return {kind: {name: statistics.median(it[name] for it in all_of) for name in all_of[0]} for kind, all_of in runs.items()}
+
+
+def speeds(bench, sizes, wanted):
+    """For each load by its name, and each size: the medians of both servers."""
+    results = {}
+    for (value, keys), loads in LOADS.items():
+        chosen = {name: flags for name, flags in loads.items() if wanted(name)}
+        for size in sizes if chosen else ():
+            servers = both(size)
+            try:
+                shape = ["--value", value, "--keys", keys]
+                for server in servers:
+                    bench.run(server, "--fill", "--pipeline", 16, *shape)
+                for name, flags in chosen.items():
+                    results.setdefault(name, {})[size] = bench.medians(servers, shape + flags)
+                    print(f"{name}, {size[0]} / {size[1]}: {ratio(results[name][size], 'rate'):.2f}", file=sys.stderr, flush=True)
+            finally:
+                for server in servers:
+                    server.stop()
+    return results
+
+
+def ratio(medians, figure):
+    return medians["segcached"][figure] / max(medians["memcached"][figure], 1e-9)
+
+
+def speed_table(results, sizes):
+    """The loads' rows: rates in thousands, and ratios."""
+    threads, workers = ("/".join(str(size[at]) for size in sizes) for at in (0, 1))
+    rows = [
+        f"| Load | memcached, -t {threads} (1,000 a second) | segcached, {workers} workers (1,000 a second) | ratio | p50 beside memcached's "
+        "| p99 beside memcached's | processor time a request beside memcached's |",
+        "|---|---|---|---|---|---|---|",
+    ]
+    for name, by_size in results.items():
+        cells = [" / ".join(f"{by_size[size][kind]['rate'] / 1000:,.0f}" for size in sizes) for kind in ("memcached", "segcached")]
+        cells += [" / ".join(f"{ratio(by_size[size], figure):.2f}" for size in sizes) for figure in ("rate", "p50", "p99", "processor")]
+        most_busy = max(it["busy"] for size in sizes for it in by_size[size].values())
+        misses = max(it["misses"] / max(it["hits"] + it["misses"], 1) for size in sizes for it in by_size[size].values())
+        mark = (" (1)" if most_busy > 0.9 else "") + (" (2)" if misses > 0.001 else "")
+        rows.append(f"| {name}{mark} | " + " | ".join(cells) + " |")
+    marked = "\n".join(rows)
+    if "(1)" in marked:
+        rows += ["", "(1) In one of these runs the load's own threads were busy for more than 90% of the time: the server may do more."]
+    if "(2)" in marked:
+        rows += ["", "(2) In one of these runs more than one key in a thousand was missed."]
+    return rows
+
+
+def rate_table(bench, wanted):
+    rows = ["| 2 threads, 2 workers | p50 (us): memcached, segcached | p99 (us) | p99.9 (us) | processor time a request (us) | ratio |", "|---|---|---|---|---|---|"]
+    servers = both((2, 2))
     try:
         for server in servers:
-            keys = flags[flags.index("--keys") + 1] if "--keys" in flags else "100000"
-            fill = ["--fill", "--pipeline", "16", "--value", str(value), "--keys", keys]
-            subprocess.run([load, "127.0.0.1", str(server.port), *fill], check=True, stdout=subprocess.DEVNULL)
-        runs = {server.kind: [] for server in servers}
-        for _ in range(words.rounds):
-            for server in servers:
-                runs[server.kind].append(measure(load, server, ["--value", str(value), *flags], words.seconds))
+            bench.run(server, "--fill", "--pipeline", 16)
+        for name, flags in RATES.items():
+            if wanted(name):
+                medians = bench.medians(servers, flags, max(bench.seconds, 1))
+                cells = [", ".join(f"{medians[kind][figure]:,.0f}" for kind in ("memcached", "segcached")) for figure in ("p50", "p99", "p999")]
+                cells += [", ".join(f"{medians[kind]['processor']:.1f}" for kind in ("memcached", "segcached")), f"{ratio(medians, 'processor'):.2f}"]
+                rows.append(f"| {name} | " + " | ".join(cells) + " |")
+        if wanted(IDLE):
+            cells = ", ".join(f"{idle_percent(server):.1f}%" for server in servers)
+            rows.append(f"| {IDLE} | | | | {cells} of a processor | |")
     finally:
         for server in servers:
             server.stop()
-    return {kind: {it: statistics.median(run[it] for run in all_of) for it in all_of[0]} for kind, all_of in runs.items()}
+    return rows
 
 
-def row_of(name, size, medians):
-    ours, theirs = medians["segcached"], medians["memcached"]
-    return "| {} | {} / {} | {:,.0f} | {:,.0f} | {:.2f} | {:.0f} / {:.0f} | {:.0f} / {:.0f} | {:.2f} |".format(
-        name, size[0], size[1], theirs["rate"], ours["rate"], ours["rate"] / theirs["rate"], theirs["p50"], ours["p50"],
-        theirs["p99"], ours["p99"], ours["processor"] / max(theirs["processor"], 1e-9))
+def idle_percent(server, seconds=3):
+    peers = [socket.create_connection(("127.0.0.1", server.port), 10) for _ in range(50)]
+    time.sleep(0.5)
+    before = server.processor_seconds()
+    time.sleep(seconds)
+    spent = server.processor_seconds() - before
+    for peer in peers:
+        peer.close()
+    return 100 * spent / seconds
 
 
-def draw(results, picture):
+def memory_table(bench, memories):
+    """Both at equal memory: a client that writes what it missed, with keys by Zipf's law."""
+    rows = ["| Reads by Zipf's law, misses written | resident (MiB): memcached, segcached | hits (of 100) | ratio of misses |", "|---|---|---|---|"]
+    for value, keys, megabytes in memories:
+        servers = both((2, 2), megabytes, 64)
+        try:
+            cells, misses = [], []
+            for server in servers:
+                words = ["--through", "--zipf", "--pipeline", 16, "--value", value, "--keys", keys]
+                bench.run(server, *words, "--requests", 2 * keys)
+                ran = bench.run(server, *words, "--requests", keys, "--seed", 2)
+                hits = 100 * ran["hits"] / (ran["hits"] + ran["misses"])
+                cells.append((f"{server.resident_mib():.0f}", f"{hits:.1f}"))
+                misses.append(100 - hits)
+        finally:
+            for server in servers:
+                server.stop()
+        pairs = " | ".join(", ".join(it[at] for it in cells) for at in (0, 1))
+        rows.append(f"| {keys:,} keys, {value:,}-byte values | {pairs} | {misses[1] / max(misses[0], 1e-9):.2f} |")
+    return rows
+
+
+def draw(results, sizes, picture):
     """A picture of the ratios, by gnuplot."""
-    with tempfile.NamedTemporaryFile("w", suffix=".dat", delete=False) as data:
-        for name in dict.fromkeys(name for name, _ in results):
-            ratios = [results[name, size]["segcached"]["rate"] / results[name, size]["memcached"]["rate"] for size in SIZES]
-            data.write(f'"{name}" ' + " ".join(f"{it:.3f}" for it in ratios) + "\n")
-    script = f"""
-set terminal svg size 1000,520 font 'sans,13' background rgb 'white'
+    with tempfile.NamedTemporaryFile("w", suffix=".dat") as data:
+        for name, by_size in results.items():
+            data.write(f'"{name}" ' + " ".join(f"{ratio(by_size[size], 'rate'):.3f}" for size in sizes) + "\n")
+        data.flush()
+        bars = [f"'{data.name}' using {at + 2}:xtic(1) title 'memcached -t {size[0]}, {size[1]} workers'" for at, size in enumerate(sizes)]
+        script = f"""
+set terminal svg size 1100,560 font 'sans,13' background rgb 'white'
 set output '{picture}'
 set style data histograms
 set style histogram clustered gap 1
 set style fill solid 0.8 border -1
-set title 'segcached beside memcached: requests a second, as a ratio'
+set title "segcached beside memcached: requests a second, as a ratio (above 1, segcached is ahead)"
 set ylabel 'times memcached'
 set yrange [0:*]
 set grid ytics
-set xtics rotate by -25
+set xtics rotate by -30
+set bmargin 9
+set rmargin 8
 set arrow from graph 0, first 1 to graph 1, first 1 nohead lw 2 dt 2 lc rgb 'black' front
-plot '{data.name}' using 2:xtic(1) title '1 worker, -t 1', '' using 3 title '2 workers, -t 2', '' using 4 title '3 workers, -t 4'
+plot {', '.join(bars)}
 """
-    subprocess.run(["gnuplot"], input=script, text=True, check=True)
-    os.remove(data.name)
+        subprocess.run(["gnuplot"], input=script, text=True, check=True)
 
 
-def main():
+def said_of(words):
+    ran = subprocess.run(words, capture_output=True, text=True, check=False, cwd=TOP)
+    return ran.stdout.strip()
+
+
+def machine():
+    """When and on what the figures were taken."""
+    with open("/proc/cpuinfo", encoding="utf-8") as file:
+        models = [line.partition(":")[2].strip() for line in file if line.startswith("model name")]
+    version = said_of(["memcached", "--version"])
+    date = datetime.datetime.now(datetime.timezone.utc).date()
+    return f"{date}, {os.cpu_count()} processors ({models[0] if models else 'unknown'}), load before it {os.getloadavg()[0]:.1f}; {version}."
+
+
+def write(text):
+    path = f"{TOP}/docs/PERFORMANCE.md"
+    with open(path, encoding="utf-8") as file:
+        before, found_begin, rest = file.read().partition(BEGIN)
+        _, found_end, after = rest.partition(END)
+    if not (found_begin and found_end):
+        raise Trouble(f"{path} lacks the marks {BEGIN} and {END}")
+    with open(path, "w", encoding="utf-8") as file:
+        file.write(f"{before}{BEGIN}\n{text}\n{END}{after}")
+
+
+def read_words():
     parser = argparse.ArgumentParser(description="Compares segcached with memcached.")
-    parser.add_argument("--seconds", type=int, default=3)
-    parser.add_argument("--rounds", type=int, default=3)
-    parser.add_argument("--loads", default=",".join(LOADS))
-    parser.add_argument("--table")
-    parser.add_argument("--picture")
+    parser.add_argument("--quick", action="store_true")
+    parser.add_argument("--write", action="store_true")
+    parser.add_argument("--only", default="")
+    parser.add_argument("--rounds", type=int)
+    parser.add_argument("--seconds", type=float)
+    parser.add_argument("--program", default=PROGRAM)
     words = parser.parse_args()
-    names = words.loads.split(",")
-    unknown = [it for it in names if it not in LOADS]
-    if unknown:
-        parser.error(f"no such load: {', '.join(unknown)}")
-    needed = [it for it in ("memcached", "gcc") if not shutil.which(it)]
-    if needed or not os.path.exists(PROGRAM):
-        sys.exit(f"bench: first install {', '.join(needed)}" if needed else "bench: first build the program: make run")
-    lines = ["| Load | threads / workers | memcached | segcached | ratio | p50 us | p99 us | processor a request |", "|---|---|---|---|---|---|---|---|"]
-    print("\n".join(lines), flush=True)
-    results = {}
+    words.rounds = words.rounds or (1 if words.quick else 5)
+    words.seconds = words.seconds or (0.5 if words.quick else 0.8)
+    if words.write and (words.quick or words.only or words.program != PROGRAM):
+        parser.error("--write is for a whole run of the program that stands in crates/segcached/out")
+    globals().update(PROGRAM=words.program)
+    return words
+
+
+def run(words):
+    wanted = lambda name: any(it in name for it in words.only.split(","))
+    sizes = SIZES[1:2] if words.quick else SIZES
+    head = machine()
     with tempfile.TemporaryDirectory() as folder:
         load = f"{folder}/load"
         subprocess.run(["gcc", "-O2", "-pthread", "-o", load, f"{TOP}/tools/load.c", "-lm"], check=True)
-        for name in names:
-            for size in SIZES:
-                results[name, size] = run_load(load, name, size, words)
-                lines.append(row_of(name, size, results[name, size]))
-                print(lines[-1], flush=True)
-    if words.table:
-        with open(words.table, "w", encoding="utf-8") as file:
-            file.write("\n".join(lines) + "\n")
-    if words.picture:
-        draw(results, words.picture)
+        bench = Bench(load, words.rounds, words.seconds)
+        results = speeds(bench, sizes, wanted)
+        parts = [[f"Taken {head}"], speed_table(results, sizes)] if results else []
+        if any(map(wanted, [*RATES, IDLE])):
+            parts.append(rate_table(bench, wanted))
+        if wanted("memory"):
+            parts.append(memory_table(bench, MEMORIES[1:] if words.quick else MEMORIES))
+    text = "\n\n".join("\n".join(it) for it in parts)
+    print(text)
+    if words.write:
+        write(text)
+        draw(results, sizes, f"{TOP}/docs/performance.svg")
+
+
+def main():
+    words = read_words()
+    missing = [it for it in ("memcached", "gcc", "gnuplot") if not shutil.which(it)]
+    if missing:
+        sys.exit(f"bench: install {', '.join(missing)} first, as tools/bench.sh does")
+    if not os.path.exists(PROGRAM):
+        sys.exit("bench: build the program first: make run")
+    try:
+        run(words)
+    except Trouble as trouble:
+        sys.exit(f"bench: {trouble}")
 
 
 if __name__ == "__main__":

@@ -1,9 +1,9 @@
 #!/usr/bin/env bash
-# Builds segcached and compares it with memcached of Debian. Words go to tools/bench.py.
+# Builds segcached and compares it with memcached of Debian. Words go to tools/bench.py: --quick for a look in half a minute.
 set -eu
 cd "$(dirname "$0")/.."
-for package in memcached gcc gnuplot-nox; do
-  dpkg -s "$package" >/dev/null 2>&1 || apt-get install -y "$package" >/dev/null
+for package in memcached gcc libc6-dev gnuplot-nox; do
+  dpkg -s "$package" >/dev/null 2>&1 || apt-get install -y --no-install-recommends "$package" >/dev/null
 done
 bash tools/build.sh
 exec python3 tools/bench.py "$@"

@@ -62,7 +62,11 @@ program=crates/segcached/out/segcached
 part "try_sockets" tools/try_sockets.py "$program"
 part "try_clients" tools/try_clients.sh "$program"
 part "try_proxy" tools/try_proxy.py "$program"
-part "hostile" python3 tools/hostile.py --program "$program" --late 10 --only shared_counters,bad_peers,many_sessions,few_descriptors
+part "try_replay" tools/try_replay.py "$program"
+part "try_model" python3 tools/try_model.py "$program"
+part "try_script_of" python3 tools/try_script_of.py "$program"
+part "hostile" python3 tools/hostile.py --program "$program" --late 10 \
+  --only shared_counters,history,bad_peers,many_sessions,few_descriptors,refused_memory,little_memory,flooding,fuzz
 
 echo "gate: took $(((SECONDS - began) / 60)) minutes"
 echo "$passed passed, $failed failed"

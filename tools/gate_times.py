@@ -1,9 +1,10 @@
 #!/usr/bin/env python3
-"""Says what the gate's checks cost: processor minutes a crate, for proofs, tests, must-fail edits, and all else.
+"""Says what the gate's checks cost: processor minutes of the prover for each crate, for proofs, for tests and for must-fail edits.
 
     tools/gate_times.py TABLE      until it is stopped, adds up what the prover's processes take, and writes the table to TABLE
 
-A process is counted by the processor time that it had when it was last seen, so each may miss half a second.
+A process is counted by the processor time that it had when it was last seen, so each may miss a quarter of a second. The prover's
+builds are counted with the proofs; what LLVM, the tests and the programs take themselves isn't counted.
 """
 import os
 import re

@@ -1,11 +1,11 @@
 #!/usr/bin/env python3
 """Hostile use of a served segcached: bad bytes, bad peers, refused memory, much data, shared counters.
 
-    tools/hostile.py [--long] [--only NAME,..] [--program FILE]
+    tools/hostile.py [--long] [--only NAME,..] [--program FILE] [--late SECONDS] [--fuzz-seconds SECONDS]
 
 Each part serves the program on a free port, does its worst beside a canary (a client whose every answer is checked and timed),
-and says a line. Without --long the parts take about three minutes in all; with it the fuzz alone takes half an hour. Ends
-with status 0 where nothing was wrong, lost or late.
+and says a line. Without --long the parts take about three minutes in all; with it the fuzz alone takes half an hour, unless
+--fuzz-seconds says otherwise. Ends with status 0 where nothing was wrong, lost or late.
 """
 import argparse
 import os
@@ -20,11 +20,14 @@ import sys
 import tempfile
 import threading
 import time
+import traceback
 
 TOP = os.path.dirname(os.path.dirname(os.path.abspath(__file__)))
 PROGRAM = f"{TOP}/crates/segcached/out/segcached"
 # (six answers to the canary may take so many seconds)
 LATE = 1.0
+# (in place of a minute, or of half an hour)
+FUZZ_SECONDS = None
 
 
 class Trouble(Exception):
@@ -60,9 +63,17 @@ class Server:
     def connect(self, seconds=10):
         return socket.create_connection(("127.0.0.1", self.port), seconds)
 
-    def resident_kilobytes(self):
+    def kilobytes(self, what):
         with open(f"/proc/{self.process.pid}/status", encoding="ascii") as file:
-            return int(re.search(r"VmRSS:\s+(\d+)", file.read())[1])
+            return int(re.search(rf"{what}:\s+(\d+)", file.read())[1])
+
+    def resident_kilobytes(self):
+        return self.kilobytes("VmRSS")
+
+    def processor_seconds(self):
+        with open(f"/proc/{self.process.pid}/stat", encoding="ascii") as file:
+            fields = file.read().rpartition(") ")[2].split()
+        return (int(fields[11]) + int(fields[12])) / os.sysconf("SC_CLK_TCK")
 
     def must_run(self):
         if self.process.poll() is not None:
@@ -184,41 +195,69 @@ def bad_bytes(chance):
     return bytes(text).replace(b"flush_all", b"flush_alt").replace(b"canary", b"canarx")
 
 
+class Crowd:
+    """Many connections of bad peers."""
+
+    def __init__(self, server, most):
+        self.server, self.most, self.peers, self.ready = server, most, {}, select.epoll()
+
+    def fill(self):
+        while len(self.peers) < self.most:
+            peer = self.server.connect()
+            peer.setblocking(False)
+            self.peers[peer.fileno()] = peer
+            self.ready.register(peer, select.EPOLLIN)
+
+    def drop(self, peer):
+        del self.peers[peer.fileno()]
+        peer.close()
+
+    def send(self, chance):
+        """Bad bytes from forty of them: how many were taken."""
+        sent = 0
+        for peer in chance.sample(list(self.peers.values()), 40):
+            try:
+                sent += peer.send(bad_bytes(chance))
+            except BlockingIOError:
+                pass
+            except OSError:
+                self.drop(peer)
+        return sent
+
+    def read(self, chance):
+        """Reads what came to some; one in twenty of them goes."""
+        for number, _ in self.ready.poll(0):
+            peer = self.peers[number]
+            try:
+                is_open = bool(peer.recv(65536))
+            except OSError:
+                is_open = False
+            if not is_open or chance.random() < 0.05:
+                self.drop(peer)
+
+    def close(self):
+        for peer in list(self.peers.values()):
+            self.drop(peer)
+        self.ready.close()
+
+
 def fuzz(is_long):
     """Bad bytes on up to 1,000 connections, beside the canary."""
-    seconds, most = (1800, 1000) if is_long else (60, 300)
+    seconds = FUZZ_SECONDS or (1800 if is_long else 60)
     chance = random.Random(20260101)
     with Server("--workers", "2") as server:
-        canary, peers, sent = Canary(server), [], 0
+        canary, crowd, sent = Canary(server), Crowd(server, 1000 if is_long else 300), 0
         canary.start()
         until, settled = time.monotonic() + seconds, None
         while time.monotonic() < until:
-            while len(peers) < most:
-                peer = server.connect()
-                peer.setblocking(False)
-                peers.append(peer)
-            for peer in chance.sample(peers, 40):
-                try:
-                    sent += peer.send(bad_bytes(chance))
-                except BlockingIOError:
-                    pass
-                except OSError:
-                    peer.close()
-                    peers.remove(peer)
-            for peer in select.select(peers[:500], [], [], 0)[0] + select.select(peers[500:], [], [], 0)[0]:
-                try:
-                    is_open = bool(peer.recv(65536))
-                except OSError:
-                    is_open = False
-                if not is_open or chance.random() < 0.05:
-                    peer.close()
-                    peers.remove(peer)
+            crowd.fill()
+            sent += crowd.send(chance)
+            crowd.read(chance)
             if settled is None and time.monotonic() > until - seconds * 0.75:
                 settled = server.resident_kilobytes()
             server.must_run()
-        grown = server.resident_kilobytes() - settled
-        for peer in peers:
-            peer.close()
+        grown = server.resident_kilobytes() - (settled or 0)
+        crowd.close()
         if grown > 64 * 1024:
             raise Trouble(f"memory grew by {grown} kB in the last three quarters")
         return f"{sent // 1024} kB of bad bytes, memory grew by {grown} kB; {canary.stop()}"
@@ -257,10 +296,11 @@ def bad_peers(is_long):
                 peer = server.connect()
                 peer.sendall(text)
                 reset(peer)
-        for _ in range(20):
-            peer = server.connect()
+        half_closed = [server.connect(30) for _ in range(20)]
+        for peer in half_closed:
             peer.sendall(b"get big\r\n")
             peer.shutdown(socket.SHUT_WR)
+        for peer in half_closed:
             got = b""
             while piece := peer.recv(65536):
                 got += piece
@@ -276,7 +316,6 @@ def bad_peers(is_long):
 
 def many_sessions(_):
     """More sessions than a worker has room for: those beyond wait, and are served once others have gone."""
-    resource.setrlimit(resource.RLIMIT_NOFILE, (4096, 4096))
     with Server("--workers", "1") as server:
         clients = []
         for number in range(1024):
@@ -327,56 +366,108 @@ def few_descriptors(_):
         return "at 64 open files the others go on, and new ones are served once there are some"
 
 
-def refused_memory(is_long):
-    """Each request for memory refused in turn, in a served run: sessions may be shut or told so, no wrong answer comes."""
-    ways = set()
+REFUSED = b"SERVER_ERROR out of memory\r\n"
+
+
+def refused_session(name):
+    """A session's requests, each with the answers that it may be given where one request for memory was refused."""
+    value = b"v" * 480
+    stored, hit = b"STORED\r\n", b"VALUE %s 0 480\r\n%s\r\n" % (name, value)
+    return [
+        (b"set %s 0 0 480\r\n%s\r\n" % (name, value), [stored]),
+        (b"set %s-n 0 0 1\r\n7\r\n" % name, [stored]),
+        (b"incr %s-n 5\r\n" % name, [b"12\r\n", b"NOT_FOUND\r\n"]),
+        *[(b"get %s\r\n" % name, [hit + b"END\r\n", b"END\r\n"])] * 50,
+        (b"get %s %s-none %s\r\n" % (name, name, name), [hit + hit + b"END\r\n", b"END\r\n"]),
+        (b"delete %s-n\r\n" % name, [b"DELETED\r\n", b"NOT_FOUND\r\n"]),
+        (b"nonsense\r\n", [b"ERROR\r\n"]),
+        (b"quit\r\n", [b""]),
+    ]
+
+
+def check_refused(session, got):
+    """Whether the session was served whole, told of want of memory, or cut; anything else is trouble."""
+    was_told = False
+    for request, answers in session:
+        whole = [it for it in [*answers, REFUSED] if got.startswith(it)]
+        if not whole:
+            if any(it.startswith(got) for it in [*answers, REFUSED]):
+                return "a session cut"
+            raise Trouble(f"{request[:20]!r} was answered {got[:60]!r}")
+        was_told |= whole[0] not in answers[:1]
+        got = got[len(whole[0]) :]
+    if got:
+        raise Trouble(f"behind all answers came {got[:60]!r}")
+    return "a session told" if was_told else "sessions whole"
+
+
+def refused_memory(_):
+    """Each request for memory refused in turn, in a served run: sessions may be cut or told so, no wrong answer comes."""
+    ways, refusal = {}, 0
     with tempfile.TemporaryDirectory() as folder:
-        shim = f"{folder}/refuse_nth.so"
+        shim, note = f"{folder}/refuse_nth.so", f"{folder}/note"
         subprocess.run(["gcc", "-O2", "-shared", "-fPIC", "-o", shim, f"{TOP}/tools/refuse_nth.c"], check=True)
-        refusal, unmet = 0, 0
-        while unmet < 3 and refusal < (4000 if is_long else 400):
+        was_met = True
+        while was_met:
             refusal += 1
-            note = f"{folder}/note"
-            if os.path.exists(note):
-                os.remove(note)
             environment = {**os.environ, "LD_PRELOAD": shim, "REFUSE_NTH": str(refusal), "REFUSED_FILE": note}
-            ways.add(one_refusal(environment, refusal))
-            unmet = 0 if os.path.exists(note) else unmet + 1
-    return f"{refusal - unmet} requests for memory refused in turn: {', '.join(sorted(ways))}"
+            try:
+                way = one_refusal(environment)
+            except Trouble as trouble:
+                raise Trouble(f"request {refusal} for memory refused: {trouble}") from None
+            ways[way] = ways.get(way, 0) + 1
+            if was_met := os.path.exists(note):
+                os.remove(note)
+    return f"{refusal - 1} requests for memory refused in turn: " + ", ".join(f"{count} with {way}" for way, count in sorted(ways.items()))
 
 
-def one_refusal(environment, refusal):
+def one_refusal(environment):
+    """What came of a run of two sessions."""
     line = [PROGRAM, "serve", "--listen", "127.0.0.1:0", "--sessions", "2", "--workers", "1", "--segments", "8", "--segment-size", "4096"]
     ran = subprocess.Popen(line, stdout=subprocess.PIPE, stderr=subprocess.PIPE, text=True, env=environment)
     try:
         first = ran.stdout.readline()
-        if not first:
-            fault = ran.stderr.read()
-            if not re.fullmatch(r"fault: (out of memory|cannot listen on .*|cannot start a thread)\n", fault) or ran.wait(10) != 1:
-                raise Trouble(f"request {refusal} refused at the start: {fault!r}, status {ran.wait(10)}")
-            return "a fault at the start"
-        port = int(first.rpartition(":")[2])
-        for name in (b"a", b"b"):
-            with socket.create_connection(("127.0.0.1", port), 10) as peer:
-                peer.sendall(b"set %s 0 0 1\r\nx\r\nget %s\r\nquit\r\n" % (name, name))
-                got = b""
-                try:
-                    while piece := peer.recv(4096):
+        found = []
+        for name in (b"a", b"b") if first else ():
+            session, got = refused_session(name), b""
+            try:
+                with socket.create_connection(("127.0.0.1", int(first.rpartition(":")[2])), 30) as peer:
+                    peer.sendall(b"".join(request for request, _ in session))
+                    while piece := peer.recv(65536):
                         got += piece
-                except ConnectionResetError:
-                    pass
-                whole = b"STORED\r\nVALUE %s 0 1\r\nx\r\nEND\r\n" % name
-                wanted = (whole, b"STORED\r\nSERVER_ERROR out of memory\r\n", b"SERVER_ERROR out of memory\r\nEND\r\n")
-                if not any(it.startswith(got) for it in wanted):
-                    raise Trouble(f"request {refusal} refused: a session got {got!r}")
-        if ran.wait(20) != 0:
-            raise Trouble(f"request {refusal} refused: the server ended with {ran.returncode}: {ran.stderr.read()!r}")
-        return "served to the end"
+            except (ConnectionResetError, ConnectionRefusedError, BrokenPipeError):
+                pass
+            found.append(check_refused(session, got))
+        status, fault = ran.wait(30), ran.stderr.read()
+        if status == 1 and re.fullmatch(r"fault: (out of memory|cannot start a thread)\n", fault):
+            return "a fault at the start"
+        if status != 0 or fault or found[1:] == found[:1] != ["sessions whole"]:
+            raise Trouble(f"status {status}, standard error {fault!r}, {' and '.join(found)}")
+        return next((it for it in found if it != "sessions whole"), "sessions whole")
     finally:
         ran.kill()
         ran.wait()
         ran.stdout.close()
         ran.stderr.close()
+
+
+def together(server, seconds, task):
+    """Runs the task in eight threads, each with its number and a client of its own; the first trouble of any is raised."""
+    troubles = []
+
+    def run(part):
+        try:
+            task(part, Client(server, seconds))
+        except (OSError, EOFError, Trouble) as trouble:
+            troubles.append(f"{type(trouble).__name__} {trouble}")
+
+    threads = [threading.Thread(target=run, args=(part,)) for part in range(8)]
+    for thread in threads:
+        thread.start()
+    for thread in threads:
+        thread.join()
+    if troubles:
+        raise Trouble(troubles[0])
 
 
 def value_of(key, size):
@@ -388,33 +479,23 @@ def large_use(is_long):
     segments, size = (1024, 20000) if is_long else (64, 4000)
     writes = 3 * segments * 1048576 // size // 8
     with Server("--workers", "3", "--segment-size", "1048576", "--segments", str(segments)) as server:
-        troubles, found = [], []
+        found = []
 
-        def fill(part):
-            try:
-                client, chance = Client(server, 60), random.Random(part)
-                hits = 0
-                for number in range(writes):
-                    key = part * 10_000_000 + number
-                    if client.set(b"large-%d" % key, value_of(key, size)) != b"STORED":
-                        raise Trouble("a write wasn't stored")
-                    if number % 4 == 0:
-                        old = part * 10_000_000 + chance.randrange(number + 1)
-                        value = client.get(b"large-%d" % old)
-                        if value not in (None, value_of(old, size)):
-                            raise Trouble(f"key {old} has another value")
-                        hits += value is not None
-                found.append(hits)
-            except (OSError, EOFError, Trouble) as trouble:
-                troubles.append(f"{type(trouble).__name__} {trouble}")
+        def fill(part, client):
+            chance, hits = random.Random(part), 0
+            for number in range(writes):
+                key = part * 10_000_000 + number
+                if client.set(b"large-%d" % key, value_of(key, size)) != b"STORED":
+                    raise Trouble("a write wasn't stored")
+                if number % 4 == 0:
+                    old = part * 10_000_000 + chance.randrange(number + 1)
+                    value = client.get(b"large-%d" % old)
+                    if value not in (None, value_of(old, size)):
+                        raise Trouble(f"key {old} has another value")
+                    hits += value is not None
+            found.append(hits)
 
-        threads = [threading.Thread(target=fill, args=(part,)) for part in range(8)]
-        for thread in threads:
-            thread.start()
-        for thread in threads:
-            thread.join()
-        if troubles:
-            raise Trouble(troubles[0])
+        together(server, 60, fill)
         resident = server.resident_kilobytes()
         # (half of the segments for the index, 64 MiB for the rest)
         most = segments * 1024 * 1.6 + 65536
@@ -425,38 +506,30 @@ def large_use(is_long):
 
 def shared_counters(is_long):
     """Eight clients count, compare and swap, and add on shared keys: what was acknowledged is what is there."""
-    seconds = 60 if is_long else 10
-    with Server("--workers", "3") as server:
+    # (so many rounds of at most 200 bytes that the segments forget nothing)
+    seconds, most = (60, 60_000) if is_long else (10, 30_000)
+    with Server("--workers", "3", "--segment-size", "1048576", "--segments", "128") as server:
         setup = Client(server)
         for key in (b"sum", b"swapped"):
             setup.set(key, b"0")
-        added, won, troubles, first_adds = [0] * 8, [set() for _ in range(8)], [], [0] * 8
+        added, won, first_adds = [0] * 8, [set() for _ in range(8)], [0] * 8
         until = time.monotonic() + seconds
 
-        def count(part):
-            try:
-                client, number = Client(server), 0
-                while time.monotonic() < until:
-                    number += 1
-                    client.ask(b"incr sum %d" % (part + 1))
-                    added[part] += part + 1
-                    value, unique = client.get(b"swapped", b"gets")
-                    answer = client.set(b"swapped", b"%d" % (int(value) + 1), b"cas", b" %d" % unique)
-                    if answer == b"STORED":
-                        won[part].add(unique)
-                    elif answer != b"EXISTS":
-                        raise Trouble(f"cas answered {answer!r}")
-                    first_adds[part] += client.set(b"add-%d" % number, b"x", b"add") == b"STORED"
-            except (OSError, EOFError, Trouble) as trouble:
-                troubles.append(f"{type(trouble).__name__} {trouble}")
+        def count(part, client):
+            number = 0
+            while time.monotonic() < until and number < most:
+                number += 1
+                client.ask(b"incr sum %d" % (part + 1))
+                added[part] += part + 1
+                value, unique = client.get(b"swapped", b"gets")
+                answer = client.set(b"swapped", b"%d" % (int(value) + 1), b"cas", b" %d" % unique)
+                if answer == b"STORED":
+                    won[part].add(unique)
+                elif answer != b"EXISTS":
+                    raise Trouble(f"cas answered {answer!r}")
+                first_adds[part] += client.set(b"add-%d" % number, b"x", b"add") == b"STORED"
 
-        threads = [threading.Thread(target=count, args=(part,)) for part in range(8)]
-        for thread in threads:
-            thread.start()
-        for thread in threads:
-            thread.join()
-        if troubles:
-            raise Trouble(troubles[0])
+        together(server, 30, count)
         total, swaps = int(setup.get(b"sum")), int(setup.get(b"swapped"))
         wins = set().union(*won)
         if total != sum(added):
@@ -470,11 +543,136 @@ def shared_counters(is_long):
         return f"a sum of {total}, {swaps} swaps, {adds} adds, all as acknowledged"
 
 
+def press(server, chance):
+    """A session that makes the server keep what it sent, or what it is to be answered, until it goes."""
+    peer = server.connect()
+    peer.settimeout(2)
+    try:
+        if chance.random() < 0.5:
+            peer.sendall(b"get pressed\r\n" * 5000)
+        else:
+            peer.sendall(b"set half 0 0 131072\r\n" + b"h" * 131000)
+    except OSError:
+        # (the server may have closed it for want of memory, or reads no more of it)
+        pass
+    return peer
+
+
+def pressed_session(server, number):
+    """Whether a session was served to its end; a wrong answer is trouble, want of memory isn't."""
+    refused = b"SERVER_ERROR out of memory"
+    try:
+        client = Client(server)
+        with client.socket:
+            value = b"value-%d" % number
+            stored = client.set(b"key-%d" % number, value)
+            if stored not in (b"STORED", refused):
+                raise Trouble(f"a write was answered {stored!r}")
+            client.send(b"get key-%d\r\n" % number)
+            lines = [client.line()]
+            while lines[-1] not in (b"END", refused):
+                lines.append(client.line())
+            if lines != [refused] and lines != ([b"VALUE key-%d 0 %d" % (number, len(value)), value] if stored == b"STORED" else []) + [b"END"]:
+                raise Trouble(f"a read was answered {lines!r}")
+            return stored != refused and lines != [refused]
+    except (OSError, EOFError):
+        return False
+
+
+def little_memory(is_long):
+    """A limit on the process's memory (`ulimit -v`) that many sessions run into: no wrong answer, and all are served once they have gone."""
+    chance, spare = random.Random(3), 8 << 20
+    with Server("--workers", "2") as server:
+        setup = Client(server)
+        if setup.set(b"pressed", b"p" * 8000) != b"STORED":
+            raise Trouble("a value of 8,000 bytes wasn't stored")
+        most = server.kilobytes("VmSize") * 1024 + spare
+        resource.prlimit(server.process.pid, resource.RLIMIT_AS, (most, most))
+        served = tried = 0
+        for _ in range(10 if is_long else 2):
+            peers = [press(server, chance) for _ in range(150)]
+            for _ in range(50):
+                tried += 1
+                served += pressed_session(server, tried)
+            server.must_run()
+            for peer in peers:
+                peer.close()
+            until = time.monotonic() + 30
+            while not pressed_session(server, tried := tried + 1):
+                if time.monotonic() > until:
+                    raise Trouble("nobody is served after those that held the memory have gone")
+                time.sleep(0.1)
+            served += 1
+        return f"{served} of {tried} sessions served beside 150 that held all memory, the others told so or closed; served again afterwards"
+
+
+# What crates/segment_store takes where it is given no seed, as in `segcached replay`.
+KNOWN_SEED = "0x9e3779b97f4a7c15"
+
+
+def flooding(_):
+    """Keys that fall together in the index for who knows its seed, beside keys by chance: what a look-up of each costs."""
+    # (the index of 16 segments of 1 MiB has 2^20 slots)
+    slots, count = 1 << 20, 60000
+    with tempfile.TemporaryDirectory() as folder:
+        tool = f"{folder}/flood_keys"
+        subprocess.run(["gcc", "-O2", "-o", tool, f"{TOP}/tools/flood_keys.c"], check=True)
+        words = [KNOWN_SEED, str(slots), "4096", str(count)]
+        flood = subprocess.run([tool, *words], check=True, capture_output=True).stdout.split()
+    plain = [b"plain-%010d" % number for number in range(count)]
+    cost = [microseconds_a_look_up(keys) for keys in (plain, flood)]
+    if cost[1] > FLOOD_FACTOR * cost[0] + 5:
+        raise Trouble(f"a look-up of a flooding key takes {cost[1]:.1f} us of the server's time, one of another {cost[0]:.1f} us")
+    return f"{count} keys chosen for a known seed: {cost[1]:.1f} us of the server's time for each, and {cost[0]:.1f} us for keys by chance"
+
+
+# How much more a flooding key may cost.
+FLOOD_FACTOR = 2
+
+
+def microseconds_a_look_up(keys):
+    """The server's processor time for a `get` of one of the keys in a pipeline, once all are there."""
+    with Server("--workers", "1", "--segment-size", "1048576", "--segments", "16") as server:
+        client = Client(server, 120)
+        for at in range(0, len(keys), 100):
+            client.send(b"".join(b"set %s 0 0 1\r\nx\r\n" % key for key in keys[at : at + 100]))
+            for _ in keys[at : at + 100]:
+                if client.line() != b"STORED":
+                    raise Trouble("a key wasn't stored")
+        before, asked = server.processor_seconds(), random.Random(1).sample(keys, 20000)
+        for at in range(0, len(asked), 100):
+            client.send(b"".join(b"get %s\r\n" % key for key in asked[at : at + 100]))
+            for key in asked[at : at + 100]:
+                if [client.line() for _ in range(3)] != [b"VALUE %s 0 1" % key, b"x", b"END"]:
+                    raise Trouble("a key isn't found")
+        return (server.processor_seconds() - before) * 1e6 / len(asked)
+
+
+def history(is_long):
+    """What eight clients were answered on shared keys falls, for each key, into one order that a cache would have; tools/histories.py."""
+    import histories
+
+    with Server("--workers", "3", "--segment-size", "1048576", "--segments", "64") as server:
+        operations = histories.record(server.port, 60 if is_long else 5)
+    wrong, keys, count, at_once = histories.check(operations)
+    if wrong:
+        raise Trouble(f"no order of a cache has what was answered on {', '.join(wrong[:5])}")
+    # (the check itself: one answer made wrong, and no order is found)
+    place = next(at for at, it in enumerate(operations) if it.verb == "incr" and it.answer[0].isdigit())
+    operations[place] = operations[place]._replace(answer=[str(int(operations[place].answer[0]) + 1000000)])
+    if histories.check([it for it in operations if it.key == operations[place].key])[0] != [operations[place].key]:
+        raise Trouble("the check lets a wrong answer pass")
+    return f"{count} operations of 8 clients on {keys} keys, {at_once} of them beside another on their key: one order for each"
+
+
 PARTS = {
     "shared_counters": shared_counters,
     "bad_peers": bad_peers,
     "many_sessions": many_sessions,
     "few_descriptors": few_descriptors,
+    "history": history,
+    "little_memory": little_memory,
+    "flooding": flooding,
     "refused_memory": refused_memory,
     "large_use": large_use,
     "fuzz": fuzz,
@@ -487,15 +685,19 @@ def main():
     parser.add_argument("--only", default=",".join(PARTS))
     parser.add_argument("--program", default=PROGRAM)
     parser.add_argument("--late", type=float, default=LATE)
+    parser.add_argument("--fuzz-seconds", type=float)
     words = parser.parse_args()
-    globals().update(PROGRAM=words.program, LATE=words.late)
+    globals().update(PROGRAM=words.program, LATE=words.late, FUZZ_SECONDS=words.fuzz_seconds)
+    _, hard = resource.getrlimit(resource.RLIMIT_NOFILE)
+    resource.setrlimit(resource.RLIMIT_NOFILE, (min(hard, 8192), hard))
     failed = 0
     for name in words.only.split(","):
         began = time.monotonic()
         try:
             said = PARTS[name](words.long)
         except (Trouble, OSError, EOFError) as trouble:
-            said, failed = f"FAILED: {type(trouble).__name__} {trouble}", failed + 1
+            lines = [str(it.lineno) for it in traceback.extract_tb(trouble.__traceback__)]
+            said, failed = f"FAILED: {type(trouble).__name__} {trouble}, at lines {', '.join(lines)}", failed + 1
         print(f"hostile {name}: {said} ({time.monotonic() - began:.0f} s)", flush=True)
     return 1 if failed else 0
 

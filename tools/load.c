@@ -1,12 +1,15 @@
 // A load for servers of the memcached text protocol, which measures requests a second and latencies.
 //
-//   load HOST PORT [--connections N] [--threads N] [--pipeline N] [--seconds S] [--keys N] [--value BYTES]
-//                  [--sets PERCENT] [--many KEYS] [--zipf] [--rate R] [--fill] [--check]
+//   load HOST PORT [--connections N] [--threads N] [--pipeline N] [--seconds S] [--requests N] [--keys N] [--value BYTES]
+//                  [--sets PERCENT] [--many KEYS] [--zipf] [--rate R] [--fill] [--through] [--seed N]
 //
 // Each connection keeps a pipeline of requests on its way: it sends so many in one piece, reads all their answers, and sends
-// the next. A latency is the time from that send to the last byte of the request's answer. --fill writes each key once and
-// measures nothing. --many asks so many keys in one get. --rate sends so many requests a second in all, evenly, in place of as
-// many as can be. --check compares each value with what its key has to hold. The last line is of words NAME=FIGURE.
+// the next. A latency is the time from that send to the last byte of the request's answer. Each answer is checked: its keys are
+// those that were asked, in order, and each value is the one that its key has to hold. --fill writes each key once and measures
+// nothing. --many asks so many keys in one get. --rate sends so many requests a second in all, evenly, in place of as many as
+// can be. --through writes each key that was missed, as a client of a cache does. --requests ends after so many requests
+// in place of after some seconds. The last line is of words NAME=FIGURE; `busy` is the share of the time that the threads ran:
+// near 1 the load itself is what limits.
 #define _GNU_SOURCE
 #include <arpa/inet.h>
 #include <errno.h>
@@ -21,22 +24,24 @@
 #include <stdlib.h>
 #include <string.h>
 #include <sys/epoll.h>
+#include <sys/resource.h>
 #include <sys/socket.h>
 #include <time.h>
 #include <unistd.h>
 
 struct options {
     const char *host;
-    int port, connections, threads, pipeline, many, sets, keys, value;
+    int port, connections, threads, pipeline, many, sets, keys, value, seed;
     double seconds, rate;
-    bool zipf, fill, check;
+    long requests;
+    bool zipf, fill, through;
 };
 
 static struct options options = {
-    .connections = 50, .threads = 2, .pipeline = 1, .many = 1, .sets = 0, .keys = 100000, .value = 100, .seconds = 3,
+    .connections = 50, .threads = 2, .pipeline = 1, .many = 1, .sets = 0, .keys = 100000, .value = 100, .seed = 1, .seconds = 3,
 };
 
-enum { MOST_LATENCIES = 1 << 20, LONGEST_KEY = 32 };
+enum { MOST_LATENCIES = 1 << 20, LETTERS = 26, KEY_LENGTH = 11, LONGEST_KEY = 32 };
 
 // What is asked, and how its answer is read.
 struct request {
@@ -54,6 +59,7 @@ struct connection {
     size_t in_length, in_room;
     double sent_at, next_at;
     int next_fill, end_fill;
+    int *missed, missed_count;      // the keys that were missed and are to be written
 };
 
 struct worker {
@@ -67,6 +73,7 @@ struct worker {
 
 static struct connection *connections;
 static double *zipf_sums;
+static char *values;                // for each letter the value that is full of it, with its line's end
 static volatile bool is_over;
 
 static double now(void) {
@@ -101,68 +108,122 @@ static int pick_key(uint64_t *seed) {
     return (int)((uint64_t)low * 2654435761u % options.keys);
 }
 
-// The byte that fills the value of a key.
-static char byte_of(int key) { return 'a' + key % 26; }
+// The value of a key, with its line's end.
+static const char *value_of(int key) { return values + (size_t)(key % LETTERS) * (options.value + 2); }
+
+static void make_values(void) {
+    values = malloc((size_t)LETTERS * (options.value + 2));
+    for (int letter = 0; letter < LETTERS; letter++) {
+        char *value = values + (size_t)letter * (options.value + 2);
+        memset(value, 'a' + letter, options.value);
+        memcpy(value + options.value, "\r\n", 2);
+    }
+}
+
+// The key's name: "key-" and seven digits.
+static void write_key(char *out, int key) {
+    memcpy(out, "key-", 4);
+    for (int i = KEY_LENGTH - 1; i >= 4; i--, key /= 10) out[i] = '0' + key % 10;
+}
+
+static void add(struct connection *c, const char *bytes, size_t length) {
+    memcpy(c->out + c->out_length, bytes, length);
+    c->out_length += length;
+}
+
+static void add_key(struct connection *c, int key) {
+    write_key(c->out + c->out_length, key);
+    c->out_length += KEY_LENGTH;
+}
 
 static void add_set(struct connection *c, int key) {
-    c->out_length += sprintf(c->out + c->out_length, "set key-%07d 0 0 %d\r\n", key, options.value);
-    memset(c->out + c->out_length, byte_of(key), options.value);
-    c->out_length += options.value;
-    memcpy(c->out + c->out_length, "\r\n", 2);
-    c->out_length += 2;
+    static __thread char tail[32];
+    static __thread int tail_length;
+    if (!tail_length) tail_length = sprintf(tail, " 0 0 %d\r\n", options.value);
+    add(c, "set ", 4);
+    add_key(c, key);
+    add(c, tail, tail_length);
+    add(c, value_of(key), options.value + 2);
 }
 
 static void add_get(struct connection *c, int key) {
-    c->out_length += sprintf(c->out + c->out_length, "get");
-    for (int i = 0; i < options.many; i++)
-        c->out_length += sprintf(c->out + c->out_length, " key-%07d", (key + i) % options.keys);
-    memcpy(c->out + c->out_length, "\r\n", 2);
-    c->out_length += 2;
+    add(c, "get", 3);
+    for (int i = 0; i < options.many; i++) {
+        add(c, " ", 1);
+        add_key(c, (key + i) % options.keys);
+    }
+    add(c, "\r\n", 2);
+}
+
+// The next request of a connection: what was missed first. False where nothing is left.
+static bool next_request(struct worker *w, struct connection *c, struct request *r) {
+    if (options.fill) {
+        if (c->next_fill >= c->end_fill) return false;
+        *r = (struct request){true, c->next_fill++};
+    } else if (c->missed_count > 0) {
+        *r = (struct request){true, c->missed[--c->missed_count]};
+    } else {
+        *r = (struct request){(int)(next_random(&w->seed) % 100) < options.sets, pick_key(&w->seed)};
+    }
+    return true;
 }
 
 // Writes the next pipeline into the buffer. False where there is nothing left to ask.
 static bool make_pipeline(struct worker *w, struct connection *c) {
     c->out_length = c->out_sent = 0;
     c->waiting = c->answered = 0;
-    for (int i = 0; i < options.pipeline; i++) {
-        struct request *r = &c->asked[i];
-        if (options.fill) {
-            if (c->next_fill >= c->end_fill) break;
-            *r = (struct request){true, c->next_fill++};
-        } else {
-            *r = (struct request){(int)(next_random(&w->seed) % 100) < options.sets, pick_key(&w->seed)};
-        }
+    while (c->waiting < options.pipeline) {
+        struct request *r = &c->asked[c->waiting];
+        if (!next_request(w, c, r)) break;
         if (r->is_set) add_set(c, r->first_key); else add_get(c, r->first_key);
         c->waiting++;
     }
     return c->waiting > 0;
 }
 
+// Whether the bytes, as far as they have come, are those of the text.
+static bool can_be(const char *in, size_t length, const char *text, size_t text_length) {
+    return !memcmp(in, text, length < text_length ? length : text_length);
+}
+
+// The length of one VALUE with its block, 0 where it isn't whole yet, or -1 where it is none; `nth` becomes the number of its
+// key in the request, which has to be `*nth` or a later one.
+static long value_length(const struct request *r, const char *in, size_t length, int *nth) {
+    size_t head = 6 + KEY_LENGTH;
+    if (!can_be(in, length, "VALUE ", 6)) return -1;
+    if (length < head + 8) return 0;
+    for (;; ++*nth) {
+        char name[KEY_LENGTH];
+        if (*nth >= options.many) return -1;
+        write_key(name, (r->first_key + *nth) % options.keys);
+        if (!memcmp(name, in + 6, KEY_LENGTH)) break;
+    }
+    const char *end = memchr(in + head, '\n', length - head < 32 ? length - head : 32);
+    if (!end) return length - head < 32 ? 0 : -1;
+    size_t value = end + 1 - in, size = options.value + 2;
+    if (value + size > length) return 0;
+    return memcmp(in + value, value_of((r->first_key + *nth) % options.keys), size) ? -1 : (long)(value + size);
+}
+
 // The length of the answer that the bytes begin with, 0 where it isn't whole yet, or -1 where it is none.
-static long answer_length(struct worker *w, const struct request *r, const char *in, size_t length) {
+static long answer_length(struct worker *w, struct connection *c, const struct request *r, const char *in, size_t length) {
+    if (r->is_set) {
+        if (!can_be(in, length, "STORED\r\n", 8)) return -1;
+        return length < 8 ? 0 : 8;
+    }
     size_t at = 0;
     uint64_t hits = 0;
-    for (;;) {
-        const char *end = memmem(in + at, length - at, "\r\n", 2);
-        if (!end) return 0;
-        size_t line = end - (in + at);
-        if (r->is_set) return line == 6 && !memcmp(in + at, "STORED", 6) ? (long)(line + 2) : -1;
-        if (line == 3 && !memcmp(in + at, "END", 3)) {
-            w->hits += hits;
-            w->keys_asked += options.many;
-            return at + line + 2;
-        }
-        if (line < 6 || memcmp(in + at, "VALUE ", 6)) return -1;
-        size_t value = at + line + 2;
-        if (value + options.value + 2 > length) return 0;
-        if (options.check) {
-            int key = atoi(in + at + 10);
-            for (int i = 0; i < options.value; i++)
-                if (in[value + i] != byte_of(key)) return -1;
-        }
-        hits++;
-        at = value + options.value + 2;
+    for (int nth = 0;; nth++, hits++) {
+        if (length - at >= 5 && !memcmp(in + at, "END\r\n", 5)) break;
+        if (can_be(in + at, length - at, "END\r\n", 5)) return 0;
+        long one = value_length(r, in + at, length - at, &nth);
+        if (one <= 0) return one;
+        at += one;
     }
+    w->hits += hits;
+    w->keys_asked += options.many;
+    if (options.through && hits == 0) c->missed[c->missed_count++] = r->first_key;
+    return at + 5;
 }
 
 static void note_latency(struct worker *w, double seconds) {
@@ -180,7 +241,7 @@ static bool read_answers(struct worker *w, struct connection *c) {
     size_t at = 0;
     double read_at = now();
     while (c->answered < c->waiting) {
-        long length = answer_length(w, &c->asked[c->answered], c->in + at, c->in_length - at);
+        long length = answer_length(w, c, &c->asked[c->answered], c->in + at, c->in_length - at);
         if (length < 0) return false;
         if (length == 0) break;
         at += length;
@@ -208,6 +269,27 @@ static bool begin_pipeline(struct worker *w, struct connection *c) {
     return send_rest(c);
 }
 
+// Sends what is due at a fixed rate, and says in how many seconds the next is.
+static double send_due(struct worker *w, double each) {
+    double time = now(), soonest = 0.1;
+    for (int i = 0; i < w->count; i++) {
+        struct connection *c = &connections[w->first + i];
+        if (c->answered < c->waiting) continue;
+        if (time >= c->next_at) {
+            c->next_at += each;
+            if (!begin_pipeline(w, c)) w->failed = true;
+        } else if (c->next_at - time < soonest) {
+            soonest = c->next_at - time;
+        }
+    }
+    return soonest;
+}
+
+static bool is_done(const struct worker *w, int left) {
+    if (is_over || w->failed || left == 0) return true;
+    return options.requests && w->requests >= (uint64_t)(options.requests / options.threads);
+}
+
 static void *run_worker(void *given) {
     struct worker *w = given;
     int poll = epoll_create1(0), left = w->count;
@@ -222,8 +304,10 @@ static void *run_worker(void *given) {
         if (c->waiting == 0 && options.fill) left--;
     }
     struct epoll_event events[256];
-    while (!is_over && !w->failed && left > 0) {
-        int n = epoll_wait(poll, events, 256, each > 0 ? 0 : 100);
+    while (!is_done(w, left)) {
+        double wait = each > 0 ? send_due(w, each) : 0.1;
+        struct timespec at_most = {0, (long)(wait * 1e9)};
+        int n = epoll_pwait2(poll, events, 256, &at_most, NULL);
         for (int i = 0; i < n && !w->failed; i++) {
             struct connection *c = events[i].data.ptr;
             if (!read_answers(w, c) || !send_rest(c)) w->failed = true;
@@ -231,13 +315,6 @@ static void *run_worker(void *given) {
             if (!begin_pipeline(w, c)) w->failed = true;
             if (c->waiting == 0) left--;
         }
-        for (int i = 0; each > 0 && i < w->count; i++) {
-            struct connection *c = &connections[w->first + i];
-            if (now() < c->next_at || c->answered < c->waiting) continue;
-            c->next_at += each;
-            if (!begin_pipeline(w, c)) w->failed = true;
-        }
-        if (each > 0 && n == 0) usleep(20);
     }
     close(poll);
     return NULL;
@@ -262,6 +339,7 @@ static void open_connections(void) {
         struct connection *c = &connections[i];
         c->fd = connect_to();
         c->asked = calloc(options.pipeline, sizeof *c->asked);
+        c->missed = calloc(options.pipeline, sizeof *c->missed);
         c->out = malloc(request * options.pipeline);
         c->in_room = answer * options.pipeline + 65536;
         c->in = malloc(c->in_room);
@@ -291,6 +369,13 @@ static int number(const char *word, const char *text, int least, int most) {
     return n;
 }
 
+static double seconds(const char *text) {
+    double n = text ? atof(text) : 0;
+    if (n >= 0.01 && n <= 86400) return n;
+    fprintf(stderr, "load: --seconds takes a number from 0.01 to 86400\n");
+    exit(2);
+}
+
 static void read_words(int count, char **words) {
     if (count < 3) {
         fprintf(stderr, "load: HOST PORT, and then the words that the head of load.c lists\n");
@@ -302,15 +387,17 @@ static void read_words(int count, char **words) {
         const char *word = words[i], *next = words[i + 1];
         if (!strcmp(word, "--zipf")) options.zipf = true;
         else if (!strcmp(word, "--fill")) options.fill = true;
-        else if (!strcmp(word, "--check")) options.check = true;
+        else if (!strcmp(word, "--through")) options.through = true;
         else if (!strcmp(word, "--connections")) options.connections = number(word, next, 1, 20000), i++;
         else if (!strcmp(word, "--threads")) options.threads = number(word, next, 1, 64), i++;
         else if (!strcmp(word, "--pipeline")) options.pipeline = number(word, next, 1, 10000), i++;
-        else if (!strcmp(word, "--seconds")) options.seconds = number(word, next, 1, 86400), i++;
+        else if (!strcmp(word, "--seconds")) options.seconds = seconds(next), i++;
+        else if (!strcmp(word, "--requests")) options.requests = number(word, next, 1, 2000000000), i++;
         else if (!strcmp(word, "--keys")) options.keys = number(word, next, 1, 9999999), i++;
         else if (!strcmp(word, "--value")) options.value = number(word, next, 0, 131072), i++;
         else if (!strcmp(word, "--sets")) options.sets = number(word, next, 0, 100), i++;
         else if (!strcmp(word, "--many")) options.many = number(word, next, 1, 100), i++;
+        else if (!strcmp(word, "--seed")) options.seed = number(word, next, 0, 2000000000), i++;
         else if (!strcmp(word, "--rate")) options.rate = number(word, next, 1, 100000000), i++;
         else {
             fprintf(stderr, "load: unknown word %s\n", word);
@@ -333,14 +420,18 @@ static void report(struct worker *workers, double seconds) {
     }
     qsort(all, kept, sizeof *all, by_size);
 #define PERCENTILE(p) (kept ? all[(uint64_t)((kept - 1) * (p))] : 0)
-    printf("requests=%lu seconds=%.3f rate=%.0f hits=%lu misses=%lu p50=%u p99=%u p999=%u most=%u\n", (unsigned long)requests,
-           seconds, requests / seconds, (unsigned long)hits, (unsigned long)(keys - hits), PERCENTILE(0.5), PERCENTILE(0.99),
-           PERCENTILE(0.999), PERCENTILE(1.0));
+    struct rusage used;
+    getrusage(RUSAGE_SELF, &used);
+    double ran = used.ru_utime.tv_sec + used.ru_stime.tv_sec + (used.ru_utime.tv_usec + used.ru_stime.tv_usec) / 1e6;
+    printf("requests=%lu seconds=%.3f rate=%.0f hits=%lu misses=%lu p50=%u p99=%u p999=%u most=%u busy=%.2f\n",
+           (unsigned long)requests, seconds, requests / seconds, (unsigned long)hits, (unsigned long)(keys - hits), PERCENTILE(0.5),
+           PERCENTILE(0.99), PERCENTILE(0.999), PERCENTILE(1.0), ran / seconds / options.threads);
 }
 
 int main(int count, char **words) {
     read_words(count, words);
     if (options.zipf) make_zipf();
+    make_values();
     open_connections();
     struct worker *workers = calloc(options.threads, sizeof *workers);
     double began = now();
@@ -348,11 +439,11 @@ int main(int count, char **words) {
         struct worker *w = &workers[i];
         w->first = options.connections * i / options.threads;
         w->count = options.connections * (i + 1) / options.threads - w->first;
-        w->seed = 12345 + i;
+        w->seed = 1000 * (uint64_t)options.seed + i;
         w->latencies = malloc(MOST_LATENCIES * sizeof *w->latencies);
         if (pthread_create(&w->thread, NULL, run_worker, w)) die("thread");
     }
-    if (!options.fill) {
+    if (!options.fill && !options.requests) {
         usleep(options.seconds * 1e6);
         is_over = true;
     }

@@ -1,22 +1,24 @@
 #!/usr/bin/env python3
 """Proves crates side by side, each after those that it stands on, and says a line for each.
 
-    tools/prove.py NAME ..      the named crates and all that they stand on
+    tools/prove.py NAME         a crate and all that it stands on
     tools/prove.py --all        every crate of crates.txt
 
 A crate whose proof is kept in its folder out/ and that hasn't changed takes a second or two. As many run at a time as there
-are processors and memory for; --jobs N asks for N. Ends with status 1 at the first crate that isn't proved.
+are processors and memory for; --jobs N asks for N. Ends with status 1 where a crate isn't proved.
 """
 import argparse
 import os
+import re
 import subprocess
 import sys
 import time
-from concurrent.futures import FIRST_COMPLETED, ThreadPoolExecutor, wait
 
 TOP = os.path.dirname(os.path.dirname(os.path.abspath(__file__)))
 # What one proof may take, in gigabytes, where nothing is kept.
 GIGABYTES_A_PROOF = 3.5
+# Of a crate that isn't proved so many characters are shown, the last ones.
+SHOWN = 3000
 
 
 def read_crates():
@@ -30,95 +32,60 @@ def read_crates():
     return {name: [it for it in below if it in lines] for name, below in lines.items()}
 
 
-def with_those_below(crates, names):
-    """The named crates and all below them, lowest first."""
-    found = []
-
-    def visit(name):
-        if name not in found:
-            for below in crates[name]:
-                visit(below)
-            found.append(name)
-
-    for name in names:
-        visit(name)
+def with_those_below(crates, name):
+    found = {name}
+    for below in crates[name]:
+        found |= with_those_below(crates, below)
     return found
-
-
-def heights(crates, names):
-    """How many lines of code and proof stand on the longest chain from each crate up: the longest goes first."""
-    lines = {}
-    for name in names:
-        lines[name] = 0
-        for part in ("src", "specs", "proofs"):
-            for folder, _, files in os.walk(f"{TOP}/crates/{name}/{part}"):
-                for file in files:
-                    with open(f"{folder}/{file}", "rb") as it:
-                        lines[name] += it.read().count(b"\n")
-    chain = dict(lines)
-    for name in reversed(names):
-        for below in crates[name]:
-            chain[below] = max(chain[below], lines[below] + chain[name])
-    return chain
-
-
-def prove(name):
-    """Proves one crate, and keeps of a library what the crates above load. Gives the seconds, and what was said where it failed."""
-    folder = f"{TOP}/crates/{name}"
-    verb = "check" if os.path.exists(f"{folder}/src/main.rt") else "lib"
-    began = time.monotonic()
-    ran = subprocess.run(["rt", verb, "--jobs", "1"], cwd=folder, stdin=subprocess.DEVNULL, capture_output=True, text=True, errors="replace")
-    return time.monotonic() - began, ran.stdout + ran.stderr if ran.returncode else None
 
 
 def at_once():
     """How many proofs may run side by side."""
-    processors = len(os.sched_getaffinity(0))
     with open("/proc/meminfo", encoding="ascii") as file:
         free = next(int(line.split()[1]) for line in file if line.startswith("MemAvailable"))
-    return max(1, min(processors, int(free / 1024 / 1024 / GIGABYTES_A_PROOF)))
+    return max(1, min(len(os.sched_getaffinity(0)), int(free / 1024 / 1024 / GIGABYTES_A_PROOF)))
 
 
-def clock(seconds):
-    return f"{int(seconds) // 60}:{int(seconds) % 60:02}"
-
-
-def prove_all(crates, names, jobs):
-    chain = heights(crates, names)
-    began, proved, running = time.monotonic(), [], {}
-    waiting = sorted(names, key=lambda name: -chain[name])
-    print(f"{len(names)} crates to prove, {jobs} at a time", flush=True)
-    with ThreadPoolExecutor(jobs) as pool:
-        while waiting or running:
-            for name in [it for it in waiting if all(below in proved for below in crates[it])]:
-                if len(running) < jobs:
-                    waiting.remove(name)
-                    running[pool.submit(prove, name)] = name
-            for future in wait(running, return_when=FIRST_COMPLETED).done:
-                name = running.pop(future)
-                seconds, said = future.result()
-                if said is not None:
-                    print(said[-3000:])
-                    print(f"{name} is not proved", flush=True)
-                    os._exit(1)
-                proved.append(name)
-                total = clock(time.monotonic() - began)
-                print(f"  {len(proved):2} of {len(names)}  {name:18} {clock(seconds)}   (so far {total})", flush=True)
+def prove(folder, count, jobs):
+    """Proves each crate at or below the folder and all that they stand on, with a line for each, and gives the status."""
+    print(f"{count} crates to prove, {jobs} at a time", flush=True)
+    began, proved, said, name = time.monotonic(), 0, {}, ""
+    words = ["rt", "all", "check", "--jobs", str(jobs)]
+    with subprocess.Popen(words, cwd=folder, stdin=subprocess.DEVNULL, stdout=subprocess.PIPE, stderr=subprocess.STDOUT, text=True, errors="replace") as ran:
+        for line in ran.stdout:
+            header = re.fullmatch(r"== (\w+)\n", line)
+            if header:
+                name = header[1]
+                proved += name != "summary"
+                seconds = int(time.monotonic() - began)
+                if name != "summary":
+                    print(f"  {proved:2} of {count}  {name:18} ({seconds // 60}:{seconds % 60:02})", flush=True)
+            else:
+                said[name] = said.get(name, "") + line
+    if ran.returncode:
+        for line in said.get("summary", "").splitlines():
+            if failed := re.match(r"(\w+): failed", line):
+                print(said.get(failed[1], "")[-SHOWN:])
+            if not line.endswith(": ok"):
+                print(line)
+        if "summary" not in said:
+            print("".join(said.values())[-SHOWN:])
+    return ran.returncode
 
 
 def main():
     parser = argparse.ArgumentParser(description="Proves crates side by side.")
-    parser.add_argument("names", nargs="*")
+    parser.add_argument("name", nargs="?")
     parser.add_argument("--all", action="store_true")
     parser.add_argument("--jobs", type=int, default=0)
     words = parser.parse_args()
     crates = read_crates()
-    names = list(crates) if words.all else words.names
-    unknown = [it for it in names if it not in crates]
-    if unknown or not names:
-        parser.error(f"no crate of crates.txt: {' '.join(unknown)}" if unknown else "name a crate")
-    prove_all(crates, with_those_below(crates, names), words.jobs or at_once())
-    return 0
+    jobs = words.jobs or at_once()
+    if words.all:
+        return prove(TOP, len(crates), jobs)
+    if words.name not in crates:
+        parser.error("name a crate of crates.txt, or --all")
+    return prove(f"{TOP}/crates/{words.name}", len(with_those_below(crates, words.name)), jobs)
 
 
 if __name__ == "__main__":

@@ -1,7 +1,8 @@
 #!/usr/bin/env bash
 # Runs each program crates/refused_*, as the gate built it, once for each request for memory that it makes; that one is
 # refused, in that run alone. Each run has to write what the crate's file stdout has. Ends with status 0 where all do.
-# Then the same of segcached, for some words: each run ends as without a refusal, or names want of memory.
+# Then the same of segcached, for some words: each run ends as without a refusal, or names want of memory. Last, each
+# thread that segcached asks for is refused in turn: no such run names want of memory, or prints a line.
 # With --build it proves and builds the programs first.
 set -eu
 cd "$(dirname "$0")/.."
@@ -9,7 +10,7 @@ command -v gcc >/dev/null || apt-get install -y gcc libc6-dev >/dev/null
 
 work=$(mktemp -d)
 trap 'rm -rf "$work"' EXIT
-gcc -O2 -Wall -Wextra -shared -fPIC -o "$work/refuse_nth.so" tools/refuse_nth.c
+gcc -O2 -Wall -Wextra -shared -fPIC -o "$work/refuse_nth.so" tools/refuse_nth.c -ldl
 
 # Proves and builds a program.
 build() {
@@ -79,6 +80,27 @@ refuse_words() {
   [ "$refusal" -gt 1 ]
 }
 
+# Refuses each thread of segcached in turn, for these words, of which so many are wanted.
+refuse_threads() {
+  local wanted=$1 refusal=1 status
+  shift
+  while :; do
+    rm -f "$work/refused"
+    status=0
+    timeout 60 env REFUSE_THREAD=$refusal REFUSED_FILE="$work/refused" LD_PRELOAD="$work/refuse_nth.so" \
+      crates/segcached/out/segcached "$@" >"$work/got" 2>"$work/faults" || status=$?
+    [ -e "$work/refused" ] || break
+    if [ "$status" -ne 1 ] || [ -s "$work/got" ] || [ "$(cat "$work/faults")" != 'fault: cannot start a thread' ]; then
+      echo "segcached $*: thread $refusal refused: status $status, and this was written:"
+      cat "$work/got" "$work/faults"
+      return 1
+    fi
+    refusal=$((refusal + 1))
+  done
+  echo "segcached $*: $((refusal - 1)) threads, each refused in turn"
+  [ "$refusal" -eq $((wanted + 1)) ]
+}
+
 for folder in crates/refused_*; do
   name=${folder##*/}
   if [ "${1:-}" = --build ]; then
@@ -98,6 +120,7 @@ if [ -x crates/segcached/out/segcached ]; then
   refuse_words replay "$work/missing"
   refuse_words replay crates/segcached/data/script
   refuse_words replay "$work/two_workers" --workers 2
+  refuse_threads 3 replay "$work/two_workers" --workers 2
 else
   echo "segcached isn't built"
   exit 1

@@ -1,11 +1,18 @@
 #!/usr/bin/env bash
-# Real clients against `segcached serve`: netcat, libmemcached's tools and pymemcache, each with an expected outcome.
-# Usage: try_clients.sh PROGRAM. The last line is 'N passed, M failed'.
+# Real clients against `segcached serve`, each with an expected outcome: netcat, libmemcached's tools, pymemcache, and keys spread over
+# three caches by pymemcache and by libmemcached. With --all, which the gate leaves out, all those of docs/CLIENTS.md: each of them calls
+# what it has, and what works and what doesn't has to be as tools/clients/expected says.
+# Usage: try_clients.sh [--all] PROGRAM. The last line is 'N passed, M failed'.
 set -u
 cd "$(dirname "$0")/.."
+all=
+[ "$1" != --all ] || { all=yes && shift; }
 program=$(realpath "$1")
+packages=(netcat-openbsd libmemcached-tools python3-pymemcache python3-pylibmc)
+[ -z "$all" ] || packages+=(python3-memcache python3-binary-memcached php-cli php-memcached php-memcache libcache-memcached-perl
+  libcache-memcached-fast-perl libmemcached-libmemcached-perl ruby ruby-dalli nginx-light)
 missing=()
-for package in netcat-openbsd libmemcached-tools python3-pymemcache; do
+for package in "${packages[@]}"; do
   dpkg -s "$package" >/dev/null 2>&1 || missing+=("$package")
 done
 if [ ${#missing[@]} -gt 0 ]; then
@@ -59,12 +66,43 @@ for part in quit get gets mget flush delete incr decr; do
   expect 0 "$label[pass]"$'\nAll tests passed' memccapable -h 127.0.0.1 -p "$port" -a -t 5 -T "ascii $part"
 done
 
-# Debian's python3, for which the package is installed.
-if /usr/bin/python3 tools/try_pymemcache.py "$port"; then
-  passed=$((passed + 1))
-else
-  failed=$((failed + 1))
-fi
+# memcflush writes a space behind flush_all, which is a fault.
+expect 1 '' memcflush "$servers"
+
+# part COMMAND..: runs a command that checks by itself.
+part() {
+  if "$@"; then
+    passed=$((passed + 1))
+  else
+    failed=$((failed + 1))
+    echo "failed  $*"
+  fi
+}
+
+# Debian's python3, for which the packages are installed.
+part /usr/bin/python3 tools/try_pymemcache.py "$port"
+part timeout 120 /usr/bin/python3 tools/clients/three_servers.py "$program"
+
+# What each client says that works and that doesn't.
+each_client() {
+  local name
+  for name in pylibmc_calls python_memcached_calls binary_memcached_calls nginx_calls; do
+    timeout 100 /usr/bin/python3 "tools/clients/$name.py" "$port"
+  done
+  timeout 100 php tools/clients/php_memcached_calls.php "$port"
+  timeout 100 php tools/clients/php_memcache_calls.php "$port"
+  for name in Cache::Memcached Cache::Memcached::Fast Memcached::libmemcached; do
+    timeout 100 perl tools/clients/perl_calls.pl "$name" "$port" 2>/dev/null
+  done
+  timeout 100 ruby tools/clients/dalli_calls.rb "$port"
+}
+
+as_expected() {
+  each_client 2>"$work/errors" | sed 's/ *$//' | tee "$work/got"
+  diff tools/clients/expected "$work/got" || { cat "$work/errors" && return 1; }
+}
+
+[ -z "$all" ] || part as_expected
 
 echo "$passed passed, $failed failed"
 [ "$failed" -eq 0 ]

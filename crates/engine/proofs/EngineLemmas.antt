@@ -17,13 +17,13 @@ use Rattle.engine.specs.declared.commands.Engine.{Engine}
 use Rattle.engine.specs.Written.{IsWritten}
 use Rattle.engine.specs.Members.{MapOf}
 use Rattle.engine.specs.Keeping.{StaysKept}
-use Rattle.engine.specs.Counting.{CountsReads}
 use Rattle.engine.specs.Outcomes.{outcome_at, needs_memory}
 use Rattle.engine.specs.Engines.{cache_in, Changes, IsDenied, Leaves, IsHandled}
 use Rattle.engine.proofs.Refusals.{answers_act}
 
 -- ---- a write that forgets nothing and gives exactly the deadline asked for
 
+-- a map that writes the entry as it is writes as it may
 pub written_exactly : (sizes : Sizes) (t : ℕ) (old : Entries) (key : List ℕ) (e : Entry) (new : Entries)
     → has_arrived e.deadline t ≡ false → new ≡ map.insert old key e → IsWritten sizes t old key e new
 written_exactly sizes t old key e new waits is =
@@ -37,12 +37,13 @@ written_exactly sizes t old key e new waits is =
 
 -- ---- first to the moment, and then the request
 
+-- an engine that went on to the moment, and did what the outcome says, has handled the request
 pub handled_by : {M P : Type 0} (m : MapOf M P) (old found : Engine M) (t : ℕ) (q : Request) (reply : Reply) (new : Engine M)
     → cache_in m.entries found ≡ found_at (cache_in m.entries old) t → m.sizes found.map ≡ m.sizes old.map → m.moment found.map ≡ t
-    → StaysKept m.keeps old.map found.map → CountsReads m.reads found.map q reply new.map
+    → m.alike old.map found.map → StaysKept m.keeps old.map found.map
     → Leaves m found new (act (item_limit (m.sizes found.map)) (cache_in m.entries found) (m.moment found.map) q) reply
     → IsHandled m old t q reply new
-handled_by m old found t q reply new cache same at kept counts leaves =
+handled_by m old found t q reply new cache same at alike kept leaves =
     let same_outcome : act (item_limit (m.sizes found.map)) (cache_in m.entries found) (m.moment found.map) q ≡ outcome_at (m.sizes old.map)
     (cache_in m.entries old) t q =
     λ i. act (item_limit (same i)) (cache i) (at i) q in
@@ -51,8 +52,8 @@ handled_by m old found t q reply new cache same at kept counts leaves =
       found_is = cache;
       sizes_same = same;
       moment_is = at;
+      alike = alike;
       kept = kept;
-      counts = counts;
       leaves = subst (λ (done : Outcome). Leaves m found new done reply) same_outcome leaves;
     }
 
@@ -65,11 +66,12 @@ record IsReached (sizes : Sizes) (t : ℕ) (old asked : Entries) (stored : Optio
   may_forget : MayForget sizes old dated stored forgotten
   entries : new ≡ without dated forgotten
 
-reached : {M P : Type 0} (m : MapOf M P) (old : M) (asked : Entries) (stored : Option (List ℕ)) (new : M)
-    → Changes m old asked stored new → IsReached (m.sizes old) (m.moment old) (m.entries old) asked stored (m.entries new)
-reached m old asked None new is =
-    record { dated = asked; is_dated = refl; forgotten = []; may_forget = refl; entries = is.entries ∙ sym (without-nil asked) }
-reached m old asked (Some key) new s =
+-- what an engine's map becomes is what a step may leave
+reached : {M P : Type 0} (m : MapOf M P) (old : M) (done : Outcome) (stored : Option (List ℕ)) (new : M)
+    → Changes m old done stored new → IsReached (m.sizes old) (m.moment old) (m.entries old) done.entries stored (m.entries new)
+reached m old done None new is =
+    record { dated = done.entries; is_dated = refl; forgotten = []; may_forget = refl; entries = is.entries ∙ sym (without-nil done.entries) }
+reached m old done (Some key) new s =
     let w = s.written in
     let dated : Entries = map.insert (m.entries old) key (record s.entry { deadline = w.deadline }) in
     let is_dated : IsDated (m.moment old) (map.insert (m.entries old) key s.entry) (Some key) dated = dated-insert (m.moment old)
@@ -82,6 +84,7 @@ reached m old asked (Some key) new s =
       entries = w.entries;
     }
 
+-- the same for equal sizes, moments and entries
 moved : (s u : Sizes) (t v : ℕ) (m n asked : Entries) (stored : Option (List ℕ)) (new : Entries) → s ≡ u → t ≡ v → m ≡ n
     → IsReached s t m asked stored new → IsReached u v n asked stored new
 moved s u t v m n asked stored new su tv mn h =
@@ -89,6 +92,7 @@ moved s u t v m n asked stored new su tv mn h =
     (subst (λ (x : ℕ). IsReached s x n asked stored new) tv
     (subst (λ (x : Entries). IsReached s t x asked stored new) mn h))
 
+-- a request that may be refused stores an item or has hits
 asks_memory : (b stored hits : Bool) → ((b && stored) || hits) ≡ true → (stored || hits) ≡ true
 asks_memory true stored hits e = e
 asks_memory false true hits e = refl
@@ -106,6 +110,7 @@ denied m old new found done reply is d =
       cause = asks_memory m.may_refuse (is_some done.stored) (has_hits done.reply) d.cause;
     }
 
+-- a request that was handled is a step
 pub step_from_handled : {M P : Type 0} (m : MapOf M P) (old : Engine M) (t : ℕ) (q : Request) (reply : Reply) (new : Engine M)
     → IsHandled m old t q reply new
     → Step (m.sizes old.map) (cache_in m.entries old) t q reply (cache_in m.entries new)
@@ -116,7 +121,7 @@ step_from_handled m old t q reply new h =
           let r = moved (m.sizes h.found.map) (m.sizes old.map) (m.moment h.found.map) t (m.entries h.found.map)
           (found_at (cache_in m.entries old) t).entries done.entries done.stored (m.entries new.map)
           h.sizes_same h.moment_is (ap (λ (c : Cache). c.entries) h.found_is)
-          (reached m h.found.map done.entries done.stored new.map d.changes) in
+          (reached m h.found.map done done.stored new.map d.changes) in
           inl (record {
             reply_is = d.reply_is;
             last_cas = d.last_cas;
@@ -138,7 +143,11 @@ refused_stays m old t q reply new h is =
     elim h.leaves.gives [
       | inl d ↦ absurd (answers_act (item_limit (m.sizes old.map)) (found_at (cache_in m.entries old) t) t q (sym d.reply_is ∙ is))
       | inr d ↦
-          let same : cache_in m.entries new ≡ cache_in m.entries h.found = λ i. record { entries = d.entries_same i; last_cas = d.last_cas i; pending = d.pending i } in
+          let same : cache_in m.entries new ≡ cache_in m.entries h.found = λ i. record {
+            entries = d.entries_same i;
+            last_cas = d.last_cas i;
+            pending = d.pending i;
+          } in
           same ∙ h.found_is
     ]
 

@@ -68,7 +68,7 @@ kept_entry m old key done new items s keeps none within =
 
 -- what was asked for is kept, whether an item was stored or not
 kept_change : {M P : Type 0} (m : MapOf M P) (old : M) (stored : Option (List ℕ)) (done : Outcome) (new : M) (items : List StoredItem)
-    → Changes m old done.entries stored new → m.keeps old items → AddsNone (m.entries old) done.entries stored
+    → Changes m old done stored new → m.keeps old items → AddsNone (m.entries old) done.entries stored
     → IsWithinBound (m.sizes old) (items ++ item_stored (m.moment old) done stored)
     → IsKept m (m.moment old) done.entries stored (items ++ item_stored (m.moment old) done stored) new
 kept_change m old None done new items is keeps none within =

@@ -5,3 +5,4 @@ pub mod Refusals
 pub mod NoDeadlines
 pub mod EngineLemmas
 pub mod KeepingLemmas
+pub mod ReachingLemmas

@@ -14,22 +14,27 @@ use Rattle.proto.specs.Commands.{Outcome, max_cas, write, put, is_too_large, put
 abbrev pub Answers : Outcome → Type 0
 Answers done = done.reply ≢ NoMemory
 
+-- of two outcomes that aren't a want of memory, either
 answers_if : (b : Bool) (x y : Outcome) → Answers x → Answers y → Answers (if b then x else y)
 answers_if true x y on off = on
 answers_if false x y on off = off
 
+-- nor is a write
 answers_write : (cache : Cache) (key : List ℕ) (entry : ℕ → Entry) (reply : Reply) → reply ≢ NoMemory → Answers (write cache key entry reply)
 answers_write cache key entry reply other = answers_if (cache.last_cas == max_cas) _ _ (λ e. cc) other
 
+-- nor a put
 answers_put : (cache : Cache) (t : ℕ) (p : Put) → Answers (put cache t p)
 answers_put cache t p =
     answers_if (has_arrived (deadline_of p.exptime t) t) _ _ (λ e. cc)
     (answers_write cache p.key (λ cas. record { value = p.value; flags = p.flags; deadline = deadline_of p.exptime t; cas = cas }) Stored (λ e. cc))
 
+-- nor a put under the cas number given
 answers_same : (o : Option Entry) (cache : Cache) (t : ℕ) (p : Put) (unique : ℕ) → Answers (put_same o cache t p unique)
 answers_same None cache t p unique = λ e. cc
 answers_same (Some e) cache t p unique = answers_if (e.cas == unique) _ _ (answers_put cache t p) (λ e. cc)
 
+-- nor a change of a number
 answers_change : (new : ℕ → ℕ) (o : Option Entry) (cache : Cache) (key : List ℕ) → Answers (change new o cache key)
 answers_change new None cache key = λ e. cc
 answers_change new (Some e) cache key =
@@ -37,6 +42,7 @@ answers_change new (Some e) cache key =
     answers_if (is_number e.value) _ _ (answers_write cache key
     (λ cas. record { value = decimal n; flags = e.flags; deadline = e.deadline; cas = cas }) (Number n) (λ e. cc)) (λ e. cc)
 
+-- no outcome is a want of memory
 pub answers_act : (limit : ℕ) (cache : Cache) (t : ℕ) (q : Request) → Answers (act limit cache t q)
 answers_act limit cache t (Get keys with_cas) = λ e. cc
 answers_act limit cache t (Set p) = answers_if (is_too_large limit p) _ _ (λ e. cc) (answers_put cache t p)

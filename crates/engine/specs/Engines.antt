@@ -10,7 +10,7 @@ use Rattle.engine.specs.declared.commands.Engine.{Engine}
 use Rattle.engine.specs.Members.{MapOf}
 use Rattle.engine.specs.Written.{IsWritten}
 use Rattle.engine.specs.Keeping.{StaysKept, KeepsEntry}
-use Rattle.engine.specs.Counting.{CountsReads}
+use Rattle.engine.specs.Counting.{StaysAlike, CountsShown}
 use Rattle.engine.specs.Outcomes.{outcome_at, needs_memory}
 
 -- the cache of an engine, where these are its map's entries
@@ -26,22 +26,23 @@ pub record IsStored {M P : Type 0} (m : MapOf M P) (old : M) (key : List ℕ) (a
   pub exactly : m.writes old key entry new
   pub kept : KeepsEntry m.sizes m.entries m.moment m.keeps old key entry new
 
--- the map has the entries asked for
-pub record IsLeft {M P : Type 0} (m : MapOf M P) (old : M) (asked : Entries) (new : M) : Type 0 where
-  pub entries : m.entries new ≡ asked
+-- the map has the entries asked for, and counted a read of each hit that is shown
+pub record IsLeft {M P : Type 0} (m : MapOf M P) (old : M) (done : Outcome) (new : M) : Type 0 where
+  pub entries : m.entries new ≡ done.entries
+  pub shown : CountsShown m.reads m.alike old done.reply new
   pub kept : StaysKept m.keeps old new
 
 -- the entries of the map are those asked for, up to what a write may change
-abbrev pub Changes : {M P : Type 0} → MapOf M P → M → Entries → Option (List ℕ) → M → Type 0
-Changes m old asked None new = IsLeft m old asked new
-Changes m old asked (Some key) new = IsStored m old key asked new
+abbrev pub Changes : {M P : Type 0} → MapOf M P → M → Outcome → Option (List ℕ) → M → Type 0
+Changes m old done None new = IsLeft m old done new
+Changes m old done (Some key) new = IsStored m old key done.entries new
 
 -- the engine did what the outcome says
 pub record IsDone {M P : Type 0} (m : MapOf M P) (old new : Engine M) (done : Outcome) (reply : Reply) : Type 0 where
   pub reply_is : reply ≡ done.reply
   pub last_cas : new.last_cas ≡ done.last_cas
   pub pending : new.pending ≡ done.pending
-  pub changes : Changes m old.map done.entries done.stored new.map
+  pub changes : Changes m old.map done done.stored new.map
 
 -- memory was refused, and the cache stays
 pub record IsDenied {M P : Type 0} (m : MapOf M P) (old new : Engine M) (done : Outcome) (reply : Reply) : Type 0 where
@@ -49,6 +50,7 @@ pub record IsDenied {M P : Type 0} (m : MapOf M P) (old new : Engine M) (done : 
   pub entries_same : m.entries new.map ≡ m.entries old.map
   pub last_cas : new.last_cas ≡ old.last_cas
   pub pending : new.pending ≡ old.pending
+  pub alike : StaysAlike m.alike old.map new.map
   pub kept : StaysKept m.keeps old.map new.map
   pub cause : needs_memory m.may_refuse done ≡ true
 
@@ -64,6 +66,6 @@ pub record IsHandled {M P : Type 0} (m : MapOf M P) (old : Engine M) (t : ℕ) (
   pub found_is : cache_in m.entries found ≡ found_at (cache_in m.entries old) t
   pub sizes_same : m.sizes found.map ≡ m.sizes old.map
   pub moment_is : m.moment found.map ≡ t
+  pub alike : m.alike old.map found.map
   pub kept : StaysKept m.keeps old.map found.map
-  pub counts : CountsReads m.reads found.map q reply new.map
   pub leaves : Leaves m found new (outcome_at (m.sizes old.map) (cache_in m.entries old) t q) reply

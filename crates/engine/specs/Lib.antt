@@ -7,3 +7,4 @@ pub mod Keeping
 pub mod Counting
 pub mod Members
 pub mod Engines
+pub mod Reaching

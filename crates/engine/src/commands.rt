@@ -11,7 +11,6 @@ ghost use Rattle.engine.specs.Written.{MayBeWritten};
 ghost use Rattle.engine.specs.Shown.{entry_of};
 ghost use Rattle.engine.specs.Change.{changed_by};
 ghost use Rattle.engine.specs.Keeping.{StaysKept, KeepsAll};
-ghost use Rattle.engine.specs.Counting.{CountsShown, CountsReads};
 ghost use Rattle.engine.specs.Outcomes.{outcome_at, needs_memory};
 
 use crate::deadline::{deadline_of, has_arrived};
@@ -169,6 +168,7 @@ impl<M: LiveMap> Engine<M> {
         ensures cache { cache_in M.entries self.new ≡ found_at (cache_in M.entries self.old) now }
         ensures sizes { M.sizes self.new.map ≡ M.sizes self.old.map }
         ensures moment { M.moment self.new.map ≡ now }
+        ensures alike { M.alike self.old.map self.new.map }
         ensures kept { StaysKept M.keeps self.old.map self.new.map }
     {
         self.map.advance(now);
@@ -185,8 +185,7 @@ impl<M: LiveMap> Engine<M> {
     }
 
     fn get(&mut self, keys: &Keys) -> Reply
-        ensures counts { CountsShown M.reads self.old.map result self.new.map }
-        ensures leaves { Leaves M.LiveMap self.old self.new (only_reply (cache_in M.entries self.old) (Reply.Values (hits_of (M.entries self.old.map) keys.now))) result }
+        ensures { Leaves M.LiveMap self.old self.new (only_reply (cache_in M.entries self.old) (Reply.Values (hits_of (M.entries self.old.map) keys.now))) result }
     {
         match hits_of(self.alloc, &mut self.map, keys) {
             Ok(hits) => Reply::Values(hits.finish()),
@@ -249,8 +248,7 @@ impl<M: LiveMap> Engine<M> {
     /// Executes the request at the last moment.
     fn execute(&mut self, request: &Request) -> Reply
         requires { M.moment self.old.map ≤ max_moment }
-        ensures counts { CountsReads M.reads self.old.map request.now result self.new.map }
-        ensures leaves { Leaves M.LiveMap self.old self.new (act (item_limit (M.sizes self.old.map)) (cache_in M.entries self.old) (M.moment self.old.map) request.now) result }
+        ensures { Leaves M.LiveMap self.old self.new (act (item_limit (M.sizes self.old.map)) (cache_in M.entries self.old) (M.moment self.old.map) request.now) result }
     {
         match request {
             Request::Get { keys, .. } => self.get(keys),

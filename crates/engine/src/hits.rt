@@ -6,7 +6,7 @@ ghost use Rattle.proto.specs.Hits.{packed_size};
 ghost use Rattle.proto.specs.SeenHits.{seen_hit};
 ghost use Rattle.engine.specs.Shown.{entry_of};
 ghost use Rattle.engine.specs.Keeping.{StaysKept};
-ghost use Rattle.engine.specs.Counting.{CountsEach, keys_of};
+ghost use Rattle.engine.specs.Counting.{CountsEach, StaysAlike, keys_of};
 
 use crate::entry_ref::EntryRef;
 use crate::live_map::LiveMap;
@@ -49,6 +49,7 @@ pub fn hits_of<M: LiveMap>(alloc: Global, map: &mut M, keys: &Keys) -> Result<Hi
     ensures counted { OnOk result (CountsEach M.reads map.old (keys_of (hits_of (M.entries map.old) keys.now)) map.new) }
     ensures err { OnErr result (0 < length (hits_of (M.entries map.old) keys.now)) }
     ensures refused { OnErr result (map.new ≡ map.old) }
+    ensures alike { OnErr result (StaysAlike M.alike map.old map.new) }
     ensures entries { M.entries map.new ≡ M.entries map.old }
     ensures sizes { M.sizes map.new ≡ M.sizes map.old }
     ensures moment { M.moment map.new ≡ M.moment map.old }

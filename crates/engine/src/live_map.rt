@@ -10,6 +10,7 @@ ghost use Rattle.proto.specs.Stored.{StoredItem};
 ghost use Rattle.engine.specs.Shown.{entry_of};
 ghost use Rattle.engine.specs.Written.{MayBeWritten, IsWritten};
 ghost use Rattle.engine.specs.Keeping.{StaysKept, KeepsEntry};
+ghost use Rattle.engine.specs.Counting.{StaysAlike};
 
 use crate::entry_ref::EntryRef;
 use proto::no_memory::NoMemory;
@@ -40,6 +41,10 @@ pub trait LiveMap {
     /// What counting a read of the entry at the key does to this map.
     ghost reads: { Self → List ℕ → Self → Type 0 };
 
+    /// The other map has what this one has where this one has it, whatever of it is still live: what time that goes on and
+    /// entries that are taken out leave.
+    ghost alike: { Self → Self → Type 0 };
+
     /// These items were stored so far, none with a deadline, and nothing was forgotten for want of room.
     ghost keeps: { Self → List StoredItem → Type 0 };
 
@@ -58,6 +63,7 @@ pub trait LiveMap {
         ensures entries { entries self.new ≡ live (entries self.old) now }
         ensures sizes { sizes self.new ≡ sizes self.old }
         ensures moment { moment self.new ≡ now }
+        ensures alike { alike self.old self.new }
         ensures kept { StaysKept keeps self.old self.new };
 
     /// The entry at the key, and where it stands.
@@ -87,6 +93,7 @@ pub trait LiveMap {
         ensures kept { OnOk result (KeepsEntry sizes entries moment keeps self.old key.now (entry_of entry.entry) self.new) }
         ensures refused { OnErr result (IsTrue may_refuse) }
         ensures err { OnErr result (entries self.new ≡ entries self.old) }
+        ensures err_alike { OnErr result (StaysAlike alike self.old self.new) }
         ensures err_kept { OnErr result (StaysKept keeps self.old self.new) }
         ensures sizes { sizes self.new ≡ sizes self.old }
         ensures moment { moment self.new ≡ moment self.old };
@@ -96,6 +103,7 @@ pub trait LiveMap {
         ensures entries { entries self.new ≡ map.remove (entries self.old) key.now }
         ensures sizes { sizes self.new ≡ sizes self.old }
         ensures moment { moment self.new ≡ moment self.old }
+        ensures alike { StaysAlike alike self.old self.new }
         ensures kept { StaysKept keeps self.old self.new };
 
     /// Takes all entries out.
@@ -103,5 +111,6 @@ pub trait LiveMap {
         ensures entries { entries self.new ≡ no_entries }
         ensures sizes { sizes self.new ≡ sizes self.old }
         ensures moment { moment self.new ≡ moment self.old }
+        ensures alike { StaysAlike alike self.old self.new }
         ensures kept { StaysKept keeps self.old self.new };
 }

@@ -1,5 +1,6 @@
 //! A worker that calls either exchange.
 
+use parking::ParkingWord;
 use proto::byte_string::ByteString;
 use proto::history::{Answered, Posted};
 use proto::keys::Keys;
@@ -172,15 +173,17 @@ impl<C: Caller + Drop> Player<C> {
     }
 
     /// Posts all requests, takes the answers and says bye. Where memory is wanting the answers kept so far are dropped.
-    pub(crate) fn play<R: Wait>(&mut self, rt: &R) {
+    /// The storage thread may park on the word.
+    pub(crate) fn play<R: Wait>(&mut self, rt: &R, storage: &ParkingWord) {
         for _ in rt.forever() {
             let (sent, outstanding) = self.end.counts();
             if sent >= self.load.each && outstanding == 0 {
                 self.end.finish(rt);
+                storage.unpark();
                 return;
             }
             match self.turn(rt) {
-                Ok(true) => {}
+                Ok(true) => storage.unpark(),
                 Ok(false) => thread::yield_now(),
                 Err(NoMemory) => self.answers.clear(),
             }

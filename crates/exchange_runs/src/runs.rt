@@ -6,6 +6,7 @@ ghost use Rattle.exchange_runs.specs.Serving.{IsUntouched};
 
 use crate::caller::{Caller, Load, Player};
 use crate::serving::serve_queues;
+use parking::ParkingWord;
 use plain_store::Store;
 use proto::geometry::Geometry;
 use queue_exchange::StorageEnd;
@@ -67,15 +68,17 @@ pub fn run_lanes<R: Threads + Wait + time::Clock + Sync>(
     let (ends, storage) = exchange::make(alloc, workers, geometry).ok()?;
     let mut players = players(alloc, ends, load).ok()?;
     let store = Store::new(alloc, geometry);
+    let word = ParkingWord::new();
+    let parking = &word;
     let start = Instant::now(rt).ok()?;
     thread::join(
         rt,
-        move || run_storage(rt, store, Stopped, storage),
+        move || run_storage(rt, store, Stopped, storage, parking),
         || thread::for_each_mut(
             rt,
             players.as_mut_slice(),
             8,
-            &|_, player: &mut Player<exchange::WorkerEnd>| player.play(rt),
+            &|_, player: &mut Player<exchange::WorkerEnd>| player.play(rt, parking),
         ),
     );
     let elapsed = start.elapsed(rt).ok()?;
@@ -93,6 +96,7 @@ fn play_queues<R: Threads + Wait + Sync>(
     requires sizes { store.sizes ≡ storage.geometry }
     requires unused { IsUntouched storage }
 {
+    let parking = ParkingWord::new();
     thread::join(
         rt,
         move || serve_queues(rt, store, storage),
@@ -100,7 +104,7 @@ fn play_queues<R: Threads + Wait + Sync>(
             rt,
             players,
             8,
-            &|_, player: &mut Player<queue_exchange::WorkerEnd>| player.play(rt),
+            &|_, player: &mut Player<queue_exchange::WorkerEnd>| player.play(rt, &parking),
         ),
     );
 }

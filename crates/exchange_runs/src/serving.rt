@@ -4,7 +4,7 @@ ghost use Rattle.std.specs.Prelude.{◌≡◌, ◌+◌, ◌++◌, ◌∷◌, [],
 ghost use Rattle.proto.specs.Cache.{empty_cache};
 ghost use Rattle.proto.specs.History.{worker_share, Legal};
 ghost use Rattle.exchange.specs.Beginnings.{posted_of};
-ghost use Rattle.storage_thread.specs.Serving.{Reaches};
+ghost use Rattle.engine.specs.Reaching.{Reaches};
 ghost use Rattle.queue_exchange.specs.Queues.{after_answering};
 ghost use Rattle.exchange_runs.specs.Serving.{IsSameQueues, IsUntouched};
 

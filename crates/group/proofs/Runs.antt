@@ -22,9 +22,11 @@ use Rattle.group.specs.Headline.{AreAnsweredIn, IsWorkerOf, IsRun}
 use Rattle.group.proofs.Places.{at_map, at_mapped, at_or}
 
 module _ {P : Type 0} (told : P → Option PortStory) (leads_to : P → P → Type 0) where
-  module _ (sizes : Sizes) (storage : StorageView) (ports : List P) (reports : List (WorkerReport P)) (joined : AreJoined told leads_to sizes storage ports reports) where
+  module _ (sizes : Sizes) (storage : StorageView) (ports : List P) (reports : List (WorkerReport P))
+      (joined : AreJoined told leads_to sizes storage ports reports) where
     -- the report at a place, and the port there
-    kept_at : (w : ℕ) (r : WorkerReport P) → get_elem? reports w ≡ some r → (port : P) × KeepsWorker told leads_to port (new_worker_view storage.exchange sizes w) r
+    kept_at : (w : ℕ) (r : WorkerReport P) → get_elem? reports w ≡ some r → (port : P)
+        × KeepsWorker told leads_to port (new_worker_view storage.exchange sizes w) r
     kept_at w r at =
         let low : w < length reports = at_below reports w r at in
         let there = at_some ports w (subst (λ n. w < n) joined.one_each low) in (there.0, joined.each w there.0 r there.1 at)
@@ -33,20 +35,25 @@ module _ {P : Type 0} (told : P → Option PortStory) (leads_to : P → P → Ty
     together = record {
       exchange = λ i v at. let r = at_mapped (λ (r : WorkerReport P). r.worker_end) reports i v at in
           ap (λ (e : WorkerView). e.exchange) (sym r.2) ∙ (kept_at i r.0 r.1).1.over.exchange;
-      apart = λ i j v u at there same. let r = at_mapped (λ (r : WorkerReport P). r.worker_end) reports i v at in let q = at_mapped (λ (r : WorkerReport P). r.worker_end) reports j u there in
-          sym (kept_at i r.0 r.1).1.over.worker ∙ ap (λ (e : WorkerView). e.worker) r.2 ∙ same ∙ ap (λ (e : WorkerView). e.worker) (sym q.2) ∙ (kept_at j q.0 q.1).1.over.worker;
+      apart = λ i j v u at there same. let r = at_mapped (λ (r : WorkerReport P). r.worker_end) reports i v at in
+          let q = at_mapped (λ (r : WorkerReport P). r.worker_end) reports j u there in
+          sym (kept_at i r.0 r.1).1.over.worker ∙ ap (λ (e : WorkerView). e.worker) r.2 ∙ same
+          ∙ ap (λ (e : WorkerView). e.worker) (sym q.2) ∙ (kept_at j q.0 q.1).1.over.worker;
     }
 
   -- the reports of threads that were given the ports and the ends as they were made
-  pub joined : {H : Type 0} (port_of : H → P) (end_of : H → WorkerView) (n : ℕ) (g : Sizes) (ends : List WorkerView) (s t : StorageView) → AreMade n g ends s → t.exchange ≡ s.exchange
+  pub joined : {H : Type 0} (port_of : H → P) (end_of : H → WorkerView) (n : ℕ) (g : Sizes) (ends : List WorkerView)
+      (s t : StorageView) → AreMade n g ends s → t.exchange ≡ s.exchange
       → (ports : List P) (handles : List H) (reports : List (WorkerReport P)) → map port_of handles ≡ ports → map end_of handles ≡ ends
       → AreEach (λ h r. KeepsWorker told leads_to (port_of h) (end_of h) r) handles reports → AreJoined told leads_to g t ports reports
   joined {H} port_of end_of n g ends s t made same ports handles reports ports_are ends_are kept = record {
     one_each = sym kept.0 ∙ sym (length-map handles port_of) ∙ ap length ports_are;
     each = λ w port report there at.
         let h = at_mapped port_of handles w port (subst (λ l. get_elem? l w ≡ some port) (sym ports_are) there) in
-        let is : end_of h.0 ≡ new_worker_view s.exchange g w = made.1 w (end_of h.0) (subst (λ l. get_elem? l w ≡ some (end_of h.0)) ends_are (at_map end_of handles w h.0 h.1)) in
-        subst (λ (z : P × WorkerView). KeepsWorker told leads_to z.0 z.1 report) (λ i. (h.2 i, (is ∙ (λ j. new_worker_view (sym same j) g w)) i)) (kept.1 w h.0 report h.1 at);
+        let is : end_of h.0 ≡ new_worker_view s.exchange g w = made.1 w (end_of h.0)
+        (subst (λ l. get_elem? l w ≡ some (end_of h.0)) ends_are (at_map end_of handles w h.0 h.1)) in
+        subst (λ (z : P × WorkerView). KeepsWorker told leads_to z.0 z.1 report)
+        (λ i. (h.2 i, (is ∙ (λ j. new_worker_view (sym same j) g w)) i)) (kept.1 w h.0 report h.1 at);
   }
 
   -- a list at one of its elements
@@ -55,14 +62,16 @@ module _ {P : Type 0} (told : P → Option PortStory) (leads_to : P → P → Ty
   split_at (y ∷ xs) zero d low = ([], xs, refl)
   split_at (y ∷ xs) (suc k) d low = let t = split_at xs k d (omega arith) in (y ∷ t.0, t.1, λ i. y ∷ t.2 i)
 
-  asked_split : (share : List Answered) (e : Answered) → Contains share e → (before : List Posted) × (after : List Posted) × (asked_posted share ≡ before ++ record { session = e.session; number = e.number; request = e.request } ∷ after)
+  asked_split : (share : List Answered) (e : Answered) → Contains share e → (before : List Posted) × (after : List Posted)
+      × (asked_posted share ≡ before ++ record { session = e.session; number = e.number; request = e.request } ∷ after)
   asked_split share e has =
       let as_posted = λ (a : Answered). let p : Posted = record { session = a.session; number = a.number; request = a.request } in p in
       let t = split_at share has.0 e has.1 in
       (map as_posted t.0, map as_posted t.1, ap asked_posted (t.2 ∙ ap (λ (a : Answered). t.0 ++ a ∷ t.1) has.2) ∙ map-append as_posted t.0 (e ∷ t.1))
 
   -- what a worker reports of itself holds in each history that has its requests and its answers
-  pub served : (h : List Answered) (w : ℕ) (r : WorkerReport P) → r.worker_end.worker ≡ w → r.worker_end.back ≡ worker_share h r.worker_end.worker → asked_posted (worker_share h r.worker_end.worker) ≡ r.worker_end.sent
+  pub served : (h : List Answered) (w : ℕ) (r : WorkerReport P) → r.worker_end.worker ≡ w
+      → r.worker_end.back ≡ worker_share h r.worker_end.worker → asked_posted (worker_share h r.worker_end.worker) ≡ r.worker_end.sent
       → (story : PortStory) → IsReported story.events r.worker_end r.sessions.items r.unopened → AreAnsweredIn story.events h w r.sessions.items r.unopened
   served h w r is back sent story told = record {
     ended = told.ended;
@@ -74,12 +83,14 @@ module _ {P : Type 0} (told : P → Option PortStory) (leads_to : P → P → Ty
     no_stranger = told.no_stranger;
     placed = λ e has.
         let t = asked_split (worker_share h w) e has in
-        told.placed (record { session = e.session; number = e.number; request = e.request }) t.0 t.1 (sym sent ∙ ap (λ n. asked_posted (worker_share h n)) is ∙ t.2);
+        told.placed (record { session = e.session; number = e.number; request = e.request }) t.0 t.1
+        (sym sent ∙ ap (λ n. asked_posted (worker_share h n)) is ∙ t.2);
     answered = λ s cause found messages rest reads.
         subst (λ n. IsAnswered story.events h n s cause messages) is (told.answered s cause found h (sym back) sent messages rest reads);
   }
 
-  pub worker_holds : (sizes : Sizes) (s : StorageView) (g : Gathered) (port : P) (w : ℕ) (r : WorkerReport P) → KeepsWorker told leads_to port (new_worker_view s.exchange sizes w) r
+  pub worker_holds : (sizes : Sizes) (s : StorageView) (g : Gathered) (port : P) (w : ℕ) (r : WorkerReport P)
+      → KeepsWorker told leads_to port (new_worker_view s.exchange sizes w) r
       → AreCounted s r.worker_end (slice_index g.sent r.worker_end.worker) (slice_index g.back r.worker_end.worker)
       → IsWorkerOf told leads_to s.history g port w (worker_of r)
   worker_holds sizes s g port w r kept counted =
@@ -90,23 +101,31 @@ module _ {P : Type 0} (told : P → Option PortStory) (leads_to : P → P → Ty
         tells = kept.tells;
         exactly = subst (λ n. asked_posted (worker_share s.history n) ≡ r.worker_end.sent) is sent;
         sent = subst (λ n. slice_index g.sent n ≡ length r.worker_end.sent) is counted.sent_is;
-        back = subst (λ n. slice_index g.back n ≡ length r.worker_end.sent) is (counted.back_is ∙ sym (length-map r.worker_end.back (λ (a : Answered). let p : Posted = record { session = a.session; number = a.number; request = a.request } in p)) ∙ ap length kept.over.all_back);
+        back = subst (λ n. slice_index g.back n ≡ length r.worker_end.sent) is
+            (counted.back_is
+            ∙ sym (length-map r.worker_end.back
+            (λ (a : Answered). let p : Posted = record { session = a.session; number = a.number; request = a.request } in p))
+            ∙ ap length kept.over.all_back);
         strangers = kept.strangers;
         served = λ story tells. served s.history w r is all.0 sent story (kept.reported story tells);
       }
 
   -- the report of a storage thread that was given the clock and the end as it was made
-  pub stored : {C : Type 0} (clock_told : C → Option (List ℕ)) (clock_leads : C → C → Type 0) (keeps : Type 0) (n : ℕ) (g : Sizes) (ends : List WorkerView) (s : StorageView) → AreMade n g ends s → (ports : List P) → n ≡ length ports
+  pub stored : {C : Type 0} (clock_told : C → Option (List ℕ)) (clock_leads : C → C → Type 0) (keeps : Type 0) (n : ℕ) (g : Sizes)
+      (ends : List WorkerView) (s : StorageView) → AreMade n g ends s → (ports : List P) → n ≡ length ports
       → (clock c₀ : C) (e₀ : StorageView) (report : StorageReport C) → c₀ ≡ clock → e₀ ≡ s → KeepsStorage clock_told clock_leads keeps c₀ e₀ report
       → IsStored clock_told clock_leads keeps g ports clock report
   stored {C} clock_told clock_leads keeps n g ends s made ports count clock c₀ e₀ report clock_is end_is kept =
-      let k : KeepsStorage clock_told clock_leads keeps clock s report = subst (λ (z : C × StorageView). KeepsStorage clock_told clock_leads keeps z.0 z.1 report) (λ i. (clock_is i, end_is i)) kept in
+      let k : KeepsStorage clock_told clock_leads keeps clock s report = subst
+      (λ (z : C × StorageView). KeepsStorage clock_told clock_leads keeps z.0 z.1 report) (λ i. (clock_is i, end_is i)) kept in
       subst (λ (z : StorageView). KeepsStorage clock_told clock_leads keeps clock z report) (made.2 ∙ (λ i. new_storage_view (sym k.same.0 i) g (count i))) k
 
-  pub run : {C : Type 0} (clock_told : C → Option (List ℕ)) (clock_leads : C → C → Type 0) (keeps : Type 0) (sizes : Sizes) (ports : List P) (clock : C) (reports : List (WorkerReport P)) (storage : StorageReport C) (report : GroupReport P C)
+  pub run : {C : Type 0} (clock_told : C → Option (List ℕ)) (clock_leads : C → C → Type 0) (keeps : Type 0) (sizes : Sizes)
+      (ports : List P) (clock : C) (reports : List (WorkerReport P)) (storage : StorageReport C) (report : GroupReport P C)
       → IsStored clock_told clock_leads keeps sizes ports clock storage → AreJoined told leads_to sizes storage.storage_end ports reports
       → report.workers.items ≡ workers_of reports → report.clock ≡ storage.clock → report.executed ≡ storage.executed
-      → ((i : ℕ) (v : WorkerView) → get_elem? (ends_of reports) i ≡ some v → AreCounted storage.storage_end v (slice_index report.gathered.sent v.worker) (slice_index report.gathered.back v.worker))
+      → ((i : ℕ) (v : WorkerView) → get_elem? (ends_of reports) i ≡ some v
+      → AreCounted storage.storage_end v (slice_index report.gathered.sent v.worker) (slice_index report.gathered.back v.worker))
       → ((w : ℕ) → storage.storage_end.workers ≤ w → (slice_index report.gathered.sent w ≡ 0) × (slice_index report.gathered.back w ≡ 0))
       → IsRun told leads_to clock_told clock_leads keeps sizes ports clock report
   run {C} clock_told clock_leads keeps sizes ports clock reports storage report stored joined workers_are clock_is executed_is counted beyond = record {

@@ -41,7 +41,8 @@ pub record AreAnsweredIn (events : List PortRecord) (history : List Answered) (w
 -- What a group says of worker w, whose port this was: the history holds exactly the requests that it sent, once each
 -- and in its order, and as many came back; the port is what the one handed in became; and its sessions were answered,
 -- where the port tells.
-pub record IsWorkerOf {P : Type 0} (told : P → Option PortStory) (leads_to : P → P → Type 0) (history : List Answered) (gathered : Gathered) (port : P) (w : ℕ) (worker : GroupWorker P) : Type 0 where
+pub record IsWorkerOf {P : Type 0} (told : P → Option PortStory) (leads_to : P → P → Type 0) (history : List Answered)
+    (gathered : Gathered) (port : P) (w : ℕ) (worker : GroupWorker P) : Type 0 where
   pub leads : leads_to port worker.port
   pub tells : is_some (told worker.port) ≡ is_some (told port)
   pub exactly : asked_posted (worker_share history w) ≡ worker.sent
@@ -54,7 +55,8 @@ pub record IsWorkerOf {P : Type 0} (told : P → Option PortStory) (leads_to : P
 -- each worker's sessions were answered in it; and its moments are the clock's. The clock is what the one handed in
 -- became. And over a store that keeps what it stores, it may be read as a history that forgets nothing, where no request sets
 -- a deadline and little is stored.
-pub record IsRun {P C : Type 0} (told : P → Option PortStory) (leads_to : P → P → Type 0) (clock_told : C → Option (List ℕ)) (clock_leads : C → C → Type 0) (keeps : Type 0) (sizes : Sizes) (ports : List P) (clock : C) (report : GroupReport P C) : Type 0 where
+pub record IsRun {P C : Type 0} (told : P → Option PortStory) (leads_to : P → P → Type 0) (clock_told : C → Option (List ℕ))
+    (clock_leads : C → C → Type 0) (keeps : Type 0) (sizes : Sizes) (ports : List P) (clock : C) (report : GroupReport P C) : Type 0 where
   pub history : List Answered
   pub legal : Legal sizes history
   pub inside : All (λ (e : Answered). e.worker < length ports) history

@@ -16,7 +16,8 @@ use Rattle.group.specs.declared.start.Finished.{Finished}
 use Rattle.group.specs.declared.report.GroupWorker.{GroupWorker}
 
 -- what a worker's thread leaves of the port and the end that it was given
-pub record KeepsWorker {P : Type 0} (told : P → Option PortStory) (leads_to : P → P → Type 0) (port : P) (end : WorkerView) (report : WorkerReport P) : Type 0 where
+pub record KeepsWorker {P : Type 0} (told : P → Option PortStory) (leads_to : P → P → Type 0) (port : P) (end : WorkerView)
+    (report : WorkerReport P) : Type 0 where
   pub leads : leads_to port report.port
   pub tells : is_some (told report.port) ≡ is_some (told port)
   pub over : IsOver end report.worker_end
@@ -25,7 +26,8 @@ pub record KeepsWorker {P : Type 0} (told : P → Option PortStory) (leads_to : 
 
 -- what the storage thread leaves of the clock and the end that it was given, over a store that keeps what it stores where
 -- `keeps` says so
-pub record KeepsStorage {C : Type 0} (told : C → Option (List ℕ)) (leads_to : C → C → Type 0) (keeps : Type 0) (clock : C) (end : StorageView) (report : StorageReport C) : Type 0 where
+pub record KeepsStorage {C : Type 0} (told : C → Option (List ℕ)) (leads_to : C → C → Type 0) (keeps : Type 0) (clock : C)
+    (end : StorageView) (report : StorageReport C) : Type 0 where
   pub same : IsSameExchange end report.storage_end
   pub legal : Legal end.geometry report.storage_end.history
   pub inside : All (λ (e : Answered). e.worker < end.workers) report.storage_end.history
@@ -66,7 +68,8 @@ abbrev pub workers_of : {P : Type 0} → List (WorkerReport P) → List (GroupWo
 workers_of reports = map worker_of reports
 
 -- What all workers' threads left, which were given these ports and the ends of storage's exchange.
-pub record AreJoined {P : Type 0} (told : P → Option PortStory) (leads_to : P → P → Type 0) (sizes : Sizes) (storage : StorageView) (ports : List P) (reports : List (WorkerReport P)) : Type 0 where
+pub record AreJoined {P : Type 0} (told : P → Option PortStory) (leads_to : P → P → Type 0) (sizes : Sizes) (storage : StorageView)
+    (ports : List P) (reports : List (WorkerReport P)) : Type 0 where
   pub one_each : length reports ≡ length ports
   pub each : (w : ℕ) (port : P) (report : WorkerReport P) → get_elem? ports w ≡ some port → get_elem? reports w ≡ some report
       → KeepsWorker told leads_to port (new_worker_view storage.exchange sizes w) report

@@ -13,10 +13,11 @@ use crate::start::tell;
 use crate::threads::{join_storage, join_workers, start_storage, start_workers};
 use engine::StorageEngine;
 use exchange::{WorkerEnd, gather, make};
+use parking::ParkingWord;
 use std::alloc::Global;
 use std::sync::{OnceLock, Wait};
+use std::thread;
 use std::thread::{Scope, Threads};
-use std::{thread, time};
 use storage_thread::clock::Clock;
 use storage_thread::serving::StorageReport;
 use worker::gate::Gate;
@@ -92,12 +93,13 @@ fn run_in<
     E: StorageEngine + Drop + Send + 's,
     C: Clock + Send + 's,
     G: Gate + Sync,
-    R: Threads + Wait + time::Clock + Sync,
+    R: Threads + Wait + Sync,
 >(
     rt: &'s R,
     alloc: Global,
     scope: &'s Scope<'s, &'e ()>,
     start: &'s OnceLock<bool>,
+    parking: &'s ParkingWord,
     ports: Vec<P>,
     config: Config,
     store: E,
@@ -117,8 +119,8 @@ fn run_in<
     let reports = Vec::with_capacity(alloc, count)?;
     let workers = Vec::with_capacity(alloc, count)?;
     let ends_left = Vec::with_capacity(alloc, count)?;
-    let storage = start_storage(rt, scope, start, store, clock, storage_end)?;
-    match start_workers(rt, alloc, scope, start, ports, ends, gate, handles) {
+    let storage = start_storage(rt, scope, start, store, clock, storage_end, parking)?;
+    match start_workers(rt, alloc, scope, start, ports, ends, gate, parking, handles) {
         Ok(handles) => {
             let told = tell(rt, start, true);
             if !*start.value(&told) {
@@ -149,7 +151,7 @@ pub fn run_group<
     E: StorageEngine + Drop + Send,
     C: Clock + Send,
     G: Gate + Sync,
-    R: Threads + Wait + time::Clock + Sync,
+    R: Threads + Wait + Sync,
 >(
     rt: &R,
     alloc: Global,
@@ -170,6 +172,8 @@ pub fn run_group<
     }
     let lock = OnceLock::new();
     let start = &lock;
+    let word = ParkingWord::new();
+    let parking = &word;
     thread::scope(
         thread::scope_env(),
         rt,
@@ -178,6 +182,10 @@ pub fn run_group<
             requires store { (E.cache store ≡ empty_cache 0) × (E.moment store ≡ 0) × (E.sizes store ≡ config.geometry) }
             ensures run { IfOk result (λ report. IsRun P.told P.leads_to C.told C.leads_to (E.keeps store []) (E.sizes store) ports.items clock report) }
             ensures fault { IfErr result (λ fault. fault ≢ BadConfig) }
-        { run_in(rt, alloc, scope, start, ports, config, store, clock, gate) },
+        {
+            run_in(
+                rt, alloc, scope, start, parking, ports, config, store, clock, gate,
+            )
+        },
     )
 }

@@ -11,11 +11,11 @@ use crate::fault::GroupFault;
 use crate::start::{Finished, hear};
 use engine::StorageEngine;
 use exchange::{StorageEnd, WorkerEnd};
+use parking::ParkingWord;
 use std::alloc::Global;
 use std::snapshot::Snapshot;
 use std::sync::{OnceLock, OnceToken, Wait};
 use std::thread::{Promise, PromisedHandle, Scope, Threads};
-use std::time;
 use storage_thread::clock::Clock;
 use storage_thread::serving::{StorageReport, run_storage};
 use worker::gate::Gate;
@@ -69,6 +69,7 @@ fn work<'a, P: Port, G: Gate, R: Wait>(
     port: P,
     end: WorkerEnd,
     gate: &G,
+    parking: &ParkingWord,
 ) -> Finished<'a, WorkerReport<P>>
     requires port { IsSilent P.told port }
     requires fresh { IsFresh end }
@@ -76,7 +77,7 @@ fn work<'a, P: Port, G: Gate, R: Wait>(
 {
     let told = hear(rt, start);
     let ran = if *start.value(&told) {
-        Some(run_worker(rt, alloc, port, end, gate))
+        Some(run_worker(rt, alloc, port, end, gate, parking))
     } else {
         None
     };
@@ -84,12 +85,13 @@ fn work<'a, P: Port, G: Gate, R: Wait>(
 }
 
 /// Runs the storage loop once it is told to begin.
-fn serve<'a, E: StorageEngine + Drop, C: Clock, R: Wait + time::Clock>(
+fn serve<'a, E: StorageEngine + Drop, C: Clock, R: Wait>(
     rt: &R,
     start: &'a OnceLock<bool>,
     store: E,
     clock: C,
     end: StorageEnd,
+    parking: &ParkingWord,
 ) -> Finished<'a, StorageReport<C>>
     requires empty { (E.cache store ≡ empty_cache 0) × (E.moment store ≡ 0) }
     requires sizes { E.sizes store ≡ end.geometry }
@@ -98,7 +100,7 @@ fn serve<'a, E: StorageEngine + Drop, C: Clock, R: Wait + time::Clock>(
 {
     let told = hear(rt, start);
     let ran = if *start.value(&told) {
-        Some(run_storage(rt, store, clock, end))
+        Some(run_storage(rt, store, clock, end, parking))
     } else {
         None
     };
@@ -111,7 +113,7 @@ pub fn start_storage<
     'e,
     E: StorageEngine + Drop + Send + 's,
     C: Clock + Send + 's,
-    R: Threads + Wait + time::Clock + Sync,
+    R: Threads + Wait + Sync,
 >(
     rt: &'s R,
     scope: &'s Scope<'s, &'e ()>,
@@ -119,6 +121,7 @@ pub fn start_storage<
     store: E,
     clock: C,
     end: StorageEnd,
+    parking: &'s ParkingWord,
 ) -> Result<StorageHandle<'s, E, C>, GroupFault>
     requires empty { (E.cache store ≡ empty_cache 0) × (E.moment store ≡ 0) }
     requires sizes { E.sizes store ≡ end.geometry }
@@ -133,7 +136,10 @@ pub fn start_storage<
         clock: Snapshot::of(&clock),
         end: Snapshot::of(&end),
     };
-    match scope.spawn_with(promise, move || serve(rt, start, store, clock, end)) {
+    match scope.spawn_with(
+        promise,
+        move || serve(rt, start, store, clock, end, parking),
+    ) {
         Ok(handle) => Ok(handle),
         Err(_) => Err(GroupFault::NoThread),
     }
@@ -148,6 +154,7 @@ fn start_worker<'s, 'e, P: Port + Send + 's, G: Gate + Sync, R: Threads + Wait +
     port: P,
     end: WorkerEnd,
     gate: &'s G,
+    parking: &'s ParkingWord,
 ) -> Result<WorkerHandle<'s, P>, GroupFault>
     requires port { IsSilent P.told port }
     requires fresh { IsFresh end }
@@ -160,7 +167,10 @@ fn start_worker<'s, 'e, P: Port + Send + 's, G: Gate + Sync, R: Threads + Wait +
         port: Snapshot::of(&port),
         end: Snapshot::of(&end),
     };
-    match scope.spawn_with(promise, move || work(rt, alloc, start, port, end, gate)) {
+    match scope.spawn_with(
+        promise,
+        move || work(rt, alloc, start, port, end, gate, parking),
+    ) {
         Ok(handle) => Ok(handle),
         Err(_) => Err(GroupFault::NoThread),
     }
@@ -175,6 +185,7 @@ pub fn start_workers<'s, 'e, P: Port + Send + 's, G: Gate + Sync, R: Threads + W
     ports: Vec<P>,
     ends: Vec<WorkerEnd>,
     gate: &'s G,
+    parking: &'s ParkingWord,
     mut handles: Vec<WorkerHandle<'s, P>>,
 ) -> Result<Vec<WorkerHandle<'s, P>>, GroupFault>
     requires ports { All (IsSilent P.told) ports.items }
@@ -191,7 +202,7 @@ pub fn start_workers<'s, 'e, P: Port + Send + 's, G: Gate + Sync, R: Threads + W
         let Some(port) = ports.next() else {
             unreachable!()
         };
-        let handle = start_worker(rt, alloc, scope, start, port, end, gate)?;
+        let handle = start_worker(rt, alloc, scope, start, port, end, gate, parking)?;
         handles.push_reserved(handle);
     }
     Ok(handles)

@@ -1,6 +1,7 @@
 //! A storage thread for which nothing comes.
 
 use exchange::make;
+use parking::ParkingWord;
 use plain_store::Store;
 use proto::geometry::Geometry;
 use std::alloc::Global;
@@ -41,14 +42,17 @@ pub fn wait<R: Threads + Wait + time::Clock + Sync>(
     let (mut ends, storage) = make(alloc, 1, geometry).ok()?;
     let mut end = ends.pop()?;
     let store = Store::new(alloc, geometry);
+    let word = ParkingWord::new();
+    let parking = &word;
     thread::join(
         rt,
-        move || run_storage(rt, store, Stopped, storage),
+        move || run_storage(rt, store, Stopped, storage, parking),
         || {
             thread::sleep(rt, Duration::from_secs(seconds));
             if !end.said_bye() && end.outstanding() == 0 {
                 end.bye();
             }
+            parking.unpark();
         },
     );
     Some(())

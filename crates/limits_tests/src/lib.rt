@@ -1,6 +1,6 @@
 //! Tests at the limits, and of what no contract says of memory and time: that large runs find memory where there is
-//! some, where a book stops, how a gate holds, what a port plays while a session is paused, and how long requests take
-//! that come one at a time.
+//! some, where a book stops, how a gate holds, what a port plays while a session is paused, how many requests are on
+//! their way while much is unfinished, and how long requests take that come one at a time.
 #![tactic(auto)]
 
 #[cfg(test)]
@@ -17,3 +17,5 @@ mod runs;
 mod serving;
 #[cfg(test)]
 mod talk;
+#[cfg(test)]
+mod unfinished;

@@ -1,5 +1,5 @@
-//! Requests that come one at a time, each once the one before was answered: a thread that sleeps for long between them
-//! is seen.
+//! Requests that come one at a time, each a while after the one before was answered, when the storage thread has parked:
+//! a worker that doesn't wake it is seen.
 
 use crate::runs::SteadyClock;
 use bytes::Bytes;
@@ -9,7 +9,8 @@ use group::run::run_group;
 use plain_store::Store;
 use proto::geometry::Geometry;
 use std::test::Fail;
-use std::time::{Duration, Instant};
+use std::thread;
+use std::time::{Clock, Duration, Instant};
 use worker::port::{Gone, Port, PortEvent};
 
 /// How many requests come.
@@ -18,16 +19,20 @@ const REQUESTS: usize = 200;
 /// What each of them is answered.
 const ANSWER: &[u8] = b"END\r\n";
 
-/// Opens session 1, sends it a request once the one before was answered, and ends behind the last answer.
+/// The pause before each, in milliseconds. A storage thread that isn't woken sleeps for some 100.
+const PAUSE_MILLIS: u64 = 2;
+
+/// Opens session 1, sends it a request a while after the one before was answered, and ends behind the last answer.
 #[derive(Drop)]
-struct OneAtATime {
+struct OneAtATime<R: Drop> {
+    rt: R,
     is_open: bool,
     has_ended: bool,
     sent: usize,
     given: usize,
 }
 
-impl Port for OneAtATime {
+impl<R: Clock + Drop> Port for OneAtATime<R> {
     ghost use Rattle.std.specs.Prelude.{None};
 
     ghost told = { λ _. None };
@@ -44,6 +49,7 @@ impl Port for OneAtATime {
         }
         if self.sent < REQUESTS {
             self.sent = self.sent.saturating_add(1);
+            thread::sleep(&self.rt, Duration::from_millis(PAUSE_MILLIS));
             return PortEvent::Data(1, Bytes::from_static(b"get a\r\n"));
         }
         self.has_ended = true;
@@ -67,9 +73,10 @@ impl Port for OneAtATime {
 }
 
 #[test]
-fn requests_one_at_a_time_take_no_seconds(rt: HostRuntime) -> Result<(), Fail> {
+fn requests_after_pauses_are_answered_soon(rt: HostRuntime) -> Result<(), Fail> {
     let alloc = rt.alloc();
     let port = OneAtATime {
+        rt,
         is_open: false,
         has_ended: false,
         sent: 0,

@@ -2,6 +2,7 @@
 
 use crate::serving::serve;
 use crate::talk::{Shape, Talk, script_of, talk_of};
+use gates::open::OpenGate;
 use plain_store::Store;
 use proto::geometry::Geometry;
 use script::clock::ScriptClock;
@@ -108,7 +109,7 @@ where
 {
     let events = events_of(rt, alloc, case.script).into_events();
     let port = ScriptPort::new(alloc, events).with_faults(accept, fail_give);
-    serve(rt, alloc, case.geometry, port)
+    serve(rt, alloc, case.geometry, port, &OpenGate)
 }
 
 /// Each session of the case drained, and was given its output.

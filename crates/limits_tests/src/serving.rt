@@ -1,21 +1,23 @@
-//! One worker over a port that plays a script, with a storage thread beside it.
+//! One worker over a port, with a storage thread beside it.
 
-ghost use Rattle.std.specs.Prelude.{◌≡◌, [], false};
+ghost use Rattle.std.specs.Prelude.{◌≡◌, [], false, Some};
 ghost use Rattle.proto.specs.Cache.{empty_cache};
 ghost use Rattle.storage_thread.specs.Serving.{IsUnused};
+ghost use Rattle.worker.specs.Ports.{PortStory};
 
 use crate::runs::SteadyClock;
 use exchange::{StorageEnd, WorkerEnd, make};
-use gates::open::OpenGate;
+use parking::ParkingWord;
 use plain_store::Store;
 use proto::geometry::Geometry;
-use script_port::port::ScriptPort;
 use std::alloc::Global;
 use std::process::Abort;
-use std::sync::Wait;
+use std::sync::{Arc, Wait};
 use std::thread::Threads;
 use std::{thread, time};
-use storage_thread::serving::run_storage;
+use storage_thread::serving::{StorageReport, run_storage};
+use worker::gate::Gate;
+use worker::port::Port;
 use worker::report::WorkerReport;
 use worker::run::run_worker;
 
@@ -31,24 +33,31 @@ fn made<R: Abort>(rt: &R, alloc: Global, geometry: Geometry) -> (WorkerEnd, Stor
 }
 
 /// Runs the worker to its end, and the storage thread.
-pub(crate) fn serve<R>(
+pub(crate) fn serve<R, P, G>(
     rt: &R,
     alloc: Global,
     geometry: Geometry,
-    port: ScriptPort,
-) -> WorkerReport<ScriptPort>
+    port: P,
+    gate: &G,
+) -> WorkerReport<P>
 where
     R: Abort + Threads + Wait + time::Clock + Copy + Drop + Send + Sync + 'static,
-    requires { port.records ≡ [] }
+    P: Port,
+    G: Gate,
+    requires { (story : PortStory) → P.told port ≡ Some story → story.events ≡ [] }
 {
     let handle = *rt;
+    let parking = Arc::new(alloc, ParkingWord::new()).expect(rt, "memory");
+    let of_storage = Arc::try_clone(&parking).expect(rt, "memory");
     let (end, storage_end, store) = made(rt, alloc, geometry);
     let child = thread::spawn(
         rt,
-        move || run_storage(&handle, store, SteadyClock, storage_end),
+        move || -> StorageReport<SteadyClock>
+            requires { (store.cache ≡ empty_cache 0) × (store.moment ≡ 0) × (store.sizes ≡ storage_end.geometry) × IsUnused storage_end }
+        { run_storage(&handle, store, SteadyClock, storage_end, &of_storage) },
     )
     .expect(rt, "a thread");
-    let report = run_worker(rt, alloc, port, end, &OpenGate);
+    let report = run_worker(rt, alloc, port, end, gate, &parking);
     child.join(rt);
     report
 }

@@ -32,6 +32,8 @@ enum Stop {
     Turn,
     /// None is there.
     Empty,
+    /// As many as may wait for a hand.
+    Full,
     /// An accept failed.
     Failure,
     /// As many as are wanted were accepted.
@@ -118,7 +120,7 @@ impl Listener {
         Err(stream)
     }
 
-    // Accepts a few of the streams that are there.
+    // Accepts a few of the streams that are there, as long as those that wait for a hand aren't too many.
     fn accept_some<R: Wait + Clock>(
         &mut self,
         rt: &R,
@@ -132,6 +134,9 @@ impl Listener {
         for _ in 0..ACCEPTS {
             if report.accepted >= limit {
                 return Stop::Limit;
+            }
+            if self.waiting.is_full() {
+                return Stop::Full;
             }
             match self.listener.accept() {
                 Ok((stream, _)) => {
@@ -184,7 +189,7 @@ impl Listener {
             Stop::Turn => return,
             Stop::Failure => AFTER_FAILURE_MILLIS,
             Stop::Empty | Stop::Limit if self.waiting.is_empty() => PAUSE_MILLIS,
-            Stop::Empty | Stop::Limit => SHORT_PAUSE_MILLIS,
+            Stop::Empty | Stop::Full | Stop::Limit => SHORT_PAUSE_MILLIS,
         };
         let _ = self
             .poll
@@ -192,7 +197,7 @@ impl Listener {
     }
 
     /// Accepts streams, and offers each to the workers in turn, beginning after the one that took the last one. A
-    /// stream that no hand takes is offered again for 200 milliseconds, while others are accepted, and then closed.
+    /// stream that no hand takes is offered again for a second, while a few others are accepted, and then closed.
     /// After `limit` accepted streams the hands are ended.
     pub fn run<R: Wait + Clock>(
         &mut self,

@@ -207,6 +207,7 @@ impl<R: Wait + Clock + Drop> Port for MioPort<R> {
         let accepted = self.streams.write(session, bytes)?;
         if accepted > 0 {
             self.quiet = 0;
+            self.ceasing.count_give();
         }
         Ok(accepted)
     }

@@ -5,11 +5,11 @@ use std::alloc::{AllocError, Global};
 use std::collections::VecDeque;
 use std::time::{Clock, Duration, Instant};
 
-/// So many streams wait at most; those beyond are closed at once.
-const MOST_WAITING: usize = 1024;
+/// So many streams wait at most; those beyond aren't accepted yet, and wait in the system's own queue.
+const MOST_WAITING: usize = 64;
 
 /// So long a stream waits, in milliseconds.
-const PATIENCE_MILLIS: u64 = 200;
+const PATIENCE_MILLIS: u64 = 1000;
 
 /// An accepted stream, and since when it waits: none where the clock couldn't be read, and then it waits no longer.
 #[derive(Drop)]
@@ -50,11 +50,12 @@ impl WaitingStreams {
         self.streams.is_empty()
     }
 
-    // False where too many wait; the stream is closed then.
+    pub(crate) fn is_full(&self) -> bool {
+        self.streams.len() >= MOST_WAITING
+    }
+
+    // False where it found no room; the stream is closed then.
     pub(crate) fn add<R: Clock>(&mut self, rt: &R, stream: TcpStream) -> bool {
-        if self.streams.len() >= MOST_WAITING {
-            return false;
-        }
         let waiting = WaitingStream {
             stream,
             since: Instant::now(rt).ok(),

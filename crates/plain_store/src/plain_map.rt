@@ -54,6 +54,8 @@ impl LiveMap for PlainMap {
 
     ghost reads = { ReadsPlainly };
 
+    ghost alike = { λ m n. ⊤ };
+
     ghost keeps = { λ m items. ⊤ };
 
     fn item_limit(&self) -> u32 {

@@ -181,7 +181,8 @@ CommandsDo =
     (act 8192 (empty_cache 0) 1000 (set_a (pos 0)) ≡ outcome_with (with_a (codes "x")) 1 reply.Stored (Some a))
     × (act 8192 (empty_cache 0) 1000 (set_a (pos 5)) ≡ outcome_with (finite.insert no_entries a (entry_with (codes "x") (Some 1005) 1)) 1 reply.Stored (Some a))
     × (act 8192 (empty_cache 0) 1000 (set_a (negsuc 0)) ≡ outcome_with (finite.remove no_entries a) 0 reply.Stored None)
-    × (act 8192 (empty_cache 0) 1000 (set_a (pos 2592001)) ≡ outcome_with (finite.insert no_entries a (entry_with (codes "x") (Some 2592001) 1)) 1 reply.Stored (Some a))
+    × (act 8192 (empty_cache 0) 1000 (set_a (pos 2592001)) ≡ outcome_with
+    (finite.insert no_entries a (entry_with (codes "x") (Some 2592001) 1)) 1 reply.Stored (Some a))
     × (act 8192 (empty_cache 0) 2592002 (set_a (pos 2592001)) ≡ outcome_with (finite.remove no_entries a) 0 reply.Stored None)
     -- the last cas number is spent
     × (act 8192 (empty_cache 18446744073709551615) 1000 (set_a (pos 0)) ≡ outcome_with no_entries 18446744073709551615 reply.NoCas None)

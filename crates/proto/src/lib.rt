@@ -3,6 +3,7 @@
 #![tactic(auto)]
 
 pub mod byte_string;
+mod command_word;
 pub mod examples;
 pub mod geometry;
 pub mod head;
@@ -11,10 +12,13 @@ pub mod hits;
 pub mod keys;
 pub mod laws;
 mod line;
+mod meaning;
 pub mod message;
+pub mod message_view;
 pub mod next;
 pub mod no_memory;
 pub mod parse;
 pub mod show;
+mod storage;
 pub mod view;
 pub mod words;

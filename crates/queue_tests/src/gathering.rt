@@ -3,7 +3,7 @@
 ghost use Rattle.std.specs.Prelude.{◌≡◌, IfOk, None};
 ghost use Rattle.proto.specs.Sizes.{Sizes};
 ghost use Rattle.proto.specs.Cache.{empty_cache};
-ghost use Rattle.storage_thread.specs.Serving.{Reaches};
+ghost use Rattle.engine.specs.Reaching.{Reaches};
 ghost use Rattle.queue_exchange.specs.Queues.{AreQueuesMade, IsEndOf};
 ghost use Rattle.exchange_runs.specs.Serving.{IsSameQueues};
 ghost use Rattle.queue_tests.specs.Ends.{IsSameEnd};

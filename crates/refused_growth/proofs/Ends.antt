@@ -10,7 +10,8 @@ last_at [] x = refl
 last_at (y ∷ xs) x = last_at xs x
 
 -- the last of the ends hasn't sent anything
-pub last_is_fresh : (n : ℕ) (g : Sizes) (storage : StorageView) (ends others : List WorkerView) (v : WorkerView) → AreMade n g ends storage → ends ≡ others ++ v ∷ [] → (v.sent ≡ []) × (v.back ≡ []) × (v.said_bye ≡ false)
+pub last_is_fresh : (n : ℕ) (g : Sizes) (storage : StorageView) (ends others : List WorkerView) (v : WorkerView)
+    → AreMade n g ends storage → ends ≡ others ++ v ∷ [] → (v.sent ≡ []) × (v.back ≡ []) × (v.said_bye ≡ false)
 last_is_fresh n g storage ends others v made is =
     let at : get_elem? ends (length others) ≡ some v = ap (λ (z : List WorkerView). get_elem? z (length others)) is ∙ last_at others v in
     let same : v ≡ new_worker_view storage.exchange g (length others) = made.1 (length others) v at in

@@ -35,7 +35,7 @@ const ALL: &[u8] = b"gets a b c d e n\r\n";
 const LAST_MOMENT: u64 = 2000;
 
 /// The message, where it is read at the first or the second try.
-fn read(alloc: Global, input: &[u8]) -> Option<Message> {
+pub fn read(alloc: Global, input: &[u8]) -> Option<Message> {
     for _ in 0..2 {
         if let Ok(Next::Found(message, _)) = next_message(alloc, input) {
             return Some(message);

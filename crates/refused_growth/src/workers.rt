@@ -6,15 +6,16 @@ ghost use Rattle.storage_thread.specs.Serving.{IsUnused};
 
 use crate::quiet_port::QuietPort;
 use exchange::{StorageEnd, WorkerEnd, make};
+use parking::ParkingWord;
 use plain_store::Store;
 use proto::geometry::Geometry;
 use session_book::causes::EndCause;
 use std::alloc::Global;
-use std::sync::Wait;
+use std::sync::{Arc, Wait};
 use std::thread::Threads;
 use std::{thread, time};
 use storage_thread::clock::Clock;
-use storage_thread::serving::run_storage;
+use storage_thread::serving::{StorageReport, run_storage};
 use worker::gate::Gate;
 use worker::report::WorkerReport;
 use worker::run::run_worker;
@@ -87,13 +88,17 @@ where
     R: Threads + Wait + time::Clock + Copy + Drop + Send + Sync + 'static,
 {
     let handle = *rt;
+    let parking = Arc::new(alloc, ParkingWord::new()).ok()?;
+    let of_storage = Arc::try_clone(&parking).ok()?;
     let (end, storage_end, store) = made(alloc)?;
     let child = thread::spawn(
         rt,
-        move || run_storage(&handle, store, SteadyClock, storage_end),
+        move || -> StorageReport<SteadyClock>
+            requires { (store.cache ≡ empty_cache 0) × (store.moment ≡ 0) × (store.sizes ≡ storage_end.geometry) × IsUnused storage_end }
+        { run_storage(&handle, store, SteadyClock, storage_end, &of_storage) },
     )
     .ok()?;
-    let report = run_worker(rt, alloc, QuietPort::new(INPUTS), end, &OpenGate);
+    let report = run_worker(rt, alloc, QuietPort::new(INPUTS), end, &OpenGate, &parking);
     child.join(rt);
     Some(report)
 }

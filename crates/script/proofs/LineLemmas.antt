@@ -23,15 +23,18 @@ use Rattle.script.specs.PlainLine.{session_in, bytes_in, event_in, line_in}
 
 -- ---- what is found is said
 
+-- a result whose value is there is Ok
 ok_is : (r : Result (List ℕ) FromHexError) (bytes : List ℕ) → result_ok r ≡ Some bytes → r ≡ Ok bytes
 ok_is (Ok found) bytes e = cc
 ok_is (Result.Err fault) bytes e = absurd cc
 
+-- a word that is read as bytes is their digits
 bytes_in_sound : (hex bytes : List ℕ) → bytes_in hex ≡ Some bytes → IsHexOf bytes hex
 bytes_in_sound hex bytes e =
     let found = guarded_some (nat_lt 0 (length hex)) (result_ok (decode_of hex)) bytes e in
     record { some = lt_from_test 0 (length hex) found.0; decoded = ok_is (decode_of hex) bytes found.1 }
 
+-- a word that is read as a session is its number in decimal
 session_in_sound : (word : List ℕ) (s : ℕ) → session_in word ≡ Some s → (word ≡ decimal s) × (0 < s) × (s < 2 ^ 64)
 session_in_sound word s e =
     let found = bind_some (number_in (2 ^ 64) word) (λ n. guarded (not (eqb n 0)) (Some n)) s e in
@@ -42,12 +45,15 @@ session_in_sound word s e =
     let same = some_is n s tested.1 in
     (number.0 ∙ ap decimal same, omega arith, omega (arith, number.1))
 
+-- a line of these words says the event
 abbrev SaysWith : List ℕ → ℕ → ℕ → List (List ℕ) → ScriptEvent → Type 0
 SaysWith verb w s rest e = SaysAt (spaced (verb ∷ decimal w ∷ decimal s ∷ rest)) w e
 
+-- a first word that compares equal is that word
 same_verb : (verb word : List ℕ) → bytes_eq verb word ≡ true → verb ≡ word
 same_verb verb word e = (bytes_eq-Decides verb word).0 e
 
+-- an event that is read from words is said by them
 event_sound : (verb : List ℕ) (w s : ℕ) (rest : List (List ℕ)) (e : ScriptEvent) → FitsNumbers w s → event_in verb s rest ≡ Some e → SaysWith verb w s rest e
 event_sound verb w s [] e fits h =
     elim (chosen (bytes_eq verb (codes "open")) (Some (Open s)) (cond (bytes_eq verb (codes "gone")) (Some (Gone s)) None) e h) [
@@ -75,9 +81,11 @@ event_sound verb w s (hex ∷ []) e fits h =
     ]
 event_sound verb w s (hex ∷ more ∷ rest) e fits h = absurd cc
 
+-- a line of a worker and an event
 abbrev made : ℕ → ScriptEvent → Option ScriptLine
 made w e = Some (record { worker = w; event = e })
 
+-- a line that is read from words is said by them
 words_sound : (words : List (List ℕ)) (l : ScriptLine) → line_in words ≡ Some l → Says (spaced words) l
 words_sound [] l e = absurd (none_is_some l e)
 words_sound (verb ∷ []) l e = absurd (none_is_some l e)
@@ -93,34 +101,42 @@ words_sound (verb ∷ worker ∷ session ∷ rest) l e =
     let fits : FitsNumbers w s = record { ten_digits = number.1; positive = found.1; fits = found.2 } in
     let said = event_sound verb w s rest third.0 fits third.1 in
     let line_is : spaced (verb ∷ decimal w ∷ decimal s ∷ rest) ≡ spaced (verb ∷ worker ∷ session ∷ rest) =
-    ap (λ (ws : List (List ℕ)). spaced (verb ∷ ws)) (ap (λ (v : List ℕ). v ∷ decimal s ∷ rest) (sym number.0) ∙ ap (λ (v : List ℕ). worker ∷ v ∷ rest) (sym found.0)) in
+    ap (λ (ws : List (List ℕ)). spaced (verb ∷ ws))
+    (ap (λ (v : List ℕ). v ∷ decimal s ∷ rest) (sym number.0) ∙ ap (λ (v : List ℕ). worker ∷ v ∷ rest) (sym found.0)) in
     subst (λ (x : ScriptLine). Says (spaced (verb ∷ worker ∷ session ∷ rest)) x) (some_is (record { worker = w; event = third.0 }) l third.2)
     (subst (λ (line : List ℕ). SaysAt line w third.0) line_is said)
 
+-- what the plain reader finds, the line says
 pub line_sound : (line : List ℕ) (l : ScriptLine) → line_in (words_of line) ≡ Some l → Says line l
 line_sound line l e = subst (λ (x : List ℕ). Says x l) (spaced-words_of line) (words_sound (words_of line) l e)
 
 -- ---- what is said is found
 
+-- a hexadecimal digit is no space
 digit_other : (c : ℕ) → is_hex_digit c ≡ true → is_space c ≡ false
 digit_other c h = ne_eqb c 32 (λ e. false≢true (rw e at h))
 
+-- hexadecimal digits are one word
 hex_word : (hex : List ℕ) → AllPass is_hex_digit hex → IsWord hex
 hex_word [] h = refl
 hex_word (c ∷ hex) h =
     rw (digit_other c (All-head (λ x. is_hex_digit x ≡ true) c hex h), hex_word hex (All-tail (λ x. is_hex_digit x ≡ true) c hex h)) refl
 
+-- a session's number in decimal is read as it
 session_found : (w s : ℕ) → FitsNumbers w s → session_in (decimal s) ≡ Some s
 session_found w s fits =
     let other : eqb s 0 ≡ false = ne_eqb s 0 (let positive = fits.positive in omega arith) in
     rw (number_in_decimal (2 ^ 64) s fits.fits (lit≤ tt), other) refl
 
+-- the digits of bytes are read as them
 bytes_found : (hex bytes : List ℕ) → IsHexOf bytes hex → bytes_in hex ≡ Some bytes
 bytes_found hex bytes h = rw (lt-ltb 0 (length hex) h.some, h.decoded) refl
 
+-- a word compares equal with itself
 verb_is : (word : List ℕ) → bytes_eq word word ≡ true
 verb_is word = (bytes_eq-Decides word word).1 refl
 
+-- a worker's number in decimal is read as it
 worker_found : (w s : ℕ) → FitsNumbers w s → number_in (10 ^ 10) (decimal w) ≡ Some w
 worker_found w s fits = number_in_decimal (10 ^ 10) w fits.ten_digits (lit≤ tt)
 
@@ -139,6 +155,7 @@ given_words line verb w s rest e fits verb_word rest_words is found =
     let words-are : words_of line ≡ verb ∷ decimal w ∷ decimal s ∷ rest = ap words_of is ∙ words_found verb w s rest fits verb_word rest_words in
     rw (words-are, worker_found w s fits, session_found w s fits, found) refl
 
+-- what a line says, the plain reader finds
 line_complete : (line : List ℕ) (w : ℕ) (e : ScriptEvent) → SaysAt line w e → line_in (words_of line) ≡ made w e
 line_complete line w (Open s) h = given_words line (codes "open") w s [] (Open s) h.0 refl tt h.1 refl
 line_complete line w (Gone s) h = given_words line (codes "gone") w s [] (Gone s) h.0 refl tt h.1 refl
@@ -146,6 +163,7 @@ line_complete line w (Send s bytes) (hex, fits, is_hex, is) =
     let digits = (decode_of-ok hex bytes is_hex.decoded).1 in
     given_words line (codes "send") w s (hex ∷ []) (Send s bytes) fits refl (hex_word hex digits, tt) is (rw (bytes_found hex bytes is_hex) refl)
 
+-- the plain reader finds exactly what a line says
 pub line_meaning : (line : List ℕ) (found : Option ScriptLine) → found ≡ line_in (words_of line) → MatchOption found (SaysNothing line) (Says line)
 line_meaning line None is = λ l said. none_is_some l (is ∙ line_complete line l.worker l.event said)
 line_meaning line (Some l) is = line_sound line l (sym is)

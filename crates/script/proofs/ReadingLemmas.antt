@@ -7,6 +7,7 @@ use Rattle.script.specs.declared.fault.ScriptFault.{ScriptFault}
 use Rattle.script.specs.declared.fault.ScriptFault.TheVariants as script
 use Rattle.script.specs.Scripts.{Workers, AddsLine, AreRead, no_events, Position, first_position, ReadsLine, IsNextFault, AreEventsOf, IsFaultOf, max_script}
 
+-- a text with a line feed is the line before it, and the lines behind
 pub lines_at : (text : List ℕ) (i : ℕ) → i < length text → eqb (get_or text i 0) 10 ≡ true → ((k : ℕ) → k < i → eqb (get_or text k 0) 10 ≡ false)
     → lines_of text ≡ take i text ∷ lines_of (drop 1 (drop i text))
 lines_at [] i lt here before = absurd (omega arith)
@@ -15,13 +16,16 @@ lines_at (c ∷ text) (suc i) lt here before =
     let below = lines_at text i (omega arith) here (λ k h. before (suc k) (omega arith)) in
     rw (before 0 (omega arith), below) refl
 
+-- a text without a line feed is one line
 pub lines_last : (c : ℕ) (text : List ℕ) → ((k : ℕ) → k < length (c ∷ text) → eqb (get_or (c ∷ text) k 0) 10 ≡ false) → lines_of (c ∷ text) ≡ (c ∷ text) ∷ []
 lines_last c [] h = rw (h 0 (omega arith)) refl
 lines_last c (d ∷ text) h =
     let below = lines_last d text (λ k lt. h (suc k) (omega arith)) in
     rw (h 0 (omega arith), below) refl
 
-pub are_read_more : (before mid after : Workers) (lines : List (List ℕ)) (line : List ℕ) → AreRead before lines mid → AddsLine mid line after → AreRead before (lines ++ line ∷ []) after
+-- lines that were read, and one more
+pub are_read_more : (before mid after : Workers) (lines : List (List ℕ)) (line : List ℕ) → AreRead before lines mid
+    → AddsLine mid line after → AreRead before (lines ++ line ∷ []) after
 are_read_more before mid after [] line is adds = (after, subst (λ (w : Workers). AddsLine w line after) is adds, refl)
 are_read_more before mid after (first ∷ lines) line (next, adds_first, read) adds = (next, adds_first, are_read_more next mid after lines line read adds)
 
@@ -37,9 +41,11 @@ pub record IsAt (workers : ℕ) (text : List ℕ) (position : Position) : Type 0
   pub read_is : position.read ≡ length before
   pub read : AreRead (no_events workers) before position.workers
 
+-- a reader begins at the first line
 pub at_first : (workers : ℕ) (text : List ℕ) → IsAt workers text (first_position workers text)
 at_first workers text = record { before = []; lines_are = refl; read_is = refl; read = refl }
 
+-- one line further
 pub at_next : (workers : ℕ) (text : List ℕ) (old new : Position) → IsAt workers text old → ReadsLine old new → IsAt workers text new
 at_next workers text old new at reads = record {
   before = at.before ++ reads.line ∷ [];
@@ -48,13 +54,18 @@ at_next workers text old new at reads = record {
   read = are_read_more (no_events workers) old.workers new.workers at.before reads.line at.read reads.adds;
 }
 
-pub at_end : (workers : ℕ) (text : List ℕ) (position : Position) → IsAt workers text position → position.left ≡ [] → length text ≤ max_script → AreEventsOf workers text position.workers
+-- where no line is left, all were read
+pub at_end : (workers : ℕ) (text : List ℕ) (position : Position) → IsAt workers text position → position.left ≡ []
+    → length text ≤ max_script → AreEventsOf workers text position.workers
 at_end workers text position at none small = record {
   small = small;
-  read = subst (λ (lines : List (List ℕ)). AreRead (no_events workers) lines position.workers) (sym (at.lines_are ∙ ap (λ (left : List (List ℕ)). at.before ++ left) none ∙ append-nil at.before)) at.read;
+  read = subst (λ (lines : List (List ℕ)). AreRead (no_events workers) lines position.workers)
+      (sym (at.lines_are ∙ ap (λ (left : List (List ℕ)). at.before ++ left) none ∙ append-nil at.before)) at.read;
 }
 
-pub at_fault : (workers : ℕ) (text : List ℕ) (position : Position) (fault : ScriptFault) → IsAt workers text position → IsNextFault position fault → length text ≤ max_script → IsFaultOf workers text fault
+-- the fault of the next line is that of the text
+pub at_fault : (workers : ℕ) (text : List ℕ) (position : Position) (fault : ScriptFault) → IsAt workers text position
+    → IsNextFault position fault → length text ≤ max_script → IsFaultOf workers text fault
 at_fault workers text position script.TooLarge at next small = absurd next
 at_fault workers text position (script.Line number fault) at next small = (
   small,

@@ -10,6 +10,7 @@ use Rattle.script.specs.declared.event.ScriptEvent.{ScriptEvent}
 use Rattle.script.specs.Events.{newest_after, newest_of, open_after, is_open, MayCome, IsPlayable}
 use Rattle.script.specs.Tracking.{IsTracked}
 
+-- one event more that may come
 pub playable_more : (events : List ScriptEvent) (e : ScriptEvent) → IsPlayable events → MayCome events e → IsPlayable (events ++ e ∷ [])
 playable_more events e playable may k d lt =
     elim (cases_lt k (length events)) [
@@ -24,12 +25,15 @@ playable_more events e playable may k d lt =
           rw (front, here) may
     ]
 
+-- the newest session, with one event more
 pub newest_more : (events : List ScriptEvent) (e : ScriptEvent) → newest_of (events ++ e ∷ []) ≡ newest_after (newest_of events) e
 newest_more events e = fold_push newest_after 0 events e
 
+-- whether a session is open, with one event more
 pub open_more : (events : List ScriptEvent) (e : ScriptEvent) (s : ℕ) → is_open (events ++ e ∷ []) s ≡ open_after s (is_open events s) e
 open_more events e s = fold_push (open_after s) _ events e
 
+-- what is kept beside the events, with one event more
 pub tracked_more : (events : List ScriptEvent) (e : ScriptEvent) (n m : ℕ) (old new : BTreeSet ℕ) → IsTracked events n old → MayCome events e
     → m ≡ newest_after n e → ((s : ℕ) → contains nat_cmp new s ≡ open_after s (contains nat_cmp old s) e) → IsTracked (events ++ e ∷ []) m new
 tracked_more events e n m old new was may newest sessions = record {

@@ -64,7 +64,15 @@ splits_at p (x ∷ xs) lt =
     (λ no.
     let k = prefix_no p x xs no in
     let r = splits_at p xs (omega (arith, k)) in
-    record { before = x ∷ r.before; e = r.e; after = r.after; is = ap (λ l. x ∷ l) r.is; at_is = (let len = r.at_is in omega (arith, k, len)); fails = (no, r.fails); passes = r.passes })
+    record {
+      before = x ∷ r.before;
+      e = r.e;
+      after = r.after;
+      is = ap (λ l. x ∷ l) r.is;
+      at_is = (let len = r.at_is in omega (arith, k, len));
+      fails = (no, r.fails);
+      passes = r.passes;
+    })
 
 all_fail : (p : ScriptEvent → Bool) (xs : List ScriptEvent) → length xs ≤ prefix_len (not_p p) xs → AllByRecursion (λ (x : ScriptEvent). p x ≡ false) xs
 all_fail p [] le = tt
@@ -124,15 +132,25 @@ swapped e x t b ne =
     ap (λ c. open_after t c e) (after_other x t b apart) ∙ sym (after_other x t (open_after t b e) apart))
     (λ other. after_other e t (open_after t b x) other ∙ ap (λ c. open_after t c x) (sym (after_other e t b other)))
 
-pub take_out : (n : ℕ) (o : ℕ → Bool) (xs : List ScriptEvent) (e : ScriptEvent) (ys : List ScriptEvent) → AllByRecursion (IsApart n e) xs → plays_from n o (xs ++ e ∷ ys) ≡ true → TakenOut n o e (xs ++ ys)
-take_out n o [] e ys apart h = record { may = and_left (may_follow n o e) (plays_from (newest_after n e) (λ t. open_after t (o t) e) ys) h; rest_plays = and_right (may_follow n o e) (plays_from (newest_after n e) (λ t. open_after t (o t) e) ys) h }
+pub take_out : (n : ℕ) (o : ℕ → Bool) (xs : List ScriptEvent) (e : ScriptEvent) (ys : List ScriptEvent)
+    → AllByRecursion (IsApart n e) xs → plays_from n o (xs ++ e ∷ ys) ≡ true → TakenOut n o e (xs ++ ys)
+take_out n o [] e ys apart h = record {
+  may = and_left (may_follow n o e)
+      (plays_from (newest_after n e) (λ t. open_after t (o t) e) ys) h;
+  rest_plays = and_right (may_follow n o e)
+      (plays_from (newest_after n e) (λ t. open_after t (o t) e) ys) h;
+}
 take_out n o (Open s ∷ xs) e ys apart h =
     let may : nat_lt n s ≡ true = and_left (nat_lt n s) (plays_from s (λ t. open_after t (o t) (Open s)) (xs ++ e ∷ ys)) h in
     let lt = lt_true n s may in absurd (omega (arith, lt, apart.0.old))
 take_out n o (Send s bytes ∷ xs) e ys apart h =
     let may : o s ≡ true = and_left (o s) (plays_from n o (xs ++ e ∷ ys)) h in
     let r = take_out n o xs e ys apart.1 (and_right (o s) (plays_from n o (xs ++ e ∷ ys)) h) in
-    record { may = r.may; rest_plays = and_both (open_after s (o s) e) (plays_from (newest_after n e) (λ t. open_after t (o t) e) (xs ++ ys)) (after_other e s (o s) (λ q. apart.0.other (sym q)) ∙ may) r.rest_plays }
+    record {
+      may = r.may;
+      rest_plays = and_both (open_after s (o s) e) (plays_from (newest_after n e) (λ t. open_after t (o t) e) (xs ++ ys))
+          (after_other e s (o s) (λ q. apart.0.other (sym q)) ∙ may) r.rest_plays;
+    }
 take_out n o (Gone s ∷ xs) e ys apart h =
     let x = Gone s in
     let o1 : ℕ → Bool = λ t. open_after t (o t) x in
@@ -141,12 +159,15 @@ take_out n o (Gone s ∷ xs) e ys apart h =
     let m = newest_after n e in
     record {
       may = sym (may_same n o1 o e (after_other x (session_of e) (o (session_of e)) apart.0.other)) ∙ r.may;
-      rest_plays = and_both (open_after s (o s) e) (plays_from m (λ t. open_after t (open_after t (o t) e) x) (xs ++ ys)) (after_other e s (o s) (λ q. apart.0.other (sym q)) ∙ may)
-          (sym (plays_same m (λ t. open_after t (o1 t) e) (λ t. open_after t (open_after t (o t) e) x) (xs ++ ys) (λ t. swapped e x t (o t) apart.0.other)) ∙ r.rest_plays);
+      rest_plays = and_both (open_after s (o s) e) (plays_from m (λ t. open_after t (open_after t (o t) e) x) (xs ++ ys))
+          (after_other e s (o s) (λ q. apart.0.other (sym q)) ∙ may)
+          (sym (plays_same m (λ t. open_after t (o1 t) e) (λ t. open_after t (open_after t (o t) e) x) (xs ++ ys)
+          (λ t. swapped e x t (o t) apart.0.other)) ∙ r.rest_plays);
     }
 
 -- another send may stand in place of one
-pub send_again : (n : ℕ) (o : ℕ → Bool) (xs : List ScriptEvent) (s : ℕ) (b b' : List ℕ) (ys : List ScriptEvent) → plays_from n o (xs ++ Send s b ∷ ys) ≡ plays_from n o (xs ++ Send s b' ∷ ys)
+pub send_again : (n : ℕ) (o : ℕ → Bool) (xs : List ScriptEvent) (s : ℕ) (b b' : List ℕ) (ys : List ScriptEvent)
+    → plays_from n o (xs ++ Send s b ∷ ys) ≡ plays_from n o (xs ++ Send s b' ∷ ys)
 send_again n o [] s b b' ys = refl
 send_again n o (x ∷ xs) s b b' ys = ap (λ c. may_follow n o x && c) (send_again (newest_after n x) (λ t. open_after t (o t) x) xs s b b' ys)
 
@@ -156,7 +177,8 @@ still_old n o (Send t bytes) s le may = le
 still_old n o (Gone t) s le may = le
 
 -- the session's own event leaves the others as they are
-own_event : (n : ℕ) (o o' : ℕ → Bool) (s : ℕ) (x : ScriptEvent) → ((t : ℕ) → t ≢ s → o' t ≡ o t) → session_of x ≡ s → (t : ℕ) → t ≢ s → o' t ≡ open_after t (o t) x
+own_event : (n : ℕ) (o o' : ℕ → Bool) (s : ℕ) (x : ScriptEvent) → ((t : ℕ) → t ≢ s → o' t ≡ o t) → session_of x ≡ s → (t : ℕ)
+    → t ≢ s → o' t ≡ open_after t (o t) x
 own_event n o o' s x same eq t apart = same t apart ∙ sym (after_other x t (o t) (λ q. apart (sym q ∙ eq)))
 
 -- an open session's own event opens no newer one
@@ -166,7 +188,8 @@ own_newest n o s (Send t bytes) le eq may = refl
 own_newest n o s (Gone t) le eq may = refl
 
 -- without the events of a session, the others still may come
-pub leave_out : (n : ℕ) (o o' : ℕ → Bool) (s : ℕ) (xs : List ScriptEvent) → s ≤ n → ((t : ℕ) → t ≢ s → o' t ≡ o t) → plays_from n o xs ≡ true → plays_from n o' (without s xs) ≡ true
+pub leave_out : (n : ℕ) (o o' : ℕ → Bool) (s : ℕ) (xs : List ScriptEvent) → s ≤ n → ((t : ℕ) → t ≢ s → o' t ≡ o t)
+    → plays_from n o xs ≡ true → plays_from n o' (without s xs) ≡ true
 leave_out n o o' s [] le same h = refl
 leave_out n o o' s (x ∷ xs) le same h =
     let o1 : ℕ → Bool = λ t. open_after t (o t) x in
@@ -194,23 +217,35 @@ may_go before (Open s) h = true_lt (newest_of before) s h
 may_go before (Send s bytes) h = h
 may_go before (Gone s) h = h
 
-after_one : (before : List ScriptEvent) (x : ScriptEvent) (xs : List ScriptEvent) → plays_from (newest_after (newest_of before) x) (λ t. open_after t (is_open before t) x) xs ≡ plays_from (newest_of (before ++ x ∷ [])) (is_open (before ++ x ∷ [])) xs
+after_one : (before : List ScriptEvent) (x : ScriptEvent) (xs : List ScriptEvent)
+    → plays_from (newest_after (newest_of before) x) (λ t. open_after t (is_open before t) x) xs ≡ plays_from
+    (newest_of (before ++ x ∷ [])) (is_open (before ++ x ∷ [])) xs
 after_one before x xs = λ i. plays_from (sym (newest_more before x) i) (λ t. sym (open_more before x t) i) xs
 
-come_each : (before xs : List ScriptEvent) → plays_from (newest_of before) (is_open before) xs ≡ true → (k : ℕ) (d : ScriptEvent) → k < length xs → MayCome (before ++ take k xs) (get_or xs k d)
+come_each : (before xs : List ScriptEvent) → plays_from (newest_of before) (is_open before) xs ≡ true → (k : ℕ) (d : ScriptEvent)
+    → k < length xs → MayCome (before ++ take k xs) (get_or xs k d)
 come_each before [] h k d lt = absurd (omega arith)
-come_each before (x ∷ xs) h zero d lt = subst (λ (l : List ScriptEvent). MayCome l x) (sym (append-nil before)) (may_come before x (and_left (may_follow (newest_of before) (is_open before) x) (plays_from (newest_after (newest_of before) x) (λ t. open_after t (is_open before t) x) xs) h))
+come_each before (x ∷ xs) h zero d lt = subst (λ (l : List ScriptEvent). MayCome l x) (sym (append-nil before))
+    (may_come before x
+    (and_left (may_follow (newest_of before) (is_open before) x)
+    (plays_from (newest_after (newest_of before) x) (λ t. open_after t (is_open before t) x) xs) h))
 come_each before (x ∷ xs) h (suc k) d lt =
-    let rest = and_right (may_follow (newest_of before) (is_open before) x) (plays_from (newest_after (newest_of before) x) (λ t. open_after t (is_open before t) x) xs) h in
+    let rest = and_right (may_follow (newest_of before) (is_open before) x)
+    (plays_from (newest_after (newest_of before) x) (λ t. open_after t (is_open before t) x) xs) h in
     subst (λ (l : List ScriptEvent). MayCome l (get_or xs k d)) (append_assoc before (x ∷ []) (take k xs))
     (come_each (before ++ x ∷ []) xs (sym (after_one before x xs) ∙ rest) k d (omega arith))
 
-go_each : (before xs : List ScriptEvent) → ((k : ℕ) (d : ScriptEvent) → k < length xs → MayCome (before ++ take k xs) (get_or xs k d)) → plays_from (newest_of before) (is_open before) xs ≡ true
+go_each : (before xs : List ScriptEvent)
+    → ((k : ℕ) (d : ScriptEvent) → k < length xs → MayCome (before ++ take k xs) (get_or xs k d))
+    → plays_from (newest_of before) (is_open before) xs ≡ true
 go_each before [] h = refl
 go_each before (x ∷ xs) h =
     and_both (may_follow (newest_of before) (is_open before) x) (plays_from (newest_after (newest_of before) x) (λ t. open_after t (is_open before t) x) xs)
     (may_go before x (subst (λ (l : List ScriptEvent). MayCome l x) (append-nil before) (h 0 x (omega arith))))
-    (after_one before x xs ∙ go_each (before ++ x ∷ []) xs (λ k d lt. subst (λ (l : List ScriptEvent). MayCome l (get_or xs k d)) (sym (append_assoc before (x ∷ []) (take k xs))) (h (suc k) d (omega arith))))
+    (after_one before x xs
+    ∙ go_each (before ++ x ∷ []) xs
+    (λ k d lt. subst (λ (l : List ScriptEvent). MayCome l (get_or xs k d)) (sym (append_assoc before (x ∷ []) (take k xs)))
+    (h (suc k) d (omega arith))))
 
 pub plays_each : (xs : List ScriptEvent) → is_playable xs ≡ true → IsPlayable xs
 plays_each xs h = come_each [] xs h

@@ -44,11 +44,14 @@ sent_apart n e [] apart = refl
 sent_apart n e (x ∷ xs) apart = (λ i. sends_nothing x (session_of e) apart.0.other i ++ sent_apart n e xs apart.1 i)
 
 -- events of sessions that were opened before open none
-pub no_opens : (n : ℕ) (o : ℕ → Bool) (e : ScriptEvent) (xs ys : List ScriptEvent) → AllByRecursion (IsApart n e) xs → plays_from n o (xs ++ ys) ≡ true → script.opened xs ≡ []
+pub no_opens : (n : ℕ) (o : ℕ → Bool) (e : ScriptEvent) (xs ys : List ScriptEvent) → AllByRecursion (IsApart n e) xs
+    → plays_from n o (xs ++ ys) ≡ true → script.opened xs ≡ []
 no_opens n o e [] ys apart h = refl
-no_opens n o e (Open s ∷ xs) ys apart h = let lt = lt_true n s (and_left (nat_lt n s) (plays_from s (λ t. open_after t (o t) (Open s)) (xs ++ ys)) h) in absurd (omega (arith, lt, apart.0.old))
+no_opens n o e (Open s ∷ xs) ys apart h = let lt = lt_true n s
+    (and_left (nat_lt n s) (plays_from s (λ t. open_after t (o t) (Open s)) (xs ++ ys)) h) in absurd (omega (arith, lt, apart.0.old))
 no_opens n o e (Send s bytes ∷ xs) ys apart h = no_opens n o e xs ys apart.1 (and_right (o s) (plays_from n o (xs ++ ys)) h)
-no_opens n o e (Gone s ∷ xs) ys apart h = no_opens n (λ t. open_after t (o t) (Gone s)) e xs ys apart.1 (and_right (o s) (plays_from n (λ t. open_after t (o t) (Gone s)) (xs ++ ys)) h)
+no_opens n o e (Gone s ∷ xs) ys apart h = no_opens n (λ t. open_after t (o t) (Gone s)) e xs ys apart.1
+    (and_right (o s) (plays_from n (λ t. open_after t (o t) (Gone s)) (xs ++ ys)) h)
 
 -- without a session's events the others send the same
 sent_without : (s t : ℕ) (xs : List ScriptEvent) → t ≢ s → sent (without s xs) t ≡ sent xs t
@@ -70,11 +73,15 @@ opens_without n o s (Open t ∷ xs) le h =
     let lt = lt_true n t (and_left (nat_lt n t) (plays_from t (λ u. open_after u (o u) (Open t)) xs) h) in
     let apart : t ≢ s = λ e. omega (arith, lt, e) in
     ap (λ b. script.opened (cond (not b) (Open t ∷ without s xs) (without s xs))) (ne_eqb t s apart)
-    ∙ ap (λ (l : List ℕ). t ∷ l) (opens_without t (λ u. open_after u (o u) (Open t)) s xs (omega (arith, lt, le)) (and_right (nat_lt n t) (plays_from t (λ u. open_after u (o u) (Open t)) xs) h))
+    ∙ ap (λ (l : List ℕ). t ∷ l)
+    (opens_without t (λ u. open_after u (o u) (Open t)) s xs (omega (arith, lt, le))
+    (and_right (nat_lt n t) (plays_from t (λ u. open_after u (o u) (Open t)) xs) h))
 opens_without n o s (Send t bytes ∷ xs) le h =
     either_way t s
-    (λ same. ap (λ b. script.opened (cond (not b) (Send t bytes ∷ without s xs) (without s xs))) (eq-eqb t s same) ∙ opens_without n o s xs le (and_right (o t) (plays_from n o xs) h))
-    (λ apart. ap (λ b. script.opened (cond (not b) (Send t bytes ∷ without s xs) (without s xs))) (ne_eqb t s apart) ∙ opens_without n o s xs le (and_right (o t) (plays_from n o xs) h))
+    (λ same. ap (λ b. script.opened (cond (not b) (Send t bytes ∷ without s xs) (without s xs))) (eq-eqb t s same)
+    ∙ opens_without n o s xs le (and_right (o t) (plays_from n o xs) h))
+    (λ apart. ap (λ b. script.opened (cond (not b) (Send t bytes ∷ without s xs) (without s xs))) (ne_eqb t s apart)
+    ∙ opens_without n o s xs le (and_right (o t) (plays_from n o xs) h))
 opens_without n o s (Gone t ∷ xs) le h =
     let rest = opens_without n (λ u. open_after u (o u) (Gone t)) s xs le (and_right (o t) (plays_from n (λ u. open_after u (o u) (Gone t)) xs) h) in
     either_way t s
@@ -108,7 +115,8 @@ rest_opens s bytes =
 -- ---- the steps
 
 -- a step that takes no event away and adds no session and no bytes
-pub follows_still : (played left left' : List ScriptEvent) (l l' : List PortRecord) (x : PortRecord) (closed closed' : ℕ → Bool) → left' ≡ left → l' ≡ l ++ x ∷ [] → opened_by x ≡ None → ((t : ℕ) → fed_by t x ≡ [])
+pub follows_still : (played left left' : List ScriptEvent) (l l' : List PortRecord) (x : PortRecord) (closed closed' : ℕ → Bool)
+    → left' ≡ left → l' ≡ l ++ x ∷ [] → opened_by x ≡ None → ((t : ℕ) → fed_by t x ≡ [])
     → ((t : ℕ) → closed' t ≡ closed t) → Follows played left l closed → Follows played left' l' closed'
 follows_still played left left' l l' x closed closed' left_is l_is none nothing same f = record {
   opened_are = f.opened_are ∙ (λ i. sym (opened_more l l' x l_is none) i ++ script.opened (sym left_is i));
@@ -117,7 +125,8 @@ follows_still played left left' l l' x closed closed' left_is l_is none nothing 
 }
 
 -- nothing is added
-pub follows_as : (played left left' : List ScriptEvent) (l : List PortRecord) (closed closed' : ℕ → Bool) → left' ≡ left → ((t : ℕ) → closed' t ≡ closed t) → Follows played left l closed → Follows played left' l closed'
+pub follows_as : (played left left' : List ScriptEvent) (l : List PortRecord) (closed closed' : ℕ → Bool) → left' ≡ left
+    → ((t : ℕ) → closed' t ≡ closed t) → Follows played left l closed → Follows played left' l closed'
 follows_as played left left' l closed closed' left_is same f = record {
   opened_are = f.opened_are ∙ (λ i. opened l ++ script.opened (sym left_is i));
   fed_are = λ t active. f.fed_are t (sym (same t) ∙ active) ∙ (λ i. fed t l ++ sent (sym left_is i) t);
@@ -125,31 +134,43 @@ follows_as played left left' l closed closed' left_is same f = record {
 }
 
 -- a session begins
-pub follows_open : (played left left' before after : List ScriptEvent) (l l' : List PortRecord) (s : ℕ) (closed closed' : ℕ → Bool) → left ≡ before ++ Open s ∷ after → left' ≡ before ++ after → l' ≡ l ++ was.Opened s ∷ []
+pub follows_open : (played left left' before after : List ScriptEvent) (l l' : List PortRecord) (s : ℕ) (closed closed' : ℕ → Bool)
+    → left ≡ before ++ Open s ∷ after → left' ≡ before ++ after → l' ≡ l ++ was.Opened s ∷ []
     → script.opened before ≡ [] → ((t : ℕ) → closed' t ≡ closed t) → Follows played left l closed → Follows played left' l' closed'
 follows_open played left left' before after l l' s closed closed' left_is left'_is l_is none same f = record {
   opened_are = f.opened_are
-      ∙ ap (λ (xs : List ℕ). opened l ++ xs) (ap script.opened left_is ∙ opens_more before (Open s ∷ after) ∙ ap (λ (xs : List ℕ). xs ++ s ∷ script.opened after) none)
+      ∙ ap (λ (xs : List ℕ). opened l ++ xs)
+      (ap script.opened left_is ∙ opens_more before (Open s ∷ after) ∙ ap (λ (xs : List ℕ). xs ++ s ∷ script.opened after) none)
       ∙ sym (append_assoc (opened l) (s ∷ []) (script.opened after))
-      ∙ (λ i. sym (opened_one l l' s l_is) i ++ sym (ap script.opened left'_is ∙ opens_more before after ∙ ap (λ (xs : List ℕ). xs ++ script.opened after) none) i);
+      ∙ (λ i. sym (opened_one l l' s l_is) i ++ sym
+      (ap script.opened left'_is ∙ opens_more before after ∙ ap (λ (xs : List ℕ). xs ++ script.opened after) none) i);
   fed_are = λ t active. f.fed_are t (sym (same t) ∙ active)
-      ∙ (λ i. sym (fed_same l l' (was.Opened s) t l_is refl) i ++ (ap (λ (xs : List ScriptEvent). sent xs t) left_is ∙ sent_more before (Open s ∷ after) t ∙ sym (sent_more before after t) ∙ sym (ap (λ (xs : List ScriptEvent). sent xs t) left'_is)) i);
+      ∙ (λ i. sym (fed_same l l' (was.Opened s) t l_is refl) i ++
+      (ap (λ (xs : List ScriptEvent). sent xs t) left_is ∙ sent_more before (Open s ∷ after) t ∙ sym (sent_more before after t)
+      ∙ sym (ap (λ (xs : List ScriptEvent). sent xs t) left'_is)) i);
   begun = λ t ended. subst (StartsWith (sent played t)) (sym (fed_same l l' (was.Opened s) t l_is refl)) (f.begun t (sym (same t) ∙ ended));
 }
 
 -- a piece of a session's bytes comes
-pub follows_send : (played left left' before after : List ScriptEvent) (l l' : List PortRecord) (s : ℕ) (bytes : List ℕ) (closed closed' : ℕ → Bool) → left ≡ before ++ Send s bytes ∷ after → left' ≡ before ++ send_after s bytes ++ after
-    → l' ≡ l ++ was.Data s (take 16384 bytes) ∷ [] → sent before s ≡ [] → closed s ≡ false → ((t : ℕ) → closed' t ≡ closed t) → Follows played left l closed → Follows played left' l' closed'
+pub follows_send : (played left left' before after : List ScriptEvent) (l l' : List PortRecord) (s : ℕ) (bytes : List ℕ)
+    (closed closed' : ℕ → Bool) → left ≡ before ++ Send s bytes ∷ after → left' ≡ before ++ send_after s bytes ++ after
+    → l' ≡ l ++ was.Data s (take 16384 bytes) ∷ [] → sent before s ≡ [] → closed s ≡ false → ((t : ℕ) → closed' t ≡ closed t)
+    → Follows played left l closed → Follows played left' l' closed'
 follows_send played left left' before after l l' s bytes closed closed' left_is left'_is l_is none active same f = record {
   opened_are = f.opened_are
-      ∙ (λ i. sym (opened_more l l' (was.Data s (take 16384 bytes)) l_is refl) i ++ (ap script.opened left_is ∙ opens_more before (Send s bytes ∷ after) ∙ sym (ap script.opened left'_is ∙ opens_around)) i);
+      ∙ (λ i. sym (opened_more l l' (was.Data s (take 16384 bytes)) l_is refl) i ++
+      (ap script.opened left_is ∙ opens_more before (Send s bytes ∷ after) ∙ sym (ap script.opened left'_is ∙ opens_around)) i);
   fed_are = λ t is_open. either_way t s
       (λ here. subst (λ (u : ℕ). sent played u ≡ fed u l' ++ sent left' u) (sym here) (f.fed_are s active ∙ moved))
       (λ other. f.fed_are t (sym (same t) ∙ is_open)
-      ∙ (λ i. sym (fed_same l l' (was.Data s (take 16384 bytes)) t l_is (ap (λ b. cond b (take 16384 bytes) []) (ne_eqb s t (λ e. other (sym e))))) i ++ stays t other i));
+      ∙ (λ i. sym
+      (fed_same l l' (was.Data s (take 16384 bytes)) t l_is
+      (ap (λ b. cond b (take 16384 bytes) []) (ne_eqb s t (λ e. other (sym e))))) i ++ stays t other i));
   begun = λ t ended. either_way t s
       (λ here. absurd (true≢false (sym ended ∙ same t ∙ ap closed here ∙ active)))
-      (λ other. subst (StartsWith (sent played t)) (sym (fed_same l l' (was.Data s (take 16384 bytes)) t l_is (ap (λ b. cond b (take 16384 bytes) []) (ne_eqb s t (λ e. other (sym e)))))) (f.begun t (sym (same t) ∙ ended)));
+      (λ other. subst (StartsWith (sent played t))
+      (sym (fed_same l l' (was.Data s (take 16384 bytes)) t l_is
+      (ap (λ b. cond b (take 16384 bytes) []) (ne_eqb s t (λ e. other (sym e)))))) (f.begun t (sym (same t) ∙ ended)));
 }
   where
     sent_around : (t : ℕ) → sent (before ++ send_after s bytes ++ after) t ≡ (sent before t ++ sent (send_after s bytes) t) ++ sent after t
@@ -158,17 +179,22 @@ follows_send played left left' before after l l' s bytes closed closed' left_is 
     opens_around : script.opened (before ++ send_after s bytes ++ after) ≡ script.opened before ++ script.opened after
     opens_around =
         opens_more (before ++ send_after s bytes) after
-        ∙ ap (λ (xs : List ℕ). xs ++ script.opened after) (opens_more before (send_after s bytes) ∙ ap (λ (xs : List ℕ). script.opened before ++ xs) (rest_opens s bytes) ∙ append-nil (script.opened before))
+        ∙ ap (λ (xs : List ℕ). xs ++ script.opened after)
+        (opens_more before (send_after s bytes) ∙ ap (λ (xs : List ℕ). script.opened before ++ xs) (rest_opens s bytes)
+        ∙ append-nil (script.opened before))
 
     stays : (t : ℕ) → t ≢ s → sent left t ≡ sent left' t
     stays t other =
         ap (λ (xs : List ScriptEvent). sent xs t) left_is ∙ sent_more before (Send s bytes ∷ after) t
         ∙ ap (λ b. sent before t ++ (cond b bytes [] ++ sent after t)) (ne_eqb s t (λ e. other (sym e)))
-        ∙ sym (ap (λ (xs : List ScriptEvent). sent xs t) left'_is ∙ sent_around t ∙ ap (λ (xs : List ℕ). (sent before t ++ xs) ++ sent after t) (rest_others s t bytes other) ∙ ap (λ (xs : List ℕ). xs ++ sent after t) (append-nil (sent before t)))
+        ∙ sym (ap (λ (xs : List ScriptEvent). sent xs t) left'_is ∙ sent_around t
+        ∙ ap (λ (xs : List ℕ). (sent before t ++ xs) ++ sent after t) (rest_others s t bytes other)
+        ∙ ap (λ (xs : List ℕ). xs ++ sent after t) (append-nil (sent before t)))
 
     old_sent : sent left s ≡ bytes ++ sent after s
     old_sent =
-        ap (λ (xs : List ScriptEvent). sent xs s) left_is ∙ sent_more before (Send s bytes ∷ after) s ∙ ap (λ (xs : List ℕ). xs ++ sent (Send s bytes ∷ after) s) none
+        ap (λ (xs : List ScriptEvent). sent xs s) left_is ∙ sent_more before (Send s bytes ∷ after) s
+        ∙ ap (λ (xs : List ℕ). xs ++ sent (Send s bytes ∷ after) s) none
         ∙ ap (λ b. cond b bytes [] ++ sent after s) (eq-eqb s s refl)
 
     new_sent : sent left' s ≡ drop 16384 bytes ++ sent after s
@@ -178,13 +204,19 @@ follows_send played left left' before after l l' s bytes closed closed' left_is 
 
     moved : fed s l ++ sent left s ≡ fed s l' ++ sent left' s
     moved =
-        ap (λ (xs : List ℕ). fed s l ++ xs) (old_sent ∙ ap (λ (xs : List ℕ). xs ++ sent after s) (sym (take-append-drop 16384 bytes)) ∙ append_assoc (take 16384 bytes) (drop 16384 bytes) (sent after s))
+        ap (λ (xs : List ℕ). fed s l ++ xs)
+        (old_sent ∙ ap (λ (xs : List ℕ). xs ++ sent after s) (sym (take-append-drop 16384 bytes))
+        ∙ append_assoc (take 16384 bytes) (drop 16384 bytes) (sent after s))
         ∙ sym (append_assoc (fed s l) (take 16384 bytes) (drop 16384 bytes ++ sent after s))
-        ∙ (λ i. sym (fed_more l l' (was.Data s (take 16384 bytes)) s l_is ∙ ap (λ b. fed s l ++ cond b (take 16384 bytes) []) (eq-eqb s s refl)) i ++ sym new_sent i)
+        ∙ (λ i. sym
+        (fed_more l l' (was.Data s (take 16384 bytes)) s l_is
+        ∙ ap (λ b. fed s l ++ cond b (take 16384 bytes) []) (eq-eqb s s refl)) i ++ sym new_sent i)
 
 -- a session is closed
-pub follows_close : (played left left' : List ScriptEvent) (l l' : List PortRecord) (x : PortRecord) (s : ℕ) (closed closed' : ℕ → Bool) → left' ≡ without s left → l' ≡ l ++ x ∷ [] → opened_by x ≡ None → ((t : ℕ) → fed_by t x ≡ [])
-    → script.opened (without s left) ≡ script.opened left → closed s ≡ false → closed' s ≡ true → ((t : ℕ) → t ≢ s → closed' t ≡ closed t) → Follows played left l closed → Follows played left' l' closed'
+pub follows_close : (played left left' : List ScriptEvent) (l l' : List PortRecord) (x : PortRecord) (s : ℕ)
+    (closed closed' : ℕ → Bool) → left' ≡ without s left → l' ≡ l ++ x ∷ [] → opened_by x ≡ None → ((t : ℕ) → fed_by t x ≡ [])
+    → script.opened (without s left) ≡ script.opened left → closed s ≡ false → closed' s ≡ true
+    → ((t : ℕ) → t ≢ s → closed' t ≡ closed t) → Follows played left l closed → Follows played left' l' closed'
 follows_close played left left' l l' x s closed closed' left'_is l_is none nothing opens active ended others f = record {
   opened_are = f.opened_are ∙ (λ i. sym (opened_more l l' x l_is none) i ++ sym (ap script.opened left'_is ∙ opens) i);
   fed_are = λ t is_open. either_way t s

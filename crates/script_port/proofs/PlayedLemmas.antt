@@ -12,13 +12,14 @@ use Rattle.script_port.specs.Following.{IsPlayed}
 use Rattle.script_port.proofs.EventLemmas.{bool_cases}
 
 -- a session that was neither gone nor shut isn't closed
-facts_closed : (o : Option SessionState) (f : PortFacts) → Agrees o f → f.gone ≡ false → f.shut ≡ false → is_some_and (λ (x : SessionState). is_closed x.stage) o ≡ false
+facts_closed : (o : Option SessionState) (f : PortFacts) → Agrees o f → f.gone ≡ false → f.shut ≡ false
+    → is_some_and (λ (x : SessionState). is_closed x.stage) o ≡ false
 facts_closed None f agrees gone shut = refl
 facts_closed (Some x) f agrees gone shut = sym agrees.1 ∙ (λ i. gone i || shut i)
 
-pub played : (p : Player) → IsConsistent p → is_playable p.script.value.items ≡ true → IsPlayed p.script.value.items p.records.entries
+pub played : (p : Player) → IsConsistent p → is_playable p.script.value.items ≡ true → IsPlayed p.script.value.items p.records
 played p k tells =
-    let l = p.records.entries in let whole = p.script.value.items in let left = events_left p.sessions p.events.items in
+    let l = p.records in let whole = p.script.value.items in let left = events_left p.sessions p.events.items in
     let f = k.follows tells in
     let none : has_ended l ≡ true → left ≡ [] = λ over. ap (events_left p.sessions) (k.finished (sym k.at_end ∙ over)) in record {
       opened_first = (script.opened left, f.opened_are);

@@ -1,5 +1,5 @@
 -- What one step of a port leaves consistent.
-use Rattle.std.proofs.Common.{◌≡◌, ◌≢◌, ℕ, ◌≤◌, ◌==◌, Bool, true, false, true≢false, not, ◌&&◌, ◌||◌, cond, eq-eqb, ne_eqb, List, [], ◌∷◌, ◌++◌, refl, sym, ap, subst, ◌∙◌, arith, Option, Some, None, option_map, append-nil}
+use Rattle.std.proofs.Common.{◌≡◌, ◌≢◌, ℕ, ◌≤◌, ◌==◌, Bool, true, false, true≢false, not, ◌&&◌, ◌||◌, cond, eq-eqb, ne_eqb, List, [], ◌∷◌, ◌++◌, refl, sym, ap, subst, ◌∙◌, Option, Some, None, option_map, append-nil}
 use Rattle.std.specs.List.{filter, AllByRecursion, cons_option}
 use Rattle.std.proofs.lemmas.List.Elements.{filter-append, filter_map-append}
 use Rattle.script.specs.declared.event.ScriptEvent.{ScriptEvent}
@@ -14,7 +14,7 @@ use Rattle.script_port.specs.declared.player.Player.{Player}
 use Rattle.script_port.specs.declared.stage.Stage.{Stage}
 use Rattle.script_port.specs.declared.stage.Stage.TheVariants.{Closed}
 use Rattle.script_port.specs.Events.{session_of, without, plays_from, is_playable}
-use Rattle.script_port.specs.Sessions.{SessionState, numbers, newest, last_from, entry_of, is_some_and, is_closed, is_waiting, was_closed, is_open, is_paused, open_count, with_stage, with_output, ChangesAt}
+use Rattle.script_port.specs.Sessions.{SessionState, numbers, newest, last_from, entry_of, is_some_and, is_closed, is_waiting, was_closed, is_open, is_paused, with_stage, with_output, ChangesAt}
 use Rattle.script_port.specs.Records.{opened, opened_by}
 use Rattle.script_port.specs.Players.{is_left, is_ready, events_left, Agrees, IsConsistent, IsFirst}
 use Rattle.script_port.proofs.SessionLemmas.{either_way}
@@ -25,7 +25,8 @@ use Rattle.script_port.proofs.EventLemmas.{bool_cases, and_left, and_right, IsAp
 pub filter_same : (p q : ScriptEvent → Bool) (xs : List ScriptEvent) → ((x : ScriptEvent) → p x ≡ q x) → filter p xs ≡ filter q xs
 filter_same p q xs h = ap (λ (f : ScriptEvent → Bool). filter f xs) (λ i x. h x i)
 
-cond_and : (a b : Bool) (x : ScriptEvent) (xs : List ScriptEvent) (q : ScriptEvent → Bool) → q x ≡ b → cond (a && b) (x ∷ filter q xs) (filter q xs) ≡ filter q (cond a (x ∷ xs) xs)
+cond_and : (a b : Bool) (x : ScriptEvent) (xs : List ScriptEvent) (q : ScriptEvent → Bool) → q x ≡ b
+    → cond (a && b) (x ∷ filter q xs) (filter q xs) ≡ filter q (cond a (x ∷ xs) xs)
 cond_and true b x xs q e = ap (λ c. cond c (x ∷ filter q xs) (filter q xs)) (sym e)
 cond_and false b x xs q e = refl
 
@@ -67,19 +68,24 @@ open_entry ss t h =
 held_here : (a b : Bool) → (a && not b) ≡ false → a ≡ true → b ≡ true
 held_here a b h e = not_false b (ap (λ c. c && not b) (sym e) ∙ h)
 
-pub held_before : (ss : List SessionState) (xs : List ScriptEvent) → AllByRecursion (λ (x : ScriptEvent). is_ready ss x ≡ false) xs → AllByRecursion (λ (x : ScriptEvent). is_paused ss (session_of x) ≡ true) (events_left ss xs)
+pub held_before : (ss : List SessionState) (xs : List ScriptEvent) → AllByRecursion (λ (x : ScriptEvent). is_ready ss x ≡ false) xs
+    → AllByRecursion (λ (x : ScriptEvent). is_paused ss (session_of x) ≡ true) (events_left ss xs)
 held_before ss [] h = tt
 held_before ss (x ∷ xs) h =
     let P : List ScriptEvent → Type 0 = AllByRecursion (λ (x : ScriptEvent). is_paused ss (session_of x) ≡ true) in
     bool_cases (is_left ss x)
-    (λ yes. subst (λ b. P (cond b (x ∷ events_left ss xs) (events_left ss xs))) (sym yes) (held_here (is_left ss x) (is_paused ss (session_of x)) h.0 yes, held_before ss xs h.1))
+    (λ yes. subst (λ b. P (cond b (x ∷ events_left ss xs) (events_left ss xs))) (sym yes)
+    (held_here (is_left ss x) (is_paused ss (session_of x)) h.0 yes, held_before ss xs h.1))
     (λ no. subst (λ b. P (cond b (x ∷ events_left ss xs) (events_left ss xs))) (sym no) (held_before ss xs h.1))
 
-pub apart_before : (ss : List SessionState) (n : ℕ) (e : ScriptEvent) (xs : List ScriptEvent) → ((s : ℕ) (x : SessionState) → entry_of ss s ≡ Some x → s ≤ n) → is_paused ss (session_of e) ≡ false
+pub apart_before : (ss : List SessionState) (n : ℕ) (e : ScriptEvent) (xs : List ScriptEvent)
+    → ((s : ℕ) (x : SessionState) → entry_of ss s ≡ Some x → s ≤ n) → is_paused ss (session_of e) ≡ false
     → AllByRecursion (λ (x : ScriptEvent). is_paused ss (session_of x) ≡ true) xs → AllByRecursion (IsApart n e) xs
 apart_before ss n e [] rising free h = tt
-apart_before ss n e (x ∷ xs) rising free h =
-    (record { old = paused_old ss n (session_of x) rising h.0; other = λ q. true≢false (sym h.0 ∙ ap (is_paused ss) q ∙ free) }, apart_before ss n e xs rising free h.1)
+apart_before ss n e (x ∷ xs) rising free h = (
+  record { old = paused_old ss n (session_of x) rising h.0; other = λ q. true≢false (sym h.0 ∙ ap (is_paused ss) q ∙ free) },
+  apart_before ss n e xs rising free h.1,
+)
 
 -- what is left, around the first event
 pub record AroundFirst (p : Player) (e : ScriptEvent) (before after : List ScriptEvent) : Type 0 where
@@ -87,9 +93,11 @@ pub record AroundFirst (p : Player) (e : ScriptEvent) (before after : List Scrip
   pub held : AllByRecursion (λ (x : ScriptEvent). is_paused p.sessions (session_of x) ≡ true) (events_left p.sessions before)
   pub free : is_paused p.sessions (session_of e) ≡ false
   pub is_left_too : is_left p.sessions e ≡ true
-  pub taken : is_playable p.script.value.items ≡ true → TakenOut (newest p.sessions) (is_open p.sessions) e (events_left p.sessions before ++ events_left p.sessions after)
+  pub taken : is_playable p.script.value.items ≡ true
+      → TakenOut (newest p.sessions) (is_open p.sessions) e (events_left p.sessions before ++ events_left p.sessions after)
 
-left_with : (ss : List SessionState) (xs : List ScriptEvent) (e : ScriptEvent) (ys : List ScriptEvent) → is_left ss e ≡ true → events_left ss (xs ++ e ∷ ys) ≡ events_left ss xs ++ e ∷ events_left ss ys
+left_with : (ss : List SessionState) (xs : List ScriptEvent) (e : ScriptEvent) (ys : List ScriptEvent) → is_left ss e ≡ true
+    → events_left ss (xs ++ e ∷ ys) ≡ events_left ss xs ++ e ∷ events_left ss ys
 left_with ss xs e ys stays = filter-append (is_left ss) xs (e ∷ ys) ∙ ap (λ b. events_left ss xs ++ cond b (e ∷ events_left ss ys) (events_left ss ys)) stays
 
 pub around : (p : Player) (at : ℕ) (e : ScriptEvent) → IsConsistent p → (f : IsFirst p at e) → AroundFirst p e f.before f.after
@@ -104,19 +112,23 @@ around p at e k f =
       held = held;
       free = free;
       is_left_too = yes;
-      taken = λ tells. take_out (newest ss) (is_open ss) (events_left ss f.before) e (events_left ss f.after) (apart_before ss (newest ss) e (events_left ss f.before) k.rising free held)
+      taken = λ tells. take_out (newest ss) (is_open ss) (events_left ss f.before) e (events_left ss f.after)
+          (apart_before ss (newest ss) e (events_left ss f.before) k.rising free held)
           (ap (plays_from (newest ss) (is_open ss)) (sym left) ∙ k.plays tells);
     }
 
 -- ---- one more entry of the list
 
-pub each_step : (ss ss' : List SessionState) (l l' : List PortRecord) (x : PortRecord) (s : ℕ) → ((t : ℕ) → Agrees (entry_of ss t) (port_facts l t)) → l' ≡ l ++ x ∷ [] → ((t : ℕ) → t ≢ s → about t x ≡ false) → ((t : ℕ) → t ≢ s → entry_of ss' t ≡ entry_of ss t)
+pub each_step : (ss ss' : List SessionState) (l l' : List PortRecord) (x : PortRecord) (s : ℕ)
+    → ((t : ℕ) → Agrees (entry_of ss t) (port_facts l t)) → l' ≡ l ++ x ∷ [] → ((t : ℕ) → t ≢ s → about t x ≡ false)
+    → ((t : ℕ) → t ≢ s → entry_of ss' t ≡ entry_of ss t)
     → Agrees (entry_of ss' s) (port_facts (l ++ x ∷ []) s) → (t : ℕ) → Agrees (entry_of ss' t) (port_facts l' t)
 each_step ss ss' l l' x s each l_is apart others here t =
     subst (λ (m : List PortRecord). Agrees (entry_of ss' t) (port_facts m t)) (sym l_is)
     (either_way t s
     (λ eq. subst (λ (u : ℕ). Agrees (entry_of ss' u) (port_facts (l ++ x ∷ []) u)) (sym eq) here)
-    (λ ne. subst (λ (o : Option SessionState). Agrees o (port_facts (l ++ x ∷ []) t)) (sym (others t ne)) (subst (Agrees (entry_of ss t)) (sym (elsewhere l x t (apart t ne))) (each t))))
+    (λ ne. subst (λ (o : Option SessionState). Agrees o (port_facts (l ++ x ∷ []) t)) (sym (others t ne))
+    (subst (Agrees (entry_of ss t)) (sym (elsewhere l x t (apart t ne))) (each t))))
 
 pub opened_more : (l l' : List PortRecord) (x : PortRecord) → l' ≡ l ++ x ∷ [] → opened_by x ≡ None → opened l' ≡ opened l
 opened_more l l' x e none = ap opened e ∙ filter_map-append opened_by l (x ∷ []) ∙ ap (λ o. opened l ++ cons_option o []) none ∙ append-nil (opened l)
@@ -128,7 +140,8 @@ pub agrees_fed : (o : Option SessionState) (f : PortFacts) (b : List ℕ) → Ag
 agrees_fed None f b h = h
 agrees_fed (Some x) f b h = h
 
-pub plays_along : (n n' : ℕ) (o o' : ℕ → Bool) (xs xs' : List ScriptEvent) → n' ≡ n → ((t : ℕ) → o' t ≡ o t) → xs' ≡ xs → plays_from n o xs ≡ true → plays_from n' o' xs' ≡ true
+pub plays_along : (n n' : ℕ) (o o' : ℕ → Bool) (xs xs' : List ScriptEvent) → n' ≡ n → ((t : ℕ) → o' t ≡ o t) → xs' ≡ xs
+    → plays_from n o xs ≡ true → plays_from n' o' xs' ≡ true
 plays_along n n' o o' xs xs' e h l k = (λ i. plays_from (e i) (λ t. h t i) (l i)) ∙ k
 
 -- ---- one session changes
@@ -140,24 +153,29 @@ map_some : (f : SessionState → SessionState) (o : Option SessionState) (x : Se
 map_some f (Some y) x e = (y, refl)
 map_some f None x e = absurd (cc)
 
-pub rising_at : (ss ss' : List SessionState) (s : ℕ) (f : SessionState → SessionState) → ChangesAt ss s f ss' → ((t : ℕ) (x : SessionState) → entry_of ss t ≡ Some x → t ≤ newest ss) → (t : ℕ) (x : SessionState) → entry_of ss' t ≡ Some x → t ≤ newest ss'
+pub rising_at : (ss ss' : List SessionState) (s : ℕ) (f : SessionState → SessionState) → ChangesAt ss s f ss'
+    → ((t : ℕ) (x : SessionState) → entry_of ss t ≡ Some x → t ≤ newest ss) → (t : ℕ) (x : SessionState) → entry_of ss' t ≡ Some x → t ≤ newest ss'
 rising_at ss ss' s f a rising t x e =
     subst (λ (n : ℕ). t ≤ n) (sym (newest_same ss ss' a.numbers_are))
     (either_way t s
     (λ eq. let y = map_some f (entry_of ss s) x (sym a.here ∙ ap (entry_of ss') (sym eq) ∙ e) in rising t y.0 (ap (entry_of ss) eq ∙ y.1))
     (λ ne. rising t x (sym (a.others t ne) ∙ e)))
 
-pub test_other : (p : SessionState → Bool) (ss ss' : List SessionState) (s : ℕ) (f : SessionState → SessionState) → ChangesAt ss s f ss' → (t : ℕ) → t ≢ s → is_some_and p (entry_of ss' t) ≡ is_some_and p (entry_of ss t)
+pub test_other : (p : SessionState → Bool) (ss ss' : List SessionState) (s : ℕ) (f : SessionState → SessionState)
+    → ChangesAt ss s f ss' → (t : ℕ) → t ≢ s → is_some_and p (entry_of ss' t) ≡ is_some_and p (entry_of ss t)
 test_other p ss ss' s f a t ne = ap (is_some_and p) (a.others t ne)
 
-pub test_here : (p : SessionState → Bool) (ss ss' : List SessionState) (s : ℕ) (f : SessionState → SessionState) (x : SessionState) → ChangesAt ss s f ss' → entry_of ss s ≡ Some x → is_some_and p (entry_of ss' s) ≡ p (f x)
+pub test_here : (p : SessionState → Bool) (ss ss' : List SessionState) (s : ℕ) (f : SessionState → SessionState) (x : SessionState)
+    → ChangesAt ss s f ss' → entry_of ss s ≡ Some x → is_some_and p (entry_of ss' s) ≡ p (f x)
 test_here p ss ss' s f x a e = ap (is_some_and p) (a.here ∙ ap (option_map f) e)
 
 -- a test that the change leaves as it was
-pub test_same : (p : SessionState → Bool) (ss ss' : List SessionState) (s : ℕ) (f : SessionState → SessionState) (x : SessionState) → ChangesAt ss s f ss' → entry_of ss s ≡ Some x → p (f x) ≡ p x → (t : ℕ) → is_some_and p (entry_of ss' t) ≡ is_some_and p (entry_of ss t)
+pub test_same : (p : SessionState → Bool) (ss ss' : List SessionState) (s : ℕ) (f : SessionState → SessionState) (x : SessionState)
+    → ChangesAt ss s f ss' → entry_of ss s ≡ Some x → p (f x) ≡ p x → (t : ℕ) → is_some_and p (entry_of ss' t) ≡ is_some_and p (entry_of ss t)
 test_same p ss ss' s f x a e same t =
     either_way t s
-    (λ eq. ap (λ (u : ℕ). is_some_and p (entry_of ss' u)) eq ∙ test_here p ss ss' s f x a e ∙ same ∙ sym (ap (is_some_and p) e) ∙ ap (λ (u : ℕ). is_some_and p (entry_of ss u)) (sym eq))
+    (λ eq. ap (λ (u : ℕ). is_some_and p (entry_of ss' u)) eq ∙ test_here p ss ss' s f x a e ∙ same ∙ sym (ap (is_some_and p) e)
+    ∙ ap (λ (u : ℕ). is_some_and p (entry_of ss u)) (sym eq))
     (λ ne. test_other p ss ss' s f a t ne)
 
 pub left_same : (ss ss' : List SessionState) (xs : List ScriptEvent) → ((t : ℕ) → was_closed ss' t ≡ was_closed ss t) → events_left ss' xs ≡ events_left ss xs
@@ -171,7 +189,8 @@ and_yes : (a b : Bool) → b ≡ false → (a && not b) ≡ a
 and_yes true b e = ap not e
 and_yes false b e = refl
 
-pub left_without : (ss ss' : List SessionState) (s : ℕ) (xs : List ScriptEvent) → was_closed ss' s ≡ true → ((t : ℕ) → t ≢ s → was_closed ss' t ≡ was_closed ss t) → events_left ss' xs ≡ without s (events_left ss xs)
+pub left_without : (ss ss' : List SessionState) (s : ℕ) (xs : List ScriptEvent) → was_closed ss' s ≡ true
+    → ((t : ℕ) → t ≢ s → was_closed ss' t ≡ was_closed ss t) → events_left ss' xs ≡ without s (events_left ss xs)
 left_without ss ss' s xs closed others =
     filter_same (is_left ss') (λ x. is_left ss x && not (session_of x == s)) xs
     (λ x.
@@ -182,7 +201,8 @@ left_without ss ss' s xs closed others =
 
 -- ---- what one session's change makes of the list
 
-pub agrees_accepted : (ss ss' : List SessionState) (l : List PortRecord) (s : ℕ) (b : List ℕ) (x : SessionState) → ChangesAt ss s (with_output b) ss' → entry_of ss s ≡ Some x → Agrees (entry_of ss s) (port_facts l s)
+pub agrees_accepted : (ss ss' : List SessionState) (l : List PortRecord) (s : ℕ) (b : List ℕ) (x : SessionState)
+    → ChangesAt ss s (with_output b) ss' → entry_of ss s ≡ Some x → Agrees (entry_of ss s) (port_facts l s)
     → Agrees (entry_of ss' s) (port_facts (l ++ was.Accepted s b ∷ []) s)
 agrees_accepted ss ss' l s b x a e h =
     let old : Agrees (Some x) (port_facts l s) = subst (λ (o : Option SessionState). Agrees o (port_facts l s)) e h in
@@ -194,7 +214,8 @@ or_yes : (b : Bool) → (b || true) ≡ true
 or_yes true = refl
 or_yes false = refl
 
-pub agrees_gone : (ss ss' : List SessionState) (l : List PortRecord) (s : ℕ) (x : SessionState) → ChangesAt ss s (with_stage Closed) ss' → entry_of ss s ≡ Some x → Agrees (entry_of ss s) (port_facts l s)
+pub agrees_gone : (ss ss' : List SessionState) (l : List PortRecord) (s : ℕ) (x : SessionState)
+    → ChangesAt ss s (with_stage Closed) ss' → entry_of ss s ≡ Some x → Agrees (entry_of ss s) (port_facts l s)
     → Agrees (entry_of ss' s) (port_facts (l ++ was.Gone s ∷ []) s)
 agrees_gone ss ss' l s x a e h =
     let old : Agrees (Some x) (port_facts l s) = subst (λ (o : Option SessionState). Agrees o (port_facts l s)) e h in
@@ -202,7 +223,8 @@ agrees_gone ss ss' l s x a e h =
     subst (λ (o : Option SessionState). Agrees o (port_facts (l ++ was.Gone s ∷ []) s)) (sym (a.here ∙ ap (option_map (with_stage Closed)) e))
     (subst (Agrees (Some (with_stage Closed x))) (sym (gone_here l s)) new)
 
-pub agrees_shut : (ss ss' : List SessionState) (l : List PortRecord) (s : ℕ) (x : SessionState) → ChangesAt ss s (with_stage Closed) ss' → entry_of ss s ≡ Some x → Agrees (entry_of ss s) (port_facts l s)
+pub agrees_shut : (ss ss' : List SessionState) (l : List PortRecord) (s : ℕ) (x : SessionState)
+    → ChangesAt ss s (with_stage Closed) ss' → entry_of ss s ≡ Some x → Agrees (entry_of ss s) (port_facts l s)
     → Agrees (entry_of ss' s) (port_facts (l ++ was.Shut s ∷ []) s)
 agrees_shut ss ss' l s x a e h =
     let old : Agrees (Some x) (port_facts l s) = subst (λ (o : Option SessionState). Agrees o (port_facts l s)) e h in
@@ -210,7 +232,8 @@ agrees_shut ss ss' l s x a e h =
     subst (λ (o : Option SessionState). Agrees o (port_facts (l ++ was.Shut s ∷ []) s)) (sym (a.here ∙ ap (option_map (with_stage Closed)) e))
     (subst (Agrees (Some (with_stage Closed x))) (sym (shut_here l s)) new)
 
-pub agrees_held : (ss ss' : List SessionState) (l : List PortRecord) (s : ℕ) (stage : Stage) (x : SessionState) → ChangesAt ss s (with_stage stage) ss' → entry_of ss s ≡ Some x → is_closed stage ≡ is_closed x.stage → Agrees (entry_of ss s) (port_facts l s)
+pub agrees_held : (ss ss' : List SessionState) (l : List PortRecord) (s : ℕ) (stage : Stage) (x : SessionState)
+    → ChangesAt ss s (with_stage stage) ss' → entry_of ss s ≡ Some x → is_closed stage ≡ is_closed x.stage → Agrees (entry_of ss s) (port_facts l s)
     → Agrees (entry_of ss' s) (port_facts l s)
 agrees_held ss ss' l s stage x a e same h =
     let old : Agrees (Some x) (port_facts l s) = subst (λ (o : Option SessionState). Agrees o (port_facts l s)) e h in
@@ -221,20 +244,21 @@ agrees_held ss ss' l s stage x a e same h =
 none_some : (x : SessionState) → None ≡ Some x → ⊥
 none_some x e = cc
 
-pub no_sessions : (p : Player) → p.sessions ≡ [] → p.records.entries ≡ [] → p.records.promised ≡ 0 → p.ended ≡ false
+pub no_sessions : (p : Player) → p.sessions ≡ [] → p.records ≡ [] → p.ended ≡ false
     → (is_playable p.script.value.items ≡ true → plays_from 0 (λ (t : ℕ). false) p.events.items ≡ true) → p.events.items ≡ p.script.value.items → IsConsistent p
-no_sessions p ss_is l_is promised ended plays all = record {
-  each = λ t. subst (λ (ss : List SessionState). Agrees (entry_of ss t) (port_facts p.records.entries t)) (sym ss_is) (subst (λ (l : List PortRecord). Agrees None (port_facts l t)) (sym l_is) (refl, refl, refl, refl));
+no_sessions p ss_is l_is ended plays all = record {
+  each = λ t. subst (λ (ss : List SessionState). Agrees (entry_of ss t) (port_facts p.records t)) (sym ss_is)
+      (subst (λ (l : List PortRecord). Agrees None (port_facts l t)) (sym l_is) (refl, refl, refl, refl));
   opened_are = ap numbers ss_is ∙ sym (ap opened l_is);
   rising = λ s x e. absurd (none_some x (sym (ap (λ (ss : List SessionState). entry_of ss s) ss_is) ∙ e));
-  promised = (let count = ap open_count ss_is in omega (arith, count));
   at_end = ap has_ended l_is ∙ sym ended;
   plays = λ tells. (λ i. plays_from (newest (ss_is i)) (is_open (ss_is i)) (events_left (ss_is i) p.events.items))
       ∙ ap (plays_from 0 (λ (t : ℕ). false)) (filter_all (is_left []) p.events.items (λ x. refl)) ∙ plays tells;
-  follows = λ tells. let left_is : events_left p.sessions p.events.items ≡ p.script.value.items = ap (λ ss. events_left ss p.events.items) ss_is ∙ filter_all (is_left []) p.events.items (λ x. refl) ∙ all in record {
-    opened_are = (λ i. opened (sym l_is i) ++ script.opened (sym left_is i));
-    fed_are = λ t _. (λ i. list.fed t (sym l_is i) ++ script.sent (sym left_is i) t);
-    begun = λ t closed. absurd (true≢false (sym closed ∙ ap (λ ss. was_closed ss t) ss_is));
-  };
+  follows = λ tells. let left_is : events_left p.sessions p.events.items ≡ p.script.value.items = ap
+      (λ ss. events_left ss p.events.items) ss_is ∙ filter_all (is_left []) p.events.items (λ x. refl) ∙ all in record {
+        opened_are = (λ i. opened (sym l_is i) ++ script.opened (sym left_is i));
+        fed_are = λ t _. (λ i. list.fed t (sym l_is i) ++ script.sent (sym left_is i) t);
+        begun = λ t closed. absurd (true≢false (sym closed ∙ ap (λ ss. was_closed ss t) ss_is));
+      };
   finished = λ over. absurd (true≢false (sym over ∙ ended));
 }

@@ -2,11 +2,10 @@
 use Rattle.std.proofs.Common.{◌≡◌, ◌≢◌, ℕ, zero, suc, ◌+◌, ◌<◌, ◌≤◌, ◌==◌, true, false, not, cond, eq-eqb, ne_eqb, List, [], ◌∷◌, ◌++◌, length, get_or, slice_set, refl, sym, ap, subst, ◌∙◌, arith, Some, None, option_map, ⊎_elim, Result, Ok, Err, is_err, OnOk, OnErr, true≢false}
 use Rattle.std.proofs.lemmas.Bool.{cases_lt}
 use Rattle.std.proofs.lemmas.List.{get_or_default}
-use Rattle.std.proofs.lemmas.List.Sums.{sum_by-set}
 use mathlib.Core.Logic.{dite}
 use native.Mathlib.Decide.{ℕ_discrete}
 use Rattle.script_port.specs.declared.stage.Stage.{Stage}
-use Rattle.script_port.specs.Sessions.{SessionState, numbers, RisesFrom, last_from, entry_of, is_closed, is_open, open_count, is_some_and, with_stage, with_output, ChangesAt, ChangesStage, AcceptsAt}
+use Rattle.script_port.specs.Sessions.{SessionState, numbers, RisesFrom, last_from, entry_of, is_closed, is_open, is_some_and, with_stage, with_output, ChangesAt, AcceptsAt}
 
 pub either_way : {A : Type 0} (a b : ℕ) → (a ≡ b → A) → (a ≢ b → A) → A
 either_way {A} a b equal apart = dite (ℕ_discrete a b) equal apart
@@ -18,7 +17,8 @@ above n [] j d h lt = absurd (omega arith)
 above n (x ∷ xs) zero d h lt = h.0
 above n (x ∷ xs) (suc j) d h lt = let k = above x.number xs j d h.1 (omega arith) in omega (arith, h.0, k)
 
-pub rises_on : (n : ℕ) (xs : List SessionState) (i j : ℕ) (d : SessionState) → RisesFrom n (numbers xs) → i < j → j < length xs → (get_or xs i d).number < (get_or xs j d).number
+pub rises_on : (n : ℕ) (xs : List SessionState) (i j : ℕ) (d : SessionState) → RisesFrom n (numbers xs) → i < j → j < length xs
+    → (get_or xs i d).number < (get_or xs j d).number
 rises_on n [] i j d h le lt = absurd (omega arith)
 rises_on n (x ∷ xs) zero zero d h le lt = absurd (omega arith)
 rises_on n (x ∷ xs) zero (suc j) d h le lt = above x.number xs j d h.1 (omega arith)
@@ -34,10 +34,12 @@ pub number_of : (xs : List SessionState) (s : ℕ) (x : SessionState) → entry_
 number_of [] s x e = absurd (cc)
 number_of (y ∷ xs) s x e =
     either_way y.number s
-    (λ eq. let here : Some y ≡ Some x = ap (λ b. cond b (Some y) (entry_of xs s)) (sym (eq-eqb y.number s eq)) ∙ e in let same : y ≡ x = cc in ap (λ (z : SessionState). z.number) (sym same) ∙ eq)
+    (λ eq. let here : Some y ≡ Some x = ap (λ b. cond b (Some y) (entry_of xs s)) (sym (eq-eqb y.number s eq)) ∙ e in
+    let same : y ≡ x = cc in ap (λ (z : SessionState). z.number) (sym same) ∙ eq)
     (λ ne. number_of xs s x (ap (λ b. cond b (Some y) (entry_of xs s)) (sym (ne_eqb y.number s ne)) ∙ e))
 
-pub found_in : (n : ℕ) (xs : List SessionState) (s : ℕ) (x : SessionState) → RisesFrom n (numbers xs) → entry_of xs s ≡ Some x → (n < s) × (s ≤ last_from n (numbers xs))
+pub found_in : (n : ℕ) (xs : List SessionState) (s : ℕ) (x : SessionState) → RisesFrom n (numbers xs) → entry_of xs s ≡ Some x
+    → (n < s) × (s ≤ last_from n (numbers xs))
 found_in n [] s x h e = absurd (cc)
 found_in n (y ∷ xs) s x h e =
     either_way y.number s
@@ -51,7 +53,8 @@ no_entry n (y ∷ xs) s h le =
     ap (λ b. cond b (Some y) (entry_of xs s)) (ne_eqb y.number s ne) ∙ no_entry y.number xs s h.1 (omega (arith, h.0))
 
 -- the entry at a place
-pub entry_at : (n : ℕ) (xs : List SessionState) (i : ℕ) (d : SessionState) → RisesFrom n (numbers xs) → i < length xs → entry_of xs (get_or xs i d).number ≡ Some (get_or xs i d)
+pub entry_at : (n : ℕ) (xs : List SessionState) (i : ℕ) (d : SessionState) → RisesFrom n (numbers xs) → i < length xs
+    → entry_of xs (get_or xs i d).number ≡ Some (get_or xs i d)
 entry_at n [] i d h lt = absurd (omega arith)
 entry_at n (x ∷ xs) zero d h lt = ap (λ b. cond b (Some x) (entry_of xs x.number)) (eq-eqb x.number x.number refl)
 entry_at n (x ∷ xs) (suc i) d h lt =
@@ -73,14 +76,16 @@ pub entry_behind : (xs : List SessionState) (x : SessionState) (s : ℕ) → x.n
 entry_behind [] x s ne = ap (λ b. cond b (Some x) None) (ne_eqb x.number s ne)
 entry_behind (y ∷ xs) x s ne = ap (λ o. cond (y.number == s) (Some y) o) (entry_behind xs x s ne)
 
-pub entry_last : (n : ℕ) (xs : List SessionState) (x : SessionState) → RisesFrom n (numbers xs) → last_from n (numbers xs) < x.number → entry_of (xs ++ x ∷ []) x.number ≡ Some x
+pub entry_last : (n : ℕ) (xs : List SessionState) (x : SessionState) → RisesFrom n (numbers xs)
+    → last_from n (numbers xs) < x.number → entry_of (xs ++ x ∷ []) x.number ≡ Some x
 entry_last n [] x h lt = ap (λ b. cond b (Some x) None) (eq-eqb x.number x.number refl)
 entry_last n (y ∷ xs) x h lt =
     let k = last_at_least y.number (numbers xs) h.1 in
     let ne : y.number ≢ x.number = λ e. omega (arith, e, k, lt) in
     ap (λ b. cond b (Some y) (entry_of (xs ++ x ∷ []) x.number)) (ne_eqb y.number x.number ne) ∙ entry_last y.number xs x h.1 lt
 
-pub rises_more : (n : ℕ) (xs : List SessionState) (x : SessionState) → RisesFrom n (numbers xs) → last_from n (numbers xs) < x.number → RisesFrom n (numbers (xs ++ x ∷ []))
+pub rises_more : (n : ℕ) (xs : List SessionState) (x : SessionState) → RisesFrom n (numbers xs)
+    → last_from n (numbers xs) < x.number → RisesFrom n (numbers (xs ++ x ∷ []))
 rises_more n [] x h lt = (lt, tt)
 rises_more n (y ∷ xs) x h lt = (h.0, rises_more y.number xs x h.1 lt)
 
@@ -98,12 +103,14 @@ last_is n (x ∷ (y ∷ xs)) d (suc k) e = last_is x.number (y ∷ xs) d k (omeg
 
 -- ---- one session changes
 
-pub numbers_set : (xs : List SessionState) (i : ℕ) (y : SessionState) → i < length xs → ((d : SessionState) → (get_or xs i d).number ≡ y.number) → numbers (slice_set xs i y) ≡ numbers xs
+pub numbers_set : (xs : List SessionState) (i : ℕ) (y : SessionState) → i < length xs
+    → ((d : SessionState) → (get_or xs i d).number ≡ y.number) → numbers (slice_set xs i y) ≡ numbers xs
 numbers_set [] i y lt e = absurd (omega arith)
 numbers_set (x ∷ xs) zero y lt e = λ j. sym (e x) j ∷ numbers xs
 numbers_set (x ∷ xs) (suc i) y lt e = ap (λ l. x.number ∷ l) (numbers_set xs i y (omega arith) (λ d. e d))
 
-pub set_here : (n : ℕ) (xs : List SessionState) (i : ℕ) (y : SessionState) → RisesFrom n (numbers xs) → i < length xs → ((d : SessionState) → (get_or xs i d).number ≡ y.number) → entry_of (slice_set xs i y) y.number ≡ Some y
+pub set_here : (n : ℕ) (xs : List SessionState) (i : ℕ) (y : SessionState) → RisesFrom n (numbers xs) → i < length xs
+    → ((d : SessionState) → (get_or xs i d).number ≡ y.number) → entry_of (slice_set xs i y) y.number ≡ Some y
 set_here n [] i y h lt e = absurd (omega arith)
 set_here n (x ∷ xs) zero y h lt e = ap (λ b. cond b (Some y) (entry_of xs y.number)) (eq-eqb y.number y.number refl)
 set_here n (x ∷ xs) (suc i) y h lt e =
@@ -111,7 +118,8 @@ set_here n (x ∷ xs) (suc i) y h lt e =
     let ne : x.number ≢ y.number = λ q. omega (arith, q, k, at) in
     ap (λ b. cond b (Some x) (entry_of (slice_set xs i y) y.number)) (ne_eqb x.number y.number ne) ∙ set_here x.number xs i y h.1 (omega arith) (λ d. e d)
 
-pub set_other : (xs : List SessionState) (i : ℕ) (y : SessionState) (t : ℕ) → i < length xs → ((d : SessionState) → (get_or xs i d).number ≡ y.number) → t ≢ y.number → entry_of (slice_set xs i y) t ≡ entry_of xs t
+pub set_other : (xs : List SessionState) (i : ℕ) (y : SessionState) (t : ℕ) → i < length xs
+    → ((d : SessionState) → (get_or xs i d).number ≡ y.number) → t ≢ y.number → entry_of (slice_set xs i y) t ≡ entry_of xs t
 set_other [] i y t lt e ne = absurd (omega arith)
 set_other (x ∷ xs) zero y t lt e ne =
     let apart : y.number ≢ t = λ q. ne (sym q) in let was : x.number ≢ t = λ q. ne (sym q ∙ e x) in
@@ -121,18 +129,23 @@ set_other (x ∷ xs) (suc i) y t lt e ne = ap (λ o. cond (x.number == t) (Some 
 -- ---- where the search leads
 
 pub below_none : (n : ℕ) (xs : List SessionState) (s low : ℕ) → RisesFrom n (numbers xs)
-    → ((k : ℕ) (d : SessionState) → k < low → (get_or xs k d).number < s) → ((k : ℕ) (d : SessionState) → low ≤ k → k < length xs → s < (get_or xs k d).number) → entry_of xs s ≡ None
+    → ((k : ℕ) (d : SessionState) → k < low → (get_or xs k d).number < s)
+    → ((k : ℕ) (d : SessionState) → low ≤ k → k < length xs → s < (get_or xs k d).number) → entry_of xs s ≡ None
 below_none n xs s low h under over =
-    none_at xs s (λ k d lt e. ⊎_elim (λ (b : k < low). let q = under k d b in omega (arith, e, q)) (λ (b : low ≤ k). let q = over k d b lt in omega (arith, e, q)) (cases_lt k low))
+    none_at xs s
+    (λ k d lt e. ⊎_elim (λ (b : k < low). let q = under k d b in omega (arith, e, q))
+    (λ (b : low ≤ k). let q = over k d b lt in omega (arith, e, q)) (cases_lt k low))
 
 -- one half of the search
-pub under_middle : (n : ℕ) (xs : List SessionState) (s middle : ℕ) → RisesFrom n (numbers xs) → middle < length xs → ((d : SessionState) → (get_or xs middle d).number < s) → (k : ℕ) (d : SessionState) → k < middle + 1 → (get_or xs k d).number < s
+pub under_middle : (n : ℕ) (xs : List SessionState) (s middle : ℕ) → RisesFrom n (numbers xs) → middle < length xs
+    → ((d : SessionState) → (get_or xs middle d).number < s) → (k : ℕ) (d : SessionState) → k < middle + 1 → (get_or xs k d).number < s
 under_middle n xs s middle h lt at k d k_lt =
     either_way k middle
     (λ eq. subst (λ (m : ℕ). (get_or xs m d).number < s) (sym eq) (at d))
     (λ ne. let r = rises_on n xs k middle d h (omega (arith, k_lt, ne)) lt in omega (arith, r, at d))
 
-pub over_middle : (n : ℕ) (xs : List SessionState) (s middle : ℕ) → RisesFrom n (numbers xs) → ((d : SessionState) → s < (get_or xs middle d).number) → (k : ℕ) (d : SessionState) → middle ≤ k → k < length xs → s < (get_or xs k d).number
+pub over_middle : (n : ℕ) (xs : List SessionState) (s middle : ℕ) → RisesFrom n (numbers xs)
+    → ((d : SessionState) → s < (get_or xs middle d).number) → (k : ℕ) (d : SessionState) → middle ≤ k → k < length xs → s < (get_or xs k d).number
 over_middle n xs s middle h at k d le lt =
     either_way k middle
     (λ eq. subst (λ (m : ℕ). s < (get_or xs m d).number) (sym eq) (at d))
@@ -149,16 +162,21 @@ closed_when xs s x e closed = ap (is_some_and (λ (y : SessionState). not (is_cl
 pub none_open : (xs : List SessionState) (s : ℕ) → entry_of xs s ≡ None → is_open xs s ≡ false
 none_open xs s e = ap (is_some_and (λ (y : SessionState). not (is_closed y.stage))) e
 
-pub placed : (xs : List SessionState) (s at : ℕ) (d : SessionState) → RisesFrom 0 (numbers xs) → at < length xs → ((e : SessionState) → (get_or xs at e).number ≡ s) → entry_of xs s ≡ Some (get_or xs at d)
+pub placed : (xs : List SessionState) (s at : ℕ) (d : SessionState) → RisesFrom 0 (numbers xs) → at < length xs
+    → ((e : SessionState) → (get_or xs at e).number ≡ s) → entry_of xs s ≡ Some (get_or xs at d)
 placed xs s at d h lt is = ap (entry_of xs) (sym (is d)) ∙ entry_at 0 xs at d h lt
 
-pub placed_as : (xs : List SessionState) (s at : ℕ) (x : SessionState) → RisesFrom 0 (numbers xs) → at < length xs → ((e : SessionState) → (get_or xs at e).number ≡ s) → x ≡ get_or xs at x → entry_of xs s ≡ Some x
+pub placed_as : (xs : List SessionState) (s at : ℕ) (x : SessionState) → RisesFrom 0 (numbers xs) → at < length xs
+    → ((e : SessionState) → (get_or xs at e).number ≡ s) → x ≡ get_or xs at x → entry_of xs s ≡ Some x
 placed_as xs s at x h lt is x_is = placed xs s at x h lt is ∙ ap (λ (y : SessionState). Some y) (sym x_is)
 
-pub rises_set : (xs : List SessionState) (s at : ℕ) (y : SessionState) → RisesFrom 0 (numbers xs) → at < length xs → ((e : SessionState) → (get_or xs at e).number ≡ s) → y.number ≡ s → RisesFrom 0 (numbers (slice_set xs at y))
+pub rises_set : (xs : List SessionState) (s at : ℕ) (y : SessionState) → RisesFrom 0 (numbers xs) → at < length xs
+    → ((e : SessionState) → (get_or xs at e).number ≡ s) → y.number ≡ s → RisesFrom 0 (numbers (slice_set xs at y))
 rises_set xs s at y h lt is y_is = subst (RisesFrom 0) (sym (numbers_set xs at y lt (λ d. is d ∙ sym y_is))) h
 
-changed : (xs : List SessionState) (s at : ℕ) (f : SessionState → SessionState) (x : SessionState) → RisesFrom 0 (numbers xs) → at < length xs → ((e : SessionState) → (get_or xs at e).number ≡ s) → x ≡ get_or xs at x → (f x).number ≡ s → ChangesAt xs s f (slice_set xs at (f x))
+changed : (xs : List SessionState) (s at : ℕ) (f : SessionState → SessionState) (x : SessionState) → RisesFrom 0 (numbers xs)
+    → at < length xs → ((e : SessionState) → (get_or xs at e).number ≡ s) → x ≡ get_or xs at x → (f x).number ≡ s
+    → ChangesAt xs s f (slice_set xs at (f x))
 changed xs s at f x h lt is x_is y_is =
     let y = f x in
     let old : entry_of xs s ≡ Some x = placed_as xs s at x h lt is x_is in record {
@@ -167,24 +185,17 @@ changed xs s at f x h lt is x_is y_is =
       others = λ t ne. set_other xs at y t lt (λ d. is d ∙ sym y_is) (λ e. ne (e ∙ y_is));
     }
 
--- how much a session counts
-abbrev weight : SessionState → ℕ
-weight x = cond (is_closed x.stage) 0 1
+pub stage_changed : (xs : List SessionState) (s at : ℕ) (stage : Stage) (x : SessionState) → RisesFrom 0 (numbers xs)
+    → at < length xs → ((e : SessionState) → (get_or xs at e).number ≡ s) → x ≡ get_or xs at x
+    → ChangesAt xs s (with_stage stage) (slice_set xs at (with_stage stage x))
+stage_changed xs s at stage x h lt is x_is = changed xs s at (with_stage stage) x h lt is x_is (ap (λ (z : SessionState). z.number) x_is ∙ is x)
 
-count_set : (xs : List SessionState) (at : ℕ) (x y : SessionState) → at < length xs → x ≡ get_or xs at x → open_count (slice_set xs at y) + weight x ≡ open_count xs + weight y
-count_set xs at x y lt x_is = ap (λ (z : SessionState). open_count (slice_set xs at y) + weight z) x_is ∙ sum_by-set weight xs at y x lt
-
-pub stage_changed : (xs : List SessionState) (s at : ℕ) (stage : Stage) (x : SessionState) → RisesFrom 0 (numbers xs) → at < length xs → ((e : SessionState) → (get_or xs at e).number ≡ s) → x ≡ get_or xs at x → is_closed x.stage ≡ false → ChangesStage xs s stage (slice_set xs at (with_stage stage x))
-stage_changed xs s at stage x h lt is x_is active = record {
-  at = changed xs s at (with_stage stage) x h lt is x_is (ap (λ (z : SessionState). z.number) x_is ∙ is x);
-  count = ap (λ b. open_count (slice_set xs at (with_stage stage x)) + cond b 0 1) (sym active) ∙ count_set xs at x (with_stage stage x) lt x_is;
-}
-
-pub output_added : (xs : List SessionState) (s at : ℕ) (bytes : List ℕ) (x : SessionState) → RisesFrom 0 (numbers xs) → at < length xs → ((e : SessionState) → (get_or xs at e).number ≡ s) → x ≡ get_or xs at x → is_closed x.stage ≡ false → AcceptsAt xs s bytes (slice_set xs at (with_output bytes x))
+pub output_added : (xs : List SessionState) (s at : ℕ) (bytes : List ℕ) (x : SessionState) → RisesFrom 0 (numbers xs)
+    → at < length xs → ((e : SessionState) → (get_or xs at e).number ≡ s) → x ≡ get_or xs at x → is_closed x.stage ≡ false
+    → AcceptsAt xs s bytes (slice_set xs at (with_output bytes x))
 output_added xs s at bytes x h lt is x_is active = record {
   was_open = open_when xs s x (placed_as xs s at x h lt is x_is) active;
   at = changed xs s at (with_output bytes) x h lt is x_is (ap (λ (z : SessionState). z.number) x_is ∙ is x);
-  count = (let k = count_set xs at x (with_output bytes x) lt x_is in omega (arith, k));
 }
 
 pub same_item : (xs : List SessionState) (at : ℕ) (x y : SessionState) → at < length xs → x ≡ get_or xs at x → y ≡ get_or xs at y → y ≡ x

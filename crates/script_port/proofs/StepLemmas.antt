@@ -1,10 +1,9 @@
 -- What playing one event leaves consistent, and what it tells.
-use Rattle.std.proofs.Common.{◌≡◌, ℕ, ◌+◌, ◌*◌, ◌<◌, ◌≤◌, ◌==◌, nat_lt, Bool, true, false, true≢false, not, ◌&&◌, ◌||◌, cond, eq-eqb, ne_eqb, List, [], ◌∷◌, ◌++◌, length, get_or, drop, take, length-append, OnSome, refl, sym, ap, subst, ◌∙◌, arith, Option, Some, None, append-nil, append_assoc}
+use Rattle.std.proofs.Common.{◌≡◌, ℕ, ◌<◌, ◌≤◌, ◌==◌, nat_lt, Bool, true, false, true≢false, not, ◌&&◌, ◌||◌, cond, eq-eqb, ne_eqb, List, [], ◌∷◌, ◌++◌, length, get_or, drop, take, length-append, OnSome, refl, sym, ap, subst, ◌∙◌, arith, Option, Some, None, append-nil, append_assoc}
 use Rattle.std.specs.List.{remove, insert, position}
 use Rattle.std.proofs.Math.Seq.{get_or-append_seam}
 use Rattle.std.proofs.lemmas.List.{map-append, length-take}
 use Rattle.std.proofs.lemmas.List.Elements.{filter-append}
-use Rattle.std.proofs.lemmas.List.Sums.{sum_by-append}
 use Rattle.script.specs.declared.event.ScriptEvent.{ScriptEvent}
 use Rattle.script.specs.declared.event.ScriptEvent.TheVariants.{Open, Send, Gone}
 use Rattle.script.specs.Events.{open_after}
@@ -20,7 +19,7 @@ use Rattle.script_port.specs.declared.player.Player.{Player}
 use Rattle.script_port.specs.declared.stage.Stage.TheVariants.{Playing, Paused, Closed}
 use Rattle.script_port.specs.declared.stage.Stage.{Stage}
 use Rattle.script_port.specs.Events.{session_of, without, send_after, plays_from, is_playable}
-use Rattle.script_port.specs.Sessions.{SessionState, numbers, newest, entry_of, is_some_and, is_closed, is_waiting, was_closed, is_open, is_paused, open_count}
+use Rattle.script_port.specs.Sessions.{SessionState, numbers, newest, entry_of, is_some_and, is_closed, is_waiting, was_closed, is_open, is_paused}
 use Rattle.script_port.specs.Records.{opened}
 use Rattle.script_port.specs.Players.{is_left, is_ready, events_left, state_of, Agrees, IsConsistent, IsFirst, TellsNext, Closes}
 use Rattle.script_port.proofs.SessionLemmas.{either_way, entry_behind, newest_more}
@@ -42,10 +41,12 @@ some_of : (P : Type 0) (o : Option ScriptEvent) (x : ScriptEvent) → o ≡ Some
 some_of P (Some y) x e h = h
 some_of P None x e h = absurd (cc)
 
-pub removed_at : (old new : List ScriptEvent) (o : Option ScriptEvent) (before : List ScriptEvent) (e : ScriptEvent) (after : List ScriptEvent) (at : ℕ) → old ≡ before ++ e ∷ after → length before ≡ at
+pub removed_at : (old new : List ScriptEvent) (o : Option ScriptEvent) (before : List ScriptEvent) (e : ScriptEvent)
+    (after : List ScriptEvent) (at : ℕ) → old ≡ before ++ e ∷ after → length before ≡ at
     → OnSome o (new ≡ remove old at) → (at < length old → o ≡ Some (get_or old at e)) → new ≡ before ++ after
 removed_at old new o before e after at old_is at_is removed found =
-    let lt : at < length old = subst (λ (l : List ScriptEvent). at < length l) (sym old_is) (subst (λ (n : ℕ). n < length (before ++ e ∷ after)) at_is (seam_length before e after)) in
+    let lt : at < length old = subst (λ (l : List ScriptEvent). at < length l) (sym old_is)
+    (subst (λ (n : ℕ). n < length (before ++ e ∷ after)) at_is (seam_length before e after)) in
     some_of (new ≡ remove old at) o (get_or old at e) (found lt) removed ∙ (λ i. remove (old_is i) (sym at_is i)) ∙ remove_seam before e after
 
 -- an event that is left isn't there once the port has ended
@@ -64,8 +65,7 @@ fresh s = record { number = s; stage = Playing; output = [] }
 pub record OpensTo (p q : Player) (s : ℕ) (before after : List ScriptEvent) : Type 0 where
   pub newer : newest p.sessions < s
   pub sessions_are : q.sessions ≡ p.sessions ++ fresh s ∷ []
-  pub records_are : q.records.entries ≡ p.records.entries ++ was.Opened s ∷ []
-  pub promised_is : q.records.promised ≡ p.records.promised + 2
+  pub records_are : q.records ≡ p.records ++ was.Opened s ∷ []
   pub ended_is : q.ended ≡ p.ended
   pub script_is : q.script ≡ p.script
   pub accept_is : q.accept ≡ p.accept
@@ -85,7 +85,8 @@ entry_add (y ∷ ss) x e =
     ∙ entry_add ss x (ap (λ b. cond b (Some y) (entry_of ss x.number)) (sym (ne_eqb y.number x.number ne)) ∙ e))
 
 -- a test that a new session fails is as it was
-test_added : (p : SessionState → Bool) (ss : List SessionState) (s : ℕ) → entry_of ss s ≡ None → p (fresh s) ≡ false → (t : ℕ) → is_some_and p (entry_of (ss ++ fresh s ∷ []) t) ≡ is_some_and p (entry_of ss t)
+test_added : (p : SessionState → Bool) (ss : List SessionState) (s : ℕ) → entry_of ss s ≡ None → p (fresh s) ≡ false → (t : ℕ)
+    → is_some_and p (entry_of (ss ++ fresh s ∷ []) t) ≡ is_some_and p (entry_of ss t)
 test_added p ss s none failed t =
     either_way t s
     (λ eq.
@@ -108,36 +109,46 @@ agrees_opened l s h = subst (Agrees (Some (fresh s))) (sym (opened_here l s)) (r
 
 pub open_consistent : (p q : Player) (at s : ℕ) (k : IsConsistent p) (f : IsFirst p at (Open s)) → OpensTo p q s f.before f.after → IsConsistent q
 open_consistent p q at s k f o =
-    let ss = p.sessions in let ss' = ss ++ fresh s ∷ [] in let l = p.records.entries in
+    let ss = p.sessions in let ss' = ss ++ fresh s ∷ [] in let l = p.records in
     let none = none_yet p s k o.newer in
-    let each = each_step ss ss' l q.records.entries (was.Opened s) s k.each o.records_are (λ t ne. ne_eqb s t (λ e. ne (sym e))) (λ t ne. entry_behind ss (fresh s) t (λ e. ne (sym e)))
-    (subst (λ (e : Option SessionState). Agrees e (port_facts (l ++ was.Opened s ∷ []) s)) (sym (entry_add ss (fresh s) none)) (agrees_opened l s (subst (λ (e : Option SessionState). Agrees e (port_facts l s)) none (k.each s)))) in
+    let each = each_step ss ss' l q.records (was.Opened s) s k.each o.records_are (λ t ne. ne_eqb s t (λ e. ne (sym e)))
+    (λ t ne. entry_behind ss (fresh s) t (λ e. ne (sym e)))
+    (subst (λ (e : Option SessionState). Agrees e (port_facts (l ++ was.Opened s ∷ []) s)) (sym (entry_add ss (fresh s) none))
+    (agrees_opened l s (subst (λ (e : Option SessionState). Agrees e (port_facts l s)) none (k.each s)))) in
     let newest_is : newest ss' ≡ s = newest_more 0 ss (fresh s) in
     let r = around p at (Open s) k f in
-    let count = sum_by-append (λ (x : SessionState). cond (is_closed x.stage) 0 1) ss (fresh s ∷ []) in
     record {
-      each = λ t. subst (λ (l : List SessionState). Agrees (entry_of l t) (port_facts q.records.entries t)) (sym o.sessions_are) (each t);
-      opened_are = ap numbers o.sessions_are ∙ map-append (λ (x : SessionState). x.number) ss (fresh s ∷ []) ∙ ap (λ (n : List ℕ). n ++ s ∷ []) k.opened_are ∙ sym (opened_one l q.records.entries s o.records_are);
+      each = λ t. subst (λ (l : List SessionState). Agrees (entry_of l t) (port_facts q.records t)) (sym o.sessions_are) (each t);
+      opened_are = ap numbers o.sessions_are ∙ map-append (λ (x : SessionState). x.number) ss (fresh s ∷ [])
+          ∙ ap (λ (n : List ℕ). n ++ s ∷ []) k.opened_are ∙ sym (opened_one l q.records s o.records_are);
       rising = λ t x e.
           subst (λ (m : List SessionState). t ≤ newest m) (sym o.sessions_are) (subst (λ (n : ℕ). t ≤ n) (sym newest_is)
-          (either_way t s (λ eq. omega (arith, eq)) (λ ne. let le = k.rising t x (sym (entry_behind ss (fresh s) t (λ e. ne (sym e))) ∙ ap (λ (m : List SessionState). entry_of m t) (sym o.sessions_are) ∙ e) in omega (arith, le, o.newer))));
-      promised = subst (λ (m : List SessionState). 2 * open_count m ≤ q.records.promised) (sym o.sessions_are) (omega (arith, count, k.promised, o.promised_is));
+          (either_way t s (λ eq. omega (arith, eq))
+          (λ ne. let le = k.rising t x
+          (sym (entry_behind ss (fresh s) t (λ e. ne (sym e))) ∙ ap (λ (m : List SessionState). entry_of m t) (sym o.sessions_are)
+          ∙ e) in omega (arith, le, o.newer))));
       at_end = ap has_ended o.records_are ∙ ended_same l (was.Opened s) refl ∙ k.at_end ∙ sym o.ended_is;
       plays = λ tells.
           let told = ap (λ sn. is_playable sn.value.items) (sym o.script_is) ∙ tells in
           (λ i. plays_from (newest (o.sessions_are i)) (is_open (o.sessions_are i)) (events_left (o.sessions_are i) (o.events_are i)))
-          ∙ plays_along s (newest ss') (λ t. open_after t (is_open ss t) (Open s)) (is_open ss') (events_left ss f.before ++ events_left ss f.after) (events_left ss' (f.before ++ f.after))
+          ∙ plays_along s (newest ss') (λ t. open_after t (is_open ss t) (Open s)) (is_open ss')
+          (events_left ss f.before ++ events_left ss f.after) (events_left ss' (f.before ++ f.after))
           newest_is (open_added ss s none)
-          (left_same ss ss' (f.before ++ f.after) (test_added (λ (x : SessionState). is_closed x.stage) ss s none refl) ∙ filter-append (is_left ss) f.before f.after)
+          (left_same ss ss' (f.before ++ f.after) (test_added (λ (x : SessionState). is_closed x.stage) ss s none refl)
+          ∙ filter-append (is_left ss) f.before f.after)
           ((r.taken told).rest_plays);
       follows = λ tells.
           let told = ap (λ sn. is_playable sn.value.items) (sym o.script_is) ∙ tells in
           let L1 = events_left ss f.before in let L2 = events_left ss f.after in
           let apart = apart_before ss (newest ss) (Open s) L1 k.rising r.free r.held in
-          subst (λ (script : List ScriptEvent). Follows script (events_left q.sessions q.events.items) q.records.entries (was_closed q.sessions)) (sym (ap (λ sn. sn.value.items) o.script_is))
-          (follows_open p.script.value.items (events_left ss p.events.items) (events_left q.sessions q.events.items) L1 L2 l q.records.entries s (was_closed ss) (was_closed q.sessions)
+          subst (λ (script : List ScriptEvent). Follows script (events_left q.sessions q.events.items) q.records
+          (was_closed q.sessions)) (sym (ap (λ sn. sn.value.items) o.script_is))
+          (follows_open p.script.value.items (events_left ss p.events.items)
+          (events_left q.sessions q.events.items) L1 L2 l q.records s (was_closed ss) (was_closed q.sessions)
           r.left_is
-          ((λ i. events_left (o.sessions_are i) (o.events_are i)) ∙ left_same ss ss' (f.before ++ f.after) (test_added (λ (x : SessionState). is_closed x.stage) ss s none refl) ∙ filter-append (is_left ss) f.before f.after)
+          ((λ i. events_left (o.sessions_are i) (o.events_are i))
+          ∙ left_same ss ss' (f.before ++ f.after) (test_added (λ (x : SessionState). is_closed x.stage) ss s none refl)
+          ∙ filter-append (is_left ss) f.before f.after)
           o.records_are
           (no_opens (newest ss) (is_open ss) (Open s) L1 (Open s ∷ L2) apart (ap (plays_from (newest ss) (is_open ss)) (sym r.left_is) ∙ k.plays told))
           (λ t. ap (λ (m : List SessionState). was_closed m t) o.sessions_are ∙ test_added (λ (x : SessionState). is_closed x.stage) ss s none refl t)
@@ -149,16 +160,19 @@ not_opened : (o : Option SessionState) (f : PortFacts) → Agrees o f → f.open
 not_opened (Some x) f h e = (x, refl)
 not_opened None f h e = absurd (true≢false (sym e ∙ h.0))
 
-pub old_sessions : (p : Player) → IsConsistent p → (t : ℕ) → was_opened t p.records.entries ≡ true → t ≤ newest p.sessions
-old_sessions p k t e = let x = not_opened (entry_of p.sessions t) (port_facts p.records.entries t) (k.each t) e in k.rising t x.0 x.1
+pub old_sessions : (p : Player) → IsConsistent p → (t : ℕ) → was_opened t p.records ≡ true → t ≤ newest p.sessions
+old_sessions p k t e = let x = not_opened (entry_of p.sessions t) (port_facts p.records t) (k.each t) e in k.rising t x.0 x.1
 
-pub open_told : (p q : Player) (at s : ℕ) (k : IsConsistent p) (f : IsFirst p at (Open s)) → OpensTo p q s f.before f.after → p.ended ≡ false → is_playable p.script.value.items ≡ true → TellsNext (state_of p) (event.Opened s) (state_of q)
+pub open_told : (p q : Player) (at s : ℕ) (k : IsConsistent p) (f : IsFirst p at (Open s)) → OpensTo p q s f.before f.after
+    → p.ended ≡ false → is_playable p.script.value.items ≡ true → TellsNext (state_of p) (event.Opened s) (state_of q)
 open_told p q at s k f o running tells =
     let ss = p.sessions in let ss' = ss ++ fresh s ∷ [] in
     let none = none_yet p s k o.newer in
     let r = around p at (Open s) k f in
     let left : events_left q.sessions q.events.items ≡ events_left ss f.before ++ events_left ss f.after =
-    (λ i. events_left (o.sessions_are i) (o.events_are i)) ∙ left_same ss ss' (f.before ++ f.after) (test_added (λ (x : SessionState). is_closed x.stage) ss s none refl) ∙ filter-append (is_left ss) f.before f.after in
+    (λ i. events_left (o.sessions_are i) (o.events_are i))
+    ∙ left_same ss ss' (f.before ++ f.after) (test_added (λ (x : SessionState). is_closed x.stage) ss s none refl)
+    ∙ filter-append (is_left ss) f.before f.after in
     record {
       records_are = o.records_are;
       may = (omega (arith, o.newer), (λ t e. let le = old_sessions p k t e in omega (arith, le, o.newer)), k.at_end ∙ running);
@@ -182,8 +196,7 @@ open_told p q at s k f o running tells =
 
 pub record SendsTo (p q : Player) (s : ℕ) (bytes : List ℕ) (before after : List ScriptEvent) : Type 0 where
   pub sessions_are : q.sessions ≡ p.sessions
-  pub records_are : q.records.entries ≡ p.records.entries ++ was.Data s (take 16384 bytes) ∷ []
-  pub promised_is : q.records.promised ≡ p.records.promised
+  pub records_are : q.records ≡ p.records ++ was.Data s (take 16384 bytes) ∷ []
   pub ended_is : q.ended ≡ p.ended
   pub script_is : q.script ≡ p.script
   pub accept_is : q.accept ≡ p.accept
@@ -198,48 +211,60 @@ rest_left ss s bytes stays =
     ap (events_left ss) e ∙ ap (λ b. cond b (Send s (drop 16384 bytes) ∷ []) []) stays ∙ sym e)
     (λ last. let e : send_after s bytes ≡ [] = ap (λ b. cond b (Send s (drop 16384 bytes) ∷ []) []) last in ap (events_left ss) e ∙ sym e)
 
-left_around : (ss : List SessionState) (xs ys zs : List ScriptEvent) → events_left ss (xs ++ ys ++ zs) ≡ events_left ss xs ++ events_left ss ys ++ events_left ss zs
+left_around : (ss : List SessionState) (xs ys zs : List ScriptEvent)
+    → events_left ss (xs ++ ys ++ zs) ≡ events_left ss xs ++ events_left ss ys ++ events_left ss zs
 left_around ss xs ys zs = filter-append (is_left ss) (xs ++ ys) zs ∙ ap (λ (l : List ScriptEvent). l ++ events_left ss zs) (filter-append (is_left ss) xs ys)
 
-send_left : (p q : Player) (s : ℕ) (bytes : List ℕ) (before after : List ScriptEvent) → SendsTo p q s bytes before after → is_left p.sessions (Send s bytes) ≡ true
+send_left : (p q : Player) (s : ℕ) (bytes : List ℕ) (before after : List ScriptEvent) → SendsTo p q s bytes before after
+    → is_left p.sessions (Send s bytes) ≡ true
     → events_left q.sessions q.events.items ≡ events_left p.sessions before ++ send_after s bytes ++ events_left p.sessions after
 send_left p q s bytes before after o stays =
     let ss = p.sessions in
-    (λ i. events_left (o.sessions_are i) (o.events_are i)) ∙ left_around ss before (send_after s bytes) after ∙ ap (λ (l : List ScriptEvent). events_left ss before ++ l ++ events_left ss after) (rest_left ss s bytes stays)
+    (λ i. events_left (o.sessions_are i) (o.events_are i)) ∙ left_around ss before (send_after s bytes) after
+    ∙ ap (λ (l : List ScriptEvent). events_left ss before ++ l ++ events_left ss after) (rest_left ss s bytes stays)
 
-rest_plays : (n : ℕ) (o : ℕ → Bool) (xs : List ScriptEvent) (s : ℕ) (bytes : List ℕ) (ys : List ScriptEvent) → plays_from n o (xs ++ Send s bytes ∷ ys) ≡ true → TakenOut n o (Send s bytes) (xs ++ ys) → plays_from n o (xs ++ send_after s bytes ++ ys) ≡ true
+rest_plays : (n : ℕ) (o : ℕ → Bool) (xs : List ScriptEvent) (s : ℕ) (bytes : List ℕ) (ys : List ScriptEvent)
+    → plays_from n o (xs ++ Send s bytes ∷ ys) ≡ true → TakenOut n o (Send s bytes) (xs ++ ys)
+    → plays_from n o (xs ++ send_after s bytes ++ ys) ≡ true
 rest_plays n o xs s bytes ys whole taken =
     bool_cases (nat_lt 16384 (length bytes))
     (λ more.
     let rest = drop 16384 bytes in
     let e : send_after s bytes ≡ Send s rest ∷ [] = ap (λ b. cond b (Send s rest ∷ []) []) more in
-    ap (λ (l : List ScriptEvent). plays_from n o (xs ++ l ++ ys)) e ∙ ap (plays_from n o) (append_assoc xs (Send s rest ∷ []) ys) ∙ sym (send_again n o xs s bytes rest ys) ∙ whole)
+    ap (λ (l : List ScriptEvent). plays_from n o (xs ++ l ++ ys)) e ∙ ap (plays_from n o) (append_assoc xs (Send s rest ∷ []) ys)
+    ∙ sym (send_again n o xs s bytes rest ys) ∙ whole)
     (λ last.
     let e : send_after s bytes ≡ [] = ap (λ b. cond b (Send s (drop 16384 bytes) ∷ []) []) last in
-    ap (λ (l : List ScriptEvent). plays_from n o (xs ++ l ++ ys)) e ∙ ap (λ (l : List ScriptEvent). plays_from n o (l ++ ys)) (append-nil xs) ∙ taken.rest_plays)
+    ap (λ (l : List ScriptEvent). plays_from n o (xs ++ l ++ ys)) e
+    ∙ ap (λ (l : List ScriptEvent). plays_from n o (l ++ ys)) (append-nil xs) ∙ taken.rest_plays)
 
-pub send_consistent : (p q : Player) (at s : ℕ) (bytes : List ℕ) (k : IsConsistent p) (f : IsFirst p at (Send s bytes)) → SendsTo p q s bytes f.before f.after → IsConsistent q
+pub send_consistent : (p q : Player) (at s : ℕ) (bytes : List ℕ) (k : IsConsistent p) (f : IsFirst p at (Send s bytes))
+    → SendsTo p q s bytes f.before f.after → IsConsistent q
 send_consistent p q at s bytes k f o =
-    let ss = p.sessions in let l = p.records.entries in let x = was.Data s (take 16384 bytes) in
+    let ss = p.sessions in let l = p.records in let x = was.Data s (take 16384 bytes) in
     let r = around p at (Send s bytes) k f in
-    let here = subst (Agrees (entry_of ss s)) (sym (fed_here l s (take 16384 bytes))) (agrees_fed (entry_of ss s) (port_facts l s) (list.fed s l ++ take 16384 bytes) (k.each s)) in
-    let each = each_step ss ss l q.records.entries x s k.each o.records_are (λ t ne. ne_eqb s t (λ e. ne (sym e))) (λ t ne. refl) here in
+    let here = subst (Agrees (entry_of ss s)) (sym (fed_here l s (take 16384 bytes)))
+    (agrees_fed (entry_of ss s) (port_facts l s) (list.fed s l ++ take 16384 bytes) (k.each s)) in
+    let each = each_step ss ss l q.records x s k.each o.records_are (λ t ne. ne_eqb s t (λ e. ne (sym e))) (λ t ne. refl) here in
     record {
-      each = λ t. subst (λ (m : List SessionState). Agrees (entry_of m t) (port_facts q.records.entries t)) (sym o.sessions_are) (each t);
-      opened_are = ap numbers o.sessions_are ∙ k.opened_are ∙ sym (opened_more l q.records.entries x o.records_are refl);
-      rising = λ t y e. subst (λ (m : List SessionState). t ≤ newest m) (sym o.sessions_are) (k.rising t y (ap (λ (m : List SessionState). entry_of m t) (sym o.sessions_are) ∙ e));
-      promised = subst (λ (m : List SessionState). 2 * open_count m ≤ q.records.promised) (sym o.sessions_are) (omega (arith, k.promised, o.promised_is));
+      each = λ t. subst (λ (m : List SessionState). Agrees (entry_of m t) (port_facts q.records t)) (sym o.sessions_are) (each t);
+      opened_are = ap numbers o.sessions_are ∙ k.opened_are ∙ sym (opened_more l q.records x o.records_are refl);
+      rising = λ t y e. subst (λ (m : List SessionState). t ≤ newest m) (sym o.sessions_are)
+          (k.rising t y (ap (λ (m : List SessionState). entry_of m t) (sym o.sessions_are) ∙ e));
       at_end = ap has_ended o.records_are ∙ ended_same l x refl ∙ k.at_end ∙ sym o.ended_is;
       plays = λ tells.
           let told = ap (λ sn. is_playable sn.value.items) (sym o.script_is) ∙ tells in
           (λ i. plays_from (newest (o.sessions_are i)) (is_open (o.sessions_are i)) (send_left p q s bytes f.before f.after o r.is_left_too i))
-          ∙ rest_plays (newest ss) (is_open ss) (events_left ss f.before) s bytes (events_left ss f.after) (ap (plays_from (newest ss) (is_open ss)) (sym r.left_is) ∙ k.plays told) (r.taken told);
+          ∙ rest_plays (newest ss) (is_open ss) (events_left ss f.before) s bytes (events_left ss f.after)
+          (ap (plays_from (newest ss) (is_open ss)) (sym r.left_is) ∙ k.plays told) (r.taken told);
       follows = λ tells.
           let told = ap (λ sn. is_playable sn.value.items) (sym o.script_is) ∙ tells in
           let L1 = events_left ss f.before in let L2 = events_left ss f.after in
           let apart = apart_before ss (newest ss) (Send s bytes) L1 k.rising r.free r.held in
-          subst (λ (script : List ScriptEvent). Follows script (events_left q.sessions q.events.items) q.records.entries (was_closed q.sessions)) (sym (ap (λ sn. sn.value.items) o.script_is))
-          (follows_send p.script.value.items (events_left ss p.events.items) (events_left q.sessions q.events.items) L1 L2 l q.records.entries s bytes (was_closed ss) (was_closed q.sessions)
+          subst (λ (script : List ScriptEvent). Follows script (events_left q.sessions q.events.items) q.records
+          (was_closed q.sessions)) (sym (ap (λ sn. sn.value.items) o.script_is))
+          (follows_send p.script.value.items (events_left ss p.events.items)
+          (events_left q.sessions q.events.items) L1 L2 l q.records s bytes (was_closed ss) (was_closed q.sessions)
           r.left_is (send_left p q s bytes f.before f.after o r.is_left_too) o.records_are
           (sent_apart (newest ss) (Send s bytes) L1 apart)
           (not_true (was_closed ss s) r.is_left_too)
@@ -249,16 +274,17 @@ send_consistent p q at s bytes k f o =
     }
 
 -- an open session is open in the list too
-pub open_in_list : (p : Player) (s : ℕ) → IsConsistent p → is_open p.sessions s ≡ true → list.is_open s p.records.entries ≡ true
+pub open_in_list : (p : Player) (s : ℕ) → IsConsistent p → is_open p.sessions s ≡ true → list.is_open s p.records ≡ true
 open_in_list p s k e =
     let x = open_entry p.sessions s e in
-    let h : Agrees (Some x.0) (port_facts p.records.entries s) = subst (λ (o : Option SessionState). Agrees o (port_facts p.records.entries s)) x.1 (k.each s) in
+    let h : Agrees (Some x.0) (port_facts p.records s) = subst (λ (o : Option SessionState). Agrees o (port_facts p.records s)) x.1 (k.each s) in
     (λ i. h.0 i && not (h.1 i)) ∙ ap not x.2
 
 short_take : (n : ℕ) (xs : List ℕ) → length (take n xs) ≤ n
 short_take n xs = omega (arith, length-take n xs)
 
-pub send_told : (p q : Player) (at s : ℕ) (bytes : List ℕ) (k : IsConsistent p) (f : IsFirst p at (Send s bytes)) → SendsTo p q s bytes f.before f.after → p.ended ≡ false → is_playable p.script.value.items ≡ true
+pub send_told : (p q : Player) (at s : ℕ) (bytes : List ℕ) (k : IsConsistent p) (f : IsFirst p at (Send s bytes))
+    → SendsTo p q s bytes f.before f.after → p.ended ≡ false → is_playable p.script.value.items ≡ true
     → TellsNext (state_of p) (event.Data s (take 16384 bytes)) (state_of q)
 send_told p q at s bytes k f o running tells =
     let ss = p.sessions in
@@ -287,7 +313,8 @@ closed_stage Playing e = refl
 closed_stage Paused e = absurd (true≢false (sym e))
 closed_stage Closed e = refl
 
-pub closed_waits : (o : Option SessionState) → is_some_and (λ (x : SessionState). is_closed x.stage) o ≡ true → is_some_and (λ (x : SessionState). is_waiting x.stage) o ≡ false
+pub closed_waits : (o : Option SessionState) → is_some_and (λ (x : SessionState). is_closed x.stage) o ≡ true
+    → is_some_and (λ (x : SessionState). is_waiting x.stage) o ≡ false
 closed_waits None e = refl
 closed_waits (Some x) e = closed_stage x.stage e
 
@@ -296,7 +323,8 @@ pub record GoesTo (m q : Player) (before after : List ScriptEvent) : Type 0 wher
   pub events_are : q.events.items ≡ before ++ after
 
 -- the event of a session that was just closed is taken away
-dead_left : (ss : List SessionState) (s : ℕ) (xs ys : List ScriptEvent) → was_closed ss s ≡ true → events_left ss (xs ++ ys) ≡ events_left ss (xs ++ Gone s ∷ ys)
+dead_left : (ss : List SessionState) (s : ℕ) (xs ys : List ScriptEvent) → was_closed ss s ≡ true
+    → events_left ss (xs ++ ys) ≡ events_left ss (xs ++ Gone s ∷ ys)
 dead_left ss s xs ys dead =
     filter-append (is_left ss) xs ys
     ∙ sym (filter-append (is_left ss) xs (Gone s ∷ ys) ∙ ap (λ b. events_left ss xs ++ cond (not b) (Gone s ∷ events_left ss ys) (events_left ss ys)) dead)
@@ -307,24 +335,28 @@ without_gone s xs ys =
     ∙ ap (λ b. without s xs ++ cond (not b) (Gone s ∷ without s ys) (without s ys)) (eq-eqb s s refl)
     ∙ sym (filter-append (λ (e : ScriptEvent). not (session_of e == s)) xs ys)
 
-gone_left : (p m q : Player) (at s : ℕ) (f : IsFirst p at (Gone s)) → Closes p s (was.Gone s) m → GoesTo m q f.before f.after → events_left m.sessions q.events.items ≡ events_left m.sessions m.events.items
+gone_left : (p m q : Player) (at s : ℕ) (f : IsFirst p at (Gone s)) → Closes p s (was.Gone s) m → GoesTo m q f.before f.after
+    → events_left m.sessions q.events.items ≡ events_left m.sessions m.events.items
 gone_left p m q at s f c g =
-    ap (events_left m.sessions) g.events_are ∙ dead_left m.sessions s f.before f.after c.closed ∙ ap (events_left m.sessions) (sym f.events_are ∙ ap (λ d. d.items) (sym c.events_are))
+    ap (events_left m.sessions) g.events_are ∙ dead_left m.sessions s f.before f.after c.closed
+    ∙ ap (events_left m.sessions) (sym f.events_are ∙ ap (λ d. d.items) (sym c.events_are))
 
-pub gone_consistent : (p m q : Player) (at s : ℕ) → IsConsistent p → (f : IsFirst p at (Gone s)) → Closes p s (was.Gone s) m → GoesTo m q f.before f.after → IsConsistent m → IsConsistent q
+pub gone_consistent : (p m q : Player) (at s : ℕ) → IsConsistent p → (f : IsFirst p at (Gone s)) → Closes p s (was.Gone s) m
+    → GoesTo m q f.before f.after → IsConsistent m → IsConsistent q
 gone_consistent p m q at s old f c g k =
     subst IsConsistent (sym g.q_is) (record {
       each = k.each;
       opened_are = k.opened_are;
       rising = k.rising;
-      promised = k.promised;
       at_end = k.at_end;
       plays = λ tells. ap (plays_from (newest m.sessions) (is_open m.sessions)) (gone_left p m q at s f c g) ∙ k.plays tells;
-      follows = λ tells. follows_as m.script.value.items (events_left m.sessions m.events.items) _ m.records.entries (was_closed m.sessions) (was_closed m.sessions) (gone_left p m q at s f c g) (λ t. refl) (k.follows tells);
+      follows = λ tells. follows_as m.script.value.items (events_left m.sessions m.events.items) _ m.records
+          (was_closed m.sessions) (was_closed m.sessions) (gone_left p m q at s f c g) (λ t. refl) (k.follows tells);
       finished = λ over. absurd (none_around p at (Gone s) old f (sym c.ended_is ∙ over));
     })
 
-pub gone_told : (p m q : Player) (at s : ℕ) (k : IsConsistent p) (f : IsFirst p at (Gone s)) → Closes p s (was.Gone s) m → GoesTo m q f.before f.after → p.ended ≡ false → is_playable p.script.value.items ≡ true
+pub gone_told : (p m q : Player) (at s : ℕ) (k : IsConsistent p) (f : IsFirst p at (Gone s)) → Closes p s (was.Gone s) m
+    → GoesTo m q f.before f.after → p.ended ≡ false → is_playable p.script.value.items ≡ true
     → TellsNext (state_of p) (event.Gone s) (state_of q)
 gone_told p m q at s k f c g running tells =
     let ss = p.sessions in
@@ -352,12 +384,14 @@ gone_told p m q at s k f c g running tells =
 -- ---- where the port doesn't tell
 
 -- nothing but the events changes
-pub odd_consistent : (p q : Player) → IsConsistent p → q.sessions ≡ p.sessions → q.records.entries ≡ p.records.entries → q.records.promised ≡ p.records.promised → q.ended ≡ p.ended → q.script ≡ p.script → (q.ended ≡ true → q.events.items ≡ []) → (is_playable p.script.value.items ≡ true → ⊥) → IsConsistent q
-odd_consistent p q k sessions_are records_are promised_is ended_is script_is finished silent = record {
-  each = λ t. subst (λ (m : List SessionState). Agrees (entry_of m t) (port_facts q.records.entries t)) (sym sessions_are) (subst (λ (l : List PortRecord). Agrees (entry_of p.sessions t) (port_facts l t)) (sym records_are) (k.each t));
+pub odd_consistent : (p q : Player) → IsConsistent p → q.sessions ≡ p.sessions → q.records ≡ p.records → q.ended ≡ p.ended
+    → q.script ≡ p.script → (q.ended ≡ true → q.events.items ≡ []) → (is_playable p.script.value.items ≡ true → ⊥) → IsConsistent q
+odd_consistent p q k sessions_are records_are ended_is script_is finished silent = record {
+  each = λ t. subst (λ (m : List SessionState). Agrees (entry_of m t) (port_facts q.records t)) (sym sessions_are)
+      (subst (λ (l : List PortRecord). Agrees (entry_of p.sessions t) (port_facts l t)) (sym records_are) (k.each t));
   opened_are = ap numbers sessions_are ∙ k.opened_are ∙ sym (ap opened records_are);
-  rising = λ t y e. subst (λ (m : List SessionState). t ≤ newest m) (sym sessions_are) (k.rising t y (ap (λ (m : List SessionState). entry_of m t) (sym sessions_are) ∙ e));
-  promised = subst (λ (m : List SessionState). 2 * open_count m ≤ q.records.promised) (sym sessions_are) (omega (arith, k.promised, promised_is));
+  rising = λ t y e. subst (λ (m : List SessionState). t ≤ newest m) (sym sessions_are)
+      (k.rising t y (ap (λ (m : List SessionState). entry_of m t) (sym sessions_are) ∙ e));
   at_end = ap has_ended records_are ∙ k.at_end ∙ sym ended_is;
   plays = λ tells. absurd (silent (ap (λ sn. is_playable sn.value.items) (sym script_is) ∙ tells));
   follows = λ tells. absurd (silent (ap (λ sn. is_playable sn.value.items) (sym script_is) ∙ tells));
@@ -368,7 +402,8 @@ odd_consistent p q k sessions_are records_are promised_is ended_is script_is fin
 pub opens_new : (p : Player) (at s : ℕ) → IsConsistent p → IsFirst p at (Open s) → is_playable p.script.value.items ≡ true → newest p.sessions < s
 opens_new p at s k f tells = lt_true (newest p.sessions) s (((around p at (Open s) k f).taken tells).may)
 
-pub sends_open : (p : Player) (at s : ℕ) (bytes : List ℕ) → IsConsistent p → IsFirst p at (Send s bytes) → is_playable p.script.value.items ≡ true → is_open p.sessions s ≡ true
+pub sends_open : (p : Player) (at s : ℕ) (bytes : List ℕ) → IsConsistent p → IsFirst p at (Send s bytes)
+    → is_playable p.script.value.items ≡ true → is_open p.sessions s ≡ true
 sends_open p at s bytes k f tells = ((around p at (Send s bytes) k f).taken tells).may
 
 pub goes_open : (p : Player) (at s : ℕ) → IsConsistent p → IsFirst p at (Gone s) → is_playable p.script.value.items ≡ true → is_open p.sessions s ≡ true
@@ -376,7 +411,8 @@ goes_open p at s k f tells = ((around p at (Gone s) k f).taken tells).may
 
 -- ---- the first event that may be played now
 
-pub first_at : (p : Player) (at : ℕ) (e : ScriptEvent) → position (is_ready p.sessions) p.events.items ≡ Some at → e ≡ get_or p.events.items at e → IsFirst p at e
+pub first_at : (p : Player) (at : ℕ) (e : ScriptEvent) → position (is_ready p.sessions) p.events.items ≡ Some at
+    → e ≡ get_or p.events.items at e → IsFirst p at e
 first_at p at e found e_is =
     let r = found_first (is_ready p.sessions) p.events.items at found in
     let same : e ≡ r.e = e_is ∙ (λ i. get_or (r.is i) (sym r.at_is i) e) ∙ get_or-append_seam r.before r.e r.after e in
@@ -395,31 +431,40 @@ insert_seam : (xs : List ScriptEvent) (e : ScriptEvent) (ys : List ScriptEvent) 
 insert_seam [] e ys = refl
 insert_seam (x ∷ xs) e ys = ap (λ (l : List ScriptEvent). x ∷ l) (insert_seam xs e ys)
 
-pub item_is : (old : List ScriptEvent) (before : List ScriptEvent) (e : ScriptEvent) (after : List ScriptEvent) (at : ℕ) (o : Option ScriptEvent) (y : ScriptEvent) → old ≡ before ++ e ∷ after → length before ≡ at → (at < length old → o ≡ Some (get_or old at e)) → o ≡ Some y → y ≡ e
+pub item_is : (old : List ScriptEvent) (before : List ScriptEvent) (e : ScriptEvent) (after : List ScriptEvent) (at : ℕ)
+    (o : Option ScriptEvent) (y : ScriptEvent) → old ≡ before ++ e ∷ after → length before ≡ at
+    → (at < length old → o ≡ Some (get_or old at e)) → o ≡ Some y → y ≡ e
 item_is old before e after at o y old_is at_is found y_is =
-    let lt : at < length old = subst (λ (l : List ScriptEvent). at < length l) (sym old_is) (subst (λ (n : ℕ). n < length (before ++ e ∷ after)) at_is (seam_length before e after)) in
+    let lt : at < length old = subst (λ (l : List ScriptEvent). at < length l) (sym old_is)
+    (subst (λ (n : ℕ). n < length (before ++ e ∷ after)) at_is (seam_length before e after)) in
     let whole : Some y ≡ Some (get_or old at e) = sym y_is ∙ found lt in
     let same : y ≡ get_or old at e = cc in
     same ∙ (λ i. get_or (old_is i) (sym at_is i) e) ∙ get_or-append_seam before e after e
 
-pub inserted_at : (mid new before : List ScriptEvent) (e : ScriptEvent) (after : List ScriptEvent) (at : ℕ) → mid ≡ before ++ after → length before ≡ at → new ≡ insert mid at e → new ≡ before ++ e ∷ after
+pub inserted_at : (mid new before : List ScriptEvent) (e : ScriptEvent) (after : List ScriptEvent) (at : ℕ) → mid ≡ before ++ after
+    → length before ≡ at → new ≡ insert mid at e → new ≡ before ++ e ∷ after
 inserted_at mid new before e after at mid_is at_is new_is = new_is ∙ (λ i. insert (mid_is i) (sym at_is i) e) ∙ insert_seam before e after
 
-pub long_rest : (s : ℕ) (bytes : List ℕ) (before after : List ScriptEvent) → 16384 < length bytes → before ++ Send s (drop 16384 bytes) ∷ after ≡ before ++ send_after s bytes ++ after
+pub long_rest : (s : ℕ) (bytes : List ℕ) (before after : List ScriptEvent) → 16384 < length bytes
+    → before ++ Send s (drop 16384 bytes) ∷ after ≡ before ++ send_after s bytes ++ after
 long_rest s bytes before after lt =
-    sym (ap (λ b. before ++ cond b (Send s (drop 16384 bytes) ∷ []) [] ++ after) (true_lt 16384 (length bytes) lt) ∙ append_assoc before (Send s (drop 16384 bytes) ∷ []) after)
+    sym (ap (λ b. before ++ cond b (Send s (drop 16384 bytes) ∷ []) [] ++ after) (true_lt 16384 (length bytes) lt)
+    ∙ append_assoc before (Send s (drop 16384 bytes) ∷ []) after)
 
 pub short_rest : (s : ℕ) (bytes : List ℕ) (before after : List ScriptEvent) → length bytes ≤ 16384 → before ++ after ≡ before ++ send_after s bytes ++ after
 short_rest s bytes before after le =
-    sym (ap (λ b. before ++ cond b (Send s (drop 16384 bytes) ∷ []) [] ++ after) (false_lt 16384 (length bytes) le) ∙ ap (λ (l : List ScriptEvent). l ++ after) (append-nil before))
+    sym (ap (λ b. before ++ cond b (Send s (drop 16384 bytes) ∷ []) [] ++ after) (false_lt 16384 (length bytes) le)
+    ∙ ap (λ (l : List ScriptEvent). l ++ after) (append-nil before))
 
 -- ---- closed sessions' events in front
 
-pub left_pop : (ss : List SessionState) (xs : List ScriptEvent) (e : ScriptEvent) → 0 < length xs → e ≡ get_or xs 0 e → is_left ss e ≡ false → events_left ss (drop 1 xs) ≡ events_left ss xs
+pub left_pop : (ss : List SessionState) (xs : List ScriptEvent) (e : ScriptEvent) → 0 < length xs → e ≡ get_or xs 0 e
+    → is_left ss e ≡ false → events_left ss (drop 1 xs) ≡ events_left ss xs
 left_pop ss [] e lt e_is dead = absurd (omega arith)
 left_pop ss (x ∷ xs) e lt e_is dead = sym (ap (λ b. cond b (x ∷ events_left ss xs) (events_left ss xs)) (sym (ap (is_left ss) e_is) ∙ dead))
 
-pub left_front : (ss : List SessionState) (xs : List ScriptEvent) (e : ScriptEvent) → 0 < length xs → e ≡ get_or xs 0 e → is_left ss e ≡ true → events_left ss xs ≡ [] → ⊥
+pub left_front : (ss : List SessionState) (xs : List ScriptEvent) (e : ScriptEvent) → 0 < length xs → e ≡ get_or xs 0 e
+    → is_left ss e ≡ true → events_left ss xs ≡ [] → ⊥
 left_front ss [] e lt e_is alive none = absurd (omega arith)
 left_front ss (x ∷ xs) e lt e_is alive none =
     let q : x ∷ events_left ss xs ≡ [] = sym (ap (λ b. cond b (x ∷ events_left ss xs) (events_left ss xs)) (sym (ap (is_left ss) e_is) ∙ alive)) ∙ none in cc

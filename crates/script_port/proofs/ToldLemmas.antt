@@ -16,7 +16,8 @@ use Rattle.script_port.proofs.SessionLemmas.{either_way}
 use Rattle.script_port.proofs.EventLemmas.{bool_cases, and_left, and_right}
 
 -- where it tells, its story is as it is said; where it doesn't, it still doesn't
-pub told_step : (old new : PortState) (f : PortStory → PortStory) → new.script ≡ old.script → (is_playable old.script ≡ true → story_of new ≡ f (story_of old)) → told_of new ≡ option_map f (told_of old)
+pub told_step : (old new : PortState) (f : PortStory → PortStory) → new.script ≡ old.script
+    → (is_playable old.script ≡ true → story_of new ≡ f (story_of old)) → told_of new ≡ option_map f (told_of old)
 told_step old new f script_is step =
     bool_cases (is_playable old.script)
     (λ yes.
@@ -31,17 +32,20 @@ pub open_where_told : (port : PortState) (s : ℕ) → IsOpenIn s (told_of port)
 open_where_told port s asked tells = asked (story_of port) (ap (λ b. cond b (Some (story_of port)) None) tells)
 
 -- a session that is open in the list is open in the table too
-facts_open : (o : Option SessionState) (f : PortFacts) → Agrees o f → (f.opened && not (f.gone || f.shut)) ≡ true → is_some_and (λ (x : SessionState). not (is_closed x.stage)) o ≡ true
+facts_open : (o : Option SessionState) (f : PortFacts) → Agrees o f → (f.opened && not (f.gone || f.shut)) ≡ true
+    → is_some_and (λ (x : SessionState). not (is_closed x.stage)) o ≡ true
 facts_open None f agrees active = absurd (true≢false (sym (and_left f.opened (not (f.gone || f.shut)) active) ∙ agrees.0))
 facts_open (Some x) f agrees active = sym (ap not agrees.1) ∙ and_right f.opened (not (f.gone || f.shut)) active
 
-pub open_in_table : (port : PortState) (p : Player) (s : ℕ) → state_of p ≡ port → IsConsistent p → IsOpenIn s (told_of port) → is_playable port.script ≡ true → in_table.is_open p.sessions s ≡ true
+pub open_in_table : (port : PortState) (p : Player) (s : ℕ) → state_of p ≡ port → IsConsistent p → IsOpenIn s (told_of port)
+    → is_playable port.script ≡ true → in_table.is_open p.sessions s ≡ true
 open_in_table port p s same k asked tells =
-    facts_open (in_table.entry_of p.sessions s) (port_facts p.records.entries s) (k.each s)
+    facts_open (in_table.entry_of p.sessions s) (port_facts p.records s) (k.each s)
     (ap (λ (q : PortState). is_open s q.records) same ∙ open_where_told port s asked tells)
 
 -- what may come, where the port tells
-pub may_where_told : (port : PortState) (result : PortEvent) → (is_playable port.script ≡ true → MayCome (story_of port) result) → (story : PortStory) → told_of port ≡ Some story → MayCome story result
+pub may_where_told : (port : PortState) (result : PortEvent) → (is_playable port.script ≡ true → MayCome (story_of port) result)
+    → (story : PortStory) → told_of port ≡ Some story → MayCome story result
 may_where_told port result may story told =
     bool_cases (is_playable port.script)
     (λ yes.
@@ -55,7 +59,8 @@ or_none true = refl
 or_none false = refl
 
 -- what ends a session leaves it paused no more, and the others as they are
-ends_held : (old new : PortState) (s t : ℕ) (ends : Bool) → ends ≡ (s == t) → is_held new s ≡ false → ((u : ℕ) → u ≢ s → is_held new u ≡ is_held old u) → is_held new t ≡ cond ends false (is_held old t)
+ends_held : (old new : PortState) (s t : ℕ) (ends : Bool) → ends ≡ (s == t) → is_held new s ≡ false
+    → ((u : ℕ) → u ≢ s → is_held new u ≡ is_held old u) → is_held new t ≡ cond ends false (is_held old t)
 ends_held old new s t ends ends_is here others =
     either_way t s
     (λ same. ap (is_held new) same ∙ here ∙ sym (ap (λ b. cond b false (is_held old t)) (ends_is ∙ eq-eqb s t (sym same))))
@@ -72,27 +77,45 @@ no_end s bytes n t b =
     (λ some. sym (ap (λ c. cond (are_end_of t (cond c [] (was.Accepted s (take n bytes) ∷ []))) false b) some))
 
 -- an event came
-pub told_next : (old new : PortState) (result : PortEvent) → new.script ≡ old.script → (is_playable old.script ≡ true → TellsNext old result new) → told_of new ≡ option_map (then_told (event_records result)) (told_of old)
-told_next old new (event.Opened s) script_is tells = told_step old new (then_told (was.Opened s ∷ [])) script_is (λ yes i. record { events = (tells yes).records_are i; paused = λ t. (tells yes).goes_on.3 t i })
-told_next old new (event.Data s bytes) script_is tells = told_step old new (then_told (was.Data s bytes ∷ [])) script_is (λ yes i. record { events = (tells yes).records_are i; paused = λ t. (tells yes).goes_on.3 t i })
-told_next old new event.Idle script_is tells = told_step old new (then_told []) script_is (λ yes i. record { events = (tells yes).records_are i; paused = λ t. (tells yes).goes_on.3 t i })
-told_next old new event.Ended script_is tells = told_step old new (then_told (was.Ended ∷ [])) script_is (λ yes i. record { events = (tells yes).records_are i; paused = λ t. (tells yes).goes_on.3 t i })
+pub told_next : (old new : PortState) (result : PortEvent) → new.script ≡ old.script
+    → (is_playable old.script ≡ true → TellsNext old result new) → told_of new ≡ option_map (then_told (event_records result)) (told_of old)
+told_next old new (event.Opened s) script_is tells = told_step old new (then_told (was.Opened s ∷ [])) script_is
+    (λ yes i. record { events = (tells yes).records_are i; paused = λ t. (tells yes).goes_on.3 t i })
+told_next old new (event.Data s bytes) script_is tells = told_step old new (then_told (was.Data s bytes ∷ [])) script_is
+    (λ yes i. record { events = (tells yes).records_are i; paused = λ t. (tells yes).goes_on.3 t i })
+told_next old new event.Idle script_is tells = told_step old new (then_told []) script_is
+    (λ yes i. record { events = (tells yes).records_are i; paused = λ t. (tells yes).goes_on.3 t i })
+told_next old new event.Ended script_is tells = told_step old new (then_told (was.Ended ∷ [])) script_is
+    (λ yes i. record { events = (tells yes).records_are i; paused = λ t. (tells yes).goes_on.3 t i })
 told_next old new (event.Gone s) script_is tells =
     told_step old new (then_told (was.Gone s ∷ [])) script_is
-    (λ yes i. record { events = (tells yes).records_are i; paused = λ t. ends_held old new s t (((s == t) || false) || false) (by_gone s t) ((tells yes).goes_on.3 s ∙ (tells yes).plays.1.free) (λ u ne. (tells yes).goes_on.3 u) i })
+    (λ yes i. record {
+      events = (tells yes).records_are i;
+      paused = λ t. ends_held old new s t (((s == t) || false) || false) (by_gone s t)
+          ((tells yes).goes_on.3 s ∙ (tells yes).plays.1.free) (λ u ne. (tells yes).goes_on.3 u) i;
+    })
 
 -- bytes were offered
-pub told_give : (old new : PortState) (s : ℕ) (bytes : List ℕ) (result : Result ℕ Gone) → new.script ≡ old.script → (is_playable old.script ≡ true → (new.records ≡ old.records ++ give_records s bytes result) × Gives old s bytes result new)
+pub told_give : (old new : PortState) (s : ℕ) (bytes : List ℕ) (result : Result ℕ Gone) → new.script ≡ old.script
+    → (is_playable old.script ≡ true → (new.records ≡ old.records ++ give_records s bytes result) × Gives old s bytes result new)
     → told_of new ≡ option_map (then_told (give_records s bytes result)) (told_of old)
 told_give old new s bytes (Ok n) script_is tells =
     told_step old new (then_told (give_records s bytes (Ok n))) script_is
     (λ yes i. record { events = (tells yes).0 i; paused = λ t. ((tells yes).1.3 t ∙ no_end s bytes n t (is_held old t)) i })
 told_give old new s bytes (Err e) script_is tells =
     told_step old new (then_told (was.Gone s ∷ [])) script_is
-    (λ yes i. record { events = (tells yes).0 i; paused = λ t. ends_held old new s t (((s == t) || false) || false) (by_gone s t) (tells yes).1.2 (tells yes).1.3 i })
+    (λ yes i. record {
+      events = (tells yes).0 i;
+      paused = λ t. ends_held old new s t (((s == t) || false) || false) (by_gone s t) (tells yes).1.2 (tells yes).1.3 i;
+    })
 
 -- a session was shut
-pub told_shut : (old new : PortState) (s : ℕ) → new.script ≡ old.script → (is_playable old.script ≡ true → (new.records ≡ old.records ++ was.Shut s ∷ []) × Shuts old s new) → told_of new ≡ option_map (then_told (was.Shut s ∷ [])) (told_of old)
+pub told_shut : (old new : PortState) (s : ℕ) → new.script ≡ old.script
+    → (is_playable old.script ≡ true → (new.records ≡ old.records ++ was.Shut s ∷ []) × Shuts old s new)
+    → told_of new ≡ option_map (then_told (was.Shut s ∷ [])) (told_of old)
 told_shut old new s script_is tells =
     told_step old new (then_told (was.Shut s ∷ [])) script_is
-    (λ yes i. record { events = (tells yes).0 i; paused = λ t. ends_held old new s t ((s == t) || false) (or_none (s == t)) (tells yes).1.here (tells yes).1.others i })
+    (λ yes i. record {
+      events = (tells yes).0 i;
+      paused = λ t. ends_held old new s t ((s == t) || false) (or_none (s == t)) (tells yes).1.here (tells yes).1.others i;
+    })

@@ -1,5 +1,5 @@
 -- How the events that are left, the sessions and the list of events fit together.
-use Rattle.std.specs.Prelude.{◌≡◌, ℕ, ◌*◌, ◌≤◌, ◌⊎◌, Bool, true, false, not, ◌&&◌, ◌||◌, List, [], ◌∷◌, ◌++◌, length, filter, Option, Some, None, Result}
+use Rattle.std.specs.Prelude.{◌≡◌, ℕ, ◌≤◌, ◌⊎◌, Bool, true, false, not, ◌&&◌, ◌||◌, List, [], ◌∷◌, ◌++◌, length, filter, Option, Some, None, Result}
 use Rattle.std.specs.List.{AllByRecursion}
 use Rattle.script.specs.declared.event.ScriptEvent.{ScriptEvent}
 use Rattle.script.specs.declared.event.ScriptEvent.TheVariants as script
@@ -12,7 +12,7 @@ use Rattle.worker.specs.Ports as list
 use Rattle.worker.specs.Sessions.{PortFacts, port_facts}
 use Rattle.script_port.specs.declared.player.Player.{Player}
 use Rattle.script_port.specs.Events.{session_of, send_after, plays_from, is_playable}
-use Rattle.script_port.specs.Sessions.{SessionState, numbers, newest, entry_of, is_closed, was_closed, is_open, is_paused, open_count}
+use Rattle.script_port.specs.Sessions.{SessionState, numbers, newest, entry_of, is_closed, was_closed, is_open, is_paused}
 use Rattle.script_port.specs.Records.{opened}
 use Rattle.script_port.specs.Following.{Follows}
 use Rattle.script_port.specs.States.{PortState, story_of, Plays, GoesOn, Shuts, Gives, Fails, count_down}
@@ -32,7 +32,7 @@ state_of p = record {
   script = p.script.value.items;
   left = events_left p.sessions p.events.items;
   sessions = p.sessions;
-  records = p.records.entries;
+  records = p.records;
   accept = p.accept;
   fail_give = p.fail_give;
 }
@@ -43,13 +43,12 @@ Agrees None f = (f.opened ≡ false) × (f.gone ≡ false) × (f.shut ≡ false)
 Agrees (Some x) f = (f.opened ≡ true) × ((f.gone || f.shut) ≡ is_closed x.stage) × (f.given ≡ x.output)
 
 pub record IsConsistent (p : Player) : Type 0 where
-  pub each : (s : ℕ) → Agrees (entry_of p.sessions s) (port_facts p.records.entries s)
-  pub opened_are : numbers p.sessions ≡ opened p.records.entries
+  pub each : (s : ℕ) → Agrees (entry_of p.sessions s) (port_facts p.records s)
+  pub opened_are : numbers p.sessions ≡ opened p.records
   pub rising : (s : ℕ) (x : SessionState) → entry_of p.sessions s ≡ Some x → s ≤ newest p.sessions
-  pub promised : 2 * open_count p.sessions ≤ p.records.promised
-  pub at_end : has_ended p.records.entries ≡ p.ended
+  pub at_end : has_ended p.records ≡ p.ended
   pub plays : is_playable p.script.value.items ≡ true → plays_from (newest p.sessions) (is_open p.sessions) (events_left p.sessions p.events.items) ≡ true
-  pub follows : is_playable p.script.value.items ≡ true → Follows p.script.value.items (events_left p.sessions p.events.items) p.records.entries (was_closed p.sessions)
+  pub follows : is_playable p.script.value.items ≡ true → Follows p.script.value.items (events_left p.sessions p.events.items) p.records (was_closed p.sessions)
   pub finished : p.ended ≡ true → p.events.items ≡ []
 
 -- the event at this place is the first that may be played now
@@ -83,7 +82,7 @@ EndsSession s entry = (entry ≡ was.Gone s) ⊎ (entry ≡ was.Shut s)
 
 -- a session is closed with this record
 pub record Closes (old : Player) (s : ℕ) (entry : PortRecord) (new : Player) : Type 0 where
-  pub records_are : new.records.entries ≡ old.records.entries ++ entry ∷ []
+  pub records_are : new.records ≡ old.records ++ entry ∷ []
   pub shuts : Shuts (state_of old) s (state_of new)
   pub closed : was_closed new.sessions s ≡ true
   pub events_are : new.events ≡ old.events
@@ -92,8 +91,8 @@ pub record Closes (old : Player) (s : ℕ) (entry : PortRecord) (new : Player) :
 -- bytes that were accepted are kept
 pub record Keeps (old : Player) (s : ℕ) (bytes : List ℕ) (new : Player) : Type 0 where
   pub was_open : is_open old.sessions s ≡ true
-  pub records_are : new.records.entries ≡ old.records.entries ++ was.Accepted s bytes ∷ []
-  pub state_is : state_of new ≡ record (state_of old) { sessions = new.sessions; records = new.records.entries }
+  pub records_are : new.records ≡ old.records ++ was.Accepted s bytes ∷ []
+  pub state_is : state_of new ≡ record (state_of old) { sessions = new.sessions; records = new.records }
   pub held : (t : ℕ) → is_paused new.sessions t ≡ is_paused old.sessions t
 
 abbrev pub SamePlayer : Player → Player → Type 0
@@ -107,5 +106,5 @@ pub record CountsOffer (old : Player) (bytes : List ℕ) (new : Player) (fails :
   pub passed : fails ≡ false → Fails (state_of old) bytes → ⊥
 
 pub record GivesAs (old : Player) (s : ℕ) (bytes : List ℕ) (result : Result ℕ Gone) (new : Player) : Type 0 where
-  pub records_are : new.records.entries ≡ old.records.entries ++ list.give_records s bytes result
+  pub records_are : new.records ≡ old.records ++ list.give_records s bytes result
   pub gives : Gives (state_of old) s bytes result (state_of new)

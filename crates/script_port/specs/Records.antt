@@ -1,13 +1,14 @@
--- The list of a port's events, and the places that are taken ahead.
-use Rattle.std.specs.Prelude.{ℕ, List, filter_map, Option, Some, None}
+-- The list of a port's events.
+use Rattle.std.specs.Prelude.{ℕ, List, [], ◌∷◌, ◌++◌, filter_map, Option, Some, None}
 use Rattle.worker.specs.declared.port.PortRecord.{PortRecord}
 use Rattle.worker.specs.declared.port.PortRecord.TheVariants as was
+use Rattle.script_port.specs.declared.records.Entries.{Entries}
+use Rattle.script_port.specs.declared.records.Entries.TheBlock as entries
 
--- the entries, the places that are kept for entries that must not fail, and those beside them
-pub record RecordsState : Type 0 where
-  pub entries : List PortRecord
-  pub promised : ℕ
-  pub spare : ℕ
+-- the entries, the first one first
+abbrev pub listed : Entries → List PortRecord
+listed entries.None = []
+listed (entries.After' place before entry) = listed before ++ entry ∷ []
 
 abbrev pub opened_by : PortRecord → Option ℕ
 opened_by (was.Opened s) = Some s

@@ -1,6 +1,5 @@
 -- The sessions that a port has opened.
-use Rattle.std.specs.Prelude.{◌≡◌, ◌≢◌, ℕ, ◌+◌, ◌<◌, ⊤, Bool, true, false, not, ◌==◌, if◌then◌else◌, List, [], ◌∷◌, ◌++◌, length, map, slice_index_or, Option, Some, None, option_map, MatchOption}
-use Rattle.std.specs.List.{sum_by}
+use Rattle.std.specs.Prelude.{◌≡◌, ◌≢◌, ℕ, ◌<◌, ⊤, Bool, true, false, not, ◌==◌, if◌then◌else◌, List, [], ◌∷◌, ◌++◌, length, map, slice_index_or, Option, Some, None, option_map, MatchOption}
 use Rattle.script_port.specs.declared.stage.Stage.{Stage}
 use Rattle.script_port.specs.declared.stage.Stage.TheVariants.{Playing, Paused, Closed}
 
@@ -54,10 +53,6 @@ is_open sessions session = is_some_and (λ (x : SessionState). not (is_closed x.
 abbrev pub is_paused : List SessionState → ℕ → Bool
 is_paused sessions session = is_some_and (λ (x : SessionState). is_waiting x.stage) (entry_of sessions session)
 
--- how many are neither gone nor shut
-abbrev pub open_count : List SessionState → ℕ
-open_count sessions = sum_by (λ (x : SessionState). if is_closed x.stage then 0 else 1) sessions
-
 -- the place of a session, if it is there
 abbrev pub IsPlaceOf : List SessionState → ℕ → Option ℕ → Type 0
 IsPlaceOf sessions session place =
@@ -76,13 +71,7 @@ pub record ChangesAt (old : List SessionState) (session : ℕ) (change : Session
   pub here : entry_of new session ≡ option_map change (entry_of old session)
   pub others : (t : ℕ) → t ≢ session → entry_of new t ≡ entry_of old t
 
--- an open session has this stage, and the others stay
-pub record ChangesStage (old : List SessionState) (session : ℕ) (stage : Stage) (new : List SessionState) : Type 0 where
-  pub at : ChangesAt old session (with_stage stage) new
-  pub count : open_count new + 1 ≡ open_count old + (if is_closed stage then 0 else 1)
-
 -- an open session has these bytes behind its output, and the others stay
 pub record AcceptsAt (old : List SessionState) (session : ℕ) (bytes : List ℕ) (new : List SessionState) : Type 0 where
   pub was_open : is_open old session ≡ true
   pub at : ChangesAt old session (with_output bytes) new
-  pub count : open_count new ≡ open_count old

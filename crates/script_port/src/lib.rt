@@ -1,6 +1,7 @@
 //! A port that plays a script.
 #![tactic(auto)]
 
+mod awake;
 mod player;
 pub mod port;
 mod records;

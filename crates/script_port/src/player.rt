@@ -141,7 +141,7 @@ impl Player {
             script,
             events: VecDeque::from_vec(events),
             sessions: Sessions::new(alloc),
-            records: Records::new(alloc),
+            records: Records::new(),
             accept: 0,
             fail_give: 0,
             ended: false,
@@ -151,7 +151,7 @@ impl Player {
     /// The bytes given to a session.
     pub(crate) fn given(&self, session: u64) -> &[u8]
         requires { IsConsistent self.now }
-        ensures { result.now ≡ given session self.now.records.entries }
+        ensures { result.now ≡ given session self.now.records }
     {
         match self.sessions.get(session) {
             Some(session) => session.given(),
@@ -159,7 +159,7 @@ impl Player {
         }
     }
 
-    // Begins a session. Its two places for the end are taken here.
+    // Begins a session.
     fn open(&mut self, at: usize, session: u64) -> PortEvent
         requires consistent { IsConsistent self.old }
         requires running { self.old.ended ≡ false }
@@ -173,11 +173,10 @@ impl Player {
             self.events.remove(at);
             return PortEvent::Opened(session);
         }
-        if self.records.reserve(3).is_err() || self.sessions.open(session).is_err() {
+        if self.sessions.open(session).is_err() {
             return PortEvent::Idle;
         }
         self.records.write(PortRecord::Opened(session));
-        self.records.promise();
         self.events.remove(at);
         PortEvent::Opened(session)
     }
@@ -192,9 +191,6 @@ impl Player {
         ensures accept { self.new.accept ≡ self.old.accept }
         ensures played { Played self.old result self.new }
     {
-        if self.records.reserve(1).is_err() {
-            return PortEvent::Idle;
-        }
         self.records.write(PortRecord::Data(session, copy));
         take_piece(&mut self.events, at);
         PortEvent::Data(session, piece)
@@ -255,9 +251,6 @@ impl Player {
         ensures accept { self.new.accept ≡ self.old.accept }
         ensures played { Played self.old result self.new }
     {
-        if self.records.reserve(1).is_err() {
-            return PortEvent::Idle;
-        }
         self.records.write(PortRecord::Ended);
         self.ended = true;
         PortEvent::Ended
@@ -288,12 +281,19 @@ impl Player {
         }
     }
 
+    pub(crate) fn is_paused(&self, session: u64) -> bool {
+        match self.sessions.get(session) {
+            Some(session) => session.stage().is_paused(),
+            None => false,
+        }
+    }
+
     /// Whether events are left, of paused sessions alone.
     pub(crate) fn is_waiting(&self) -> bool {
         !self.events.is_empty() && first_ready(&self.sessions, &self.events).is_none()
     }
 
-    /// Ends an open session with this entry, in a place that was taken when it began. Its events are left no more.
+    /// Ends an open session with this entry. Its events are left no more.
     pub(crate) fn close(&mut self, session: u64, entry: PortRecord)
         requires consistent { IsConsistent self.old }
         requires ends { EndsSession session entry }
@@ -304,7 +304,7 @@ impl Player {
         ensures same { sessions.is_open self.old.sessions session ≡ false → self.new ≡ self.old }
     {
         if self.sessions.change(session, Stage::Closed) {
-            self.records.write_promised(entry);
+            self.records.write(entry);
         }
     }
 
@@ -331,7 +331,7 @@ impl Player {
         let Ok(copy) = Bytes::copy_from_slice(self.alloc, bytes) else {
             return false;
         };
-        if self.records.reserve(1).is_err() || self.sessions.accept(session, bytes).is_err() {
+        if self.sessions.accept(session, bytes).is_err() {
             return false;
         }
         self.records.write(PortRecord::Accepted(session, copy));

@@ -10,6 +10,7 @@ ghost use Rattle.script_port.specs.Records.{opened};
 ghost use Rattle.script_port.specs.Following.{IsPlayed};
 ghost use Rattle.script_port.specs.States.{told_of, PlaysOn, Plays, Gives, GoesOn, CountsGive, SetsHeld, Shuts, IsNewPort};
 
+use crate::awake::Awake;
 use crate::player::Player;
 use crate::sessions::Session;
 use crate::stage::Stage;
@@ -21,13 +22,11 @@ use worker::port::{Gone, Port, PortEvent, PortRecord};
 /// Plays the events of a script in order, and keeps what each session is given.
 ///
 /// It tells where each event of the script may come behind those before it. A session that has gone or was shut has
-/// no event left. Two places of its list are taken with each session that opens, for its end; where anything else
-/// finds no memory, `next` answers `Idle` and `give` accepts no bytes.
+/// no event left. Its list takes no memory. Where memory is missing, `next` answers `Idle` and `give` accepts no bytes.
 #[derive(Drop)]
 pub struct ScriptPort {
     player: Player,
-    /// No event left may be played until a session is resumed or closed, so none is looked for.
-    is_waiting: bool,
+    awake: Awake,
 }
 
 impl Model for ScriptPort {
@@ -49,7 +48,7 @@ impl ScriptPort {
     {
         ScriptPort {
             player: Player::new(alloc, events),
-            is_waiting: false,
+            awake: Awake::any(alloc),
         }
     }
 
@@ -99,11 +98,12 @@ impl Port for ScriptPort {
         ensures plays { is_playable self.old.script ≡ true → Plays self.old result self.new }
         ensures goes_on { is_playable self.old.script ≡ true → GoesOn self.old self.new }
     {
-        if self.is_waiting {
+        if self.awake.is_none() {
             return PortEvent::Idle;
         }
         let event = self.player.next();
-        self.is_waiting = matches!(&event, PortEvent::Idle) && self.player.is_waiting();
+        let is_idle = matches!(&event, PortEvent::Idle);
+        self.awake.note(is_idle && self.player.is_waiting());
         event
     }
 
@@ -115,8 +115,10 @@ impl Port for ScriptPort {
         ensures gives { is_playable self.old.script ≡ true → Gives self.old session bytes.now result self.new }
         ensures counts { CountsGive self.old bytes.now self.new }
     {
-        self.is_waiting = false;
-        self.player.give(session, bytes)
+        let was_paused = self.player.is_paused(session);
+        let given = self.player.give(session, bytes);
+        self.awake.forget(was_paused && given.is_err());
+        given
     }
 
     fn pause(&mut self, session: u64)
@@ -126,6 +128,7 @@ impl Port for ScriptPort {
         ensures held { is_playable self.old.script ≡ true → SetsHeld self.old session true self.new }
     {
         self.player.hold(session, Stage::Paused);
+        self.awake.sleep(session);
     }
 
     fn resume(&mut self, session: u64)
@@ -134,8 +137,8 @@ impl Port for ScriptPort {
         ensures told { told_of self.new ≡ option_map (with_pause session false) (told_of self.old) }
         ensures held { is_playable self.old.script ≡ true → SetsHeld self.old session false self.new }
     {
-        self.is_waiting = false;
         self.player.hold(session, Stage::Playing);
+        self.awake.wake(session);
     }
 
     fn shut(&mut self, session: u64)
@@ -144,7 +147,8 @@ impl Port for ScriptPort {
         ensures told { told_of self.new ≡ option_map (then_told (Shut session ∷ [])) (told_of self.old) }
         ensures shuts { is_playable self.old.script ≡ true → Shuts self.old session self.new }
     {
-        self.is_waiting = false;
+        let was_paused = self.player.is_paused(session);
         self.player.close(session, PortRecord::Shut(session));
+        self.awake.forget(was_paused);
     }
 }

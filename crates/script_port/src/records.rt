@@ -1,74 +1,57 @@
-//! The list of a port's events, with places that are taken ahead.
+//! The list of a port's events, which takes no memory.
 
-ghost use Rattle.std.specs.Prelude.{◌≡◌, ℕ, ◌+◌, ◌-◌, ◌<◌, ◌≤◌, [], ◌∷◌, ◌++◌, OnOk, OnErr};
+ghost use Rattle.std.specs.Prelude.{◌≡◌, [], ◌∷◌, ◌++◌};
+ghost use Rattle.script_port.specs.Records.{listed};
 
-use std::alloc::{AllocError, Global};
 use std::marker::Model;
+use std::snapshot::Snapshot;
 use worker::port::PortRecord;
 
-/// Places for further entries are there: `promised` of them are kept for entries that must not fail.
+/// The entries that were written. Only the last one has bytes; those before it are for clauses alone.
+#[derive(Drop)]
+enum Entries {
+    None,
+    After(Snapshot<Entries>, PortRecord),
+}
+
+impl Entries {
+    // These entries, and one more.
+    fn and(&self, entry: PortRecord) -> Entries
+        ensures { listed result ≡ listed self.now ++ entry ∷ [] }
+    {
+        Entries::After(Snapshot::of(self), entry)
+    }
+}
+
+/// The list of events, as clauses see it.
 #[derive(Drop)]
 pub(crate) struct Records {
-    entries: Vec<PortRecord>,
-    promised: usize,
+    entries: Entries,
 }
 
 impl Model for Records {
-    ghost use Rattle.std.specs.Prelude.{◌+◌, ◌-◌, ◌≤◌, vec_len, vec_capacity};
-    ghost use Rattle.script_port.specs.Records.{RecordsState};
+    ghost use Rattle.std.specs.Prelude.{List};
+    ghost use Rattle.worker.specs.declared.port.PortRecord.{PortRecord};
+    ghost use Rattle.script_port.specs.Records.{listed};
 
-    ghost Value = { RecordsState };
+    ghost Value = { List PortRecord };
 
-    ghost view = { λ r. record { entries = r.entries.items; promised = r.promised; spare = vec_capacity r.entries - (vec_len r.entries + r.promised) } };
-
-    ghost invariant = { λ r. vec_len r.entries + r.promised ≤ vec_capacity r.entries };
+    ghost view = { λ r. listed r.entries };
 }
 
 impl Records {
-    pub(crate) fn new(alloc: Global) -> Records
-        ensures list { result.entries ≡ [] }
-        ensures promised { result.promised ≡ 0 }
+    pub(crate) fn new() -> Records
+        ensures { result ≡ [] }
     {
         Records {
-            entries: Vec::new(alloc),
-            promised: 0,
+            entries: Entries::None,
         }
     }
 
-    /// Makes room for so many entries beside those promised.
-    pub(crate) fn reserve(&mut self, places: usize) -> Result<(), AllocError>
-        ensures entries { self.new.entries ≡ self.old.entries }
-        ensures promised { self.new.promised ≡ self.old.promised }
-        ensures ok { OnOk result (places ≤ self.new.spare) }
-    {
-        let Some(wanted) = self.promised.checked_add(places) else {
-            return Err(AllocError);
-        };
-        self.entries.reserve(wanted)
-    }
-
-    /// Adds an entry. There is a place for it.
+    /// Adds an entry.
     pub(crate) fn write(&mut self, entry: PortRecord)
-        requires { 0 < self.old.spare }
-        ensures { self.new ≡ record { entries = self.old.entries ++ entry ∷ []; promised = self.old.promised; spare = self.old.spare - 1 } }
+        ensures { self.new ≡ self.old ++ entry ∷ [] }
     {
-        self.entries.push_reserved(entry);
-    }
-
-    /// Keeps two places for later.
-    pub(crate) fn promise(&mut self)
-        requires { 2 ≤ self.old.spare }
-        ensures { self.new ≡ record { entries = self.old.entries; promised = self.old.promised + 2; spare = self.old.spare - 2 } }
-    {
-        self.promised += 2;
-    }
-
-    /// Adds an entry for which two places were kept.
-    pub(crate) fn write_promised(&mut self, entry: PortRecord)
-        requires { 2 ≤ self.old.promised }
-        ensures { self.new ≡ record { entries = self.old.entries ++ entry ∷ []; promised = self.old.promised - 2; spare = self.old.spare + 1 } }
-    {
-        self.promised -= 2;
-        self.entries.push_reserved(entry);
+        self.entries = self.entries.and(entry);
     }
 }

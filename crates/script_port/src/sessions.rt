@@ -1,7 +1,7 @@
 //! The sessions that a port has opened.
 
 ghost use Rattle.std.specs.Prelude.{◌≡◌, ℕ, ◌+◌, ◌<◌, [], ◌∷◌, ◌++◌, length, map, true, false, Some, None, option_map, MatchOption, OnOk, OnErr, slice_index_or, if◌then◌else◌};
-ghost use Rattle.script_port.specs.Sessions.{SessionState, numbers, RisesFrom, newest, entry_of, is_open, ChangesStage, IsPlaceOf, is_closed, AcceptsAt};
+ghost use Rattle.script_port.specs.Sessions.{SessionState, numbers, RisesFrom, newest, entry_of, is_open, ChangesAt, with_stage, IsPlaceOf, is_closed, AcceptsAt};
 
 use crate::stage::Stage;
 use std::alloc::{AllocError, Global};
@@ -155,7 +155,7 @@ impl Sessions {
     /// Writes what becomes of a session. False where it isn't open, and then nothing changes.
     pub(crate) fn change(&mut self, number: u64, stage: Stage) -> bool
         ensures open { result ≡ is_open self.old number }
-        ensures changes { result ≡ true → ChangesStage self.old number stage self.new }
+        ensures changes { result ≡ true → ChangesAt self.old number (with_stage stage) self.new }
         ensures same { result ≡ false → self.new ≡ self.old }
     {
         let Some(at) = place_of(self.entries.as_slice(), number) else {

@@ -11,6 +11,7 @@ use std::thread::Threads;
 use std::{env, fs, time};
 use subcommands::fault::Fault;
 use subcommands::replay::{cannot_read, geometry_of, replay};
+use subcommands::seed::seed_of;
 use subcommands::serve::{serve, serve_geometry};
 use subcommands::words::{Job, Options, ServeOptions, WordsFault, parse_words, unreadable_words};
 
@@ -39,7 +40,7 @@ fn serve_at<H: Threads + Wait + Net + time::Clock + Copy + Drop + Send + Sync + 
     let alloc = rt.alloc();
     let geometry = serve_geometry(options)?;
     let mut out = BufWriter::new(alloc, io::writer(rt)).map_err(|_| Fault::NoMemory)?;
-    serve(*threads, alloc, options, geometry, &mut out)
+    serve(*threads, alloc, options, geometry, seed_of(rt), &mut out)
 }
 
 /// What the words after the program's name ask for.

@@ -22,38 +22,45 @@ use Rattle.segment_store.proofs.PlaceCounts.{slot_to_spare}
 pub appended_here : (p after : PoolState) (bucket t : ℕ) (i : Item) (place : Place) → IsAppended p bucket t i after place → item_in after place ≡ Some i
 appended_here p after bucket t i place a = a.items place ∙ (let s = same_place_itself place in rw s refl)
 
-pub appended_within : (p after : PoolState) (bucket t : ℕ) (i : Item) (place : Place) → IsPool after → IsAppended p bucket t i after place → place.segment < 2 ^ 16
+pub appended_within : (p after : PoolState) (bucket t : ℕ) (i : Item) (place : Place) → IsPool after
+    → IsAppended p bucket t i after place → place.segment < 2 ^ 16
 appended_within p after bucket t i place pool a =
     let w = (mark_within after place i pool (appended_here p after bucket t i place a)).0 in
     let g = pool.geometry.most in
     omega (arith, w, g)
 
 -- another item stays where it stood
-pub appended_other : (p after : PoolState) (bucket t : ℕ) (i j : Item) (place r : Place) → IsAppended p bucket t i after place → item_in p r ≡ Some j → item_in after r ≡ Some j
+pub appended_other : (p after : PoolState) (bucket t : ℕ) (i j : Item) (place r : Place) → IsAppended p bucket t i after place
+    → item_in p r ≡ Some j → item_in after r ≡ Some j
 appended_other p after bucket t i j place r a e =
     elim (cases_Bool (same_place r place)) [
       | inl y ↦ absurd (none-some j (sym a.fresh ∙ ap (item_in p) (sym (same_place_is r place y)) ∙ e))
       | inr n ↦ a.items r ∙ rw n e
     ]
 
-pub appended_current : (p after : PoolState) (bucket t : ℕ) (i : Item) (place : Place) (index : Table) → IsIndex (key_at p) index → IsAppended p bucket t i after place
+pub appended_current : (p after : PoolState) (bucket t : ℕ) (i : Item) (place : Place) (index : Table) → IsIndex (key_at p) index
+    → IsAppended p bucket t i after place
     → IsMap (key_at after) index (current p index)
 appended_current p after bucket t i place index indexed a =
     same_current p after index indexed
     (λ q r h. let x = current_item p index q r h in key_of after r x.0 (appended_other p after bucket t i x.0 place r a x.1) ∙ sym (key_of p r x.0 x.1))
 
-pub appended_room : (p after : PoolState) (bucket t : ℕ) (i : Item) (place : Place) (index : Table) (marks : Marks) → IsTied p index marks → IsPool after → IsAppended p bucket t i after place
+pub appended_room : (p after : PoolState) (bucket t : ℕ) (i : Item) (place : Place) (index : Table) (marks : Marks)
+    → IsTied p index marks → IsPool after → IsAppended p bucket t i after place
     → 2 * (used_in index.slots + 1) ≤ length index.slots
 appended_room p after bucket t i place index marks tied pool a =
     slot_to_spare after index place i pool (appended_current p after bucket t i place index tied.indexed a).index (appended_here p after bucket t i place a)
-    (λ r h. let k = held_place (key_at p) index r tied.indexed h in let x = current_item p index k.0 r k.1 in (x.0, appended_other p after bucket t i x.0 place r a x.1))
+    (λ r h. let k = held_place (key_at p) index r tied.indexed h in let x = current_item p index k.0 r k.1 in
+    (x.0, appended_other p after bucket t i x.0 place r a x.1))
     (λ h. let k = held_place (key_at p) index place tied.indexed h in let x = current_item p index k.0 place k.1 in none-some x.0 (sym a.fresh ∙ x.1))
     (subst (λ (s : Sizes). 2 * (s.segments * (s.segment_size / 32)) ≤ length index.slots) (sym a.sizes) tied.roomy)
 
 -- what `insert` says of the index, at the pool behind the append
-pub appended_index : (p after : PoolState) (bucket t : ℕ) (i : Item) (place : Place) (index : Table) (marks : Marks) (found : Table) → IsTied p index marks → IsAppended p bucket t i after place
+pub appended_index : (p after : PoolState) (bucket t : ℕ) (i : Item) (place : Place) (index : Table) (marks : Marks)
+    (found : Table) → IsTied p index marks → IsAppended p bucket t i after place
     → finite.get (current p index) i.key ≡ None
-    → (IsIndex (key_at after) index → key_at after place ≡ Some i.key → place_at (key_at after) index i.key ≡ None → IsMap (key_at after) found (finite.insert (places (key_at after) index) i.key place))
+    → (IsIndex (key_at after) index → key_at after place ≡ Some i.key → place_at (key_at after) index i.key ≡ None
+    → IsMap (key_at after) found (finite.insert (places (key_at after) index) i.key place))
     → IsMap (key_at after) found (finite.insert (current p index) i.key place)
 appended_index p after bucket t i place index marks found tied a absent says =
     let m = appended_current p after bucket t i place index tied.indexed a in

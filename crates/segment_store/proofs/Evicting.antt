@@ -13,7 +13,7 @@ use Rattle.std.proofs.lemmas.Option.{none-some}
 use Rattle.std.proofs.lemmas.List.Sums.{sum_by-cons}
 use Rattle.std.proofs.lemmas.List.Elements.{All-head, All-tail, All-nil, All-cons}
 use Rattle.proto.specs.Cache.{Entry, Entries, entry_size}
-use Rattle.proto.specs.Steps.{size_at, contains_bytes}
+use Rattle.proto.specs.Steps.{size_at, contains_bytes, without}
 use Rattle.proto.proofs.CacheLemmas.{get-remove, if_live}
 use Rattle.segments.specs.declared.place.Place.{Place}
 use Rattle.segments.specs.Items.{Item, item_size, size_of_all}
@@ -64,7 +64,8 @@ pub shown_sizes : (p : PoolState) (index : Table) (t : ℕ) (ss : List Standing)
     → sum_by (size_at (shown p index t)) (map key_in ss) ≡ sum_by size_in ss
 shown_sizes p index t [] wait all = refl
 shown_sizes p index t (s ∷ ss) wait all =
-    let here : size_at (shown p index t) s.item.key ≡ item_size s.item = ap (λ (o : Option Entry). option_map_or (entry_size s.item.key) o 0) (shown_item p index t s wait (All-head (IsCurrent p index) s ss all)) in
+    let here : size_at (shown p index t) s.item.key ≡ item_size s.item = ap
+    (λ (o : Option Entry). option_map_or (entry_size s.item.key) o 0) (shown_item p index t s wait (All-head (IsCurrent p index) s ss all)) in
     let rest = shown_sizes p index t ss wait (All-tail (IsCurrent p index) s ss all) in
     let one = sum_by-cons (size_at (shown p index t)) s.item.key (map key_in ss) in
     let other = sum_by-cons size_in s ss in
@@ -97,7 +98,13 @@ many_keys zero m entries h = omega arith
 many_keys (suc k) m entries h =
     let x = h k (omega arith) in
     let less = many_keys k m (finite.remove entries x.key) (λ n lt. (let y = h n (omega (arith, lt)) in
-    record { key = y.key; place = y.place; there = y.there; segment = y.segment; entry = ap is_some (get-remove entries x.key y.key) ∙ other n y x lt (cases_Bool (bytes_eq y.key x.key)) })) in
+    record {
+      key = y.key;
+      place = y.place;
+      there = y.there;
+      segment = y.segment;
+      entry = ap is_some (get-remove entries x.key y.key) ∙ other n y x lt (cases_Bool (bytes_eq y.key x.key));
+    })) in
     let one = one_less entries x.key x.entry in
     omega (arith, less, one)
   where
@@ -124,7 +131,8 @@ pub many_shown : (p : PoolState) (index : Table) (marks : Marks) (t : ℕ) → I
 many_shown p index marks t tied wait live =
     many_keys p.sizes.segments (current p index) (shown p index t)
     (λ n lt.
-    let w = found_live (λ s. is_marked marks s.place) (standing p n) (live n lt) (λ (s : Standing). (s.place.segment ≡ n) × (item_in p s.place ≡ Some s.item)) (standing_all p n) in
+    let w = found_live (λ s. is_marked marks s.place) (standing p n) (live n lt)
+    (λ (s : Standing). (s.place.segment ≡ n) × (item_in p s.place ≡ Some s.item)) (standing_all p n) in
     let there = tied.marked w.0.place w.0.item w.2.1 w.1 in
     record { key = w.0.item.key; place = w.0.place; there = there; segment = w.2.0; entry = ap is_some (shown_item p index t w.0 wait (w.2.1, there)) })
 
@@ -158,13 +166,15 @@ key_left p index (e ∷ ss) q r all there =
 pub record HaveStayed (p : PoolState) (old : Places) (after : PoolState) (new : Places) (ss : List Standing) : Type 0 where
   pub none : (q : List ℕ) → finite.get old q ≡ None → finite.get new q ≡ None
   pub gone : (q : List ℕ) (r : Place) → finite.get old q ≡ Some r → is_left ss r ≡ true → finite.get new q ≡ None
-  pub stays : (q : List ℕ) (r : Place) → finite.get old q ≡ Some r → is_left ss r ≡ false → (s : Place) × (finite.get new q ≡ Some s) × (entry_at after s ≡ entry_at p r)
+  pub stays : (q : List ℕ) (r : Place) → finite.get old q ≡ Some r → is_left ss r ≡ false → (s : Place)
+      × (finite.get new q ≡ Some s) × (entry_at after s ≡ entry_at p r)
 
 no_entry : (b : Bool) → ◌≡◌ {A = Option Entry} None (cond b None None)
 no_entry true = refl
 no_entry false = refl
 
-shown_but : (p : PoolState) (index : Table) (after : PoolState) (new : Places) (t : ℕ) (ss : List Standing) (q : List ℕ) (o : Option Place) → All (IsCurrent p index) ss
+shown_but : (p : PoolState) (index : Table) (after : PoolState) (new : Places) (t : ℕ) (ss : List Standing) (q : List ℕ)
+    (o : Option Place) → All (IsCurrent p index) ss
     → HaveStayed p (current p index) after new ss → finite.get (current p index) q ≡ o
     → if_live t (option_map (entry_at after) (finite.get new q)) ≡ cond (contains_bytes (map key_in ss) q) None (if_live t (option_map (entry_at p) o))
 shown_but p index after new t ss q None all h e =
@@ -181,9 +191,19 @@ shown_but p index after new t ss q (Some r) all h e =
           ap (λ (o : Option Place). if_live t (option_map (entry_at after) o)) s.1 ∙ ap (λ (x : Entry). if_live t (Some x)) s.2 ∙ rw no refl
     ]
 
+-- where current items leave and the others stay, exactly their keys aren't shown any more
+pub left_entries : (p : PoolState) (index : Table) (after : PoolState) (found : Table) (t : ℕ) (ss : List Standing) → All (IsCurrent p index) ss
+    → HaveStayed p (current p index) after (current after found) ss → shown after found t ≡ without (shown p index t) (map key_in ss)
+left_entries p index after found t ss all stayed =
+    shown_without p after (current p index) (current after found) t (map key_in ss)
+    (λ q. get-live_in after (current after found) t q ∙ shown_but p index after (current after found) t ss q (finite.get (current p index) q) all stayed refl
+    ∙ ap (cond (contains_bytes (map key_in ss) q) None) (sym (get-live_in p (current p index) t q)))
+
 -- what is forgotten where current items of a crowded map leave, no more than four segments' worth
-pub evicted_kept : (p : PoolState) (index : Table) (after : PoolState) (found : Table) (t : ℕ) (ss : List Standing) → IsCrowded p index t → All (IsCurrent p index) ss
-    → HaveStayed p (current p index) after (current after found) ss → sum_by size_in ss ≤ 4 * p.sizes.segment_size → AreKept p.sizes (shown p index t) (shown after found t)
+pub evicted_kept : (p : PoolState) (index : Table) (after : PoolState) (found : Table) (t : ℕ) (ss : List Standing)
+    → IsCrowded p index t → All (IsCurrent p index) ss
+    → HaveStayed p (current p index) after (current after found) ss → sum_by size_in ss ≤ 4 * p.sizes.segment_size
+    → AreKept p.sizes (shown p index t) (shown after found t)
 evicted_kept p index after found t ss crowded all stayed small =
     record {
       forgotten = map key_in ss;
@@ -192,14 +212,14 @@ evicted_kept p index after found t ss crowded all stayed small =
         full = crowded.many;
         bounded = (let e = shown_sizes p index t ss crowded.waiting all in omega (arith, e, small));
       };
-      entries = shown_without p after (current p index) (current after found) t (map key_in ss)
-          (λ q. get-live_in after (current after found) t q ∙ shown_but p index after (current after found) t ss q (finite.get (current p index) q) all stayed refl
-          ∙ ap (cond (contains_bytes (map key_in ss) q) None) (sym (get-live_in p (current p index) t q)));
+      entries = left_entries p index after found t ss all stayed;
     }
 
 -- ---- the items of a segment
 
-current_among : (p : PoolState) (index : Table) (marks : Marks) (ss : List Standing) → IsTied p index marks → All (λ (s : Standing). item_in p s.place ≡ Some s.item) ss
+-- marked items of a segment are current
+pub current_among : (p : PoolState) (index : Table) (marks : Marks) (ss : List Standing) → IsTied p index marks
+    → All (λ (s : Standing). item_in p s.place ≡ Some s.item) ss
     → All (IsCurrent p index) (filter (λ (s : Standing). is_marked marks s.place) ss)
 current_among p index marks [] tied all = All-nil (IsCurrent p index)
 current_among p index marks (s ∷ ss) tied all =
@@ -210,7 +230,8 @@ current_among p index marks (s ∷ ss) tied all =
       | inr n ↦ rw n rest
     ]
 
-left_marked : (marks : Marks) (ss : List Standing) (r : Place) → is_marked marks r ≡ true → is_left (filter (λ (s : Standing). is_marked marks s.place) ss) r ≡ is_left ss r
+left_marked : (marks : Marks) (ss : List Standing) (r : Place) → is_marked marks r ≡ true
+    → is_left (filter (λ (s : Standing). is_marked marks s.place) ss) r ≡ is_left ss r
 left_marked marks [] r h = refl
 left_marked marks (s ∷ ss) r h =
     let rest = left_marked marks ss r h in
@@ -270,23 +291,28 @@ cleared_entry p n r some ne =
     let f = ne_eqb r.segment n ne in
     let item : item_in (cleared p n) r ≡ item_in p r = cleared_item p n r some ∙ rw f refl in
     let deadline : deadline_at (cleared p n) r ≡ deadline_at p r = cleared_deadline p n r some ∙ rw f refl in
-    ap (λ (d : Option ℕ). option_map_or (kept_entry d) (item_in (cleared p n) r) gone) deadline ∙ ap (λ (o : Option Item). option_map_or (kept_entry (deadline_at p r)) o gone) item
+    ap (λ (d : Option ℕ). option_map_or (kept_entry d) (item_in (cleared p n) r) gone) deadline
+    ∙ ap (λ (o : Option Item). option_map_or (kept_entry (deadline_at p r)) o gone) item
 
 cleared_key : (p : PoolState) (n : ℕ) (r : Place) → IsSome (segment_at p n) → (r.segment ≡ n → ⊥) → item_in (cleared p n) r ≡ item_in p r
 cleared_key p n r some ne = let f = ne_eqb r.segment n ne in cleared_item p n r some ∙ rw f refl
 
-pub tied_cleared : (p after : PoolState) (n : ℕ) (index : Table) (marks : Marks) → IsTied p index marks → IsPool after → after ≡ cleared p n → IsSome (segment_at p n)
-    → ((q : List ℕ) (r : Place) → finite.get (current p index) q ≡ Some r → r.segment ≡ n → ⊥) → IsTied after index marks × (current after index ≡ current p index)
+pub tied_cleared : (p after : PoolState) (n : ℕ) (index : Table) (marks : Marks) → IsTied p index marks → IsPool after
+    → after ≡ cleared p n → IsSome (segment_at p n)
+    → ((q : List ℕ) (r : Place) → finite.get (current p index) q ≡ Some r → r.segment ≡ n → ⊥) → IsTied after index marks
+    × (current after index ≡ current p index)
 unfolding key_at
 tied_cleared p after n index marks tied pool is some elsewhere =
-    let apart : (r : Place) (i : Item) → is_marked marks r ≡ true → item_in p r ≡ Some i → r.segment ≡ n → ⊥ = λ r i h e. elsewhere i.key r (tied.marked r i e h) in
+    let apart : (r : Place) (i : Item) → is_marked marks r ≡ true → item_in p r ≡ Some i → r.segment ≡ n
+    → ⊥ = λ r i h e. elsewhere i.key r (tied.marked r i e h) in
     let same : (r : Place) → is_marked marks r ≡ true → item_in after r ≡ item_in p r =
     λ r h. ap (λ (a : PoolState). item_in a r) is ∙ by_item p n r some (item_in p r) refl (λ i e. apart r i h e) in
     tied_same p after index marks tied
     (knows_after marks p after tied.known pool (ap (λ (a : PoolState). a.sizes) is) (λ r h s. subst IsSome (sym (same r h)) s))
     (ap (λ (a : PoolState). a.sizes) is) (λ r h. ap (option_map (λ (i : Item). i.key)) (same r h))
   where
-    by_item : (p : PoolState) (n : ℕ) (r : Place) → IsSome (segment_at p n) → (o : Option Item) → item_in p r ≡ o → ((i : Item) → o ≡ Some i → r.segment ≡ n → ⊥) → item_in (cleared p n) r ≡ item_in p r
+    by_item : (p : PoolState) (n : ℕ) (r : Place) → IsSome (segment_at p n) → (o : Option Item) → item_in p r ≡ o
+        → ((i : Item) → o ≡ Some i → r.segment ≡ n → ⊥) → item_in (cleared p n) r ≡ item_in p r
     by_item p n r some (Some i) e ne = cleared_key p n r some (ne i refl)
     by_item p n r some None e ne = cleared_item p n r some ∙ nothing (r.segment == n) (item_in p r) e
       where
@@ -294,7 +320,38 @@ tied_cleared p after n index marks tied pool is some elsewhere =
         nothing true o e = sym e
         nothing false o e = refl
 
-pub cleared_made : (p after : PoolState) (n : ℕ) (index found : Table) (marks others : Marks) (t : ℕ) → IsTied p index marks → IsTied p found others → IsPool after → after ≡ cleared p n → IsSome (segment_at p n)
+-- no place is left where each would be one too many
+still_none : (m : Places) (q : List ℕ) → ((r : Place) → finite.get m q ≡ Some r → ⊥) → finite.get m q ≡ None
+still_none m q h = by (finite.get m q) refl
+  where
+    by : (o : Option Place) → finite.get m q ≡ o → finite.get m q ≡ None
+    by None e = e
+    by (Some r) e = absurd (h r e)
+
+-- the marked items of a segment leave where it is cleared, and the others stay
+pub cleared_stayed : (p after : PoolState) (n : ℕ) (index found : Table) (marks others : Marks) → IsTied p index marks
+    → IsTied p found others → IsPool after → after ≡ cleared p n
+    → IsSome (segment_at p n) → HasLeft n (current p index) (current p found)
+    → HaveStayed p (current p index) after (current after found) (filter (λ (s : Standing). is_marked marks s.place) (standing p n))
+cleared_stayed p after n index found marks others tied left pool is some h =
+    let same = (tied_cleared p after n found others left pool is some (λ q r e s. h.elsewhere q r e s)).1 in
+    record {
+      none = λ q none. ap (λ (m : Places). finite.get m q) same ∙ still_none (current p found) q (λ r e. none-some r (sym none ∙ h.before q r e));
+      gone = λ q r e yes. ap (λ (m : Places). finite.get m q) same ∙ still_none (current p found) q
+          (λ s f. let one : Some r ≡ Some s = sym e ∙ h.before q s f in let rs : r ≡ s = cc in
+          let ne : r.segment ≡ n → ⊥ = λ z. h.elsewhere q s f (ap (λ (x : Place). x.segment) (sym rs) ∙ z) in
+          let no = none_left (standing p n) n r (λ k d lt. (standing_all p n k d lt).0) ne in
+          false≢true (sym no ∙ sym (left_marked marks (standing p n) r (tied.held q r e)) ∙ yes));
+      stays = λ q r e no.
+          (let ne : r.segment ≡ n → ⊥ = λ z.
+          let x = current_item p index q r e in
+          let yes : is_left (standing p n) r ≡ true = ap (λ m. is_left (standing p m) r) (sym z) ∙ standing_left p r x.0 x.1 in
+          false≢true (sym no ∙ left_marked marks (standing p n) r (tied.held q r e) ∙ yes) in
+          (r, ap (λ (m : Places). finite.get m q) same ∙ h.others q r e ne, ap (λ (a : PoolState). entry_at a r) is ∙ cleared_entry p n r some ne));
+    }
+
+pub cleared_made : (p after : PoolState) (n : ℕ) (index found : Table) (marks others : Marks) (t : ℕ) → IsTied p index marks
+    → IsTied p found others → IsPool after → after ≡ cleared p n → IsSome (segment_at p n)
     → HasLeft n (current p index) (current p found) → IsCrowded p index t → IsRoomMade p index t after found
 cleared_made p after n index found marks others t tied left pool is some h crowded =
     let same = (tied_cleared p after n found others left pool is some (λ q r e s. h.elsewhere q r e s)).1 in
@@ -305,26 +362,6 @@ cleared_made p after n index found marks others t tied left pool is some h crowd
       free = subst HasFree (sym is) (cleared_free p n tied.known.pool some);
       absent = λ q none. ap (λ (m : Places). finite.get m q) same ∙ still_none (current p found) q (λ r e. none-some r (sym none ∙ h.before q r e));
       kept = evicted_kept p index after found t ss crowded (current_among p index marks (standing p n) tied (λ k d lt. (standing_all p n k d lt).1))
-          (record {
-            none = λ q none. ap (λ (m : Places). finite.get m q) same ∙ still_none (current p found) q (λ r e. none-some r (sym none ∙ h.before q r e));
-            gone = λ q r e yes. ap (λ (m : Places). finite.get m q) same ∙ still_none (current p found) q
-                (λ s f. let one : Some r ≡ Some s = sym e ∙ h.before q s f in let rs : r ≡ s = cc in
-                let ne : r.segment ≡ n → ⊥ = λ z. h.elsewhere q s f (ap (λ (x : Place). x.segment) (sym rs) ∙ z) in
-                let no = none_left (standing p n) n r (λ k d lt. (standing_all p n k d lt).0) ne in
-                false≢true (sym no ∙ sym (left_marked marks (standing p n) r (tied.held q r e)) ∙ yes));
-            stays = λ q r e no.
-                (let ne : r.segment ≡ n → ⊥ = λ z.
-                let x = current_item p index q r e in
-                let yes : is_left (standing p n) r ≡ true = ap (λ m. is_left (standing p m) r) (sym z) ∙ standing_left p r x.0 x.1 in
-                false≢true (sym no ∙ left_marked marks (standing p n) r (tied.held q r e) ∙ yes) in
-                (r, ap (λ (m : Places). finite.get m q) same ∙ h.others q r e ne, ap (λ (a : PoolState). entry_at a r) is ∙ cleared_entry p n r some ne));
-          })
+          (cleared_stayed p after n index found marks others tied left pool is some h)
           (let a = marked_sizes marks (standing p n) in let b = segment_sizes p n tied.known.pool in omega (arith, a, b));
     }
-  where
-    still_none : (m : Places) (q : List ℕ) → ((r : Place) → finite.get m q ≡ Some r → ⊥) → finite.get m q ≡ None
-    still_none m q h = by (finite.get m q) refl
-      where
-        by : (o : Option Place) → finite.get m q ≡ o → finite.get m q ≡ None
-        by None e = e
-        by (Some r) e = absurd (h r e)

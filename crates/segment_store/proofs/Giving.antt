@@ -31,7 +31,9 @@ no_dead f (x ∷ xs) n e h =
           let zero_here : ◌≡◌ {A = ℕ} (if not (f x) then 1 else 0) 0 = rw y refl in
           elim (cases_eq x n) [
             | inl same ↦ ap f (sym same) ∙ y
-            | inr other ↦ (let z = ne_eqb x n other in let l : times n (x ∷ xs) ≡ 0 + times n xs = rw z refl in no_dead f xs n (omega (arith, e, count, zero_here)) (omega (arith, h, l)))
+            | inr other ↦
+                (let z = ne_eqb x n other in let l : times n (x ∷ xs) ≡ 0 + times n xs = rw z refl in
+                no_dead f xs n (omega (arith, e, count, zero_here)) (omega (arith, h, l)))
           ]
       | inr z ↦
           let one_here : ◌≡◌ {A = ℕ} (if not (f x) then 1 else 0) 1 = rw z refl in

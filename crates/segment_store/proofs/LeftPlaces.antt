@@ -44,8 +44,10 @@ standing_left p r i e =
     let w = standing_by r.segment 0 (items_of (segment_at p r.segment)) r.offset i e in
     let zero_plus : 0 + r.offset ≡ r.offset = omega arith in
     let d : Standing = record { place = record { segment = r.segment; offset = 0 }; item = i } in
-    let there : get_or (standing p r.segment) w.0 d ≡ record { place = r; item = i } = w.2 ∙ ap (λ x. record { place = record { segment = r.segment; offset = x }; item = i }) zero_plus in
-    list_any_at (λ (s : Standing). same_place s.place r) (standing p r.segment) w.0 d w.1 (ap (λ (s : Standing). same_place s.place r) there ∙ same_place_itself r)
+    let there : get_or (standing p r.segment) w.0 d ≡ record { place = r; item = i } = w.2
+    ∙ ap (λ x. record { place = record { segment = r.segment; offset = x }; item = i }) zero_plus in
+    list_any_at (λ (s : Standing). same_place s.place r) (standing p r.segment) w.0 d w.1
+    (ap (λ (s : Standing). same_place s.place r) there ∙ same_place_itself r)
 
 pub leaving_first : (p : PoolState) (n : ℕ) (index : Table) (t : Marks) (left : List Standing) → IsTied p index t → left ≡ standing p n
     → IsLeaving p n (current p index) index t left
@@ -54,12 +56,15 @@ leaving_first p n index t left tied is =
       tied = tied;
       before = λ q r h. h;
       others = λ q r h ne. h;
-      rest = λ q r h e. (let x = current_item p index q r h in ap (λ (ss : List Standing). is_left ss r) (is ∙ ap (standing p) (sym e)) ∙ standing_left p r x.0 x.1);
+      rest = λ q r h e.
+          (let x = current_item p index q r h in ap (λ (ss : List Standing). is_left ss r) (is ∙ ap (standing p) (sym e))
+          ∙ standing_left p r x.0 x.1);
       standing = subst (All (λ (s : Standing). (s.place.segment ≡ n) × (item_in p s.place ≡ Some s.item))) (sym is) (standing_all p n);
     }
 
 -- the next item isn't current
-pub leaving_passed : (p : PoolState) (n : ℕ) (old : Places) (index : Table) (t : Marks) (s : Standing) (left : List Standing) → IsLeaving p n old index t (s ∷ left)
+pub leaving_passed : (p : PoolState) (n : ℕ) (old : Places) (index : Table) (t : Marks) (s : Standing) (left : List Standing)
+    → IsLeaving p n old index t (s ∷ left)
     → is_marked t s.place ≡ false → IsLeaving p n old index t left
 leaving_passed p n old index t s left h free =
     record {
@@ -75,7 +80,8 @@ leaving_passed p n old index t s left h free =
     }
 
 -- the next item has left
-pub leaving_more : (p : PoolState) (n : ℕ) (old : Places) (index found : Table) (t u : Marks) (s : Standing) (left : List Standing) → IsLeaving p n old index t (s ∷ left)
+pub leaving_more : (p : PoolState) (n : ℕ) (old : Places) (index found : Table) (t u : Marks) (s : Standing) (left : List Standing)
+    → IsLeaving p n old index t (s ∷ left)
     → finite.get (current p index) s.item.key ≡ Some s.place
     → IsTied p found u → current p found ≡ finite.remove (current p index) s.item.key → IsLeaving p n old found u left
 leaving_more p n old index found t u s left h there tied is =
@@ -86,7 +92,9 @@ leaving_more p n old index found t u s left h there tied is =
       others = λ q r e ne.
           (let was = h.others q r e ne in
           ap (λ (m : Places). finite.get m q) is ∙ removed_other (current p index) s.item.key q r
-          (λ same. ne (let one : Some r ≡ Some s.place = sym was ∙ ap (finite.get (current p index)) same ∙ there in let e : r ≡ s.place = cc in ap (λ (x : Place). x.segment) e ∙ here.0)) was);
+          (λ same. ne
+          (let one : Some r ≡ Some s.place = sym was ∙ ap (finite.get (current p index)) same ∙ there in
+          let e : r ≡ s.place = cc in ap (λ (x : Place). x.segment) e ∙ here.0)) was);
       rest = λ q r e same.
           (let was = removed_at (current p index) s.item.key q r (ap (λ (m : Places). finite.get m q) (sym is) ∙ e) in
           elim (cases_Bool (same_place s.place r)) [
@@ -100,7 +108,8 @@ leaving_more p n old index found t u s left h there tied is =
       standing = All-tail (λ (x : Standing). (x.place.segment ≡ n) × (item_in p x.place ≡ Some x.item)) s left h.standing;
     }
 
-pub has_left : (p : PoolState) (n : ℕ) (old : Places) (index : Table) (t : Marks) (left : List Standing) → IsLeaving p n old index t left → left ≡ [] → HasLeft n old (current p index)
+pub has_left : (p : PoolState) (n : ℕ) (old : Places) (index : Table) (t : Marks) (left : List Standing)
+    → IsLeaving p n old index t left → left ≡ [] → HasLeft n old (current p index)
 has_left p n old index t left h none =
     record {
       before = h.before;
@@ -137,19 +146,23 @@ expiring_passed p t old index marks n h waits =
 
 -- the keys of the next segment have left
 pub expiring_more : (p : PoolState) (t : ℕ) (old : Places) (index found : Table) (marks others : Marks) (n : ℕ) → IsExpiring p t old index marks n
-    → has_arrived (deadline_in (segment_at p n)) t ≡ true → IsTied p found others → HasLeft n (current p index) (current p found) → IsExpiring p t old found others (n + 1)
+    → has_arrived (deadline_in (segment_at p n)) t ≡ true → IsTied p found others → HasLeft n (current p index) (current p found)
+    → IsExpiring p t old found others (n + 1)
 expiring_more p t old index found marks others n h arrived tied left =
     record {
       tied = tied;
       before = λ q r e. h.before q r (left.before q r e);
-      others = λ q r e w. left.others q r (h.others q r e w) (λ same. false≢true (sym w ∙ ap (λ m. has_arrived (deadline_in (segment_at p m)) t) same ∙ arrived));
+      others = λ q r e w. left.others q r (h.others q r e w)
+          (λ same. false≢true (sym w ∙ ap (λ m. has_arrived (deadline_in (segment_at p m)) t) same ∙ arrived));
       waiting = λ q r e lt. (let ne = left.elsewhere q r e in h.waiting q r (left.before q r e) (omega (arith, lt, ne)));
     }
 
-pub expired_left : (p : PoolState) (t : ℕ) (old : Places) (index : Table) (marks : Marks) (n : ℕ) → IsExpiring p t old index marks n → p.sizes.segments ≤ n → HaveExpiredLeft p t old (current p index)
+pub expired_left : (p : PoolState) (t : ℕ) (old : Places) (index : Table) (marks : Marks) (n : ℕ)
+    → IsExpiring p t old index marks n → p.sizes.segments ≤ n → HaveExpiredLeft p t old (current p index)
 expired_left p t old index marks n h le =
     record {
       before = h.before;
-      waiting = λ q r e. (let x = current_item p index q r e in let lt = (mark_within p r x.0 h.tied.known.pool x.1).0 in h.waiting q r e (omega (arith, lt, le)));
+      waiting = λ q r e.
+          (let x = current_item p index q r e in let lt = (mark_within p r x.0 h.tied.known.pool x.1).0 in h.waiting q r e (omega (arith, lt, le)));
       others = h.others;
     }

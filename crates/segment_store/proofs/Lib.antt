@@ -13,3 +13,9 @@ pub mod Writing
 pub mod MergedMarks
 pub mod MergedRoom
 pub mod MergePlans
+pub mod Forgotten
+pub mod MergedKeys
+pub mod Keeping
+pub mod KeptEntries
+pub mod Handling
+pub mod StayingFilled

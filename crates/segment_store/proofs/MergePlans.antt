@@ -43,6 +43,13 @@ tied_replanned p after o index marks tied pool is =
     sizes (λ r h. same_key p after o r is)
 
 -- the same is shown
+pub shown_replanned : (p after : PoolState) (o : Option Plan) (index : Table) (marks : Marks) (t : ℕ) → IsTied p index marks → IsPool after
+    → after ≡ with_plan p o → shown after index t ≡ shown p index t
+shown_replanned p after o index marks t tied pool is =
+    ap (λ (m : Places). live_in after m t) (tied_replanned p after o index marks tied pool is).1
+    ∙ shown_same p after (current p index) t (λ q r e. same_entry p after o r is)
+
+-- the same is found
 swept_replanned : (p after : PoolState) (o : Option Plan) (index : Table) (marks : Marks) (t : ℕ) → IsTied p index marks → IsPool after
     → after ≡ with_plan p o → IsCrowded p index t
     → IsSwept p index t after index marks
@@ -50,12 +57,13 @@ swept_replanned p after o index marks t tied pool is crowded =
     let same = tied_replanned p after o index marks tied pool is in
     record {
       sizes = ap (λ (a : PoolState). a.sizes) is;
-      past = subst (λ (a : PoolState). IsPast a t) (sym is) (record { within = crowded.past.within; opened = crowded.past.opened });
+      past = subst (λ (a : PoolState). IsPast a t) (sym is)
+          (record { within = crowded.past.within; opened = crowded.past.opened; in_order = crowded.past.in_order });
       tied = same.0;
       absent = λ q none. ap (λ (m : Places). finite.get m q) same.1 ∙ none;
       waiting = λ q r e.
           ap (λ (a : PoolState). has_arrived (deadline_at a r) t) is ∙ crowded.waiting q r (ap (λ (m : Places). finite.get m q) (sym same.1) ∙ e);
-      entries = ap (λ (m : Places). live_in after m t) same.1 ∙ shown_same p after (current p index) t (λ q r e. same_entry p after o r is);
+      entries = shown_replanned p after o index marks t tied pool is;
     }
 
 -- it is as crowded

@@ -17,6 +17,8 @@ use Rattle.segments.specs.Pools.{PoolState, Plan, IsPool, Used, Standing, segmen
 use Rattle.segments.specs.Places.{same_place, moved_by}
 use Rattle.segments.specs.Merges.{qualifies, front, merged_segments, merged_into, live_items, contains_number, carried_out, carried_items}
 use Rattle.segments.proofs.MovedPlaces.{moved_other, moved_live, live_source, sources_live, same_place_is, merged_front, merged_in_chain, merged_segment}
+use Rattle.segments.specs.Filling.{IsInOrder}
+use Rattle.segments.proofs.InTimeLemmas.{order_part, part_merged}
 use Rattle.tally.specs.Marks.{Marks, is_marked, lives_by}
 use Rattle.index.specs.Table.{Table}
 use Rattle.segment_store.specs.Shown.{current, entry_at, kept_entry}
@@ -63,12 +65,13 @@ past_merged p plan after t qualifying is past =
           opened_by (contains_number others n) (n == first) items (segment_at p first) (segment_at p n) t u
           (sym (ap (λ (r : PoolState). segment_at r n) now ∙ merged_segment p plan.bucket first others items n used.within) ∙ e) (past.opened first)
           (past.opened n);
+      in_order = subst IsInOrder (sym is) (order_part p (carried_out p plan) (part_merged p plan.bucket items qualifying) past.in_order);
     }
 
 -- ---- the items that are forgotten
 
 -- those that moves put nowhere
-abbrev lost : List Move → List Standing → List Standing
+abbrev pub lost : List Move → List Standing → List Standing
 lost moves ss = filter (λ (s : Standing). not (is_some (moved_by moves s.place))) ss
 
 none_of : (o : Option Place) → is_some o ≡ false → o ≡ None
@@ -136,7 +139,7 @@ current_one p index marks (s ∷ ss) tied all =
     ]
 
 -- they are current
-live_current : (p : PoolState) (index : Table) (marks : Marks) (numbers : List ℕ) → IsTied p index marks
+pub live_current : (p : PoolState) (index : Table) (marks : Marks) (numbers : List ℕ) → IsTied p index marks
     → All (IsCurrent p index) (live_items (lives_by marks) p numbers)
 live_current p index marks [] tied = All-nil (IsCurrent p index)
 live_current p index marks (n ∷ numbers) tied =
@@ -187,7 +190,7 @@ moved_entry p plan after index found marks w q r s e m =
     ]
 
 -- each key's entry stays but for the lost ones
-merged_stayed : (p : PoolState) (plan : Plan) (after : PoolState) (index found : Table) (marks : Marks) → IsMergeFollowed p plan after index found marks
+pub merged_stayed : (p : PoolState) (plan : Plan) (after : PoolState) (index found : Table) (marks : Marks) → IsMergeFollowed p plan after index found marks
     → HaveStayed p (current p index) after (current after found) (lost plan.moves (live_items (lives_by marks) p (merged_segments p plan.bucket)))
 merged_stayed p plan after index found marks w =
     let all = live_items (lives_by marks) p (merged_segments p plan.bucket) in

@@ -54,7 +54,8 @@ in_places p (suc n) r i e lt =
           let w = standing_by r.segment 0 (items_of (segment_at p r.segment)) r.offset i e in
           let zero_plus : 0 + r.offset ≡ r.offset = omega arith in
           let d : Standing = record { place = record { segment = r.segment; offset = 0 }; item = i } in
-          let there : (get_or (standing p r.segment) w.0 d).place ≡ r = ap place_in w.2 ∙ ap (λ (x : ℕ). record { segment = r.segment; offset = x }) zero_plus in
+          let there : (get_or (standing p r.segment) w.0 d).place ≡ r = ap place_in w.2
+          ∙ ap (λ (x : ℕ). record { segment = r.segment; offset = x }) zero_plus in
           Contains-append_left (map place_in (standing p n)) (places_below p n) r
           (subst (λ (m : ℕ). Contains (map place_in (standing p m)) r) same (mapped (standing p r.segment) w.0 r d w.1 there))
       | inr other ↦ Contains-append_right (map place_in (standing p n)) (places_below p n) r (in_places p n r i e (omega (arith, lt, other)))

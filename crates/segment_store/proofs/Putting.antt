@@ -7,20 +7,25 @@ use Rattle.std.specs.Result.{MatchResult, is_err}
 use Rattle.std.proofs.Common.{Result, Ok, Err}
 use Rattle.std.proofs.lemmas.Bool.{cases_Bool, eq-eqb, ne_eqb, false≢true, and_parts, not-true, or_parts, leb-false, lt-leb, ltb-true, eqb-true}
 use Rattle.std.proofs.lemmas.Option.{option_and_then_some, cond_some}
-use Rattle.proto.specs.Cache.{has_arrived}
+use Rattle.std.proofs.lemmas.Slice.Eq.{bytes_eq-Decides}
+use Rattle.proto.specs.Cache.{Entry, Entries, has_arrived}
 use Rattle.proto.specs.Buckets.{MayLive, bucket_of, time_to_live, shared_deadline, width_of}
 use Rattle.proto.proofs.DeadlineLemmas.{may_be_shared}
 use Rattle.segments.specs.declared.place.Place.{Place}
 use Rattle.segments.specs.Items.{Item, item_size}
-use Rattle.segments.specs.Pools.{PoolState, IsPool, Used, item_in, deadline_at, deadline_in, deadline_of, segment_at, tail, is_closed, lasting}
+use Rattle.segments.specs.Pools.{PoolState, IsPool, Used, Liveness, item_in, deadline_at, deadline_in, deadline_of, segment_at, tail, is_closed, lasting}
 use Rattle.segments.specs.Changes.{IsAddedToTail, IsAddedToFree, open_tail, if_takes, takes, with_item}
 use Rattle.segments.proofs.Places.{appended, set_at, just_open}
 use Rattle.segments.proofs.LinkLemmas.{some_within, last_passes, in_chain}
+use Rattle.segments.proofs.InTimeLemmas.{in_time_appended}
 use Rattle.tally.specs.Marks.{Marks}
 use Rattle.index.specs.Table.{Table, Places}
 use Rattle.segment_store.specs.Shown.{current, shown, live_in, entry_at, kept_entry}
 use Rattle.segment_store.specs.Kept.{IsTied, IsPast}
 use Rattle.segment_store.specs.Room.{IsPut, AreKept}
+use Rattle.segment_store.proofs.Opening.{in_time_past}
+use Rattle.segment_store.specs.Forgetting.{HasMadeRoom, IsPlaced}
+use Rattle.index.proofs.Mapping.{get-insert}
 use Rattle.segment_store.proofs.Showing.{shown_insert, entry_is}
 use Rattle.segment_store.proofs.Tying.{current_item}
 use Rattle.segment_store.proofs.Appending.{appended_here, appended_other}
@@ -34,25 +39,30 @@ pub record IsIn (p : PoolState) (bucket t : ℕ) (after : PoolState) (place : Pl
   pub takes : is_closed bucket used.opened t ≡ false
   pub others : (n : ℕ) → (n == place.segment) ≡ false → segment_at after n ≡ segment_at p n
 
-tail_number : (p : PoolState) (bucket t size n : ℕ) → open_tail p bucket t size ≡ Some n → (tail p bucket ≡ Some n) × (option_map_or (takes p.sizes t size) (segment_at p n) false ≡ true)
+tail_number : (p : PoolState) (bucket t size n : ℕ) → open_tail p bucket t size ≡ Some n → (tail p bucket ≡ Some n)
+    × (option_map_or (takes p.sizes t size) (segment_at p n) false ≡ true)
 tail_number p bucket t size n e =
     option_and_then_some (if_takes p t size) (tail p bucket) n e
     (λ m is_tail passes.
     let c = cond_some (option_map_or (takes p.sizes t size) (segment_at p m) false) m n passes in
     (is_tail ∙ ap Some c.1, subst (λ k. option_map_or (takes p.sizes t size) (segment_at p k) false ≡ true) c.1 c.0))
 
-takes_open : (p : PoolState) (t size : ℕ) (o : Option Used) (u : Used) → o ≡ Some u → option_map_or (takes p.sizes t size) o false ≡ true → is_closed u.bucket u.opened t ≡ false
+takes_open : (p : PoolState) (t size : ℕ) (o : Option Used) (u : Used) → o ≡ Some u
+    → option_map_or (takes p.sizes t size) o false ≡ true → is_closed u.bucket u.opened t ≡ false
 takes_open p t size None u e h = absurd (false≢true h)
 takes_open p t size (Some v) u e h =
     let same : v ≡ u = cc in
-    subst (λ (w : Used). is_closed w.bucket w.opened t ≡ false) same (not-true (is_closed v.bucket v.opened t) (and_parts (not (is_closed v.bucket v.opened t)) _ h).0)
+    subst (λ (w : Used). is_closed w.bucket w.opened t ≡ false) same
+    (not-true (is_closed v.bucket v.opened t) (and_parts (not (is_closed v.bucket v.opened t)) _ h).0)
 
-in_segment : (p : PoolState) (bucket t : ℕ) (i : Item) (after : PoolState) (place : Place) → IsPool p → IsPast p t
+pub in_segment : (p : PoolState) (bucket t : ℕ) (i : Item) (after : PoolState) (place : Place) → IsPool p → IsPast p t
     → IsAddedToTail p bucket t i after place ⊎ IsAddedToFree p bucket t i after place → IsIn p bucket t after place
 in_segment p bucket t i after place pool past (inl a) =
     let u : Used = with_item i a.segment in
     let lt = some_within p.segments place.segment a.segment a.is_tail in
-    let at : (m : ℕ) → segment_at after m ≡ (if m == place.segment then Some u else segment_at p m) = λ m. ap (λ (r : PoolState). segment_at r m) a.after_is ∙ set_at p.segments place.segment (Some u) m lt in
+    let at : (m : ℕ)
+    → segment_at after m ≡ (if m == place.segment then Some u else segment_at p m) = λ m. ap
+    (λ (r : PoolState). segment_at r m) a.after_is ∙ set_at p.segments place.segment (Some u) m lt in
     let number = tail_number p bucket t (item_size i) place.segment a.tail in
     let c = in_chain p.segments bucket place.segment (last_passes _ p.order place.segment number.0) in
     let same : a.segment.bucket ≡ bucket = ap (λ (o : Option Used). option_map_or (λ (s : Used). s.bucket) o 0) (sym a.is_tail ∙ c.is_at) ∙ c.of_bucket in
@@ -79,8 +89,10 @@ in_segment p bucket t i after place pool past (inr a) =
       others = λ n e. at n ∙ rw e refl;
     }
 
-past_put : (p : PoolState) (bucket t : ℕ) (after : PoolState) (place : Place) → IsPast p t → IsIn p bucket t after place → IsPast after t
-past_put p bucket t after place past x =
+past_put : (p : PoolState) (bucket t : ℕ) (i : Item) (after : PoolState) (place : Place) → IsPool p → IsPast p t
+    → IsAddedToTail p bucket t i after place ⊎ IsAddedToFree p bucket t i after place
+    → IsIn p bucket t after place → IsPast after t
+past_put p bucket t i after place pool past added x =
     record {
       within = past.within;
       opened = λ n u e.
@@ -92,6 +104,7 @@ past_put p bucket t after place past x =
                 subst (λ (v : Used). v.opened ≤ t) (sym is) x.was
             | inr f ↦ past.opened n u (sym (x.others n f) ∙ e)
           ];
+      in_order = (in_time_appended p bucket t i after place pool added (in_time_past p t pool past)).order;
     }
 
 -- no time to live has the bucket of what has no deadline
@@ -112,7 +125,8 @@ bucket_below ttl =
     ]
 
 -- the deadline of the segment may stand for the one asked for
-pub deadline_may : (t bucket opened : ℕ) (asked : Option ℕ) → has_arrived asked t ≡ false → bucket ≡ bucket_of (time_to_live asked t) → opened ≤ t → is_closed bucket opened t ≡ false
+pub deadline_may : (t bucket opened : ℕ) (asked : Option ℕ) → has_arrived asked t ≡ false
+    → bucket ≡ bucket_of (time_to_live asked t) → opened ≤ t → is_closed bucket opened t ≡ false
     → MayLive t asked (deadline_of bucket opened)
 deadline_may t bucket opened None waits is was unclosed =
     let e : deadline_of bucket opened ≡ None = ap (λ b. deadline_of b opened) is in
@@ -133,30 +147,76 @@ may_wait t None (Some d) h = absurd h
 may_wait t (Some a) None h = refl
 may_wait t (Some a) (Some d) h = lt-leb d t h.later
 
+-- an appended item is shown with the entry of its place, and the others as they were
+pub put_shown : (p after : PoolState) (index found : Table) (marks : Marks) (bucket t : ℕ) (i : Item) (place : Place) → IsTied p index marks
+    → IsAddedToTail p bucket t i after place ⊎ IsAddedToFree p bucket t i after place → current after found ≡ finite.insert (current p index) i.key place
+    → has_arrived (entry_at after place).deadline t ≡ false → shown after found t ≡ finite.insert (shown p index t) i.key (entry_at after place)
+put_shown p after index found marks bucket t i place tied added is waits =
+    let a = appended p bucket t i after place tied.known.pool added in
+    ap (λ (m : Places). live_in after m t) is
+    ∙ shown_insert p after (current p index) t i.key place (entry_at after place) refl (ap not waits)
+    (λ q r e. (let y = current_item p index q r e in
+    let some : IsSome (item_in p r) = subst IsSome (sym y.1) refl in
+    entry_is after r y.0 (appended_other p after bucket t i y.0 place r a y.1)
+    ∙ ap (λ (d : Option ℕ). kept_entry d y.0) (a.deadlines r some) ∙ sym (entry_is p r y.0 y.1)))
+
+-- the deadline that an appended item gets
+pub put_deadline : (p after : PoolState) (marks : Marks) (index : Table) (bucket t : ℕ) (i : Item) (asked : Option ℕ)
+    (place : Place) → IsPast p t → IsTied p index marks
+    → IsAddedToTail p bucket t i after place ⊎ IsAddedToFree p bucket t i after place
+    → has_arrived asked t ≡ false → bucket ≡ bucket_of (time_to_live asked t)
+    → (deadline : Option ℕ) × MayLive t asked deadline × (entry_at after place ≡ kept_entry deadline i) × IsPast after t
+put_deadline p after marks index bucket t i asked place past tied added waits of_bucket =
+    let a = appended p bucket t i after place tied.known.pool added in
+    let x = in_segment p bucket t i after place tied.known.pool past added in
+    let may = deadline_may t bucket x.used.opened asked waits of_bucket x.was x.takes in
+    let deadline : deadline_at after place ≡ deadline_of bucket x.used.opened = ap deadline_in x.is_at ∙ ap (λ b. deadline_of b x.used.opened) x.of_bucket in (
+      deadline_of bucket x.used.opened,
+      may,
+      entry_is after place i (appended_here p after bucket t i place a) ∙ ap (λ (d : Option ℕ). kept_entry d i) deadline,
+      past_put p bucket t i after place tied.known.pool past added x,
+    )
+
 -- An item was appended to a pool that kept what it had to.
-pub put_made : (p : PoolState) (index : Table) (mid : PoolState) (between : Table) (marks : Marks) (bucket t : ℕ) (i : Item) (asked : Option ℕ) (after : PoolState) (found : Table) (place : Place)
+pub put_made : (p : PoolState) (index : Table) (mid : PoolState) (between : Table) (marks : Marks) (bucket t : ℕ) (i : Item)
+    (asked : Option ℕ) (after : PoolState) (found : Table) (place : Place)
     → mid.sizes ≡ p.sizes → AreKept p.sizes (shown p index t) (shown mid between t) → IsPast mid t → IsTied mid between marks
-    → IsAddedToTail mid bucket t i after place ⊎ IsAddedToFree mid bucket t i after place → current after found ≡ finite.insert (current mid between) i.key place
+    → IsAddedToTail mid bucket t i after place ⊎ IsAddedToFree mid bucket t i after place
+    → current after found ≡ finite.insert (current mid between) i.key place
     → has_arrived asked t ≡ false → bucket ≡ bucket_of (time_to_live asked t) → IsPut p index t i asked after found
 put_made p index mid between marks bucket t i asked after found place sizes kept past tied added is waits of_bucket =
     let a = appended mid bucket t i after place tied.known.pool added in
-    let x = in_segment mid bucket t i after place tied.known.pool past added in
-    let may = deadline_may t bucket x.used.opened asked waits of_bucket x.was x.takes in
-    let deadline : deadline_at after place ≡ deadline_of bucket x.used.opened = ap deadline_in x.is_at ∙ ap (λ b. deadline_of b x.used.opened) x.of_bucket in
-    let here : entry_at after place ≡ kept_entry (deadline_of bucket x.used.opened) i =
-    entry_is after place i (appended_here mid after bucket t i place a) ∙ ap (λ (d : Option ℕ). kept_entry d i) deadline in
+    let d = put_deadline mid after marks between bucket t i asked place past tied added waits of_bucket in
+    let waiting : has_arrived (entry_at after place).deadline t ≡ false = ap (λ (e : Entry). has_arrived e.deadline t) d.2 ∙ may_wait t asked d.0 d.1 in
     record {
       sizes = a.sizes ∙ sizes;
-      past = past_put mid bucket t after place past x;
-      deadline = deadline_of bucket x.used.opened;
-      may_live = may;
+      past = d.3;
+      deadline = d.0;
+      may_live = d.1;
       kept = shown mid between t;
       are_kept = kept;
-      entries = ap (λ (m : Places). live_in after m t) is
-          ∙ shown_insert mid after (current mid between) t i.key place (kept_entry (deadline_of bucket x.used.opened) i) here (ap not (may_wait t asked (deadline_of bucket x.used.opened) may))
-          (λ q r e. (let y = current_item mid between q r e in
-          let some : IsSome (item_in mid r) = subst IsSome (sym y.1) refl in
-          entry_is after r y.0 (appended_other mid after bucket t i y.0 place r a y.1) ∙ ap (λ (d : Option ℕ). kept_entry d y.0) (a.deadlines r some) ∙ sym (entry_is mid r y.0 y.1)));
+      entries = put_shown mid after between found marks bucket t i place tied added is waiting
+          ∙ ap (finite.insert (shown mid between t) i.key) d.2;
+    }
+
+-- Room was made for an item, and it was appended there.
+pub put_placed : (lives : Liveness) (p : PoolState) (index : Table) (mid : PoolState) (between : Table) (marks : Marks)
+    (bucket t : ℕ) (i : Item) (asked : Option ℕ)
+    (after : PoolState) (found : Table) (place : Place)
+    → HasMadeRoom lives p index bucket t i mid between → IsPast mid t → IsTied mid between marks
+    → IsAddedToTail mid bucket t i after place ⊎ IsAddedToFree mid bucket t i after place
+    → current after found ≡ finite.insert (current mid between) i.key place
+    → has_arrived asked t ≡ false → bucket ≡ bucket_of (time_to_live asked t) → IsPlaced lives p index bucket t i after found
+put_placed lives p index mid between marks bucket t i asked after found place made past tied added is waits of_bucket =
+    let d = put_deadline mid after marks between bucket t i asked place past tied added waits of_bucket in
+    let waiting : has_arrived (entry_at after place).deadline t ≡ false = ap (λ (e : Entry). has_arrived e.deadline t) d.2 ∙ may_wait t asked d.0 d.1 in
+    record {
+      place = place;
+      stands = ap (λ (m : Places). finite.get m i.key) is ∙ get-insert (current mid between) i.key place i.key
+          ∙ (let z = (bytes_eq-Decides i.key i.key).1 refl in rw z refl);
+      written = record { roomy = mid; room = made.room; added = added };
+      entries = put_shown mid after between found marks bucket t i place tied added is waiting
+          ∙ ap (λ (e : Entries). finite.insert e i.key (entry_at after place)) made.entries;
     }
 
 -- what an append says of its result, where that is known to be one or the other

@@ -40,11 +40,13 @@ pub record IsSwept (p : PoolState) (index : Table) (t : ℕ) (after : PoolState)
   pub waiting : AllWait after (current after found) t
   pub entries : shown after found t ≡ shown p index t
 
-pub swept : (p after : PoolState) (index found : Table) (marks : Marks) (t : ℕ) → IsPast p t → IsTied p found marks → IsPool after → IsGivenBack (lives_by marks) p after
+pub swept : (p after : PoolState) (index found : Table) (marks : Marks) (t : ℕ) → IsPast p t → IsTied p found marks → IsPool after
+    → IsGivenBack (lives_by marks) p after
     → HaveExpiredLeft p t (current p index) (current p found) → IsSwept p index t after found marks
 swept p after index found marks t past tied pool g left =
     let same = tied_given p after found marks tied pool g in
-    let stays : (q : List ℕ) (r : Place) → finite.get (current p found) q ≡ Some r → (i : Item) × (item_in p r ≡ Some i) × (item_in after r ≡ Some i) × (deadline_at after r ≡ deadline_at p r) =
+    let stays : (q : List ℕ) (r : Place) → finite.get (current p found) q ≡ Some r → (i : Item) × (item_in p r ≡ Some i)
+    × (item_in after r ≡ Some i) × (deadline_at after r ≡ deadline_at p r) =
     λ q r e. let x = current_item p found q r e in let l = live_given (lives_by marks) p after r x.0 g x.1 (tied.held q r e) in (x.0, x.1, l.0, l.1) in
     record {
       sizes = g.sizes;
@@ -61,7 +63,8 @@ swept p after index found marks t past tied pool g left =
     }
 
 -- something was given back
-pub swept_made : (p : PoolState) (index : Table) (t : ℕ) (after : PoolState) (found : Table) (marks : Marks) → IsSwept p index t after found marks → HasFree after → IsRoomMade p index t after found
+pub swept_made : (p : PoolState) (index : Table) (t : ℕ) (after : PoolState) (found : Table) (marks : Marks)
+    → IsSwept p index t after found marks → HasFree after → IsRoomMade p index t after found
 swept_made p index t after found marks s free =
     record {
       sizes = s.sizes;
@@ -80,7 +83,8 @@ swept_crowded p index t after found marks s live =
 kept_after : (one other : Sizes) (old mid new : Entries) → other ≡ one → mid ≡ old → AreKept other mid new → AreKept one old new
 kept_after one other old mid new same is k = subst (λ (s : Sizes). AreKept s old new) same (subst (λ (e : Entries). AreKept other e new) is k)
 
-pub swept_evicted : (p : PoolState) (index : Table) (t : ℕ) (mid : PoolState) (between : Table) (marks : Marks) (after : PoolState) (found : Table) → IsSwept p index t mid between marks
+pub swept_evicted : (p : PoolState) (index : Table) (t : ℕ) (mid : PoolState) (between : Table) (marks : Marks) (after : PoolState)
+    (found : Table) → IsSwept p index t mid between marks
     → IsRoomMade mid between t after found → IsRoomMade p index t after found
 swept_evicted p index t mid between marks after found s r =
     record {
@@ -92,7 +96,8 @@ swept_evicted p index t mid between marks after found s r =
     }
 
 -- where none was given back, each segment still has a live item
-pub alive_given : (marks : Marks) (p after : PoolState) → IsPool p → IsPool after → IsFull p → IsGivenBack (lives_by marks) p after → dead_segments (lives_by marks) p ≡ 0
+pub alive_given : (marks : Marks) (p after : PoolState) → IsPool p → IsPool after → IsFull p → IsGivenBack (lives_by marks) p after
+    → dead_segments (lives_by marks) p ≡ 0
     → (n : ℕ) → n < after.sizes.segments → has_live (lives_by marks) after n ≡ true
 alive_given marks p after pool other full g none n lt =
     let within : n < p.sizes.segments = subst (λ (s : Sizes). n < s.segments) g.sizes lt in
@@ -101,4 +106,5 @@ alive_given marks p after pool other full g none n lt =
     has_live_by (lives_by marks) p after n same ∙ alive
   where
     has_live_by : (lives : Liveness) (p after : PoolState) (n : ℕ) → segment_at after n ≡ segment_at p n → has_live lives after n ≡ has_live lives p n
-    has_live_by lives p after n e = ap (λ (o : Option Used). list_any (λ (s : Standing). lives s.place s.item (deadline_in o)) (standing_from n 0 (items_of o))) e
+    has_live_by lives p after n e = ap
+        (λ (o : Option Used). list_any (λ (s : Standing). lives s.place s.item (deadline_in o)) (standing_from n 0 (items_of o))) e

@@ -22,7 +22,8 @@ use Rattle.segment_store.specs.Shown.{kept_entry, gone, entry_at, entries_at, li
 use Rattle.segment_store.specs.Leaving.{HaveExpiredLeft}
 
 find-map : (p : PoolState) (es : List (List ℕ × Place)) (q : List ℕ)
-    → finite.find (slice_cmp nat_cmp) q (map (λ (e : List ℕ × Place). (e.0, entry_at p e.1)) es) ≡ option_map (entry_at p) (finite.find (slice_cmp nat_cmp) q es)
+    → finite.find (slice_cmp nat_cmp) q (map (λ (e : List ℕ × Place). (e.0, entry_at p e.1)) es) ≡ option_map (entry_at p)
+    (finite.find (slice_cmp nat_cmp) q es)
 find-map p [] q = refl
 find-map p (e ∷ es) q =
     elim (cases_Bool (is_eq (slice_cmp nat_cmp q e.0))) [
@@ -40,7 +41,8 @@ get-entries_at p m q =
 pub get-live_in : (p : PoolState) (m : Places) (t : ℕ) (q : List ℕ) → finite.get (live_in p m t) q ≡ if_live t (option_map (entry_at p) (finite.get m q))
 get-live_in p m t q = get-live (entries_at p m) t q ∙ ap (if_live t) (get-entries_at p m q)
 
-same_maps : (p after : PoolState) (o : Option Place) → ((r : Place) → o ≡ Some r → entry_at after r ≡ entry_at p r) → option_map (entry_at after) o ≡ option_map (entry_at p) o
+same_maps : (p after : PoolState) (o : Option Place) → ((r : Place) → o ≡ Some r → entry_at after r ≡ entry_at p r)
+    → option_map (entry_at after) o ≡ option_map (entry_at p) o
 same_maps p after None h = refl
 same_maps p after (Some r) h = ap Some (h r refl)
 
@@ -53,7 +55,8 @@ shown_same p after m t h =
 live_entry : (t : ℕ) (e : Entry) → is_live e t ≡ true → if_live t (Some e) ≡ Some e
 live_entry t e waits = rw waits refl
 
-if_live-insert : (t : ℕ) (after : PoolState) (b : Bool) (place : Place) (e : Entry) (o : Option Place) (w : Option Entry) → entry_at after place ≡ e → is_live e t ≡ true
+if_live-insert : (t : ℕ) (after : PoolState) (b : Bool) (place : Place) (e : Entry) (o : Option Place) (w : Option Entry)
+    → entry_at after place ≡ e → is_live e t ≡ true
     → if_live t (option_map (entry_at after) o) ≡ w → if_live t (option_map (entry_at after) (cond b (Some place) o)) ≡ cond b (Some e) w
 if_live-insert t after true place e o w is waits h = ap (λ x. if_live t (Some x)) is ∙ live_entry t e waits
 if_live-insert t after false place e o w is waits h = h
@@ -69,7 +72,8 @@ shown_insert p after m t key place e is waits h =
     (ap (if_live t) (same_maps p after (finite.get m q) (h q)) ∙ sym (get-live_in p m t q))
     ∙ sym (get-insert (live_in p m t) key e q))
 
-if_live-remove : (t : ℕ) (p : PoolState) (b : Bool) (o : Option Place) → if_live t (option_map (entry_at p) (cond b None o)) ≡ cond b None (if_live t (option_map (entry_at p) o))
+if_live-remove : (t : ℕ) (p : PoolState) (b : Bool) (o : Option Place)
+    → if_live t (option_map (entry_at p) (cond b None o)) ≡ cond b None (if_live t (option_map (entry_at p) o))
 if_live-remove t p true o = refl
 if_live-remove t p false o = refl
 
@@ -109,7 +113,8 @@ not_live p place t h =
     rw arrived refl
 
 -- where exactly the keys leave whose deadline has come, all that is live is still shown
-left_by : (p : PoolState) (t : ℕ) (o n : Option Place) → ((r : Place) → n ≡ Some r → o ≡ Some r) → ((r : Place) → n ≡ Some r → has_arrived (deadline_at p r) t ≡ false)
+left_by : (p : PoolState) (t : ℕ) (o n : Option Place) → ((r : Place) → n ≡ Some r → o ≡ Some r)
+    → ((r : Place) → n ≡ Some r → has_arrived (deadline_at p r) t ≡ false)
     → ((r : Place) → o ≡ Some r → has_arrived (deadline_at p r) t ≡ false → n ≡ Some r)
     → if_live t (option_map (entry_at p) n) ≡ if_live t (option_map (entry_at p) o)
 left_by p t None None a b c = refl
@@ -123,7 +128,9 @@ left_by p t (Some s) None a b c =
 
 pub shown_left : (p : PoolState) (t : ℕ) (old new : Places) → HaveExpiredLeft p t old new → live_in p new t ≡ live_in p old t
 shown_left p t old new h =
-    same_entries _ _ (λ q. get-live_in p new t q ∙ left_by p t (finite.get old q) (finite.get new q) (h.before q) (h.waiting q) (h.others q) ∙ sym (get-live_in p old t q))
+    same_entries _ _
+    (λ q. get-live_in p new t q ∙ left_by p t (finite.get old q) (finite.get new q) (h.before q) (h.waiting q) (h.others q)
+    ∙ sym (get-live_in p old t q))
 
 -- what isn't shown any more was forgotten
 pub shown_without : (p after : PoolState) (old new : Places) (t : ℕ) (forgotten : List (List ℕ))
@@ -132,7 +139,8 @@ pub shown_without : (p after : PoolState) (old new : Places) (t : ℕ) (forgotte
 shown_without p after old new t forgotten h = same_entries _ _ (λ q. h q ∙ sym (get-without (live_in p old t) forgotten q))
 
 -- an item whose deadline hasn't come is shown
-pub entry_live : (p : PoolState) (place : Place) (t : ℕ) (i : Item) → item_in p place ≡ Some i → has_arrived (deadline_at p place) t ≡ false → if_live t (Some (entry_at p place)) ≡ Some (entry_at p place)
+pub entry_live : (p : PoolState) (place : Place) (t : ℕ) (i : Item) → item_in p place ≡ Some i
+    → has_arrived (deadline_at p place) t ≡ false → if_live t (Some (entry_at p place)) ≡ Some (entry_at p place)
 entry_live p place t i e h =
     let is = entry_is p place i e in
     live_entry t (entry_at p place) (ap (λ (x : Entry). is_live x t) is ∙ rw h refl)

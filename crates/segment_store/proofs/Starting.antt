@@ -8,13 +8,14 @@ use Rattle.std.proofs.lemmas.Option.{none-some}
 use Rattle.proto.specs.Sizes.{Sizes}
 use Rattle.segments.specs.Pools.{PoolState, IsPool, segment_at}
 use Rattle.segments.specs.Changes.{new_pool}
+use Rattle.segments.specs.Filling.{IsInOrder}
 use Rattle.tally.specs.Marks.{Marks, KnowsPool, no_tally, mark_at}
 use Rattle.tally.proofs.MarkedPlaces.{knows_none}
 use Rattle.index.specs.Keys.{key_at}
 use Rattle.index.specs.Table.{Table, Places, IsMap}
 use Rattle.segment_store.specs.Kept.{IsTied, IsPast}
 
-nothing_at : {X : Type 0} (x : X) (n k : ℕ) → get_or (replicate n x) k x ≡ x
+pub nothing_at : {X : Type 0} (x : X) (n k : ℕ) → get_or (replicate n x) k x ≡ x
 nothing_at x zero k = refl
 nothing_at x (suc n) zero = refl
 nothing_at x (suc n) (suc k) = nothing_at x n k
@@ -47,4 +48,5 @@ past_start p sizes is =
     record {
       within = omega arith;
       opened = λ n u e. absurd (none-some u (sym (ap (λ (q : PoolState). segment_at q n) is ∙ nothing_at None sizes.segments n) ∙ e));
+      in_order = subst IsInOrder (sym is) tt;
     }

@@ -47,7 +47,8 @@ key_of p r i h = rw h refl
 pub current_key : (p : PoolState) (index : Table) (q : List ℕ) (r : Place) → finite.get (current p index) q ≡ Some r → key_at p r ≡ Some q
 current_key p index q r h = (stands_from_get (key_at p) index.slots q r h).key_is
 
-pub current_item : (p : PoolState) (index : Table) (q : List ℕ) (r : Place) → finite.get (current p index) q ≡ Some r → (i : Item) × (item_in p r ≡ Some i) × (i.key ≡ q)
+pub current_item : (p : PoolState) (index : Table) (q : List ℕ) (r : Place) → finite.get (current p index) q ≡ Some r → (i : Item)
+    × (item_in p r ≡ Some i) × (i.key ≡ q)
 current_item p index q r h = keyed_item p r q (current_key p index q r h)
 
 pub some_item : (p : PoolState) (r : Place) (i : Item) → item_in p r ≡ Some i → IsSome (item_in p r)
@@ -80,7 +81,8 @@ mark_itself : (x : Place) → is_mark_of x x.segment (x.offset / 32) ≡ true
 mark_itself x = same_place_itself (record { segment = x.segment; offset = x.offset / 32 })
 
 -- items that share a mark stand at one place
-pub same_mark : (p : PoolState) (a b : Place) (i j : Item) → IsPool p → item_in p a ≡ Some i → item_in p b ≡ Some j → is_mark_of a b.segment (b.offset / 32) ≡ true → a ≡ b
+pub same_mark : (p : PoolState) (a b : Place) (i j : Item) → IsPool p → item_in p a ≡ Some i → item_in p b ≡ Some j
+    → is_mark_of a b.segment (b.offset / 32) ≡ true → a ≡ b
 same_mark p a b i j k e f h =
     let parts = is_of_place a b.segment (b.offset / 32) h in
     let offset = own_marks p a b i j k e f parts.0 parts.1 in
@@ -91,7 +93,8 @@ mark_if b true x h e = absurd (true_false (sym h ∙ e))
 mark_if b false x h e = (refl, h)
 
 -- a mark is left where another item's was taken away
-pub other_mark : (t : Marks) (p : PoolState) (place r : Place) (i j : Item) → KnowsPool t p → item_in p place ≡ Some i → item_in p r ≡ Some j → (place ≡ r → ⊥) → is_marked t r ≡ true
+pub other_mark : (t : Marks) (p : PoolState) (place r : Place) (i j : Item) → KnowsPool t p → item_in p place ≡ Some i
+    → item_in p r ≡ Some j → (place ≡ r → ⊥) → is_marked t r ≡ true
     → is_marked (with_mark false t place) r ≡ true
 other_mark t p place r i j known e f differ h =
     let at = mark_after false t place r.segment (r.offset / 32) known.sized (item_within t p place known (some_item p place i e)) in
@@ -101,7 +104,8 @@ other_mark t p place r i j known e f differ h =
     ]
 
 -- and what is marked then was marked, and is another one
-pub left_mark : (t : Marks) (p : PoolState) (place r : Place) (i : Item) → KnowsPool t p → item_in p place ≡ Some i → is_marked (with_mark false t place) r ≡ true
+pub left_mark : (t : Marks) (p : PoolState) (place r : Place) (i : Item) → KnowsPool t p → item_in p place ≡ Some i
+    → is_marked (with_mark false t place) r ≡ true
     → (is_marked t r ≡ true) × (place ≡ r → ⊥)
 left_mark t p place r i known e h =
     let at = mark_after false t place r.segment (r.offset / 32) known.sized (item_within t p place known (some_item p place i e)) in
@@ -124,7 +128,8 @@ removed_other m key q r differ h =
       | inr apart ↦ get-remove m key q ∙ rw apart h
     ]
 
-pub inserted_at : (m : Places) (key q : List ℕ) (place r : Place) → finite.get (finite.insert m key place) q ≡ Some r → ((q ≡ key) × (place ≡ r)) ⊎ ((q ≡ key → ⊥) × (finite.get m q ≡ Some r))
+pub inserted_at : (m : Places) (key q : List ℕ) (place r : Place) → finite.get (finite.insert m key place) q ≡ Some r
+    → ((q ≡ key) × (place ≡ r)) ⊎ ((q ≡ key → ⊥) × (finite.get m q ≡ Some r))
 inserted_at m key q place r h = by (cases_Bool (bytes_eq q key)) (sym (get-insert m key place q) ∙ h)
   where
     by : (bytes_eq q key ≡ true) ⊎ (bytes_eq q key ≡ false) → cond (bytes_eq q key) (Some place) (finite.get m q) ≡ Some r
@@ -132,14 +137,16 @@ inserted_at m key q place r h = by (cases_Bool (bytes_eq q key)) (sym (get-inser
     by (inl same) e = (let f : Some place ≡ Some r = rw same at e in inl ((bytes_eq-Decides q key).0 same, cc))
     by (inr apart) e = inr (λ same. true_false (sym ((bytes_eq-Decides q key).1 same) ∙ apart), rw apart at e)
 
-pub inserted_other : (m : Places) (key q : List ℕ) (place r : Place) → (q ≡ key → ⊥) → finite.get m q ≡ Some r → finite.get (finite.insert m key place) q ≡ Some r
+pub inserted_other : (m : Places) (key q : List ℕ) (place r : Place) → (q ≡ key → ⊥) → finite.get m q ≡ Some r
+    → finite.get (finite.insert m key place) q ≡ Some r
 inserted_other m key q place r differ h =
     elim (cases_Bool (bytes_eq q key)) [
       | inl same ↦ absurd (differ ((bytes_eq-Decides q key).0 same))
       | inr apart ↦ get-insert m key place q ∙ rw apart h
     ]
 
-pub tied_left : (p : PoolState) (index after : Table) (t : Marks) (key : List ℕ) (place : Place) → IsTied p index t → finite.get (current p index) key ≡ Some place
+pub tied_left : (p : PoolState) (index after : Table) (t : Marks) (key : List ℕ) (place : Place) → IsTied p index t
+    → finite.get (current p index) key ≡ Some place
     → IsMap (key_at p) after (finite.remove (current p index) key) → IsSameSize index after → IsTied p after (with_mark false t place)
 tied_left p index after t key place tied there m size =
     let x = current_item p index key place there in
@@ -197,7 +204,8 @@ touched_key p place r h =
       | inr n ↦ ap (option_map (λ (i : Item). i.key)) (touched_item p place r h ∙ rw n refl)
     ]
 
-pub tied_touched : (p after : PoolState) (index : Table) (t : Marks) (place : Place) → IsTied p index t → IsSome (item_in p place) → IsPool after → after ≡ touched p place
+pub tied_touched : (p after : PoolState) (index : Table) (t : Marks) (place : Place) → IsTied p index t → IsSome (item_in p place)
+    → IsPool after → after ≡ touched p place
     → IsTied after index t × (current after index ≡ current p index)
 tied_touched p after index t place tied some pool is =
     subst (λ (a : PoolState). IsTied a index t × (current a index ≡ current p index)) (sym is)
@@ -205,7 +213,8 @@ tied_touched p after index t place tied some pool is =
 
 given_key : (t : Marks) (p after : PoolState) (r : Place) (o : Option Item) → IsGivenBack (lives_by t) p after → item_in p r ≡ o → is_marked t r ≡ true
     → option_map (λ (i : Item). i.key) (item_in after r) ≡ option_map (λ (i : Item). i.key) o
-given_key t p after r None g e h = ap (option_map (λ (i : Item). i.key)) (given_item (lives_by t) p after r g ∙ none (has_live (lives_by t) p r.segment) (item_in p r) e)
+given_key t p after r None g e h = ap (option_map (λ (i : Item). i.key))
+    (given_item (lives_by t) p after r g ∙ none (has_live (lives_by t) p r.segment) (item_in p r) e)
   where
     none : (b : Bool) (o : Option Item) → o ≡ None → (if b then o else None) ≡ None
     none true o e = e
@@ -221,7 +230,8 @@ tied_given p after index t tied pool g =
 
 -- ---- an item is appended
 
-marked_after : (t : Marks) (p : PoolState) (place r : Place) → KnowsPool t p → IsSome (item_in p place) → is_marked (with_mark true t place) r ≡ (if is_mark_of place r.segment (r.offset / 32) then true else is_marked t r)
+marked_after : (t : Marks) (p : PoolState) (place r : Place) → KnowsPool t p → IsSome (item_in p place)
+    → is_marked (with_mark true t place) r ≡ (if is_mark_of place r.segment (r.offset / 32) then true else is_marked t r)
 marked_after t p place r known some = mark_after true t place r.segment (r.offset / 32) known.sized (item_within t p place known some)
 
 true_or : (b x : Bool) → x ≡ true → (if b then true else x) ≡ true
@@ -242,7 +252,8 @@ tied_appended p after bucket moment i place index found t tied pool a absent m s
           (let was = inserted_at (current p index) i.key q place r (ap (λ (n : Places). finite.get n q) (sym m.places_are) ∙ h) in
           marked_after t after place r known some ∙
           elim was [
-            | inl new ↦ ap (λ (x : Place). if is_mark_of place x.segment (x.offset / 32) then true else is_marked t x) (sym new.1) ∙ (let y = mark_itself place in rw y refl)
+            | inl new ↦ ap (λ (x : Place). if is_mark_of place x.segment (x.offset / 32) then true else is_marked t x) (sym new.1)
+                ∙ (let y = mark_itself place in rw y refl)
             | inr old ↦ true_or (is_mark_of place r.segment (r.offset / 32)) (is_marked t r) (tied.held q r old.1)
           ]);
       marked = λ r j e h.
@@ -265,7 +276,8 @@ tied_appended p after bucket moment i place index found t tied pool a absent m s
           (subst (λ (s : Sizes). 2 * (s.segments * (s.segment_size / 32)) ≤ length index.slots) (sym a.sizes) tied.roomy);
     }
   where
-    no_mark : (p : PoolState) (a b : Place) (i j : Item) → IsPool p → item_in p a ≡ Some i → item_in p b ≡ Some j → same_place b a ≡ false → is_mark_of a b.segment (b.offset / 32) ≡ false
+    no_mark : (p : PoolState) (a b : Place) (i j : Item) → IsPool p → item_in p a ≡ Some i → item_in p b ≡ Some j
+        → same_place b a ≡ false → is_mark_of a b.segment (b.offset / 32) ≡ false
     no_mark p a b i j k e f n =
         elim (cases_Bool (is_mark_of a b.segment (b.offset / 32))) [
           | inl y ↦ absurd (false≢true (sym n ∙ ap (same_place b) (same_mark p a b i j k e f y) ∙ same_place_itself b))

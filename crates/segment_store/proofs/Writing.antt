@@ -36,13 +36,15 @@ other_keys e key (f ∷ fs) h =
     elim (cases_Bool (bytes_eq key f)) [
       | inl y ↦
           let same : f ≡ key = sym ((bytes_eq-Decides key f).0 y) in
-          let none : finite.contains_key (finite.remove e key) f ≡ false = ap is_some (get-remove e key f) ∙ (let z = (bytes_eq-Decides f key).1 same in rw z refl) in
+          let none : finite.contains_key (finite.remove e key) f ≡ false = ap is_some (get-remove e key f)
+          ∙ (let z = (bytes_eq-Decides f key).1 same in rw z refl) in
           absurd (false≢true (sym none ∙ parts.0))
       | inr n ↦ rw n rest
     ]
 
 -- what a map without a key has at a key, it has with another entry at that key
-kept_at : (e : Entries) (key : List ℕ) (w : Entry) (f : List ℕ) → finite.contains_key (finite.remove e key) f ≡ true → finite.get (finite.insert e key w) f ≡ finite.get (finite.remove e key) f
+kept_at : (e : Entries) (key : List ℕ) (w : Entry) (f : List ℕ) → finite.contains_key (finite.remove e key) f ≡ true
+    → finite.get (finite.insert e key w) f ≡ finite.get (finite.remove e key) f
 kept_at e key w f h =
     elim (cases_Bool (bytes_eq f key)) [
       | inl y ↦
@@ -51,7 +53,8 @@ kept_at e key w f h =
       | inr n ↦ get-insert e key w f ∙ rw n (sym (get-remove e key f ∙ rw n refl))
     ]
 
-kept_all : (e : Entries) (key : List ℕ) (w : Entry) (fs : List (List ℕ)) → list_all (finite.contains_key (finite.remove e key)) fs ≡ true → list_all (finite.contains_key (finite.insert e key w)) fs ≡ true
+kept_all : (e : Entries) (key : List ℕ) (w : Entry) (fs : List (List ℕ))
+    → list_all (finite.contains_key (finite.remove e key)) fs ≡ true → list_all (finite.contains_key (finite.insert e key w)) fs ≡ true
 kept_all e key w [] h = refl
 kept_all e key w (f ∷ fs) h =
     let parts = and_parts (finite.contains_key (finite.remove e key) f) (list_all (finite.contains_key (finite.remove e key)) fs) h in
@@ -63,7 +66,8 @@ kept_sizes : (e : Entries) (key : List ℕ) (w : Entry) (fs : List (List ℕ)) �
 kept_sizes e key w [] h = refl
 kept_sizes e key w (f ∷ fs) h =
     let parts = and_parts (finite.contains_key (finite.remove e key) f) (list_all (finite.contains_key (finite.remove e key)) fs) h in
-    let here : size_at (finite.insert e key w) f ≡ size_at (finite.remove e key) f = ap (λ (o : Option Entry). option_map_or (entry_size f) o 0) (kept_at e key w f parts.0) in
+    let here : size_at (finite.insert e key w) f ≡ size_at (finite.remove e key) f = ap
+    (λ (o : Option Entry). option_map_or (entry_size f) o 0) (kept_at e key w f parts.0) in
     let rest = kept_sizes e key w fs parts.1 in
     let one = sum_by-cons (size_at (finite.insert e key w)) f fs in
     let other = sum_by-cons (size_at (finite.remove e key)) f fs in
@@ -99,11 +103,13 @@ inserted_kept e key w fs other =
           let no : contains_bytes fs q ≡ false = ap (contains_bytes fs) ((bytes_eq-Decides q key).0 y) ∙ other in
           rw y (sym (get-without (finite.insert e key w) fs q ∙ rw no (get-insert e key w q ∙ rw y refl)))
       | inr n ↦
-          rw n (sym (get-without (finite.insert e key w) fs q ∙ ap (cond (contains_bytes fs q) None) (get-insert e key w q ∙ rw n (sym (get-remove e key q ∙ rw n refl)))))
+          rw n (sym (get-without (finite.insert e key w) fs q
+          ∙ ap (cond (contains_bytes fs q) None) (get-insert e key w q ∙ rw n (sym (get-remove e key q ∙ rw n refl)))))
     ])
 
 -- the old entry of a key left, some others were forgotten, and the key was written
-pub written_by : (sizes : Sizes) (t : ℕ) (e kept new : Entries) (key : List ℕ) (asked : Entry) (deadline : Option ℕ) → AreKept sizes (finite.remove e key) kept → MayLive t asked.deadline deadline
+pub written_by : (sizes : Sizes) (t : ℕ) (e kept new : Entries) (key : List ℕ) (asked : Entry) (deadline : Option ℕ)
+    → AreKept sizes (finite.remove e key) kept → MayLive t asked.deadline deadline
     → new ≡ finite.insert kept key (record asked { deadline = deadline }) → IsWritten sizes t e key asked new
 written_by sizes t e kept new key asked deadline k may is =
     let w : Entry = record asked { deadline = deadline } in
@@ -135,7 +141,14 @@ may_store p index marks t i tied (inr f) cas flags reads =
     let short = s.short_key in
     let few = f.1 in
     let g = tied.known.pool.geometry.smallest in
-    record { cas = cas; flags = flags; some_key = omega (arith, some, key); short_key = omega (arith, short, key); reads = omega (arith, reads); small = small_number (length i.key) (length i.value) p.sizes.segment_size (omega (arith, short, key)) few g }
+    record {
+      cas = cas;
+      flags = flags;
+      some_key = omega (arith, some, key);
+      short_key = omega (arith, short, key);
+      reads = omega (arith, reads);
+      small = small_number (length i.key) (length i.value) p.sizes.segment_size (omega (arith, short, key)) few g;
+    }
   where
     small_number : (k v size : ℕ) → k ≤ 250 → v ≤ 20 → 4096 ≤ size → 8 * ((24 + k + v + 7) / 8) ≤ size / 8
     small_number k v size a b c = omega (arith, a, b, c)

@@ -4,6 +4,7 @@ use Rattle.std.specs.FinMap as finite
 use Rattle.segments.specs.declared.place.Place.{Place}
 use Rattle.segments.specs.Items.{Item}
 use Rattle.segments.specs.Pools.{PoolState, Used, segment_at, item_in}
+use Rattle.segments.specs.Filling.{IsInOrder}
 use Rattle.tally.specs.Marks.{Marks, KnowsPool, is_marked}
 use Rattle.index.specs.Table.{Table, IsIndex}
 use Rattle.index.specs.Keys.{key_at}
@@ -18,7 +19,9 @@ pub record IsTied (p : PoolState) (index : Table) (tally : Marks) : Type 0 where
   pub marked : (place : Place) (i : Item) → item_in p place ≡ Some i → is_marked tally place ≡ true → finite.get (current p index) i.key ≡ Some place
   pub roomy : 2 * (p.sizes.segments * (p.sizes.segment_size / 32)) ≤ length index.slots
 
--- no segment was opened after the moment t, which is within its limit
+-- no segment was opened after the moment t, which is within its limit, and those of chains stand in the order of their
+-- opening moments
 pub record IsPast (p : PoolState) (t : ℕ) : Type 0 where
   pub within : t ≤ 2 ^ 62
   pub opened : (n : ℕ) (u : Used) → segment_at p n ≡ Some u → u.opened ≤ t
+  pub in_order : IsInOrder p

@@ -3,6 +3,12 @@ pub mod Kept
 pub mod State
 pub mod Leaving
 pub mod Room
+pub mod Living
+pub mod Making
+pub mod Forgetting
 pub mod Writes
+pub mod Keeping
 pub mod StoreState
 pub mod Merging
+pub mod Handling
+pub mod StayingFilled

@@ -1,11 +1,13 @@
 -- What contracts see of a segmented store.
 use Rattle.proto.specs.Sizes.{Sizes}
 use Rattle.proto.specs.Cache.{Cache}
-use Rattle.std.specs.Prelude.{ℕ}
+use Rattle.std.specs.Prelude.{ℕ, List}
 use Rattle.engine.specs.declared.commands.Engine.{Engine}
 use Rattle.engine.specs.Engines.{cache_in}
 use Rattle.segment_store.specs.declared.segment_map.SegmentMap.{SegmentMap}
+use Rattle.proto.specs.Stored.{StoredItem}
 use Rattle.segment_store.specs.Shown.{shown}
+use Rattle.segment_store.specs.Keeping.{KeepsStored}
 
 -- the sizes that it was made for
 abbrev pub sizes_in : Engine SegmentMap → Sizes
@@ -18,3 +20,7 @@ segmented_cache engine = cache_in (λ (m : SegmentMap). shown m.pool m.index m.m
 -- the moment of the last request
 abbrev pub last_moment : Engine SegmentMap → ℕ
 last_moment engine = engine.map.moment
+
+-- these items were stored so far, none with a deadline, and nothing was forgotten
+abbrev pub keeps_stored : Engine SegmentMap → List StoredItem → Type 0
+keeps_stored engine items = KeepsStored engine.map items

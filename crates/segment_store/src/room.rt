@@ -5,13 +5,17 @@ ghost use Rattle.std.specs.FinMap as map;
 ghost use Rattle.proto.specs.Sizes.{item_limit};
 ghost use Rattle.proto.specs.Cache.{has_arrived};
 ghost use Rattle.proto.specs.Buckets.{bucket_of, time_to_live};
-ghost use Rattle.segments.specs.Items.{IsStorable};
+ghost use Rattle.segments.specs.Items.{Item, IsStorable};
 ghost use Rattle.segments.specs.Shown.{item_of};
 ghost use Rattle.segments.specs.Pools.{PoolState, bucket_count};
 ghost use Rattle.segments.specs.Changes.{HasNoRoom, IsFull, IsAddedToTail, IsAddedToFree};
+ghost use Rattle.segments.specs.Merges.{NoneQualifies};
+ghost use Rattle.tally.specs.Marks.{lives_by};
 ghost use Rattle.segment_store.specs.Kept.{IsTied, IsPast};
 ghost use Rattle.segment_store.specs.Shown.{current};
 ghost use Rattle.segment_store.specs.Room.{IsCrowded, IsRoomMade, IsPut};
+ghost use Rattle.segment_store.specs.Living.{live_marks};
+ghost use Rattle.segment_store.specs.Forgetting.{IsEvicted, HasMadeRoom, IsPlaced};
 
 use crate::leaving::{leave_expired, leave_segment};
 use crate::merging::merge;
@@ -27,6 +31,7 @@ fn clear_oldest(pool: &mut Pool, index: &mut Index, tally: &mut Tally)
     requires full { IsFull pool.old }
     ensures tied { IsTied pool.new index.new tally.new }
     ensures made { (t : ℕ) → IsCrowded pool.old index.old t → IsRoomMade pool.old index.old t pool.new index.new }
+    ensures evicted { NoneQualifies pool.old → IsEvicted (lives_by tally.old) pool.old index.old pool.new index.new }
 {
     if let Some(segment) = pool.oldest() {
         leave_segment(pool, index, tally, segment);
@@ -41,6 +46,7 @@ fn evict(pool: &mut Pool, index: &mut Index, tally: &mut Tally)
     requires full { IsFull pool.old }
     ensures tied { IsTied pool.new index.new tally.new }
     ensures made { (t : ℕ) → IsCrowded pool.old index.old t → IsRoomMade pool.old index.old t pool.new index.new }
+    ensures evicted { IsEvicted (lives_by tally.old) pool.old index.old pool.new index.new }
 {
     if pool.plan_merge(tally) {
         merge(pool, index, tally);
@@ -57,6 +63,7 @@ fn make_room(pool: &mut Pool, index: &mut Index, tally: &mut Tally, now: u64)
     requires full { IsFull pool.old }
     ensures tied { IsTied pool.new index.new tally.new }
     ensures made { IsRoomMade pool.old index.old now pool.new index.new }
+    ensures room { (bucket : ℕ) → (i : Item) → HasNoRoom pool.old bucket now i → HasMadeRoom (live_marks tally.old now) pool.old index.old bucket now i pool.new index.new }
 {
     leave_expired(pool, index, tally, now);
     if pool.give_back(tally) == 0 {
@@ -82,7 +89,7 @@ fn append(
     ensures appended { MatchResult result
         (λ place. (IsAddedToTail pool.old bucket now (item_of item.entry) pool.new place ⊎ IsAddedToFree pool.old bucket now (item_of item.entry) pool.new place)
         × (current pool.new index.new ≡ map.insert (current pool.old index.old) item.entry.key.now place))
-        (λ _. HasNoRoom pool.old bucket now (item_of item.entry) × (pool.new ≡ pool.old) × (index.new ≡ index.old)) }
+        (λ _. HasNoRoom pool.old bucket now (item_of item.entry) × (pool.new ≡ pool.old) × (index.new ≡ index.old) × (tally.new ≡ tally.old)) }
 {
     let place = pool.append(bucket, now, item)?;
     index.insert(item.key, place);
@@ -108,6 +115,7 @@ pub fn put(
     requires of_bucket { bucket ≡ bucket_of (time_to_live item.deadline now) }
     ensures tied { IsTied pool.new index.new tally.new }
     ensures put { IsPut pool.old index.old now (item_of item.entry) item.entry.deadline pool.new index.new }
+    ensures placed { IsPlaced (live_marks tally.old now) pool.old index.old bucket now (item_of item.entry) pool.new index.new }
 {
     if append(pool, index, tally, bucket, now, item).is_err() {
         make_room(pool, index, tally, now);

@@ -1,10 +1,11 @@
 //! The map of live entries that stand in segments.
 
-ghost use Rattle.std.specs.Prelude.{◌≡◌, ◌≤◌, ◌<◌, false, IfOk};
+ghost use Rattle.std.specs.Prelude.{◌≡◌, ◌≤◌, ◌<◌, [], false, IfOk};
 ghost use Rattle.proto.specs.Cache.{no_entries};
 ghost use Rattle.proto.specs.Buckets.{time_to_live};
 ghost use Rattle.segment_store.specs.Kept.{IsTied};
 ghost use Rattle.segment_store.specs.Shown.{shown};
+ghost use Rattle.segment_store.specs.Keeping.{KeepsStored};
 
 use crate::finding::find;
 use crate::leaving::{leave_all, leave_key};
@@ -56,6 +57,7 @@ impl SegmentMap {
         ensures sizes { IfOk result (λ m. m.pool.sizes ≡ geometry) }
         ensures entries { IfOk result (λ m. shown m.pool m.index m.moment ≡ no_entries) }
         ensures moment { IfOk result (λ m. m.moment ≡ 0) }
+        ensures keeps { IfOk result (λ m. KeepsStored m []) }
     {
         Ok(SegmentMap {
             pool: Pool::new(alloc, geometry)?,
@@ -69,7 +71,8 @@ impl SegmentMap {
 impl LiveMap for SegmentMap {
     ghost use Rattle.std.specs.Prelude.{false};
     ghost use Rattle.segment_store.specs.Shown.{shown};
-    ghost use Rattle.segment_store.specs.Writes.{StandsAt, WritesToSegments, IsReadAgain, KeepsNone};
+    ghost use Rattle.segment_store.specs.Writes.{StandsAt, WritesToSegments, IsReadAgain, HasSamePool};
+    ghost use Rattle.segment_store.specs.Keeping.{KeepsStored};
 
     type Place = Place;
 
@@ -87,7 +90,9 @@ impl LiveMap for SegmentMap {
 
     ghost reads = { IsReadAgain };
 
-    ghost keeps = { KeepsNone };
+    ghost alike = { HasSamePool };
+
+    ghost keeps = { KeepsStored };
 
     fn item_limit(&self) -> u32 {
         self.pool.geometry().item_limit()

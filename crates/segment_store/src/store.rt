@@ -1,11 +1,13 @@
 //! The cache over segments.
 
-ghost use Rattle.std.specs.Prelude.{◌≡◌, ◌≢◌, ◌≤◌, IfOk, false};
+ghost use Rattle.std.specs.Prelude.{◌≡◌, ◌≢◌, ◌≤◌, [], IfOk, false};
 ghost use Rattle.proto.specs.Cache.{empty_cache, found_at};
 ghost use Rattle.proto.specs.Steps.{Step};
 ghost use Rattle.proto.specs.History.{max_moment};
 ghost use Rattle.engine.specs.Outcomes.{outcome_at, needs_memory};
-ghost use Rattle.segment_store.specs.StoreState.{sizes_in, segmented_cache, last_moment};
+ghost use Rattle.segment_store.specs.StoreState.{sizes_in, segmented_cache, last_moment, keeps_stored};
+ghost use Rattle.segment_store.specs.Handling.{HandlesSegments};
+ghost use Rattle.segment_store.specs.StayingFilled.{StaysFilled};
 
 use crate::segment_map::SegmentMap;
 use engine::{Engine, StorageEngine};
@@ -20,7 +22,7 @@ pub struct Store {
     engine: Engine<SegmentMap>,
 }
 
-/// What is hashed before each key.
+/// What is hashed before each key where no seed is handed in.
 const SEED: u64 = 0x9e37_79b9_7f4a_7c15;
 
 impl Store {
@@ -29,6 +31,7 @@ impl Store {
         ensures sizes { IfOk result (λ s. sizes_in s.engine ≡ geometry) }
         ensures cache { IfOk result (λ s. segmented_cache s.engine ≡ empty_cache 0) }
         ensures moment { IfOk result (λ s. last_moment s.engine ≡ 0) }
+        ensures keeps { IfOk result (λ s. keeps_stored s.engine []) }
     {
         Store::starting(alloc, geometry, 0)
     }
@@ -38,8 +41,24 @@ impl Store {
         ensures sizes { IfOk result (λ s. sizes_in s.engine ≡ geometry) }
         ensures cache { IfOk result (λ s. segmented_cache s.engine ≡ empty_cache last_cas) }
         ensures moment { IfOk result (λ s. last_moment s.engine ≡ 0) }
+        ensures keeps { IfOk result (λ s. keeps_stored s.engine []) }
     {
-        let map = SegmentMap::new(alloc, geometry, SEED)?;
+        Store::seeded(alloc, geometry, last_cas, SEED)
+    }
+
+    /// An empty cache that has given out this cas number last, and hashes the seed before each key.
+    pub fn seeded(
+        alloc: Global,
+        geometry: Geometry,
+        last_cas: u64,
+        seed: u64,
+    ) -> Result<Store, NoMemory>
+        ensures sizes { IfOk result (λ s. sizes_in s.engine ≡ geometry) }
+        ensures cache { IfOk result (λ s. segmented_cache s.engine ≡ empty_cache last_cas) }
+        ensures moment { IfOk result (λ s. last_moment s.engine ≡ 0) }
+        ensures keeps { IfOk result (λ s. keeps_stored s.engine []) }
+    {
+        let map = SegmentMap::new(alloc, geometry, seed)?;
         Ok(Store {
             engine: Engine::over(alloc, map, last_cas),
         })
@@ -67,6 +86,12 @@ impl Store {
         ensures sizes { sizes_in self.new.engine ≡ sizes_in self.old.engine }
         ensures moment { last_moment self.new.engine ≡ now }
 
+        // how room is made and what is forgotten, in which bucket an item stands, and which reads are counted
+        ensures segments { HandlesSegments self.old.engine now request.now result self.new.engine }
+
+        // nothing is forgotten where segments hold little
+        ensures bounded { StaysFilled self.old.engine now request.now result self.new.engine }
+
         // where memory was refused, what was found stays; and only what shows a hit needs any
         ensures refused { result ≡ Reply.NoMemory → segmented_cache self.new.engine ≡ found_at (segmented_cache self.old.engine) now }
         ensures succeeds { needs_memory false (outcome_at (sizes_in self.old.engine) (segmented_cache self.old.engine) now request.now) ≡ false → result ≢ Reply.NoMemory }
@@ -76,7 +101,7 @@ impl Store {
 }
 
 impl StorageEngine for Store {
-    ghost use Rattle.segment_store.specs.StoreState.{sizes_in, segmented_cache, last_moment};
+    ghost use Rattle.segment_store.specs.StoreState.{sizes_in, segmented_cache, last_moment, keeps_stored};
 
     ghost sizes = { λ s. sizes_in s.engine };
 
@@ -84,8 +109,7 @@ impl StorageEngine for Store {
 
     ghost moment = { λ s. last_moment s.engine };
 
-    // that nothing is forgotten while little is stored isn't promised
-    ghost keeps = { λ s items. ⊥ };
+    ghost keeps = { λ s items. keeps_stored s.engine items };
 
     fn last_moment(&self) -> u64 {
         Store::last_moment(self)

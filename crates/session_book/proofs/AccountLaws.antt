@@ -22,7 +22,8 @@ some_or_none None = inr refl
 some_or_none (Some c) = inl refl
 
 -- the joined list ends at its last
-joined_ends : (ms more : List Message) (ended : Option EndCause) → ended ≡ ended_by None ms → (is_some ended ≡ true → more ≡ []) → EndsAtLast ms → EndsAtLast more → EndsAtLast (ms ++ more)
+joined_ends : (ms more : List Message) (ended : Option EndCause) → ended ≡ ended_by None ms → (is_some ended ≡ true → more ≡ [])
+    → EndsAtLast ms → EndsAtLast more → EndsAtLast (ms ++ more)
 joined_ends ms more ended is stops h k =
     elim (some_or_none ended) [
       | inl some ↦ rw (stops some, append-nil ms) h
@@ -48,7 +49,8 @@ read_more bytes ms more s after r h = record {
 few : (ms : List Message) (rs : List Reply) (given : List ℕ) (s : SessionState) → HasSaid ms rs given s → length rs ≤ length (asks ms)
 few ms rs given s h = omega (arith, h.replied)
 
-say_more : (given : List ℕ) (ms more : List Message) (rs : List Reply) (s after : SessionState) → ReadsOn s more after → HasSaid ms rs given s → HasSaid (ms ++ more) rs given after
+say_more : (given : List ℕ) (ms more : List Message) (rs : List Reply) (s after : SessionState) → ReadsOn s more after
+    → HasSaid ms rs given s → HasSaid (ms ++ more) rs given after
 say_more given ms more rs s after r h =
     let le : length rs ≤ length (asks ms) = few ms rs given s h in
     let queue : after.queue ≡ left (ms ++ more) rs = r.queue ∙ ap (λ (q : List Message). left (q ++ more) []) h.queue ∙ sym (left-append ms more rs le) in
@@ -102,7 +104,8 @@ whole_ended bytes rest ms all s ended h r =
     (has_one_reading bytes rest (s.unread ++ h.dropped) all ms r mine).0
 
 -- reading goes on behind what was read of a session that hasn't ended
-reads_behind : (bytes rest : List ℕ) (ms more : List Message) (s : SessionState) → s.ended ≡ None → HasRead bytes ms s → Reads s.unread more rest → Reads bytes (ms ++ more) rest
+reads_behind : (bytes rest : List ℕ) (ms more : List Message) (s : SessionState) → s.ended ≡ None → HasRead bytes ms s
+    → Reads s.unread more rest → Reads bytes (ms ++ more) rest
 reads_behind bytes rest ms more s none h r =
     let kept : bytes ≡ concat h.pieces ++ s.unread = h.whole ∙ ap (λ (d : List ℕ). concat h.pieces ++ s.unread ++ d) (h.nothing_dropped none) ∙ append-nil _ in
     let open_yet : ended_by None ms ≡ None = sym h.ended ∙ none in
@@ -115,9 +118,11 @@ reads_behind bytes rest ms more s none h r =
       no_more = λ e. r.no_more (goes_on_behind ms more open_yet r.ends_at_last (EndsAtLast-append ms more open_yet r.ends_at_last) e);
     }
   where
-    goes_on_behind : (ms more : List Message) → ended_by None ms ≡ None → EndsAtLast more → EndsAtLast (ms ++ more) → has_ended (ms ++ more) ≡ false → has_ended more ≡ false
+    goes_on_behind : (ms more : List Message) → ended_by None ms ≡ None → EndsAtLast more → EndsAtLast (ms ++ more)
+        → has_ended (ms ++ more) ≡ false → has_ended more ≡ false
     goes_on_behind ms more open_yet k both e =
-        sym (has_ended_by more k) ∙ ap (λ (o : Option EndCause). is_some (ended_by o more)) (sym open_yet) ∙ ap (λ (o : Option EndCause). is_some o) (sym (ended_by-append None ms more))
+        sym (has_ended_by more k) ∙ ap (λ (o : Option EndCause). is_some (ended_by o more)) (sym open_yet)
+        ∙ ap (λ (o : Option EndCause). is_some o) (sym (ended_by-append None ms more))
         ∙ has_ended_by (ms ++ more) both ∙ e
 
 pub read_begins : ReadBegins
@@ -138,12 +143,15 @@ read_is_whole bytes rest ms all s (inr none_spelled) h r =
     elim (some_or_none s.ended) [
       | inl ended ↦ whole_ended bytes rest ms all s ended h r
       | inr none ↦
-          (has_one_reading bytes rest s.unread all (ms ++ []) r (reads_behind bytes s.unread ms [] s none h (nothing_read s.unread none_spelled))).0 ∙ append-nil ms
+          (has_one_reading bytes rest s.unread all (ms ++ []) r
+          (reads_behind bytes s.unread ms [] s none h (nothing_read s.unread none_spelled))).0 ∙ append-nil ms
     ]
 
 pub said_begins : SaidBegins
 said_begins given ms more rs others s h = (
   s.out ++ said (left ms rs ++ more) [] ++ said (left (ms ++ more) rs) others,
-  said_more (ms ++ more) rs others ∙ ap (λ (x : List ℕ). x ++ said (left (ms ++ more) rs) others) (said-append ms more rs (few ms rs given s h) ∙ ap (λ (x : List ℕ). x ++ said (left ms rs ++ more) []) (sym h.whole))
+  said_more (ms ++ more) rs others
+      ∙ ap (λ (x : List ℕ). x ++ said (left (ms ++ more) rs) others)
+      (said-append ms more rs (few ms rs given s h) ∙ ap (λ (x : List ℕ). x ++ said (left ms rs ++ more) []) (sym h.whole))
       ∙ simp append_assoc,
 )

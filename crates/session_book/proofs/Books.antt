@@ -3,12 +3,10 @@ use Rattle.std.proofs.Common.{◌≡◌, ℕ, ◌+◌, ◌<◌, ◌≤◌, Bool,
 use Rattle.std.proofs.lemmas.List.{append-nil}
 use Rattle.session_book.proofs.Steps.{reads_nothing}
 use Rattle.std.specs.Prelude.{◌==◌, slice_get}
-use Rattle.std.proofs.lemmas.Bool.{cases_Bool, cases_eq, cases_lt, cases_order, eq-eqb, ne_eqb}
+use Rattle.std.proofs.lemmas.Bool.{cases_Bool, cases_eq, cases_lt, eq-eqb, ne_eqb}
 use Rattle.std.specs.Prelude.{IsSome}
-use Rattle.std.specs.Ordering.{nat_cmp, is_eq}
-use Rattle.std.specs.declared.cmp.Ordering.TheVariants.{Less, Equal, Greater}
-use Rattle.std.specs.Cmp.{nat_cmp_is}
-use Rattle.std.specs.BTreeMap.{BTreeMap, is_at, get_by, UpdatesBy, WritesThrough}
+use Rattle.std.specs.Bool.{nat_eq}
+use Rattle.std.specs.HashMap.{HashMap, get_by, UpdatesBy, WritesThrough}
 use Rattle.std.specs.Map.{lookup}
 use Rattle.std.specs.Result.{OnOk, OnErr}
 use Rattle.std.proofs.lemmas.Map.Steps.{set_value_same}
@@ -35,7 +33,8 @@ open_within book session s is open_now =
 pub at_session : (before after : BookState) (session : ℕ) (o : Option SessionState) → OnlyAt before after session o → session_of after session ≡ o
 at_session before after session o only = only session ∙ rw (eq-eqb session session refl) refl
 
-pub at_other : (before after : BookState) (session other : ℕ) (o : Option SessionState) → OnlyAt before after session o → (other ≡ session → ⊥) → session_of after other ≡ session_of before other
+pub at_other : (before after : BookState) (session other : ℕ) (o : Option SessionState) → OnlyAt before after session o
+    → (other ≡ session → ⊥) → session_of after other ≡ session_of before other
 at_other before after session other o only apart = only other ∙ rw (ne_eqb other session apart) refl
 
 -- a session that may stand in a book, with so many unsettled requests
@@ -44,7 +43,8 @@ pub record FitsBook (t : SessionState) (unsettled : ℕ) : Type 0 where
   pub queued : length (asks t.queue) ≡ unsettled
 
 -- one session becomes another one, or is closed
-pub stays_book : (before after : BookState) (session : ℕ) (o : Option SessionState) → IsBook before → OnlyAt before after session o → session ≤ after.greatest → before.greatest ≤ after.greatest
+pub stays_book : (before after : BookState) (session : ℕ) (o : Option SessionState) → IsBook before → OnlyAt before after session o
+    → session ≤ after.greatest → before.greatest ≤ after.greatest
     → ((t : SessionState) → o ≡ Some t → FitsBook t (unsettled_in after.unsettled session))
     → ((other : ℕ) → (other ≡ session → ⊥) → unsettled_in after.unsettled other ≡ unsettled_in before.unsettled other)
     → IsBook after
@@ -70,12 +70,14 @@ of_one : (t u : SessionState) (n : ℕ) → FitsBook t n → Some t ≡ Some u �
 of_one t u n fits e = let u_is : t ≡ u = cc in rw (← u_is) fits
 
 -- a session's messages are read, and the unsettled requests stay as they are
-pub stays_unsettled : (before after : BookState) (session : ℕ) (s t : SessionState) → IsBook before → session_of before session ≡ Some s → OnlyAt before after session (Some t)
+pub stays_unsettled : (before after : BookState) (session : ℕ) (s t : SessionState) → IsBook before
+    → session_of before session ≡ Some s → OnlyAt before after session (Some t)
     → after.greatest ≡ before.greatest → after.unsettled ≡ before.unsettled → (begins_asked s.queue ≡ true → FitsBook t (length (asks s.queue))) → IsBook after
 stays_unsettled before after session s t is open_now only greatest unsettled fits =
     let within = open_within before session s is open_now in
     let fits_now : FitsBook t (unsettled_in after.unsettled session) = rw (unsettled, ← is.queued session s open_now) (fits (is.asked session s open_now)) in
-    stays_book before after session (Some t) is only (omega (arith, greatest, within)) (omega (arith, greatest)) (λ u e. of_one t u _ fits_now e) (λ other apart. rw unsettled refl)
+    stays_book before after session (Some t) is only (omega (arith, greatest, within)) (omega (arith, greatest))
+    (λ u e. of_one t u _ fits_now e) (λ other apart. rw unsettled refl)
 
 -- where the queue stays the session fits
 pub same_queue : (s t : SessionState) → t.queue ≡ s.queue → begins_asked s.queue ≡ true → FitsBook t (length (asks s.queue))
@@ -93,7 +95,8 @@ feed_queue (Ok u) s t piece ok err = ap (λ (x : SessionState). x.queue) ok ∙ 
 feed_queue (Err e) s t piece ok err = ap (λ (x : SessionState). x.queue) err
 
 -- a new session fits at a number that wasn't in use
-pub opens_book : (before after : BookState) (session : ℕ) → IsBook before → OnlyAt before after session (Some new_session) → before.greatest < session → after.greatest ≡ session
+pub opens_book : (before after : BookState) (session : ℕ) → IsBook before → OnlyAt before after session (Some new_session)
+    → before.greatest < session → after.greatest ≡ session
     → after.unsettled ≡ before.unsettled → IsBook after
 opens_book before after session is only new greatest unsettled =
     stays_book before after session (Some new_session) is only (omega (arith, greatest)) (omega (arith, greatest))
@@ -104,20 +107,23 @@ opens_book before after session is only new greatest unsettled =
 
 -- the requests read go to the queue
 asks_read : (s t : SessionState) (ms : List Message) → ReadsOn s ms t → length (asks t.queue) ≡ length (asks s.queue) + length (asks ms)
-asks_read s t ms h = rw h.queue (sym (zero-add _) ∙ asks-left (s.queue ++ ms) [] (omega arith) ∙ ap length (asks-append s.queue ms) ∙ length-append (asks s.queue) (asks ms))
+asks_read s t ms h = rw h.queue
+    (sym (zero-add _) ∙ asks-left (s.queue ++ ms) [] (omega arith) ∙ ap length (asks-append s.queue ms) ∙ length-append (asks s.queue) (asks ms))
 
 begins_read : (s t : SessionState) (ms : List Message) → ReadsOn s ms t → begins_asked t.queue ≡ true
 begins_read s t ms h = begins_asked_by t.queue (s.queue ++ ms) [] h.queue
 
 -- a session that has read no request fits as before
-pub fits_unasked : (s t : SessionState) (looks looks_after : ℕ) (r : Result (Option Request) NoMemory) → ReadsAsk s looks r t looks_after → request_in r ≡ [] → FitsBook t (length (asks s.queue))
+pub fits_unasked : (s t : SessionState) (looks looks_after : ℕ) (r : Result (Option Request) NoMemory)
+    → ReadsAsk s looks r t looks_after → request_in r ≡ [] → FitsBook t (length (asks s.queue))
 fits_unasked s t looks looks_after r h none = record {
   asked = begins_read s t h.messages h.reading.reads;
   queued = omega (arith, asks_read s t h.messages h.reading.reads, ap length (h.reading.requests_are ∙ none));
 }
 
 -- a request more is unsettled in its session, and in no other
-count_more : (us : List Unsettled) (number session other : ℕ) (b : Bool) → (session == other) ≡ b → unsettled_in (us ++ record { number = number; session = session } ∷ []) other ≡ unsettled_in us other + cond b 1 0
+count_more : (us : List Unsettled) (number session other : ℕ) (b : Bool) → (session == other) ≡ b
+    → unsettled_in (us ++ record { number = number; session = session } ∷ []) other ≡ unsettled_in us other + cond b 1 0
 count_more [] number session other true e = rw e refl
 count_more [] number session other false e = rw e refl
 count_more (u ∷ us) number session other b e =
@@ -127,8 +133,10 @@ count_more (u ∷ us) number session other b e =
     ]
 
 -- a session has read a request, which is unsettled
-pub asks_book : (before after : BookState) (session number : ℕ) (s t : SessionState) (q : Request) (r : Result (Option Request) NoMemory) (looks looks_after : ℕ) → IsBook before → session_of before session ≡ Some s
-    → OnlyAt before after session (Some t) → after.greatest ≡ before.greatest → after.unsettled ≡ before.unsettled ++ record { number = number; session = session } ∷ []
+pub asks_book : (before after : BookState) (session number : ℕ) (s t : SessionState) (q : Request)
+    (r : Result (Option Request) NoMemory) (looks looks_after : ℕ) → IsBook before → session_of before session ≡ Some s
+    → OnlyAt before after session (Some t) → after.greatest ≡ before.greatest
+    → after.unsettled ≡ before.unsettled ++ record { number = number; session = session } ∷ []
     → r ≡ Ok (Some q) → ReadsAsk s looks r t looks_after → IsBook after
 asks_book before after session number s t q r looks looks_after is open_now only greatest unsettled r_is h =
     let within = open_within before session s is open_now in
@@ -141,7 +149,8 @@ asks_book before after session number s t q r looks looks_after is open_now only
     (λ other apart. rw unsettled (count_more before.unsettled number session other false (ne_eqb session other (λ e. apart (sym e))) ∙ add-zero _))
 
 -- the first of the unsettled requests is one of its session
-first_unsettled : (us : List Unsettled) (number session other : ℕ) (b : Bool) → (session == other) ≡ b → slice_get us 0 ≡ Some (record { number = number; session = session })
+first_unsettled : (us : List Unsettled) (number session other : ℕ) (b : Bool) → (session == other) ≡ b
+    → slice_get us 0 ≡ Some (record { number = number; session = session })
     → unsettled_in us other ≡ unsettled_in (drop 1 us) other + cond b 1 0
 first_unsettled [] number session other b e first = absurd cc
 first_unsettled (u ∷ us) number session other true e first =
@@ -152,12 +161,15 @@ first_unsettled (u ∷ us) number session other false e first =
     rw (at, e) (omega arith)
 
 -- the oldest request is no longer unsettled
-pub settles_book : (before after : BookState) (session number : ℕ) (o : Option SessionState) → IsBook before → OnlyAt before after session o → after.greatest ≡ before.greatest
+pub settles_book : (before after : BookState) (session number : ℕ) (o : Option SessionState) → IsBook before
+    → OnlyAt before after session o → after.greatest ≡ before.greatest
     → slice_get before.unsettled 0 ≡ Some (record { number = number; session = session }) → after.unsettled ≡ drop 1 before.unsettled
-    → ((t : SessionState) → o ≡ Some t → begins_asked t.queue ≡ true) → ((t : SessionState) → o ≡ Some t → length (asks t.queue) + 1 ≡ unsettled_in before.unsettled session) → IsBook after
+    → ((t : SessionState) → o ≡ Some t → begins_asked t.queue ≡ true)
+    → ((t : SessionState) → o ≡ Some t → length (asks t.queue) + 1 ≡ unsettled_in before.unsettled session) → IsBook after
 settles_book before after session number o is only greatest oldest unsettled asked queued =
     let counted : unsettled_in before.unsettled session ≡ unsettled_in after.unsettled session + 1 =
-    first_unsettled before.unsettled number session session true (eq-eqb session session refl) oldest ∙ ap (λ (us : List Unsettled). unsettled_in us session + 1) (sym unsettled) in
+    first_unsettled before.unsettled number session session true (eq-eqb session session refl) oldest
+    ∙ ap (λ (us : List Unsettled). unsettled_in us session + 1) (sym unsettled) in
     let within : session ≤ before.greatest =
     elim (cases_lt before.greatest session) [
       | inl above ↦ absurd (omega (arith, is.unsettled_below session above, counted))
@@ -175,8 +187,10 @@ first_asked before session number s is open_now oldest =
     omega (arith, is.queued session s open_now, first_unsettled before.unsettled number session session true (eq-eqb session session refl) oldest)
 
 -- it gets its reply
-pub settles_kept : (before after : BookState) (session number : ℕ) (s t : SessionState) (reply : Reply) → IsBook before → session_of before session ≡ Some s → OnlyAt before after session (Some t)
-    → after.greatest ≡ before.greatest → slice_get before.unsettled 0 ≡ Some (record { number = number; session = session }) → after.unsettled ≡ drop 1 before.unsettled
+pub settles_kept : (before after : BookState) (session number : ℕ) (s t : SessionState) (reply : Reply) → IsBook before
+    → session_of before session ≡ Some s → OnlyAt before after session (Some t)
+    → after.greatest ≡ before.greatest → slice_get before.unsettled 0 ≡ Some (record { number = number; session = session })
+    → after.unsettled ≡ drop 1 before.unsettled
     → t ≡ settled s reply → IsBook after
 settles_kept before after session number s t reply is open_now only greatest oldest unsettled t_is =
     let queue : t.queue ≡ left s.queue (reply ∷ []) = ap (λ (x : SessionState). x.queue) t_is in
@@ -189,31 +203,34 @@ settles_kept before after session number s t reply is open_now only greatest old
 
 -- ---- the map of the sessions
 
-same_number : (a b : ℕ) → is_eq (nat_cmp a b) ≡ (b == a)
+same_number : (a b : ℕ) → nat_eq a b ≡ (b == a)
 same_number a b =
-    elim (cases_order a b) [
-      | inl same ↦ ap is_eq (sym (nat_cmp_is a b Equal same)) ∙ sym (eq-eqb b a (sym same))
-      | inr (inl less) ↦ ap is_eq (sym (nat_cmp_is a b Less less)) ∙ sym (ne_eqb b a (λ e. absurd (omega arith)))
-      | inr (inr more) ↦ ap is_eq (sym (nat_cmp_is a b Greater more)) ∙ sym (ne_eqb b a (λ e. absurd (omega arith)))
+    elim (cases_eq a b) [
+      | inl same ↦ eq-eqb a b same ∙ sym (eq-eqb b a (sym same))
+      | inr apart ↦ ne_eqb a b apart ∙ sym (ne_eqb b a (λ e. apart (sym e)))
     ]
 
 -- the map has another value, or none, at one number
 abbrev pub OnlySession : List (ℕ × SessionState) → List (ℕ × SessionState) → ℕ → Option SessionState → Type 0
-OnlySession before after session o = (q : ℕ) → lookup (is_at (nat_cmp q)) after ≡ cond (q == session) o (lookup (is_at (nat_cmp q)) before)
+OnlySession before after session o = (q : ℕ) → lookup (nat_eq q) after ≡ cond (q == session) o (lookup (nat_eq q) before)
 
-pub updated_only : (m n : BTreeMap ℕ SessionState) (session : ℕ) (o : Option SessionState) → UpdatesBy nat_cmp (nat_cmp session) m n o → OnlySession m.entries n.entries session o
-updated_only m n session o h q = h.0 q ∙ ap (λ (b : Bool). cond b o (lookup (is_at (nat_cmp q)) m.entries)) (same_number session q)
+pub updated_only : {S : Type 0} (m n : HashMap ℕ SessionState S) (session : ℕ) (o : Option SessionState)
+    → UpdatesBy nat_eq (nat_eq session) m n o → OnlySession m.entries n.entries session o
+updated_only m n session o h q = h.0 q ∙ ap (λ (b : Bool). cond b o (lookup (nat_eq q) m.entries)) (same_number session q)
 
 -- the session that was found was written
-pub written_only : (m n : BTreeMap ℕ SessionState) (session : ℕ) (s t : SessionState) → WritesThrough nat_cmp (nat_cmp session) m t n → Some s ≡ get_by (nat_cmp session) m → OnlySession m.entries n.entries session (Some t)
+pub written_only : {S : Type 0} (m n : HashMap ℕ SessionState S) (session : ℕ) (s t : SessionState)
+    → WritesThrough nat_eq (nat_eq session) m t n → Some s ≡ get_by (nat_eq session) m → OnlySession m.entries n.entries session (Some t)
 written_only m n session s t w found = updated_only m n session (Some t) (w.3 (subst (λ (o : Option SessionState). IsSome o) found refl))
 
 -- what was read and written back changes nothing
-pub written_back : (m n : BTreeMap ℕ SessionState) (session : ℕ) (s t : SessionState) → WritesThrough nat_cmp (nat_cmp session) m t n → Some s ≡ get_by (nat_cmp session) m → t ≡ s → n.entries ≡ m.entries
-written_back m n session s t w found same = w.0 ∙ set_value_same (is_at (nat_cmp session)) m.entries t (sym found ∙ ap (λ (x : SessionState). Some x) (sym same))
+pub written_back : {S : Type 0} (m n : HashMap ℕ SessionState S) (session : ℕ) (s t : SessionState)
+    → WritesThrough nat_eq (nat_eq session) m t n → Some s ≡ get_by (nat_eq session) m → t ≡ s → n.entries ≡ m.entries
+written_back m n session s t w found same = w.0 ∙ set_value_same (nat_eq session) m.entries t (sym found ∙ ap (λ (x : SessionState). Some x) (sym same))
 
 -- where nothing is open at the number, the map is the one without it
-pub closed_only : (m n : BTreeMap ℕ SessionState) (session : ℕ) → n ≡ m → None ≡ get_by (nat_cmp session) m → OnlySession m.entries n.entries session None
+pub closed_only : {S : Type 0} (m n : HashMap ℕ SessionState S) (session : ℕ) → n ≡ m → None ≡ get_by (nat_eq session) m
+    → OnlySession m.entries n.entries session None
 closed_only m n session same none q =
     elim (cases_eq q session) [
       | inl at ↦ rw (same, at, eq-eqb session session refl) (sym none)
@@ -221,7 +238,8 @@ closed_only m n session same none q =
     ]
 
 -- the last change counts
-pub only_again : (a b c : List (ℕ × SessionState)) (session : ℕ) (o p : Option SessionState) → OnlySession a b session o → OnlySession b c session p → OnlySession a c session p
+pub only_again : (a b c : List (ℕ × SessionState)) (session : ℕ) (o p : Option SessionState) → OnlySession a b session o
+    → OnlySession b c session p → OnlySession a c session p
 only_again a b c session o p h k q =
     elim (cases_Bool (q == session)) [
       | inl at ↦ k q ∙ rw at refl
@@ -229,7 +247,7 @@ only_again a b c session o p h k q =
     ]
 
 -- a session that stays as it is
-pub nothing_only : (a : List (ℕ × SessionState)) (session : ℕ) (s : SessionState) → lookup (is_at (nat_cmp session)) a ≡ Some s → OnlySession a a session (Some s)
+pub nothing_only : (a : List (ℕ × SessionState)) (session : ℕ) (s : SessionState) → lookup (nat_eq session) a ≡ Some s → OnlySession a a session (Some s)
 nothing_only a session s open_now q =
     elim (cases_eq q session) [
       | inl at ↦ rw (at, eq-eqb session session refl) open_now
@@ -239,7 +257,8 @@ nothing_only a session s open_now q =
 -- ---- what the calls answer
 
 -- no request is given, and nothing was read
-pub idle_ask : (before : BookState) (session : ℕ) (s : SessionState) (result : Result (Option (Request × ℕ)) NoMemory) (after : BookState) → given_in result ≡ [] → after ≡ before → IsBook before
+pub idle_ask : (before : BookState) (session : ℕ) (s : SessionState) (result : Result (Option (Request × ℕ)) NoMemory)
+    (after : BookState) → given_in result ≡ [] → after ≡ before → IsBook before
     → session_of before session ≡ Some s → (result ≡ Ok None → GivesNone before s) → NextAsk before session s result after
 idle_ask before session s result after none same is open_now cause = record {
   messages = [];
@@ -261,8 +280,10 @@ idle_ask before session s result after none same is open_now cause = record {
 }
 
 -- the reply went to the session
-pub settles_reply : (before now after : BookState) (answered : Answered) (s t : SessionState) → before ≡ now → IsBook before → session_of before answered.session ≡ Some s
-    → OnlyAt before after answered.session (Some t) → IsOldest before answered → after ≡ record before { sessions = after.sessions; unsettled = drop 1 before.unsettled }
+pub settles_reply : (before now after : BookState) (answered : Answered) (s t : SessionState) → before ≡ now → IsBook before
+    → session_of before answered.session ≡ Some s
+    → OnlyAt before after answered.session (Some t) → IsOldest before answered
+    → after ≡ record before { sessions = after.sessions; unsettled = drop 1 before.unsettled }
     → t ≡ settled s answered.reply → SettlesReply now after answered
 settles_reply before now after answered s t same is open_now only oldest rest t_is =
     subst (λ (b : BookState). SettlesReply b after answered) same (record {
@@ -273,13 +294,15 @@ settles_reply before now after answered s t same is open_now only oldest rest t_
     })
 
 -- a piece that was refused changes nothing
-pub unfed : (r : Result (Unit {0}) FeedFault) (before after now : BookState) → before ≡ now → (s t : SessionState) → OnErr r (t ≡ s) → (t ≡ s → after.sessions ≡ before.sessions)
+pub unfed : (r : Result (Unit {0}) FeedFault) (before after now : BookState) → before ≡ now → (s t : SessionState)
+    → OnErr r (t ≡ s) → (t ≡ s → after.sessions ≡ before.sessions)
     → after ≡ record before { sessions = after.sessions } → OnErr r (after ≡ now)
 unfed (Ok u) before after now same s t err back rest = tt
 unfed (Err e) before after now same s t err back rest = rest ∙ ap (λ (es : List (ℕ × SessionState)). record before { sessions = es }) (back err) ∙ same
 
 -- no growth was made before the session was read
-pub refused_ask : (before after now : BookState) (session : ℕ) (s : SessionState) (result : Result (Option (Request × ℕ)) NoMemory) (e : NoMemory) → before ≡ now → result ≡ Err e → IsBook before
+pub refused_ask : (before after now : BookState) (session : ℕ) (s : SessionState) (result : Result (Option (Request × ℕ)) NoMemory)
+    (e : NoMemory) → before ≡ now → result ≡ Err e → IsBook before
     → after.sessions ≡ before.sessions → after.unsettled ≡ before.unsettled → after ≡ record before { sessions = after.sessions; unsettled = after.unsettled }
     → session_of now session ≡ Some s → NextAsk now session s result after
 refused_ask before after now session s result e same failed is sessions unsettled rest open_now =

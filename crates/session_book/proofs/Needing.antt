@@ -46,7 +46,9 @@ module _ (b : List ℕ) (need : ℕ) (a : AwaitsData b need) where
   cut : b ≡ (a.line ++ line_end ++ block ++ last) ++ drop 2 (drop a.says.size a.rest)
   unfolding block last
   cut = a.whole
-      ∙ ap (λ (x : List ℕ). a.line ++ line_end ++ x) (sym (take-append-drop a.says.size a.rest) ∙ ap (λ (x : List ℕ). take a.says.size a.rest ++ x) (sym (take-append-drop 2 (drop a.says.size a.rest))))
+      ∙ ap (λ (x : List ℕ). a.line ++ line_end ++ x)
+      (sym (take-append-drop a.says.size a.rest)
+      ∙ ap (λ (x : List ℕ). take a.says.size a.rest ++ x) (sym (take-append-drop 2 (drop a.says.size a.rest))))
       ∙ simp append_assoc
 
   length_block : a.says.size + 2 ≤ length a.rest → length block ≡ a.says.size

@@ -66,7 +66,8 @@ none_left : (ended : Option EndCause) (ms : List Message) → ended_by ended ms 
 none_left ended ms e = ap (λ (o : Option EndCause). ended_by o ms) (sym (not_ended_before ended ms e)) ∙ e
 
 -- one more message is read
-pub reads_more : (before now after : SessionState) (ms : List Message) (m : Message) → ReadsOn before ms now → now.ended ≡ None → Takes now m after → ReadsOn before (ms ++ m ∷ []) after
+pub reads_more : (before now after : SessionState) (ms : List Message) (m : Message) → ReadsOn before ms now → now.ended ≡ None
+    → Takes now m after → ReadsOn before (ms ++ m ∷ []) after
 reads_more before now after ms m h none t =
     let open_yet : ended_by before.ended ms ≡ None = sym h.ended ∙ none in
     let grouped : (before.queue ++ ms) ++ m ∷ [] ≡ before.queue ++ (ms ++ m ∷ []) = append_assoc before.queue ms (m ∷ []) in
@@ -74,14 +75,18 @@ reads_more before now after ms m h none t =
       pieces = h.pieces ++ t.piece ∷ [];
       spelled = SpellEach-append h.pieces (t.piece ∷ []) ms (m ∷ []) h.spelled (t.spells, tt);
       unread = h.unread ∙ ap (λ (x : List ℕ). concat h.pieces ++ x) t.unread ∙ sym (append_assoc (concat h.pieces) t.piece after.unread)
-          ∙ ap (λ (x : List ℕ). x ++ after.unread) (ap (λ (x : List ℕ). concat h.pieces ++ x) (sym (append-nil t.piece)) ∙ sym (concat-append h.pieces (t.piece ∷ [])));
+          ∙ ap (λ (x : List ℕ). x ++ after.unread)
+          (ap (λ (x : List ℕ). concat h.pieces ++ x) (sym (append-nil t.piece)) ∙ sym (concat-append h.pieces (t.piece ∷ [])));
       ends_at_last = EndsAtLast-append ms (m ∷ []) (none_left before.ended ms open_yet) tt;
       not_ended = λ e. absurd (never before.ended ms open_yet e);
       ended = t.ended ∙ ap (λ (e : Option EndCause). ended_by e (m ∷ [])) h.ended ∙ sym (ended_by-append before.ended ms (m ∷ []));
-      queue = t.queue ∙ ap (λ (q : List Message). left (q ++ m ∷ []) []) h.queue ∙ sym (left-append (before.queue ++ ms) (m ∷ []) [] (omega arith)) ∙ ap (λ (q : List Message). left q []) grouped;
-      out = t.out ∙ ap (λ (x : List ℕ). x ++ said (now.queue ++ m ∷ []) []) h.out ∙ append_assoc before.out (said (before.queue ++ ms) []) (said (now.queue ++ m ∷ []) [])
+      queue = t.queue ∙ ap (λ (q : List Message). left (q ++ m ∷ []) []) h.queue
+          ∙ sym (left-append (before.queue ++ ms) (m ∷ []) [] (omega arith)) ∙ ap (λ (q : List Message). left q []) grouped;
+      out = t.out ∙ ap (λ (x : List ℕ). x ++ said (now.queue ++ m ∷ []) []) h.out
+          ∙ append_assoc before.out (said (before.queue ++ ms) []) (said (now.queue ++ m ∷ []) [])
           ∙ ap (λ (q : List Message). before.out ++ (said (before.queue ++ ms) [] ++ said (q ++ m ∷ []) [])) h.queue
-          ∙ ap (λ (x : List ℕ). before.out ++ x) (sym (said-append (before.queue ++ ms) (m ∷ []) [] (omega arith)) ∙ ap (λ (q : List Message). said q []) grouped);
+          ∙ ap (λ (x : List ℕ). before.out ++ x)
+          (sym (said-append (before.queue ++ ms) (m ∷ []) [] (omega arith)) ∙ ap (λ (q : List Message). said q []) grouped);
       need = inl (t.need ∙ sym (need_one before.need ms m));
     }
 
@@ -129,13 +134,16 @@ pub record HasReadLocals (before : SessionState) (looks : ℕ) (now : SessionSta
   pub nothing : length before.unread < before.need → (now ≡ before) × (looks_now ≡ looks)
 
 -- the first n bytes are taken where they spell the message
-taken : (before : SessionState) (b : List ℕ) (n : ℕ) (m seen : Message) (after : SessionState) → b ≡ before.unread → Spells (take n b) seen → m ≡ seen → before.ended ≡ None
-    → after.unread ≡ drop n before.unread → after.ended ≡ ended_by None (m ∷ []) → after.queue ≡ left (before.queue ++ m ∷ []) [] → after.out ≡ before.out ++ said (before.queue ++ m ∷ []) []
+taken : (before : SessionState) (b : List ℕ) (n : ℕ) (m seen : Message) (after : SessionState) → b ≡ before.unread
+    → Spells (take n b) seen → m ≡ seen → before.ended ≡ None
+    → after.unread ≡ drop n before.unread → after.ended ≡ ended_by None (m ∷ []) → after.queue ≡ left (before.queue ++ m ∷ []) []
+    → after.out ≡ before.out ++ said (before.queue ++ m ∷ []) []
     → after.need ≡ 1 → Takes before m after
 taken before b n m seen after b_is spelled m_is open_yet unread ended queue out need = record {
   piece = take n b;
   spells = rw m_is spelled;
-  unread = sym (take-append-drop n before.unread) ∙ ap (λ (x : List ℕ). take n x ++ drop n before.unread) (sym b_is) ∙ ap (λ (x : List ℕ). take n b ++ x) (sym unread);
+  unread = sym (take-append-drop n before.unread) ∙ ap (λ (x : List ℕ). take n x ++ drop n before.unread) (sym b_is)
+      ∙ ap (λ (x : List ℕ). take n b ++ x) (sym unread);
   ended = ended ∙ ap (λ (e : Option EndCause). ended_by e (m ∷ [])) (sym open_yet);
   queue = queue;
   out = out;
@@ -158,11 +166,13 @@ too_short before now looks looks_now h ready short =
 -- nor is one whose output waits
 too_much : (before now : SessionState) (looks looks_now : ℕ) → HasReadLocals before looks now looks_now → IsReady now → MAX_WAITING < length before.out → ⊥
 too_much before now looks looks_now h ready over =
-    let longer : length now.out ≡ length before.out + length (said (before.queue ++ h.messages) []) = ap length h.reads.out ∙ length-append before.out (said (before.queue ++ h.messages) []) in
+    let longer : length now.out ≡ length before.out + length (said (before.queue ++ h.messages) []) = ap length h.reads.out
+    ∙ length-append before.out (said (before.queue ++ h.messages) []) in
     omega (arith, ready.room, longer)
 
 -- a message that is no request was read
-pub reads_local : (before now after : SessionState) (looks looks_now looks_after : ℕ) → HasReadLocals before looks now looks_now → IsReady now → looks_after ≤ looks_now + 1 → TakesLocal now after → HasReadLocals before looks after looks_after
+pub reads_local : (before now after : SessionState) (looks looks_now looks_after : ℕ) → HasReadLocals before looks now looks_now
+    → IsReady now → looks_after ≤ looks_now + 1 → TakesLocal now after → HasReadLocals before looks after looks_after
 reads_local before now after looks looks_now looks_after h ready one t = record {
   messages = h.messages ++ t.message ∷ [];
   reads = reads_more before now after h.messages t.message h.reads ready.not_ended t.takes;
@@ -173,10 +183,19 @@ reads_local before now after looks looks_now looks_after h ready one t = record 
 }
 
 pub starts_locals : (s : SessionState) (looks : ℕ) → begins_asked s.queue ≡ true → HasReadLocals s looks s looks
-starts_locals s looks asked = record { messages = []; reads = reads_nothing s asked; no_ask = refl; waits = λ over. refl; most_looks = omega arith; nothing = λ short. (refl, refl) }
+starts_locals s looks asked = record {
+  messages = [];
+  reads = reads_nothing s asked;
+  no_ask = refl;
+  waits = λ over. refl;
+  most_looks = omega arith;
+  nothing = λ short. (refl, refl);
+}
 
 -- a request was read
-pub reads_ask : (before now after : SessionState) (looks looks_now looks_after : ℕ) (q : Request) → HasReadLocals before looks now looks_now → IsReady now → looks_after ≤ looks_now + 1 → TakesAsk now q after → ReadsAsk before looks (Ok (Some q)) after looks_after
+pub reads_ask : (before now after : SessionState) (looks looks_now looks_after : ℕ) (q : Request)
+    → HasReadLocals before looks now looks_now → IsReady now → looks_after ≤ looks_now + 1 → TakesAsk now q after
+    → ReadsAsk before looks (Ok (Some q)) after looks_after
 reads_ask before now after looks looks_now looks_after q h ready one t = record {
   messages = h.messages ++ Ask q t.quiet ∷ [];
   reading = record {
@@ -191,7 +210,8 @@ reads_ask before now after looks looks_now looks_after q h ready one t = record 
 }
 
 -- the parser found no further message
-pub reads_none : (before now after : SessionState) (looks looks_now looks_after : ℕ) → HasReadLocals before looks now looks_now → IsReady now → looks_after ≤ looks_now + 1 → TakesNothing now after → ReadsAsk before looks (Ok None) after looks_after
+pub reads_none : (before now after : SessionState) (looks looks_now looks_after : ℕ) → HasReadLocals before looks now looks_now
+    → IsReady now → looks_after ≤ looks_now + 1 → TakesNothing now after → ReadsAsk before looks (Ok None) after looks_after
 reads_none before now after looks looks_now looks_after h ready one t = record {
   messages = h.messages;
   reading = record {
@@ -206,7 +226,8 @@ reads_none before now after looks looks_now looks_after h ready one t = record {
 }
 
 -- the session reads no further
-pub reads_stops : (before now : SessionState) (looks looks_now : ℕ) → HasReadLocals before looks now looks_now → Stops now → ReadsAsk before looks (Ok None) now looks_now
+pub reads_stops : (before now : SessionState) (looks looks_now : ℕ) → HasReadLocals before looks now looks_now → Stops now
+    → ReadsAsk before looks (Ok None) now looks_now
 reads_stops before now looks looks_now h stops = record {
   messages = h.messages;
   reading = record {
@@ -221,7 +242,9 @@ reads_stops before now looks looks_now h stops = record {
 }
 
 -- there was no memory for a message, which stays unread
-pub reads_refused : (before now after : SessionState) (looks looks_now looks_after : ℕ) (no_memory : NoMemory) → HasReadLocals before looks now looks_now → IsReady now → looks_after ≤ looks_now + 1 → after ≡ now → ReadsAsk before looks (Err no_memory) after looks_after
+pub reads_refused : (before now after : SessionState) (looks looks_now looks_after : ℕ) (no_memory : NoMemory)
+    → HasReadLocals before looks now looks_now → IsReady now → looks_after ≤ looks_now + 1 → after ≡ now
+    → ReadsAsk before looks (Err no_memory) after looks_after
 reads_refused before now after looks looks_now looks_after no_memory h ready one same = record {
   messages = h.messages;
   reading = record {
@@ -236,9 +259,11 @@ reads_refused before now after looks looks_now looks_after no_memory h ready one
 }
 
 -- the parser found a message, as the session's parts say
-pub read_found : (now view : SessionState) (b : List ℕ) (n : ℕ) (m seen : Message) (r : Read) (after : SessionState) → view ≡ now → r ≡ read_of m → b ≡ view.unread → Spells (take n b) seen
+pub read_found : (now view : SessionState) (b : List ℕ) (n : ℕ) (m seen : Message) (r : Read) (after : SessionState) → view ≡ now
+    → r ≡ read_of m → b ≡ view.unread → Spells (take n b) seen
     → m ≡ seen → now.ended ≡ None → after.unread ≡ drop n view.unread → after.ended ≡ ended_by None (m ∷ []) → after.queue ≡ left (view.queue ++ m ∷ []) []
     → after.out ≡ view.out ++ said (view.queue ++ m ∷ []) [] → after.need ≡ 1 → ReadsOne now (Ok r) after
 read_found now view b n m seen r after same r_is b_is spelled m_is open_yet unread ended queue out need =
-    let takes : ReadsOne view (Ok (read_of m)) after = takes_one view after m (taken view b n m seen after b_is spelled m_is (ap (λ (s : SessionState). s.ended) same ∙ open_yet) unread ended queue out need) in
+    let takes : ReadsOne view (Ok (read_of m)) after = takes_one view after m
+    (taken view b n m seen after b_is spelled m_is (ap (λ (s : SessionState). s.ended) same ∙ open_yet) unread ended queue out need) in
     subst (λ (s : SessionState). ReadsOne s (Ok r) after) same (subst (λ (x : Read). ReadsOne view (Ok x) after) (sym r_is) takes)

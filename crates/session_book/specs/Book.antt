@@ -1,8 +1,7 @@
 -- The sessions of one worker.
 use Rattle.std.specs.Prelude.{◌≡◌, ℕ, ◌+◌, ◌<◌, ◌≤◌, ◌⊎◌, true, List, [], ◌∷◌, ◌++◌, map, length, Option, Some, None, Result, Ok, Err, IsSome, slice_get, drop, max, filter, ◌==◌, if◌then◌else◌}
-use Rattle.std.specs.Ordering.{nat_cmp}
 use Rattle.std.specs.Map.{lookup}
-use Rattle.std.specs.BTreeMap.{is_at}
+use Rattle.std.specs.Bool.{nat_eq}
 use Rattle.proto.specs.declared.message.Request.{Request}
 use Rattle.proto.specs.declared.message.Message.{Message}
 use Rattle.proto.specs.declared.history.Answered.{Answered}
@@ -28,7 +27,7 @@ pub record BookState : Type 0 where
 
 -- the session of this number, if it is open
 abbrev pub session_of : BookState → ℕ → Option SessionState
-session_of book session = lookup (is_at (nat_cmp session)) book.sessions
+session_of book session = lookup (nat_eq session) book.sessions
 
 -- how many of the unsettled requests are of the session
 abbrev pub unsettled_in : List Unsettled → ℕ → ℕ
@@ -85,7 +84,12 @@ pub record NextAsk (before : BookState) (session : ℕ) (s : SessionState) (resu
   pub reading : ReadsUpTo s before.looks messages (map (λ a. a.0) (given_in result)) read after.looks
   pub only_at : OnlyAt before after session (Some read)
   pub numbers : map (λ a. a.1) (given_in result) ≡ map (λ a. before.posted + 1) (given_in result)
-  pub rest : after ≡ record before { sessions = after.sessions; posted = before.posted + length (given_in result); unsettled = before.unsettled ++ map (unsettled_of session) (given_in result); looks = after.looks }
+  pub rest : after ≡ record before {
+    sessions = after.sessions;
+    posted = before.posted + length (given_in result);
+    unsettled = before.unsettled ++ map (unsettled_of session) (given_in result);
+    looks = after.looks;
+  }
   pub room : length after.unsettled ≤ max MAX_UNSETTLED (length before.unsettled)
   pub enough : after.posted ≤ max MAX_POSTS before.posted
   pub none : result ≡ Ok None → GivesNone before read

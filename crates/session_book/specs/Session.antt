@@ -114,7 +114,8 @@ pub record IsReady (s : SessionState) : Type 0 where
 
 -- Messages of a session are read, none where too much output waits, and looks counts the calls of the parser.
 -- Only the last message may be a request: these are the requests read.
-pub record ReadsUpTo (before : SessionState) (looks : ℕ) (messages : List Message) (requests : List Request) (after : SessionState) (looks_after : ℕ) : Type 0 where
+pub record ReadsUpTo (before : SessionState) (looks : ℕ) (messages : List Message) (requests : List Request) (after : SessionState)
+    (looks_after : ℕ) : Type 0 where
   pub reads : ReadsOn before messages after
   pub ask_at_last : AskAtLast messages
   pub requests_are : asks messages ≡ requests

@@ -6,12 +6,13 @@ ghost use Rattle.std.specs.Option.{option_and_then, option_map_or};
 
 use crate::causes::{EndCause, FeedFault, OpenFault, Settled, Unsettled};
 use crate::limits::{MAX_POSTS, MAX_SESSIONS, MAX_UNSETTLED};
+use crate::load::Load;
 use crate::session::Session;
 use proto::history::Answered;
 use proto::message::Request;
 use proto::no_memory::NoMemory;
 use std::alloc::Global;
-use std::collections::{BTreeMap, VecDeque};
+use std::collections::{HashMap, VecDeque};
 use std::marker::Model;
 
 /// The sessions of a worker. Contracts see it as a `BookState`.
@@ -19,12 +20,13 @@ use std::marker::Model;
 pub struct Book {
     alloc: Global,
     worker: usize,
-    sessions: BTreeMap<u64, Session>,
+    sessions: HashMap<u64, Session>,
     posted: u64,
     unsettled: VecDeque<Unsettled>,
     greatest: u64,
     opened: u64,
     looks: u64,
+    load: Load,
 }
 
 impl Model for Book {
@@ -47,12 +49,13 @@ impl Book {
         Book {
             alloc,
             worker,
-            sessions: BTreeMap::new(alloc),
+            sessions: HashMap::new(alloc),
             posted: 0,
             unsettled: VecDeque::new(alloc),
             greatest: 0,
             opened: 0,
             looks: 0,
+            load: Load::new(),
         }
     }
 
@@ -108,9 +111,13 @@ impl Book {
             return Ok(None);
         };
         self.unsettled.reserve(1)?;
-        let Some(request) = open.next_ask(&mut self.looks)? else {
+        let before = open.out().len();
+        let read = open.next_ask(&mut self.looks);
+        self.load.output_changed(before, open.out().len());
+        let Some(request) = read? else {
             return Ok(None);
         };
+        self.load.asked(&request);
         self.posted += 1;
         let number = self.posted;
         self.unsettled.push_back(Unsettled { number, session })?;
@@ -136,12 +143,18 @@ impl Book {
             return Settled::Stranger;
         }
         self.unsettled.pop_front();
+        self.load.settled(&answered.request);
         let Some(open) = self.sessions.get_mut(&answered.session) else {
             return Settled::Dropped;
         };
+        let before = open.out().len();
         match open.settle(&answered.reply) {
-            Ok(()) => Settled::Kept,
+            Ok(()) => {
+                self.load.output_changed(before, open.out().len());
+                Settled::Kept
+            }
             Err(NoMemory) => {
+                self.load.output_changed(before, 0);
                 self.sessions.remove(&answered.session);
                 Settled::Starved
             }
@@ -183,6 +196,7 @@ impl Book {
             return;
         };
         open.gave(n);
+        self.load.output_changed(n, 0);
     }
 
     /// Quit or Fatal, once all before it was answered and given.
@@ -196,7 +210,15 @@ impl Book {
     pub fn close(&mut self, session: u64)
         ensures { Changes self.old self.new session None }
     {
-        self.sessions.remove(&session);
+        if let Some(open) = self.sessions.remove(&session) {
+            self.load.output_changed(open.out().len(), 0);
+        }
+    }
+
+    /// Whether more than 1,024 keys stand in unsettled requests, or more than 67,108,864 bytes of output wait, over all
+    /// sessions. Its owner then has one request at a time unsettled.
+    pub fn is_crowded(&self) -> bool {
+        self.load.is_above_limits()
     }
 
     /// How often the parser was called; the count stays at the greatest number.

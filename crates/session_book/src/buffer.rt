@@ -10,6 +10,9 @@ use proto::show::{show, show_reply};
 use std::alloc::Global;
 use std::marker::Model;
 
+/// An empty buffer keeps so much of its memory at most.
+const KEPT_WHEN_EMPTY: usize = 65_536;
+
 /// A queue of bytes that lends them as one slice. The bytes in front that have gone out are kept until they are
 /// at least half of all, so each byte is moved at most once for each byte that goes out.
 #[derive(Drop)]
@@ -85,6 +88,9 @@ impl Buffer {
         if self.start >= self.bytes.len() - self.start {
             self.bytes.drain(..self.start);
             self.start = 0;
+        }
+        if self.bytes.is_empty() && self.bytes.capacity() > KEPT_WHEN_EMPTY {
+            self.bytes.shrink_to(KEPT_WHEN_EMPTY);
         }
     }
 }

@@ -1,7 +1,7 @@
 //! What a caller carries over a whole run, over the definitions alone.
 
 ghost use Rattle.std.specs.Prelude.{◌≡◌};
-ghost use Rattle.session_book.specs.declared.limits.TheConstants.{MAX_UNSETTLED, MAX_UNREAD, MAX_WAITING, MAX_SESSIONS, MAX_POSTS};
+ghost use Rattle.session_book.specs.declared.limits.TheConstants.{MAX_UNSETTLED, MAX_UNREAD, MAX_WAITING, MAX_KEYS, MAX_OUTPUT, MAX_SESSIONS, MAX_POSTS};
 ghost use Rattle.session_book.specs.Accounts.{StartsAccounts, FeedKeeps, ReadKeeps, SettleKeeps, GiveKeeps, ReadBegins, ReadIsWhole, SaidBegins, SaidIsWhole};
 
 /// What was read and what was said of a session, from its opening on, through each call that changes it.
@@ -21,11 +21,13 @@ pub fn beginnings()
     ensures said_whole { SaidIsWhole }
 {}
 
-/// The limits that the contracts of a book cite, in numbers.
+/// The limits of a book in numbers: those that its contracts cite, and those of `is_crowded`.
 pub fn limits()
     ensures unsettled { MAX_UNSETTLED ≡ 64 }
     ensures unread { MAX_UNREAD ≡ 262144 }
     ensures waiting { MAX_WAITING ≡ 1048576 }
+    ensures keys { MAX_KEYS ≡ 1024 }
+    ensures output { MAX_OUTPUT ≡ 67108864 }
     ensures sessions { MAX_SESSIONS ≡ 16777216 }
     ensures posts { MAX_POSTS ≡ 4611686018427387904 }
 {}

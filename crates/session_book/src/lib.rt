@@ -7,5 +7,6 @@ mod buffer;
 pub mod causes;
 pub mod laws;
 pub mod limits;
+mod load;
 mod place;
 mod session;

@@ -14,9 +14,9 @@ use Rattle.proto.specs.History.{Chain}
 use Rattle.proto.specs.Stored.{StoredItem, stored_by, stored_items, different, written, spread, SetsNoDeadline, HasNoDeadlines, ForgetsNothing}
 use Rattle.proto.specs.Steps.{Step}
 use Rattle.engine.specs.Keeping.{IsWithinBound, ForgetsNone}
-use Rattle.storage_thread.specs.Serving.{last_cache}
+use Rattle.engine.specs.Reaching.{last_cache}
 use Rattle.storage_thread.specs.Keeping.{KeepsSoFar, LeadsKeeping, MayForgetNothing}
-use Rattle.storage_thread.proofs.Reaching.{chain_more, last_more}
+use Rattle.engine.proofs.ReachingLemmas.{chain_more, last_more}
 
 -- ---- a part of what is within the bound is within it
 

@@ -1,4 +1,3 @@
-pub mod Reaching
 pub mod Kept
 pub mod Turns
 pub mod Callers

@@ -13,8 +13,9 @@ use Rattle.proto.specs.History.{worker_share}
 use Rattle.exchange.specs.declared.messages.Taken.TheVariants.{Asked, Bye}
 use Rattle.exchange.specs.Beginnings.{times}
 use Rattle.exchange.specs.Ends.{StorageView, FindsNone, FindsOne}
-use Rattle.storage_thread.specs.Serving.{AddsAnswers, AsksClock, moments, moment_after, moments_after, last_or, IsTimed, taken_as, SaidBye, IsUnused, Reaches, IsAnswered, IsServing}
-use Rattle.storage_thread.proofs.Reaching.{moments_more, times_more}
+use Rattle.engine.specs.Reaching.{moments, moment_after, moments_after, last_or, Reaches}
+use Rattle.engine.proofs.ReachingLemmas.{moments_more, times_more}
+use Rattle.storage_thread.specs.Serving.{AddsAnswers, AsksClock, IsTimed, taken_as, SaidBye, IsUnused, IsAnswered, IsServing}
 
 -- before the first request
 pub serving_first : (v : StorageView) (c : Cache) (m : ℕ) → IsUnused v → c ≡ empty_cache 0 → m ≡ 0 → IsServing v v c m
@@ -34,11 +35,14 @@ no_answers : (told : Option (List ℕ)) → AddsAnswers told [] told
 no_answers None = refl
 no_answers (Some told) = ap Some (sym (append-nil told))
 
-one_answer_more : (before mid after : Option (List ℕ)) (answers : List ℕ) (n : ℕ) → AddsAnswers before answers mid → AddsAnswers mid (n ∷ []) after → AddsAnswers before (answers ++ n ∷ []) after
+-- some answers were given, and one more
+one_answer_more : (before mid after : Option (List ℕ)) (answers : List ℕ) (n : ℕ) → AddsAnswers before answers mid
+    → AddsAnswers mid (n ∷ []) after → AddsAnswers before (answers ++ n ∷ []) after
 one_answer_more None mid after answers n first then = then ∙ ap (option_map (λ (told : List ℕ). told ++ n ∷ [])) first
 one_answer_more (Some told) mid after answers n first then =
     then ∙ (ap (option_map (λ (told : List ℕ). told ++ n ∷ [])) first ∙ ap Some (append_assoc told answers (n ∷ [])))
 
+-- before the first request the clock has given no answer
 pub timed_first : (told : Option (List ℕ)) (h : List Answered) → h ≡ [] → IsTimed told told h
 timed_first told h none = ([], no_answers told, ap moments none)
 
@@ -46,7 +50,12 @@ timed_first told h none = ([], no_answers told, ap moments none)
 module _ (old now new : StorageView) (c : Cache) (m : ℕ) (r : IsServing old now c m) where
   pub serving_none : FindsNone now new → IsServing old new c m
   serving_none f = let whole : new ≡ record now { looks = now.looks ++ f.0 } = f.3 in record {
-    same = (ap (λ (z : StorageView). z.exchange) whole ∙ r.same.0, ap (λ (z : StorageView). z.workers) whole ∙ r.same.1, ap (λ (z : StorageView). z.geometry) whole ∙ r.same.2);
+    same = (
+      ap (λ (z : StorageView). z.exchange) whole ∙ r.same.0,
+      ap (λ (z : StorageView). z.workers) whole
+          ∙ r.same.1,
+      ap (λ (z : StorageView). z.geometry) whole ∙ r.same.2,
+    );
     shut = ap (λ (z : StorageView). z.open_request) whole ∙ r.shut;
     taken = subst (λ (z : StorageView). z.taken ≡ map taken_as z.history) (sym whole) r.taken;
     reaches = subst (λ (z : StorageView). Reaches z.geometry z.history c m) (sym whole) r.reaches;
@@ -58,7 +67,12 @@ module _ (old now new : StorageView) (c : Cache) (m : ℕ) (r : IsServing old no
   -- a bye was taken
   pub serving_bye : (w : ℕ) → FindsOne now new (Bye w) → IsServing old new c m
   serving_bye w f = let whole = f.after in record {
-    same = (ap (λ (z : StorageView). z.exchange) whole ∙ r.same.0, ap (λ (z : StorageView). z.workers) whole ∙ r.same.1, ap (λ (z : StorageView). z.geometry) whole ∙ r.same.2);
+    same = (
+      ap (λ (z : StorageView). z.exchange) whole ∙ r.same.0,
+      ap (λ (z : StorageView). z.workers) whole
+          ∙ r.same.1,
+      ap (λ (z : StorageView). z.geometry) whole ∙ r.same.2,
+    );
     shut = ap (λ (z : StorageView). z.open_request) whole ∙ r.shut;
     taken = subst (λ (z : StorageView). z.taken ≡ map taken_as z.history) (sym whole) r.taken;
     reaches = subst (λ (z : StorageView). Reaches z.geometry z.history c m) (sym whole) r.reaches;
@@ -69,7 +83,8 @@ module _ (old now new : StorageView) (c : Cache) (m : ℕ) (r : IsServing old no
     where
       one_more : (w v : ℕ) (byes : List ℕ) → times w byes ≡ 0 → times v byes ≤ 1 → times v (w ∷ byes) ≤ 1
       one_more w v byes none few = dite (ℕ_discrete w v)
-          (λ same. let e = ap (λ (b : Bool). cond b 1 0 + times v byes) (eq-eqb w v same) in let n : times v byes ≡ 0 = ap (λ (z : ℕ). times z byes) (sym same) ∙ none in omega (arith, e, n))
+          (λ same. let e = ap (λ (b : Bool). cond b 1 0 + times v byes) (eq-eqb w v same) in
+          let n : times v byes ≡ 0 = ap (λ (z : ℕ). times z byes) (sym same) ∙ none in omega (arith, e, n))
           (λ other. let e = ap (λ (b : Bool). cond b 1 0 + times v byes) (ne_eqb w v other) in omega (arith, e, few))
 
   pub one_bye : (w : ℕ) → FindsOne now new (Bye w) → length new.byes ≡ length now.byes + 1
@@ -91,19 +106,32 @@ module _ (now mid : StorageView) (w : ℕ) (p : Posted) (f : FindsOne now mid (A
 
   -- and answered
   module _ (new : StorageView) (m : ℕ) (a : IsAnswered mid new w p m) where
-    pub whole : new ≡ record now { taken = now.taken ++ (f.lane, p) ∷ []; open_request = None; history = now.history ++ a.0 ∷ []; looks = now.looks ++ (f.before ++ (f.lane, f.posted) ∷ []); last = f.lane }
+    pub whole : new ≡ record now {
+      taken = now.taken ++ (f.lane, p) ∷ [];
+      open_request = None;
+      history = now.history ++ a.0 ∷ [];
+      looks = now.looks ++ (f.before ++ (f.lane, f.posted) ∷ []);
+      last = f.lane;
+    }
     whole = a.4 ∙ (λ i. let z : StorageView = f.after i in record z { history = z.history ++ a.0 ∷ []; open_request = None })
 
     pub serving_asked : (old : StorageView) (c₀ c : Cache) (m₀ : ℕ) → IsServing old now c₀ m₀ → Reaches new.geometry new.history c m → IsServing old new c m
     serving_asked old c₀ c m₀ r reaches = record {
-      same = (ap (λ (z : StorageView). z.exchange) whole ∙ r.same.0, ap (λ (z : StorageView). z.workers) whole ∙ r.same.1, ap (λ (z : StorageView). z.geometry) whole ∙ r.same.2);
+      same = (
+        ap (λ (z : StorageView). z.exchange) whole ∙ r.same.0,
+        ap (λ (z : StorageView). z.workers) whole
+            ∙ r.same.1,
+        ap (λ (z : StorageView). z.geometry) whole ∙ r.same.2,
+      );
       shut = ap (λ (z : StorageView). z.open_request) whole;
       taken = ap (λ (z : StorageView). z.taken) whole ∙ (ap (λ (l : List (ℕ × Posted)). l ++ (f.lane, p) ∷ []) r.taken
-          ∙ ((λ i. map taken_as now.history ++ (sym (a.1 ∙ f.is_next.0) i, sym a.2 i) ∷ []) ∙ (sym (map-append taken_as now.history (a.0 ∷ [])) ∙ ap (λ (z : StorageView). map taken_as z.history) (sym whole))));
+          ∙ ((λ i. map taken_as now.history ++ (sym (a.1 ∙ f.is_next.0) i, sym a.2 i) ∷ [])
+          ∙ (sym (map-append taken_as now.history (a.0 ∷ [])) ∙ ap (λ (z : StorageView). map taken_as z.history) (sym whole))));
       reaches = reaches;
       known = subst (λ (z : StorageView). All (λ (e : Answered). e.worker < z.workers) z.history) (sym whole)
           (All-append (λ (e : Answered). e.worker < now.workers) now.history (a.0 ∷ []) r.known
-          (All-cons (λ (e : Answered). e.worker < now.workers) a.0 [] (subst (λ (k : ℕ). k < now.workers) (sym (a.1 ∙ f.is_next.0)) f.inside) (All-nil (λ (e : Answered). e.worker < now.workers))));
+          (All-cons (λ (e : Answered). e.worker < now.workers) a.0 []
+          (subst (λ (k : ℕ). k < now.workers) (sym (a.1 ∙ f.is_next.0)) f.inside) (All-nil (λ (e : Answered). e.worker < now.workers))));
       inside = subst (λ (z : StorageView). All (λ w. w < z.workers) z.byes) (sym whole) r.inside;
       once = λ v. subst (λ (z : StorageView). times v z.byes ≤ 1) (sym whole) (r.once v);
     }
@@ -123,12 +151,14 @@ module _ (now mid : StorageView) (w : ℕ) (p : Posted) (f : FindsOne now mid (A
     pub same_workers : new.workers ≡ now.workers
     same_workers = ap (λ (z : StorageView). z.workers) whole
 
-    pub timed_asked : (before then after : Option (List ℕ)) (m₀ : ℕ) → last_or 0 (moments now.history) ≡ m₀ → IsTimed before then now.history → AsksClock then m₀ after m → IsTimed before after new.history
+    pub timed_asked : (before then after : Option (List ℕ)) (m₀ : ℕ) → last_or 0 (moments now.history) ≡ m₀
+        → IsTimed before then now.history → AsksClock then m₀ after m → IsTimed before after new.history
     timed_asked before then after m₀ last_is t asked = let n = asked.0 in (
       t.0 ++ n ∷ [],
       one_answer_more before then after t.0 n t.1 asked.1,
       ap moments one_entry ∙ (moments_more now.history a.0 ∙ (ap (λ (l : List ℕ). l ++ a.0.moment ∷ []) t.2
-          ∙ ((λ i. moments_after 0 t.0 ++ (a.3 ∙ asked.2 ∙ ap (λ (z : ℕ). moment_after z n) (sym last_is ∙ ap (last_or 0) t.2)) i ∷ []) ∙ sym (times_more 0 t.0 n)))),
+          ∙ ((λ i. moments_after 0 t.0 ++
+          (a.3 ∙ asked.2 ∙ ap (λ (z : ℕ). moment_after z n) (sym last_is ∙ ap (last_or 0) t.2)) i ∷ []) ∙ sym (times_more 0 t.0 n)))),
     )
 
 -- one bye of each worker
@@ -138,22 +168,28 @@ abbrev among : ℕ → List ℕ → ℕ
 among zero xs = 0
 among (suc n) xs = among n xs + times n xs
 
+-- a number in front counts once more, and no other number does
 one_here : (w x : ℕ) (xs : List ℕ) → x ≡ w → times w (x ∷ xs) ≡ suc (times w xs)
 one_here w x xs e = ap (λ (b : Bool). cond b 1 0 + times w xs) (eq-eqb x w e) ∙ (omega arith)
 
+-- a number in front doesn't count for another one
 none_here : (w x : ℕ) (xs : List ℕ) → x ≢ w → times w (x ∷ xs) ≡ times w xs
 none_here w x xs e = ap (λ (b : Bool). cond b 1 0 + times w xs) (ne_eqb x w e) ∙ (omega arith)
 
+-- a number that isn't one of the first n changes nothing
 among_else : (n x : ℕ) (xs : List ℕ) → n ≤ x → among n (x ∷ xs) ≡ among n xs
 among_else zero x xs le = refl
-among_else (suc n) x xs le = let le' : suc n ≤ x = le in let a = among_else n x xs (omega arith) in let b = none_here n x xs (λ e. omega arith) in omega (arith, a, b)
+among_else (suc n) x xs le = let le' : suc n ≤ x = le in let a = among_else n x xs (omega arith) in
+    let b = none_here n x xs (λ e. omega arith) in omega (arith, a, b)
 
+-- one of the first n counts once more
 among_more : (n x : ℕ) (xs : List ℕ) → x < n → among n (x ∷ xs) ≡ suc (among n xs)
 among_more zero x xs lt = absurd (omega arith)
 among_more (suc n) x xs lt = let lt' : x < suc n = lt in dite (ℕ_discrete x n)
     (λ e. let a = among_else n x xs (let e' : x ≡ n = e in omega arith) in let b = one_here n x xs e in omega (arith, a, b))
     (λ ne. let ne' : x ≢ n = ne in let a = among_more n x xs (omega arith) in let b = none_here n x xs ne in omega (arith, a, b))
 
+-- where all are of the first n, each is counted
 among_all : (n : ℕ) (xs : List ℕ) → All (λ w. w < n) xs → among n xs ≡ length xs
 among_all n [] all = none n
   where
@@ -162,16 +198,19 @@ among_all n [] all = none n
     none (suc n) = let a = none n in omega (arith, a)
 among_all n (x ∷ xs) all = among_more n x xs (All-head (λ w. w < n) x xs all) ∙ ap suc (among_all n xs (All-tail (λ w. w < n) x xs all))
 
+-- where none stands there twice, there are at most n
 among_few : (n : ℕ) (xs : List ℕ) → ((w : ℕ) → times w xs ≤ 1) → among n xs ≤ n
 among_few zero xs few = omega arith
 among_few (suc n) xs few = let a = among_few n xs few in let b = few n in omega (arith, a, b)
 
+-- and fewer where one of them isn't there
 among_fewer : (n w : ℕ) (xs : List ℕ) → ((w : ℕ) → times w xs ≤ 1) → w < n → times w xs ≡ 0 → among n xs < n
 among_fewer zero w xs few lt none = absurd (omega arith)
 among_fewer (suc n) w xs few lt none = let lt' : w < suc n = lt in dite (ℕ_discrete w n)
     (λ e. let a = among_few n xs few in let b : times n xs ≡ 0 = ap (λ (z : ℕ). times z xs) (sym e) ∙ none in omega (arith, a, b))
     (λ ne. let ne' : w ≢ n = ne in let a = among_fewer n w xs few (omega arith) none in let b = few n in omega (arith, a, b))
 
+-- where as many byes were taken as there are workers, each worker said one
 pub all_said : (old new : StorageView) (c : Cache) (m : ℕ) → IsServing old new c m → length new.byes ≡ new.workers → SaidBye new
 all_said old new c m r all w lt = let few : times w new.byes ≤ 1 = r.once w in dite (ℕ_discrete (times w new.byes) 0)
     (λ none. let a = among_fewer new.workers w new.byes r.once lt none in let b = among_all new.workers new.byes r.inside in omega (arith, a, b, all))

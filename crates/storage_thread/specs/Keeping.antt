@@ -6,7 +6,7 @@ use Rattle.proto.specs.Cache.{Cache, empty_cache}
 use Rattle.proto.specs.History.{Chain}
 use Rattle.proto.specs.Stored.{StoredItem, stored_items, HasNoDeadlines, ForgetsNothing}
 use Rattle.engine.specs.Keeping.{IsWithinBound}
-use Rattle.storage_thread.specs.Serving.{last_cache}
+use Rattle.engine.specs.Reaching.{last_cache}
 
 -- Where no request sets a deadline, and each chain of steps through the history stores no more than the bound, one of
 -- these chains forgets nothing.

@@ -1,55 +1,98 @@
 //! What a thread does in a turn in which nothing came.
 
-use crossbeam_utils::Backoff;
-use std::thread;
-use std::time::{Clock, Duration};
+use parking::ParkingWord;
+use std::hint;
+use std::sync::Wait;
+use std::time::Duration;
 
-/// So many idle turns yield the processor, after those of `Backoff`.
-const YIELDS: u32 = 64;
+/// How often an idle turn spins: with the look at the lanes it takes some 200 nanoseconds.
+const SPINS_A_TURN: u32 = 4;
 
-/// The first sleep, and the longest one.
-const FIRST_SLEEP_MICROS: u64 = 32;
+/// After so many idle turns in a row the thread parks where messages seldom come within `LONG_ROW`, and else after so many.
+const SHORT_ROW: u32 = 10;
 
-const LONGEST_SLEEP_MICROS: u64 = 1000;
+const LONG_ROW: u32 = 128;
 
-/// Idle turns in a row: spins and yields of `Backoff`, then plain yields, then sleeps that double up to
-/// a millisecond. So an idle thread costs next to nothing, and a busy one never sleeps.
+/// Each so many rows one is long, to see whether messages have begun to come soon.
+const ROWS_A_PROBE: u32 = 32;
+
+/// A row that ended before the thread parked counts one, a park takes so many back; rows are long from `HOPEFUL` on.
+const COST_OF_A_PARK: u32 = 3;
+
+const HOPEFUL: u32 = 8;
+
+const MOST_HOPE: u32 = 16;
+
+/// A thread that was forgotten looks for messages again after so long.
+const LONGEST_PARK_MILLIS: u64 = 100;
+
+/// Idle turns in a row: the thread spins for two microseconds, or for 25 where messages have lately come within that time,
+/// and then parks until a worker has posted. So an idle thread costs nothing, and one for which the next message comes soon
+/// doesn't sleep before it. It never yields: on a machine whose processors are all busy a thread that yields waits for its
+/// turn behind all others, while one that was woken goes before them.
 #[derive(Drop)]
 pub struct IdleTurns {
-    backoff: Backoff,
-    yields: u32,
-    sleep_micros: u64,
+    turns: u32,
+    announced: bool,
+    parked: bool,
+    hope: u32,
+    rows: u32,
 }
 
 impl IdleTurns {
     pub fn new() -> IdleTurns {
         IdleTurns {
-            backoff: Backoff::new(),
-            yields: 0,
-            sleep_micros: FIRST_SLEEP_MICROS,
+            turns: 0,
+            announced: false,
+            parked: false,
+            hope: 0,
+            rows: 0,
         }
     }
 
-    /// Something came: the next idle turn is short again.
-    pub fn reset(&mut self) {
-        self.backoff.reset();
-        self.yields = 0;
-        self.sleep_micros = FIRST_SLEEP_MICROS;
+    /// Something came: the next idle turn is the first of a row.
+    pub fn reset(&mut self, parking: &ParkingWord) {
+        if self.turns == 0 {
+            return;
+        }
+        if self.announced {
+            parking.cancel();
+            self.announced = false;
+        }
+        self.hope = if self.parked {
+            self.hope.saturating_sub(COST_OF_A_PARK)
+        } else {
+            self.hope.saturating_add(1).min(MOST_HOPE)
+        };
+        self.rows = self.rows.wrapping_add(1);
+        self.parked = false;
+        self.turns = 0;
     }
 
-    /// One idle turn.
-    pub fn turn<R: Clock>(&mut self, rt: &R) {
-        if !self.backoff.is_completed() {
-            self.backoff.snooze();
-        } else if self.yields < YIELDS {
-            self.yields += 1;
-            thread::yield_now();
+    // How many turns this row has before the thread parks.
+    fn limit(&self) -> u32 {
+        if self.hope >= HOPEFUL || self.rows % ROWS_A_PROBE == 0 {
+            LONG_ROW
         } else {
-            thread::sleep(rt, Duration::from_micros(self.sleep_micros));
-            self.sleep_micros = self
-                .sleep_micros
-                .saturating_mul(2)
-                .min(LONGEST_SLEEP_MICROS);
+            SHORT_ROW
+        }
+    }
+
+    /// One idle turn. The messages are looked for between two turns, also between the one that announces a park and the
+    /// one that parks.
+    pub fn turn<R: Wait>(&mut self, rt: &R, parking: &ParkingWord) {
+        if self.announced {
+            parking.park(rt, Duration::from_millis(LONGEST_PARK_MILLIS));
+            self.announced = false;
+            self.parked = true;
+        } else if self.parked || self.turns >= self.limit() {
+            parking.announce();
+            self.announced = true;
+        } else {
+            self.turns = self.turns.saturating_add(1);
+            for _ in 0..SPINS_A_TURN {
+                hint::spin_loop();
+            }
         }
     }
 }

@@ -3,18 +3,16 @@
 ghost use Rattle.std.specs.Prelude.{◌≡◌, ℕ, ◌+◌, ◌-◌, ◌^◌, ◌<◌, ◌≤◌, map, min, length, All, Some, None, []};
 ghost use Rattle.proto.specs.Cache.{empty_cache};
 ghost use Rattle.proto.specs.History.{max_moment, worker_share, Legal};
-ghost use Rattle.storage_thread.specs.Serving.{AsksClock, IsTimed, taken_as, SaidBye, IsUnused, IsSameExchange, Reaches, IsAnswered};
+ghost use Rattle.engine.specs.Reaching.{Reaches};
+ghost use Rattle.storage_thread.specs.Serving.{AsksClock, IsTimed, taken_as, SaidBye, IsUnused, IsSameExchange, IsAnswered};
 ghost use Rattle.storage_thread.specs.Keeping.{LeadsKeeping, MayForgetNothing};
 
 use crate::clock::Clock;
 use crate::idle::IdleTurns;
-use engine::StorageEngine;
+use engine::{MAX_MOMENT, StorageEngine};
 use exchange::{Answered, Posted, StorageEnd, Taken};
+use parking::ParkingWord;
 use std::sync::Wait;
-use std::time;
-
-/// The greatest moment, in seconds.
-pub const MAX_MOMENT: u64 = 1 << 62;
 
 /// What the storage thread leaves.
 #[derive(Drop)]
@@ -66,12 +64,14 @@ pub(crate) fn execute<S: StorageEngine, C: Clock>(
 }
 
 /// Executes requests until each worker has said bye. The store is empty, for the geometry that the exchange was
-/// made for, and nothing was taken from the end. The clock is asked once for each request.
-pub fn run_storage<R: Wait + time::Clock, S: StorageEngine + Drop, C: Clock>(
+/// made for, and nothing was taken from the end. The clock is asked once for each request. While nothing comes, the
+/// thread parks on the word: who has posted or said bye unparks it.
+pub fn run_storage<R: Wait, S: StorageEngine + Drop, C: Clock>(
     rt: &R,
     store: S,
     clock: C,
     storage_end: StorageEnd,
+    parking: &ParkingWord,
 ) -> StorageReport<C>
     requires empty { (S.cache store ≡ empty_cache 0) × (S.moment store ≡ 0) }
     requires sizes { S.sizes store ≡ storage_end.geometry }
@@ -106,13 +106,13 @@ pub fn run_storage<R: Wait + time::Clock, S: StorageEngine + Drop, C: Clock>(
             Some(Taken::Asked { worker, posted }) => {
                 execute(&mut store, &mut clock, &mut end, worker, posted);
                 executed = executed.saturating_add(1);
-                idle.reset();
+                idle.reset(parking);
             }
             Some(Taken::Bye { worker: _ }) => {
                 left -= 1;
-                idle.reset();
+                idle.reset(parking);
             }
-            None => idle.turn(rt),
+            None => idle.turn(rt, parking),
         }
     }
     unreachable!()

@@ -2,19 +2,21 @@ ghost use Rattle.std.specs.Prelude.{◌≡◌, ℕ, IfOk, None};
 ghost use Rattle.proto.specs.Sizes.{Sizes};
 ghost use Rattle.proto.specs.Cache.{empty_cache};
 ghost use Rattle.exchange.specs.Ends.{AreMade};
-ghost use Rattle.storage_thread.specs.Serving.{Reaches};
+ghost use Rattle.engine.specs.Reaching.{Reaches};
+ghost use Rattle.storage_thread.specs.Serving.{IsUnused, IsSameExchange};
 
 use crate::clock::Clock;
 use crate::serving::{StorageReport, execute, run_storage};
 use exchange::{MakeFault, Posted, StorageEnd, Taken, WorkerEnd, gather, make};
+use parking::ParkingWord;
 use plain_store::Store;
 use proto::byte_string::ByteString;
 use proto::geometry::Geometry;
 use proto::message::{Reply, Request};
 use std::alloc::Global;
 use std::snapshot::Snapshot;
-use std::sync::Wait;
 use std::sync::atomic::{AtomicU64, Ordering};
+use std::sync::{Arc, Wait};
 use std::test::Fail;
 use std::thread;
 use std::thread::Promise;
@@ -64,7 +66,13 @@ fn ask(alloc: Global, end: &mut WorkerEnd) -> Option<bool>
 }
 
 /// Posts all requests, takes all answers and says bye. Counts the answers whose number is one above the last.
-fn call<R: Wait>(rt: &R, alloc: Global, end: &mut WorkerEnd, good: &AtomicU64)
+fn call<R: Wait>(
+    rt: &R,
+    alloc: Global,
+    end: &mut WorkerEnd,
+    good: &AtomicU64,
+    parking: &ParkingWord,
+)
     ensures { (end.new.exchange ≡ end.old.exchange) × (end.new.worker ≡ end.old.worker) }
 {
     let mut last = 0u64;
@@ -72,6 +80,7 @@ fn call<R: Wait>(rt: &R, alloc: Global, end: &mut WorkerEnd, good: &AtomicU64)
         if end.sent() < REQUESTS && ask(alloc, end).is_none() {
             return;
         }
+        parking.unpark();
         match end.take() {
             Some(answered) => {
                 if answered.number.wrapping_sub(1) == last {
@@ -85,6 +94,7 @@ fn call<R: Wait>(rt: &R, alloc: Global, end: &mut WorkerEnd, good: &AtomicU64)
             if !end.said_bye() {
                 end.bye();
             }
+            parking.unpark();
             return;
         }
     }
@@ -156,6 +166,8 @@ impl Promise<StorageReport<Count>> for StorageStays {
 #[test]
 fn many_callers(rt: HostRuntime) -> Result<(), Fail> {
     let alloc: Global = rt.alloc();
+    let parking = Arc::new(alloc, ParkingWord::new())?;
+    let of_storage = Arc::try_clone(&parking)?;
     let (mut ends, storage, store) = made(alloc, CALLERS)?;
     let good = AtomicU64::new(0);
     let promise = StorageStays(Snapshot::of(&storage));
@@ -163,11 +175,14 @@ fn many_callers(rt: HostRuntime) -> Result<(), Fail> {
     let child = thread::spawn_with(
         &rt,
         promise,
-        move || run_storage(&rt, store, clock, storage),
+        move || -> StorageReport<Count>
+            requires { (store.cache ≡ empty_cache 0) × (store.moment ≡ 0) × (store.sizes ≡ storage.geometry) × IsUnused storage }
+            ensures { IsSameExchange storage result.storage_end }
+        { run_storage(&rt, store, clock, storage, &of_storage) },
     )?;
     let ask = |_: usize, end: &mut WorkerEnd|
         ensures { (end.exit.now.exchange ≡ end.entry.now.exchange) × (end.exit.now.worker ≡ end.entry.now.worker) }
-    { call(&rt, alloc, end, &good) };
+    { call(&rt, alloc, end, &good, &parking) };
     thread::for_each_mut(&rt, ends.as_mut_slice(), CALLERS, &ask);
     let report = child.join(&rt);
     assert_eq!(rt; report.executed, 80_000);

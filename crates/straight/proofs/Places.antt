@@ -11,11 +11,13 @@ use Rattle.std.proofs.lemmas.List.{get_or-map, length-map}
 use Rattle.straight.specs.declared.session.Session.{Session}
 use Rattle.straight.specs.Replays.{numbers_of, IsRising}
 
+-- where the search finds the number, it stands there
 pub place_found : (xs : List Session) (n i : ℕ) → i < length xs → HoldsAt (λ (s : Session). nat_cmp s.number n ≡ Equal) xs i → get_or (numbers_of xs) i 0 ≡ n
 place_found [] n i lt h = absurd (omega arith)
 place_found (x ∷ xs) n zero lt h = ranked x.number n Equal (sym (h x))
 place_found (x ∷ xs) n (suc i) lt h = place_found xs n i (omega arith) h
 
+-- how a number compares with a greater one and a smaller one
 higher : (a b x : ℕ) (o p : Ordering) → o ≡ nat_cmp a x → p ≡ nat_cmp b x → a ≤ b → ordering_index o ≤ ordering_index p
 higher a b x Less Less eo ep le = omega arith
 higher a b x Less Equal eo ep le = omega arith
@@ -35,6 +37,7 @@ not_below numbers rising i j le lt =
       | inr above ↦ let same : i ≡ j = omega arith in rw same (omega arith)
     ]
 
+-- numbers that rise can be searched
 searchable : (xs : List Session) (n : ℕ) → IsRising (numbers_of xs) → IsNonDecreasingBy (λ (s : Session). ordering_index (nat_cmp s.number n)) xs
 searchable xs n rising i j d le lt =
     let len : length (numbers_of xs) ≡ length xs = length-map xs (λ (s : Session). s.number) in
@@ -43,6 +46,7 @@ searchable xs n rising i j d le lt =
     higher (get_or xs i d).number (get_or xs j d).number n _ _ refl refl
     (omega (arith, a, b, not_below (numbers_of xs) rising i j le (omega arith)))
 
+-- where the search finds none, no session has the number
 pub place_none : (xs : List Session) (n i : ℕ) → IsRising (numbers_of xs) → IsBinarySearchResult (λ (s : Session). nat_cmp s.number n) xs (Err i)
     → (k : ℕ) (d : Session) → k < length xs → (get_or xs k d).number ≡ n → ⊥
 place_none xs n i rising h k d lt is =

@@ -11,7 +11,8 @@ use Rattle.std.proofs.Math.Seq.{get_or-append_seam}
 use Rattle.proto.proofs.MessageReader.{spelling_nonempty}
 use Rattle.proto.specs.declared.history.Answered.{Answered}
 use Rattle.proto.specs.Cache.{empty_cache}
-use Rattle.proto.specs.History.{NumbersFrom, worker_share, session_share}
+use Rattle.proto.specs.History.{session_share}
+use Rattle.engine.proofs.ReachingLemmas.{legal_of}
 use Rattle.script.specs.Clocks.{answer_of}
 use Rattle.script.specs.declared.event.ScriptEvent.{ScriptEvent}
 use Rattle.script.specs.declared.event.ScriptEvent.TheVariants.{Open, Send, Gone}
@@ -26,12 +27,15 @@ use Rattle.straight.proofs.Histories.{share_goes_on}
 
 -- ---- what one more event adds
 
+-- the bytes of a session, with one event more
 pub sent_more : (events : List ScriptEvent) (e : ScriptEvent) (s : ℕ) → sent (events ++ e ∷ []) s ≡ sent events s ++ sent_by s e
 sent_more events e s = flat_map-append (sent_by s) events (e ∷ []) ∙ ap (λ (x : List ℕ). sent events s ++ x) (append-nil (sent_by s e))
 
+-- an event that opens none leaves the sessions that were opened
 opened_same : (events : List ScriptEvent) (e : ScriptEvent) → filter_map opened_by (e ∷ []) ≡ [] → opened (events ++ e ∷ []) ≡ opened events
 opened_same events e none = filter_map-append opened_by events (e ∷ []) ∙ ap (λ (x : List ℕ). opened events ++ x) none ∙ append-nil (opened events)
 
+-- a session that begins is the last of those that were opened
 opened_open : (events : List ScriptEvent) (s : ℕ) → opened (events ++ Open s ∷ []) ≡ opened events ++ s ∷ []
 opened_open events s = filter_map-append opened_by events (Open s ∷ [])
 
@@ -40,15 +44,18 @@ sent_other : (events : List ScriptEvent) (s t : ℕ) (bytes : List ℕ) → (s �
 sent_other events s t bytes apart =
     sent_more events (Send s bytes) t ∙ ap (λ (b : Bool). sent events t ++ cond b bytes []) (ne_eqb s t apart) ∙ append-nil (sent events t)
 
+-- a send's bytes go behind those of its session
 sent_same : (events : List ScriptEvent) (s : ℕ) (bytes : List ℕ) → sent (events ++ Send s bytes ∷ []) s ≡ sent events s ++ bytes
 sent_same events s bytes = sent_more events (Send s bytes) s ∙ ap (λ (b : Bool). sent events s ++ cond b bytes []) (eq-eqb s s refl)
 
 -- ---- what is fresh stays so
 
+-- a session that hasn't begun stays so where the event isn't its own
 fresh_from : (events : List ScriptEvent) (e : ScriptEvent) (s : ℕ) → sent events s ≡ [] → sent_by s e ≡ [] → open_after s (is_open events s) e ≡ false
     → (sent (events ++ e ∷ []) s ≡ []) × (is_open (events ++ e ∷ []) s ≡ false)
 fresh_from events e s none by closed = (sent_more events e s ∙ ap (λ (x : List ℕ). x ++ sent_by s e) none ∙ by, open_more events e s ∙ closed)
 
+-- numbers above the newest one stay unused, whatever event comes
 pub fresh_more : (events : List ScriptEvent) (e : ScriptEvent) → IsFresh events → MayCome events e → IsFresh (events ++ e ∷ [])
 fresh_more events (Open t) fresh may s above =
     let higher : t < s = rw (newest_more events (Open t)) at above in
@@ -70,7 +77,9 @@ fresh_more events (Gone t) fresh may s above =
 
 -- ---- an event that changes no session
 
-run_still : (setup : Setup) (events : List ScriptEvent) (e : ScriptEvent) (now : Execution) (sessions : List Session) → HasRun setup events now sessions → MayCome events e
+-- an event that opens none and sends nothing to a session that is there
+run_still : (setup : Setup) (events : List ScriptEvent) (e : ScriptEvent) (now : Execution) (sessions : List Session)
+    → HasRun setup events now sessions → MayCome events e
     → filter_map opened_by (e ∷ []) ≡ [] → newest_after (newest_of events) e ≡ newest_of events
     → ((k : ℕ) (d : Session) → k < length sessions → sent (events ++ e ∷ []) (get_or sessions k d).number ≡ sent events (get_or sessions k d).number)
     → HasRun setup (events ++ e ∷ []) now sessions
@@ -83,20 +92,25 @@ run_still setup events e now sessions run may no_open no_newer bytes =
       among = subst (λ (os : List ℕ). AllByRecursion (IsAmong os) run.history) (sym same) run.among;
       numbers = run.numbers ∙ sym same;
       rising = subst IsRising (sym same) run.rising;
-      highest = subst (λ (os : List ℕ). All (λ (n : ℕ). n ≤ newest_of (events ++ e ∷ [])) os) (sym same) (subst (λ (m : ℕ). All (λ (n : ℕ). n ≤ m) (opened events)) (sym newest) run.highest);
+      highest = subst (λ (os : List ℕ). All (λ (n : ℕ). n ≤ newest_of (events ++ e ∷ [])) os) (sym same)
+          (subst (λ (m : ℕ). All (λ (n : ℕ). n ≤ m) (opened events)) (sym newest) run.highest);
       fresh = fresh_more events e run.fresh may;
       each = λ k d lt.
           let s = get_or sessions k d in
           subst (λ (b : List ℕ). IsServed b (session_share run.history 0 s.number) s) (sym (bytes k d lt)) (run.each k d lt);
     }
 
-pub run_gone : (setup : Setup) (events : List ScriptEvent) (session : ℕ) (now : Execution) (sessions : List Session) → HasRun setup events now sessions → MayCome events (Gone session)
+-- a peer that goes changes no session
+pub run_gone : (setup : Setup) (events : List ScriptEvent) (session : ℕ) (now : Execution) (sessions : List Session)
+    → HasRun setup events now sessions → MayCome events (Gone session)
     → HasRun setup (events ++ Gone session ∷ []) now sessions
 run_gone setup events session now sessions run may =
     run_still setup events (Gone session) now sessions run may refl refl
     (λ k d lt. sent_more events (Gone session) (get_or sessions k d).number ∙ append-nil (sent events (get_or sessions k d).number))
 
-pub run_skipped : (setup : Setup) (events : List ScriptEvent) (session : ℕ) (bytes : List ℕ) (now : Execution) (sessions : List Session) → HasRun setup events now sessions
+-- a send to a session that isn't there changes none
+pub run_skipped : (setup : Setup) (events : List ScriptEvent) (session : ℕ) (bytes : List ℕ) (now : Execution)
+    (sessions : List Session) → HasRun setup events now sessions
     → MayCome events (Send session bytes) → All (λ (s : Session). s.number ≢ session) sessions → HasRun setup (events ++ Send session bytes ∷ []) now sessions
 run_skipped setup events session bytes now sessions run may none =
     run_still setup events (Send session bytes) now sessions run may refl refl
@@ -104,17 +118,21 @@ run_skipped setup events session bytes now sessions run may none =
 
 -- ---- a session that begins
 
+-- what is of some sessions is of them and one more
 among_more : (numbers : List ℕ) (n : ℕ) (h : List Answered) → AllByRecursion (IsAmong numbers) h → AllByRecursion (IsAmong (numbers ++ n ∷ [])) h
 among_more numbers n [] all = tt
 among_more numbers n (e ∷ h) all =
     (record { worker = all.0.worker; session = Contains-append_left numbers (n ∷ []) e.session all.0.session }, among_more numbers n h all.1)
 
-share_none : (h : List Answered) (numbers : List ℕ) (newest n : ℕ) → AllByRecursion (IsAmong numbers) h → All (λ (m : ℕ). m ≤ newest) numbers → newest < n → session_share h 0 n ≡ []
+-- a session above the newest one has no share of the history
+share_none : (h : List Answered) (numbers : List ℕ) (newest n : ℕ) → AllByRecursion (IsAmong numbers) h
+    → All (λ (m : ℕ). m ≤ newest) numbers → newest < n → session_share h 0 n ≡ []
 share_none [] numbers newest n all highest above = refl
 share_none (e ∷ h) numbers newest n all highest above =
     let below : e.session ≤ newest = All-contains (λ (m : ℕ). m ≤ newest) numbers e.session highest all.0.session in
     rw (eq-eqb e.worker 0 all.0.worker, ne_eqb e.session n (omega arith)) (share_none h numbers newest n all.1 highest above)
 
+-- numbers that rise, and one above them
 rising_more : (numbers : List ℕ) (newest n : ℕ) → IsRising numbers → All (λ (m : ℕ). m ≤ newest) numbers → newest < n → IsRising (numbers ++ n ∷ [])
 rising_more numbers newest n rising highest above i j lt within =
     let len = length-append numbers (n ∷ []) in
@@ -129,6 +147,7 @@ rising_more numbers newest n rising highest above i j lt within =
           rw (first, second) (omega (arith, highest i 0 (omega arith)))
     ]
 
+-- a new session is served, with no bytes
 served_new : (s : Session) (n : ℕ) → IsNew n s → IsServed [] [] s
 served_new s n new = record {
   read = [];
@@ -151,7 +170,9 @@ served_new s n new = record {
     nil : (A : Type 0) → List A
     nil A = []
 
-pub run_opened : (setup : Setup) (events : List ScriptEvent) (n : ℕ) (now : Execution) (sessions : List Session) (s : Session) → HasRun setup events now sessions → MayCome events (Open n)
+-- a session begins
+pub run_opened : (setup : Setup) (events : List ScriptEvent) (n : ℕ) (now : Execution) (sessions : List Session) (s : Session)
+    → HasRun setup events now sessions → MayCome events (Open n)
     → IsNew n s → HasRun setup (events ++ Open n ∷ []) now (sessions ++ s ∷ [])
 run_opened setup events n now sessions s run may new =
     let more = opened_open events n in
@@ -164,25 +185,32 @@ run_opened setup events n now sessions s run may new =
       history = run.history;
       led = run.led;
       among = subst (λ (os : List ℕ). AllByRecursion (IsAmong os) run.history) (sym more) (among_more (opened events) n run.history run.among);
-      numbers = map-append (λ (x : Session). x.number) sessions (s ∷ []) ∙ ap (λ (x : List ℕ). x ++ s.number ∷ []) run.numbers ∙ ap (λ (x : ℕ). opened events ++ x ∷ []) new.number_is ∙ sym more;
+      numbers = map-append (λ (x : Session). x.number) sessions (s ∷ []) ∙ ap (λ (x : List ℕ). x ++ s.number ∷ []) run.numbers
+          ∙ ap (λ (x : ℕ). opened events ++ x ∷ []) new.number_is ∙ sym more;
       rising = subst IsRising (sym more) (rising_more (opened events) (newest_of events) n run.rising run.highest may);
       highest = subst (λ (os : List ℕ). All (λ (m : ℕ). m ≤ newest_of (events ++ Open n ∷ [])) os) (sym more)
           (subst (λ (top : ℕ). All (λ (m : ℕ). m ≤ top) (opened events ++ n ∷ [])) (sym newest)
-          (All-push (λ (m : ℕ). m ≤ n) (opened events) n (All-weaker (λ (m : ℕ). m ≤ newest_of events) (λ (m : ℕ). m ≤ n) (λ m le. omega arith) (opened events) run.highest) (omega arith)));
+          (All-push (λ (m : ℕ). m ≤ n) (opened events) n
+          (All-weaker (λ (m : ℕ). m ≤ newest_of events) (λ (m : ℕ). m ≤ n) (λ m le. omega arith) (opened events) run.highest) (omega arith)));
       fresh = fresh_more events (Open n) run.fresh may;
       each = All-push (λ (x : Session). IsServed (sent (events ++ Open n ∷ []) x.number) (session_share run.history 0 x.number) x) sessions s
-          (λ k d lt. let x = get_or sessions k d in subst (λ (b : List ℕ). IsServed b (session_share run.history 0 x.number) x) (sym (same x.number)) (run.each k d lt))
+          (λ k d lt. let x = get_or sessions k d in
+          subst (λ (b : List ℕ). IsServed b (session_share run.history 0 x.number) x) (sym (same x.number)) (run.each k d lt))
           (subst (λ (k : ℕ). IsServed (sent (events ++ Open n ∷ []) k) (session_share run.history 0 k) s) (sym new.number_is) served);
     }
 
 -- ---- a session that is fed
 
-of_among : (session : ℕ) (numbers : List ℕ) (entries : List Answered) → Contains numbers session → AllByRecursion (IsOf session) entries → AllByRecursion (IsAmong numbers) entries
+-- entries of one session are of the sessions that it is among
+of_among : (session : ℕ) (numbers : List ℕ) (entries : List Answered) → Contains numbers session
+    → AllByRecursion (IsOf session) entries → AllByRecursion (IsAmong numbers) entries
 of_among session numbers [] there of = tt
 of_among session numbers (e ∷ entries) there of =
     (record { worker = of.0.worker; session = subst (λ (n : ℕ). Contains numbers n) (sym of.0.session_is) there }, of_among session numbers entries there of.1)
 
-among-append : (numbers : List ℕ) (a b : List Answered) → AllByRecursion (IsAmong numbers) a → AllByRecursion (IsAmong numbers) b → AllByRecursion (IsAmong numbers) (a ++ b)
+-- two lists of entries of some sessions, joined
+among-append : (numbers : List ℕ) (a b : List Answered) → AllByRecursion (IsAmong numbers) a → AllByRecursion (IsAmong numbers) b
+    → AllByRecursion (IsAmong numbers) (a ++ b)
 among-append numbers [] b first second = second
 among-append numbers (e ∷ a) b first second = (first.0, among-append numbers a b first.1 second)
 
@@ -194,12 +222,16 @@ apart_at numbers i j rising within inside apart is =
       | inr above ↦ let more = rising j i (omega arith) within in omega arith
     ]
 
-numbers_set : (sessions : List Session) (at : ℕ) (old new : Session) → old ≡ get_or sessions at old → new.number ≡ old.number → numbers_of (set sessions at new) ≡ numbers_of sessions
+-- a session in the place of one with its number leaves the numbers
+numbers_set : (sessions : List Session) (at : ℕ) (old new : Session) → old ≡ get_or sessions at old → new.number ≡ old.number
+    → numbers_of (set sessions at new) ≡ numbers_of sessions
 numbers_set [] at old new old_is number_is = refl
 numbers_set (x ∷ sessions) zero old new old_is number_is = ap (λ (n : ℕ). n ∷ numbers_of sessions) (number_is ∙ ap (λ (s : Session). s.number) old_is)
 numbers_set (x ∷ sessions) (suc at) old new old_is number_is = ap (λ (ns : List ℕ). x.number ∷ ns) (numbers_set sessions at old new old_is number_is)
 
-pub run_fed : (setup : Setup) (events : List ScriptEvent) (session : ℕ) (bytes : List ℕ) (now : Execution) (sessions : List Session) (at : ℕ) (after : Execution) (fed : List Session)
+-- a session is fed
+pub run_fed : (setup : Setup) (events : List ScriptEvent) (session : ℕ) (bytes : List ℕ) (now : Execution)
+    (sessions : List Session) (at : ℕ) (after : Execution) (fed : List Session)
     → HasRun setup events now sessions → MayCome events (Send session bytes) → at < length sessions → get_or (numbers_of sessions) at 0 ≡ session
     → FeedsAt sessions at now bytes fed after → HasRun setup (events ++ Send session bytes ∷ []) after fed
 run_fed setup events session bytes now sessions at after fed run may within at_is feeding =
@@ -209,14 +241,16 @@ run_fed setup events session bytes now sessions at after fed run may within at_i
     let same = opened_same events e refl in
     let newest : newest_of (events ++ e ∷ []) ≡ newest_of events = newest_more events e in
     let len : length (numbers_of sessions) ≡ length sessions = length-map sessions (λ (s : Session). s.number) in
-    let old_number : old.number ≡ session = ap (λ (s : Session). s.number) feeding.old_is ∙ sym (get_or-map (λ (s : Session). s.number) sessions at old 0 within) ∙ at_is in
+    let old_number : old.number ≡ session = ap (λ (s : Session). s.number) feeding.old_is
+    ∙ sym (get_or-map (λ (s : Session). s.number) sessions at old 0 within) ∙ at_is in
     let new_number : new.number ≡ session = feeding.feeds.number_stays ∙ old_number in
     let was : IsServed (sent events old.number) (session_share run.history 0 old.number) old =
     subst (λ (s : Session). IsServed (sent events s.number) (session_share run.history 0 s.number) s) (sym feeding.old_is) (run.each at old within) in
     let by = feeding.feeds.serves setup run.history (sent events old.number) run.led was in
     let on : GoesOn session run.history by.history = subst (λ (n : ℕ). GoesOn n run.history by.history) new_number by.goes_on in
     let there : Contains (opened events) session =
-    subst (λ (ns : List ℕ). Contains ns session) run.numbers (subst (λ (n : ℕ). Contains (numbers_of sessions) n) at_is (Contains-get_or (numbers_of sessions) at 0 (omega (arith, len)))) in
+    subst (λ (ns : List ℕ). Contains ns session) run.numbers
+    (subst (λ (n : ℕ). Contains (numbers_of sessions) n) at_is (Contains-get_or (numbers_of sessions) at 0 (omega (arith, len)))) in
     let among : AllByRecursion (IsAmong (opened events)) by.history =
     subst (λ (h : List Answered). AllByRecursion (IsAmong (opened events)) h) (sym on.longer)
     (among-append (opened events) run.history on.entries run.among (of_among session (opened events) on.entries there on.of_session)) in
@@ -231,13 +265,17 @@ run_fed setup events session bytes now sessions at after fed run may within at_i
       among = subst (λ (os : List ℕ). AllByRecursion (IsAmong os) by.history) (sym same) among;
       numbers = ap numbers_of feeding.after_is ∙ numbers_set sessions at old new feeding.old_is feeding.feeds.number_stays ∙ run.numbers ∙ sym same;
       rising = subst IsRising (sym same) run.rising;
-      highest = subst (λ (os : List ℕ). All (λ (n : ℕ). n ≤ newest_of (events ++ e ∷ [])) os) (sym same) (subst (λ (m : ℕ). All (λ (n : ℕ). n ≤ m) (opened events)) (sym newest) run.highest);
+      highest = subst (λ (os : List ℕ). All (λ (n : ℕ). n ≤ newest_of (events ++ e ∷ [])) os) (sym same)
+          (subst (λ (m : ℕ). All (λ (n : ℕ). n ≤ m) (opened events)) (sym newest) run.highest);
       fresh = fresh_more events e run.fresh may;
-      each = subst (λ (all : List Session). All (λ (s : Session). IsServed (sent (events ++ e ∷ []) s.number) (session_share by.history 0 s.number) s) all) (sym feeding.after_is)
+      each = subst
+          (λ (all : List Session). All
+          (λ (s : Session). IsServed (sent (events ++ e ∷ []) s.number) (session_share by.history 0 s.number) s) all) (sym feeding.after_is)
           (λ k d lt.
           elim (cases_eq k at) [
             | inl is ↦
-                let x-is : get_or (set sessions at new) k d ≡ new = ap (λ (i : ℕ). get_or (set sessions at new) i d) is ∙ get_or-set_same sessions at new d within in
+                let x-is : get_or (set sessions at new) k d ≡ new = ap (λ (i : ℕ). get_or (set sessions at new) i d) is
+                ∙ get_or-set_same sessions at new d within in
                 subst (λ (s : Session). IsServed (sent (events ++ e ∷ []) s.number) (session_share by.history 0 s.number) s) (sym x-is) here
             | inr other ↦
                 let k_in : k < length sessions = omega (arith, length-set sessions at new) in
@@ -248,25 +286,31 @@ run_fed setup events session bytes now sessions at after fed run may within at_i
                 (get_or-map (λ (s : Session). s.number) sessions k d 0 k_in ∙ sym is ∙ sym at_is) in
                 subst (λ (s : Session). IsServed (sent (events ++ e ∷ []) s.number) (session_share by.history 0 s.number) s) (sym x-is)
                 (subst (λ (b : List ℕ). IsServed b (session_share by.history 0 x.number) x) (sym (sent_other events session x.number bytes apart))
-                (subst (λ (share : List Answered). IsServed (sent events x.number) share x) (sym (share_goes_on session x.number run.history by.history on apart)) (run.each k d k_in)))
+                (subst (λ (share : List Answered). IsServed (sent events x.number) share x)
+                (sym (share_goes_on session x.number run.history by.history on apart)) (run.each k d k_in)))
           ]);
     }
 
 -- ---- the first and the last
 
-pub run_none : (setup : Setup) (now : Execution) → now.sizes ≡ setup.sizes → now.cache ≡ empty_cache 0 → now.moment ≡ 0 → ((n : ℕ) → answer_of now.clock n ≡ setup.answers n) → HasRun setup [] now []
+-- before the first event nothing has run
+pub run_none : (setup : Setup) (now : Execution) → now.sizes ≡ setup.sizes → now.cache ≡ empty_cache 0 → now.moment ≡ 0
+    → ((n : ℕ) → answer_of now.clock n ≡ answer_of setup.clock n) → HasRun setup [] now []
 run_none setup now sizes cache moment clock = record {
   history = [];
   led = record {
     sizes_are = sizes;
-    caches = [];
-    chain = tt;
-    cache_is = sym cache;
-    moments = tt;
-    last_is = sym moment;
-    told = tt;
-    numbers = tt;
-    clock = λ n. clock n ∙ ap setup.answers (omega arith);
+    reaches = record {
+      caches = [];
+      chain = tt;
+      cache_is = sym cache;
+      moments_are = tt;
+      moment_is = sym moment;
+      small = rw moment (omega arith);
+      numbers = λ worker. tt;
+    };
+    timed = refl;
+    clock = λ n. clock n ∙ ap (answer_of setup.clock) (omega arith);
   };
   among = tt;
   numbers = refl;
@@ -276,22 +320,9 @@ run_none setup now sizes cache moment clock = record {
   each = λ k d lt. absurd (omega arith);
 }
 
-worker_all : (numbers : List ℕ) (h : List Answered) → AllByRecursion (IsAmong numbers) h → worker_share h 0 ≡ h
-worker_all numbers [] all = refl
-worker_all numbers (e ∷ h) all = rw (eq-eqb e.worker 0 all.0.worker) (ap (λ (x : List Answered). e ∷ x) (worker_all numbers h all.1))
-
-worker_none : (numbers : List ℕ) (h : List Answered) (w : ℕ) → AllByRecursion (IsAmong numbers) h → (w ≡ 0 → ⊥) → worker_share h w ≡ []
-worker_none numbers [] w all other = refl
-worker_none numbers (e ∷ h) w all other = rw (ne_eqb e.worker w (λ is. other (sym is ∙ all.0.worker))) (worker_none numbers h w all.1 other)
-
-numbers_are : (numbers : List ℕ) (h : List Answered) → AllByRecursion (IsAmong numbers) h → NumbersFrom 1 h → (w : ℕ) → NumbersFrom 1 (worker_share h w)
-numbers_are numbers h all from w =
-    elim (cases_eq w 0) [
-      | inl is ↦ subst (λ (x : List Answered). NumbersFrom 1 x) (sym (ap (worker_share h) is ∙ worker_all numbers h all)) from
-      | inr other ↦ subst (λ (x : List Answered). NumbersFrom 1 x) (sym (worker_none numbers h w all other)) tt
-    ]
-
-answered_in : (history : List Answered) (bytes : List ℕ) (s : Session) → IsServed bytes (session_share history 0 s.number) s → IsAnsweredIn history bytes (output_of s)
+-- what a session was served is what it is answered in the history
+answered_in : (history : List Answered) (bytes : List ℕ) (s : Session) → IsServed bytes (session_share history 0 s.number) s
+    → IsAnsweredIn history bytes (output_of s)
 answered_in history bytes s served =
     let a = served.answered in
     record {
@@ -308,27 +339,28 @@ answered_in history bytes s served =
       output_is = a.output_is;
     }
 
-outputs_are : (history : List Answered) (events : List ScriptEvent) (sessions : List Session) → AllByRecursion (λ (s : Session). IsServed (sent events s.number) (session_share history 0 s.number) s) sessions
+-- and so it is for each session
+outputs_are : (history : List Answered) (events : List ScriptEvent) (sessions : List Session)
+    → AllByRecursion (λ (s : Session). IsServed (sent events s.number) (session_share history 0 s.number) s) sessions
     → AllByRecursion (λ (g : SessionOutput). IsAnsweredIn history (sent events g.session) g) (map output_of sessions)
 outputs_are history events [] each = tt
 outputs_are history events (s ∷ sessions) each = (answered_in history (sent events s.number) s each.0, outputs_are history events sessions each.1)
 
+-- the outputs stand in the order of the sessions
 sessions_are : (sessions : List Session) → map (λ (g : SessionOutput). g.session) (map output_of sessions) ≡ numbers_of sessions
 sessions_are [] = refl
 sessions_are (s ∷ sessions) = ap (λ (ns : List ℕ). s.number ∷ ns) (sessions_are sessions)
 
-pub replay_is : (setup : Setup) (events : List ScriptEvent) (now : Execution) (sessions : List Session) → HasRun setup events now sessions → IsReplay setup.sizes setup.answers events (map output_of sessions)
+-- what has run is a replay
+pub replay_is : (setup : Setup) (events : List ScriptEvent) (now : Execution) (sessions : List Session)
+    → HasRun setup events now sessions → IsReplay setup.sizes setup.clock events (map output_of sessions)
 replay_is setup events now sessions run = record {
   history = run.history;
-  legal = record {
-    moments = run.led.moments;
-    caches = run.led.caches;
-    chain = run.led.chain;
-    numbers = numbers_are (opened events) run.history run.among run.led.numbers;
-  };
+  legal = legal_of setup.sizes run.history now.cache now.moment run.led.reaches;
   among = run.among;
-  moments = run.led.told;
+  timed = run.led.timed;
   sessions = sessions_are sessions ∙ run.numbers;
   each = All-from_recursion (λ (g : SessionOutput). IsAnsweredIn run.history (sent events g.session) g) (map output_of sessions)
-      (outputs_are run.history events sessions (recursion_from_All (λ (s : Session). IsServed (sent events s.number) (session_share run.history 0 s.number) s) sessions run.each));
+      (outputs_are run.history events sessions
+      (recursion_from_All (λ (s : Session). IsServed (sent events s.number) (session_share run.history 0 s.number) s) sessions run.each));
 }

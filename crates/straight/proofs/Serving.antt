@@ -20,12 +20,14 @@ use Rattle.straight.proofs.MessageLists.{concat_more, spell_more, ends_more, end
 use Rattle.straight.proofs.Histories.{entry_of, led_more, share_one, goes_on_same, goes_on_one, goes_on_on}
 
 -- as many replies as requests
-replies : (read : List ℕ) (share : List Answered) (output : List ℕ) (ended : Bool) (a : IsAnswered read share output ended) → length (had share) ≡ length (asks a.messages)
+replies : (read : List ℕ) (share : List Answered) (output : List ℕ) (ended : Bool) (a : IsAnswered read share output ended)
+    → length (had share) ≡ length (asks a.messages)
 replies read share output ended a =
     length-map {A = Answered} {B = Reply} share (λ e. e.reply) ∙ sym (length-map {A = Answered} {B = Request} share (λ e. e.request)) ∙ ap length a.asked_is
 
 -- a request that is answered
-answered_ask : (read : List ℕ) (share : List Answered) (output piece : List ℕ) (q : Request) (quiet : Bool) (e : Answered) → IsAnswered read share output false → Spells piece (Ask q quiet)
+answered_ask : (read : List ℕ) (share : List Answered) (output piece : List ℕ) (q : Request) (quiet : Bool) (e : Answered)
+    → IsAnswered read share output false → Spells piece (Ask q quiet)
     → e.request ≡ q → IsAnswered (read ++ piece) (share ++ e ∷ []) (output ++ answer (Ask q quiet) (Some e.reply)) false
 answered_ask read share output piece q quiet e a spells is = record {
   messages = a.messages ++ Ask q quiet ∷ [];
@@ -34,14 +36,16 @@ answered_ask read share output piece q quiet e a spells is = record {
   spelled = spell_more a.pieces a.messages piece (Ask q quiet) a.spelled spells;
   ends_at_last = ends_more a.messages (Ask q quiet) a.ends_at_last a.ended_is;
   ended_is = ended_more a.messages (Ask q quiet);
-  asked_is = map-append (λ (x : Answered). x.request) share (e ∷ []) ∙ ap (λ (qs : List Request). qs ++ e.request ∷ []) a.asked_is ∙ ap (λ (x : Request). asks a.messages ++ x ∷ []) is ∙ sym (asks-append a.messages (Ask q quiet ∷ []));
+  asked_is = map-append (λ (x : Answered). x.request) share (e ∷ []) ∙ ap (λ (qs : List Request). qs ++ e.request ∷ []) a.asked_is
+      ∙ ap (λ (x : Request). asks a.messages ++ x ∷ []) is ∙ sym (asks-append a.messages (Ask q quiet ∷ []));
   output_is = ap (λ (x : List ℕ). x ++ answer (Ask q quiet) (Some e.reply)) a.output_is
       ∙ sym (said_ask a.messages (had share) q quiet e.reply (replies read share output false a))
       ∙ ap (λ (rs : List Reply). said (a.messages ++ Ask q quiet ∷ []) rs) (sym (map-append (λ (x : Answered). x.reply) share (e ∷ [])));
 }
 
 -- another message that is answered
-answered_other : (read : List ℕ) (share : List Answered) (output piece : List ℕ) (m : Message) → is_ask m ≡ false → IsAnswered read share output false → Spells piece m
+answered_other : (read : List ℕ) (share : List Answered) (output piece : List ℕ) (m : Message) → is_ask m ≡ false
+    → IsAnswered read share output false → Spells piece m
     → IsAnswered (read ++ piece) share (output ++ answer m None) (ends_session m)
 answered_other read share output piece m other a spells = record {
   messages = a.messages ++ m ∷ [];
@@ -54,17 +58,23 @@ answered_other read share output piece m other a spells = record {
   output_is = ap (λ (x : List ℕ). x ++ answer m None) a.output_is ∙ sym (said_other a.messages (had share) m other (replies read share output false a));
 }
 
-led_other : (setup : Setup) (session : ℕ) (h : List Answered) (read output piece after : List ℕ) (old new : Execution) (m : Message) → is_ask m ≡ false → LedTo setup h old
-    → IsAnswered read (session_share h 0 session) output false → (new ≡ old) × (after ≡ output ++ answer m None) → Spells piece m → LedOnTo setup session h new (read ++ piece) after (ends_session m)
+-- a message that is no request leads to the same history
+led_other : (setup : Setup) (session : ℕ) (h : List Answered) (read output piece after : List ℕ) (old new : Execution)
+    (m : Message) → is_ask m ≡ false → LedTo setup h old
+    → IsAnswered read (session_share h 0 session) output false → (new ≡ old) × (after ≡ output ++ answer m None) → Spells piece m
+    → LedOnTo setup session h new (read ++ piece) after (ends_session m)
 led_other setup session h read output piece after old new m other led a is spells = record {
   history = h;
   goes_on = goes_on_same session h;
   led = subst (λ (x : Execution). LedTo setup h x) (sym is.0) led;
-  answered = subst (λ (x : List ℕ). IsAnswered (read ++ piece) (session_share h 0 session) x (ends_session m)) (sym is.1) (answered_other read (session_share h 0 session) output piece m other a spells);
+  answered = subst (λ (x : List ℕ). IsAnswered (read ++ piece) (session_share h 0 session) x (ends_session m)) (sym is.1)
+      (answered_other read (session_share h 0 session) output piece m other a spells);
 }
 
+-- a message is answered, and the history goes on with it where it is a request
 pub led_message : (setup : Setup) (session : ℕ) (h : List Answered) (read output piece after : List ℕ) (old new : Execution) (m : Message) → LedTo setup h old
-    → IsAnswered read (session_share h 0 session) output false → Answers old m new output after → Spells piece m → LedOnTo setup session h new (read ++ piece) after (ends_session m)
+    → IsAnswered read (session_share h 0 session) output false → Answers old m new output after → Spells piece m
+    → LedOnTo setup session h new (read ++ piece) after (ends_session m)
 led_message setup session h read output piece after old new (Ask q quiet) led a (t, reply, x, is) spells =
     let e = entry_of h session t q reply in
     let shown = answered_ask read (session_share h 0 session) output piece q quiet e a spells refl in
@@ -75,12 +85,16 @@ led_message setup session h read output piece after old new (Ask q quiet) led a 
       answered = subst (λ (share : List Answered). IsAnswered (read ++ piece) share after false) (sym (share_one h session t q reply))
           (subst (λ (out : List ℕ). IsAnswered (read ++ piece) (session_share h 0 session ++ e ∷ []) out false) (sym is) shown);
     }
-led_message setup session h read output piece after old new (Wrong kind) led a is spells = led_other setup session h read output piece after old new (Wrong kind) refl led a is spells
-led_message setup session h read output piece after old new Quit led a is spells = led_other setup session h read output piece after old new Quit refl led a is spells
-led_message setup session h read output piece after old new (Fatal kind) led a is spells = led_other setup session h read output piece after old new (Fatal kind) refl led a is spells
+led_message setup session h read output piece after old new (Wrong kind) led a is spells = led_other setup session h read output piece after old new
+    (Wrong kind) refl led a is spells
+led_message setup session h read output piece after old new Quit led a is spells = led_other setup session h read output piece
+    after old new Quit refl led a is spells
+led_message setup session h read output piece after old new (Fatal kind) led a is spells = led_other setup session h read output piece after old new
+    (Fatal kind) refl led a is spells
 
 -- one led on to another
-pub led_on : (setup : Setup) (session : ℕ) (h : List Answered) (mid new : Execution) (read output more after : List ℕ) (ended : Bool) (first : LedOnTo setup session h mid read output false)
+pub led_on : (setup : Setup) (session : ℕ) (h : List Answered) (mid new : Execution) (read output more after : List ℕ)
+    (ended : Bool) (first : LedOnTo setup session h mid read output false)
     → LedOnTo setup session first.history new more after ended → LedOnTo setup session h new more after ended
 led_on setup session h mid new read output more after ended first second = record {
   history = second.history;
@@ -90,12 +104,15 @@ led_on setup session h mid new read output more after ended first second = recor
 }
 
 -- one message more
-pub answers_more : (old mid new : Execution) (unread output o1 o2 : List ℕ) (taken n : ℕ) (ended : Bool) → AnswersAll old unread taken false mid output o1 → AnswersNext mid (drop taken unread) (Some (n, ended)) new o1 o2
+pub answers_more : (old mid new : Execution) (unread output o1 o2 : List ℕ) (taken n : ℕ) (ended : Bool)
+    → AnswersAll old unread taken false mid output o1 → AnswersNext mid (drop taken unread) (Some (n, ended)) new o1 o2
     → AnswersAll old unread (taken + n) ended new output o2
 answers_more old mid new unread output o1 o2 taken n ended before (m, within, spells, ended_is, x) = λ setup session history read led a.
     let first = before setup session history read led a in
-    let second = led_message setup session first.history (read ++ take taken unread) o1 (take n (drop taken unread)) o2 mid new m first.led first.answered x spells in
-    let joined = led_on setup session history mid new (read ++ take taken unread) o1 ((read ++ take taken unread) ++ take n (drop taken unread)) o2 (ends_session m) first second in
+    let second = led_message setup session first.history (read ++ take taken unread) o1
+    (take n (drop taken unread)) o2 mid new m first.led first.answered x spells in
+    let joined = led_on setup session history mid new (read ++ take taken unread) o1
+    ((read ++ take taken unread) ++ take n (drop taken unread)) o2 (ends_session m) first second in
     let bytes_are : (read ++ take taken unread) ++ take n (drop taken unread) ≡ read ++ take (taken + n) unread =
     append_assoc read (take taken unread) (take n (drop taken unread)) ∙ ap (λ (x : List ℕ). read ++ x) (sym (take-add taken n unread)) in
     subst (λ (bytes : List ℕ). LedOnTo setup session history new bytes o2 ended) bytes_are
@@ -138,13 +155,15 @@ fed_ended s before piece ended = record {
 -- one that goes on is fed, and its messages are answered
 pub fed_going : (old new : Session) (before after : Execution) (piece : List ℕ) (taken : ℕ) → old.ended ≡ false → new.number ≡ old.number
     → AnswersAll before (old.unread.items ++ piece) taken new.ended after old.output.items new.output.items
-    → (new.ended ≡ false → SpellsNone (drop taken (old.unread.items ++ piece))) → new.unread.items ≡ drop taken (old.unread.items ++ piece) → Feeds old before piece new after
+    → (new.ended ≡ false → SpellsNone (drop taken (old.unread.items ++ piece)))
+    → new.unread.items ≡ drop taken (old.unread.items ++ piece) → Feeds old before piece new after
 fed_going old new before after piece taken going number_is all none left_is = record {
   number_stays = number_is;
   serves = λ setup history bytes led served.
       let all_bytes = old.unread.items ++ piece in
       let share = session_share history 0 old.number in
-      let a : IsAnswered served.read share old.output.items false = subst (λ (b : Bool). IsAnswered served.read share old.output.items b) going served.answered in
+      let a : IsAnswered served.read share old.output.items false = subst
+      (λ (b : Bool). IsAnswered served.read share old.output.items b) going served.answered in
       let on = all setup old.number history served.read led a in
       let bytes_are : bytes ++ piece ≡ (served.read ++ take taken all_bytes) ++ drop taken all_bytes =
       ap (λ (b : List ℕ). b ++ piece) (served.bytes_are ∙ ap (λ (r : List ℕ). served.read ++ r) (served.unread_is going))
@@ -159,7 +178,9 @@ fed_going old new before after piece taken going number_is all none left_is = re
           read = served.read ++ take taken all_bytes;
           rest = drop taken all_bytes;
           bytes_are = bytes_are;
-          answered = subst (λ (n : ℕ). IsAnswered (served.read ++ take taken all_bytes) (session_share on.history 0 n) new.output.items new.ended) (sym number_is) on.answered;
+          answered = subst
+              (λ (n : ℕ). IsAnswered (served.read ++ take taken all_bytes)
+              (session_share on.history 0 n) new.output.items new.ended) (sym number_is) on.answered;
           unread_is = λ e. sym left_is;
           no_more = none;
         };
@@ -171,5 +192,6 @@ pub behind : (taken : ℕ) (bytes : List ℕ) → take (length bytes - taken) (d
 behind taken bytes = take_all (length bytes - taken) (drop taken bytes) (omega (arith, length-drop taken bytes))
 
 -- what was found lies within the bytes
-pub found_within : (mid new : Execution) (unread o1 o2 : List ℕ) (taken n : ℕ) (ended : Bool) → AnswersNext mid (drop taken unread) (Some (n, ended)) new o1 o2 → taken ≤ length unread → taken + n ≤ length unread
+pub found_within : (mid new : Execution) (unread o1 o2 : List ℕ) (taken n : ℕ) (ended : Bool)
+    → AnswersNext mid (drop taken unread) (Some (n, ended)) new o1 o2 → taken ≤ length unread → taken + n ≤ length unread
 found_within mid new unread o1 o2 taken n ended (m, within, spells, ended_is, x) le = omega (arith, length-drop taken unread)

@@ -1,5 +1,5 @@
 -- Requests that are executed one after the other, at the moments of a clock.
-use Rattle.std.specs.Prelude.{◌≡◌, ℕ, ◌+◌, min, max, List, ◌++◌, Some, None, refl}
+use Rattle.std.specs.Prelude.{◌≡◌, ℕ, ◌+◌, List, ◌++◌, Some, None, refl}
 use Rattle.std.specs.Coded.{Coded, code_by, coded×, coded_ℕ}
 use Rattle.proto.specs.declared.message.Request.{Request}
 use Rattle.proto.specs.declared.message.Reply.{Reply}
@@ -9,7 +9,7 @@ use Rattle.proto.specs.Sizes.{Sizes}
 use Rattle.proto.specs.Cache.{Cache, cache_code}
 use Rattle.proto.specs.Answers.{answer}
 use Rattle.proto.specs.Steps.{Step}
-use Rattle.proto.specs.History.{max_moment}
+use Rattle.engine.specs.Reaching.{moment_after}
 use Rattle.script.specs.Clocks.{Clock, answer_of}
 
 -- a cache, the moment of its last request, and the clock that tells the next
@@ -24,15 +24,16 @@ abbrev pub execution_code : Coded Execution
 execution_code =
     code_by ((ℕ × ℕ) × (Cache × (ℕ × (ℕ × ℕ)))) (coded× (coded× coded_ℕ coded_ℕ) (coded× cache_code (coded× coded_ℕ (coded× coded_ℕ coded_ℕ))))
     (λ x. ((x.sizes.segment_size, x.sizes.segments), (x.cache, (x.moment, (x.clock.next, x.clock.tick)))))
-    (λ p. record { sizes = record { segment_size = p.0.0; segments = p.0.1 }; cache = p.1.0; moment = p.1.1.0; clock = record { next = p.1.1.1.0; tick = p.1.1.1.1 } }) (λ _. refl)
-
--- the moment of a request: the clock's answer, but not above the greatest moment and not before the last one
-abbrev pub moment_of : ℕ → ℕ → ℕ
-moment_of last told = max last (min told max_moment)
+    (λ p. record {
+      sizes = record { segment_size = p.0.0; segments = p.0.1 };
+      cache = p.1.0;
+      moment = p.1.1.0;
+      clock = record { next = p.1.1.1.0; tick = p.1.1.1.1 };
+    }) (λ _. refl)
 
 -- the request is executed at the clock's next moment, and has this reply
 pub record Executes (old : Execution) (t : ℕ) (q : Request) (reply : Reply) (new : Execution) : Type 0 where
-  pub moment_is : t ≡ moment_of old.moment (answer_of old.clock 0)
+  pub moment_is : t ≡ moment_after old.moment (answer_of old.clock 0)
   pub step : Step old.sizes old.cache t q reply new.cache
   pub sizes_stay : new.sizes ≡ old.sizes
   pub last : new.moment ≡ t

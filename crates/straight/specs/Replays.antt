@@ -7,12 +7,13 @@ use Rattle.proto.specs.Sizes.{Sizes}
 use Rattle.proto.specs.Reading.{Reads, asks}
 use Rattle.proto.specs.Answers.{said}
 use Rattle.proto.specs.History.{Legal, session_share, had, asked}
+use Rattle.script.specs.Clocks.{Clock}
 use Rattle.script.specs.declared.event.ScriptEvent.{ScriptEvent}
 use Rattle.script.specs.Events.{newest_of, is_open, MayCome, opened, sent}
 use Rattle.straight.specs.declared.session.Session.{Session}
 use Rattle.straight.specs.declared.replay.SessionOutput.{SessionOutput}
 use Rattle.straight.specs.Execution.{Execution}
-use Rattle.straight.specs.Sessions.{Setup, LedTo, AreTold, IsServed, Feeds}
+use Rattle.straight.specs.Sessions.{Setup, LedTo, AreTimed, IsServed, Feeds}
 
 -- ---- the promise
 
@@ -32,11 +33,11 @@ pub record IsAmong (sessions : List ℕ) (e : Answered) : Type 0 where
 
 -- Some legal history has entries of worker 0 and of these sessions alone, and the clock's moments. In it each
 -- session that was opened has exactly the requests that its bytes spell, and was given exactly their answers.
-pub record IsReplay (sizes : Sizes) (answers : ℕ → ℕ) (events : List ScriptEvent) (given : List SessionOutput) : Type 0 where
+pub record IsReplay (sizes : Sizes) (clock : Clock) (events : List ScriptEvent) (given : List SessionOutput) : Type 0 where
   pub history : List Answered
   pub legal : Legal sizes history
   pub among : AllByRecursion (IsAmong (opened events)) history
-  pub moments : AreTold answers 0 0 history
+  pub timed : AreTimed clock history
   pub sessions : map (λ (g : SessionOutput). g.session) given ≡ opened events
   pub each : All (λ (g : SessionOutput). IsAnsweredIn history (sent events g.session) g) given
 

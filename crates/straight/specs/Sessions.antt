@@ -1,5 +1,5 @@
 -- One session of a run: what was executed, read and answered so far.
-use Rattle.std.specs.Prelude.{◌≡◌, ℕ, ◌+◌, ◌≤◌, ⊤, Bool, false, List, [], ◌∷◌, ◌++◌, length, take, Option, Some, None}
+use Rattle.std.specs.Prelude.{◌≡◌, ℕ, ◌+◌, ◌≤◌, Bool, false, List, [], ◌++◌, length, take, Option, Some, None}
 use Rattle.std.specs.List.{concat, AllByRecursion}
 use Rattle.proto.specs.declared.message.Message.{Message}
 use Rattle.proto.specs.declared.history.Answered.{Answered}
@@ -7,43 +7,27 @@ use Rattle.proto.specs.Grammar.{Spells, SpellsNone}
 use Rattle.proto.specs.Reading.{ends_session, SpellEach, EndsAtLast, has_ended, asks}
 use Rattle.proto.specs.Answers.{said}
 use Rattle.proto.specs.Sizes.{Sizes}
-use Rattle.proto.specs.Cache.{Cache, empty_cache}
-use Rattle.proto.specs.History.{MomentsFrom, Chain, NumbersFrom, session_share, had, asked}
-use Rattle.script.specs.Clocks.{answer_of}
-use Rattle.straight.specs.Execution.{Execution, moment_of, Answers}
+use Rattle.proto.specs.History.{session_share, had, asked}
+use Rattle.engine.specs.Reaching.{moments, moments_after, Reaches}
+use Rattle.script.specs.Clocks.{Clock, answer_of, first_answers}
+use Rattle.straight.specs.Execution.{Execution, Answers}
 use Rattle.straight.specs.declared.session.Session.{Session}
 
--- the last of the caches, or the one before them where there are none
-abbrev pub last_cache : Cache → List Cache → Cache
-last_cache before [] = before
-last_cache before (after ∷ caches) = last_cache after caches
-
--- the last moment of a history, or the one before it where it is empty
-abbrev pub last_moment : ℕ → List Answered → ℕ
-last_moment t [] = t
-last_moment t (e ∷ history) = last_moment e.moment history
-
--- each moment is told by the clock: the entries have its answers n, n + 1 and so on
-abbrev pub AreTold : (ℕ → ℕ) → ℕ → ℕ → List Answered → Type 0
-AreTold answers n last [] = ⊤
-AreTold answers n last (e ∷ history) = (e.moment ≡ moment_of last (answers n)) × AreTold answers (n + 1) e.moment history
-
--- for which sizes a history is, and what the clock answers, from the first answer on
+-- for which sizes a history is, and the clock before it
 pub record Setup : Type 0 where
   pub sizes : Sizes
-  pub answers : ℕ → ℕ
+  pub clock : Clock
+
+-- the moments of a history are those of the clock's first answers
+abbrev pub AreTimed : Clock → List Answered → Type 0
+AreTimed clock history = moments history ≡ moments_after 0 (first_answers clock (length history))
 
 -- From an empty cache the history has led to this cache and clock. The clock gave its first answers to it.
 pub record LedTo (setup : Setup) (history : List Answered) (now : Execution) : Type 0 where
   pub sizes_are : now.sizes ≡ setup.sizes
-  pub caches : List Cache
-  pub chain : Chain setup.sizes (empty_cache 0) history caches
-  pub cache_is : last_cache (empty_cache 0) caches ≡ now.cache
-  pub moments : MomentsFrom 0 history
-  pub last_is : last_moment 0 history ≡ now.moment
-  pub told : AreTold setup.answers 0 0 history
-  pub numbers : NumbersFrom 1 history
-  pub clock : (n : ℕ) → answer_of now.clock n ≡ setup.answers (length history + n)
+  pub reaches : Reaches setup.sizes history now.cache now.moment
+  pub timed : AreTimed setup.clock history
+  pub clock : (n : ℕ) → answer_of now.clock n ≡ answer_of setup.clock (length history + n)
 
 -- the bytes are whole messages, which the share of the history and the output answer
 pub record IsAnswered (read : List ℕ) (share : List Answered) (output : List ℕ) (ended : Bool) : Type 0 where

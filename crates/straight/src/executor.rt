@@ -3,15 +3,12 @@
 ghost use Rattle.std.specs.Prelude.{◌≡◌, ℕ, ◌++◌, is_some, IsTrue, OnOk};
 ghost use Rattle.straight.specs.Execution.{Execution, Executes, Answers};
 
-use engine::StorageEngine;
+use engine::{MAX_MOMENT, StorageEngine};
 use proto::message::{Message, Reply, Request};
 use proto::no_memory::NoMemory;
 use proto::show::show;
 use script::clock::ScriptClock;
 use std::marker::Model;
-
-/// The greatest moment of a request.
-pub const MAX_MOMENT: u64 = 4_611_686_018_427_387_904;
 
 /// A store, and the clock that tells its moments.
 #[derive(Drop)]

@@ -4,7 +4,6 @@ ghost use Rattle.std.specs.Prelude.{◌≡◌, ℕ, ◌<◌, ◌++◌, ◌∷◌
 ghost use Rattle.proto.specs.Cache.{empty_cache};
 ghost use Rattle.script.specs.declared.event.ScriptEvent.{ScriptEvent};
 ghost use Rattle.script.specs.Events.{IsPlayable, MayCome};
-ghost use Rattle.script.specs.Clocks.{answer_of};
 ghost use Rattle.straight.specs.declared.session.Session.{Session};
 ghost use Rattle.straight.specs.Sessions.{Setup, Feeds};
 ghost use Rattle.straight.specs.Replays.{FeedsAt, IsPlaceOf, IsReplay, IsRising, RunsEvent, numbers_of, output_of};
@@ -98,7 +97,7 @@ pub fn replay_straight<E: StorageEngine + Drop>(
     requires playable { IsPlayable events.now }
     requires no_entry { E.cache store ≡ empty_cache 0 }
     requires no_request { E.moment store ≡ 0 }
-    ensures { IfOk result (λ given. IsReplay (E.sizes store) (answer_of clock) events.now given.items) }
+    ensures { IfOk result (λ given. IsReplay (E.sizes store) clock events.now given.items) }
 {
     let mut executor = Executor::new(store, clock);
     let mut sessions = Vec::new(alloc);

@@ -32,7 +32,8 @@ pub lines_more : (w k : ℕ) (ws : List (GroupWorker PortState)) (d : GroupWorke
     → lines_from w (map events_of (take (suc k) ws)) ≡ lines_from w (map events_of (take k ws)) ++ lines_of (w + k) (events_of (slice_index_or ws k d))
 lines_more w k [] d low = absurd (omega arith)
 lines_more w zero (x ∷ ws) d low =
-    ap (λ l. lines_of w (events_of x) ++ lines_from (w + 1) (map events_of l)) (take_none ws) ∙ append-nil (lines_of w (events_of x)) ∙ ap (λ n. lines_of n (events_of x)) (omega arith)
+    ap (λ l. lines_of w (events_of x) ++ lines_from (w + 1) (map events_of l)) (take_none ws)
+    ∙ append-nil (lines_of w (events_of x)) ∙ ap (λ n. lines_of n (events_of x)) (omega arith)
 lines_more w (suc k) (x ∷ ws) d low =
     ap (λ l. lines_of w (events_of x) ++ l) (lines_more (w + 1) k ws d (omega arith))
     ∙ sym (append_assoc (lines_of w (events_of x)) (lines_from (w + 1) (map events_of (take k ws))) (lines_of (w + 1 + k) (events_of (slice_index_or ws k d))))
@@ -53,26 +54,36 @@ kept_after (Some o) (Some m) None xs a kept = absurd kept
 kept_after (Some o) (Some m) (Some n) xs a kept = kept ∙ a
 
 -- one element more
-pub mapped_more : {A : Type 0} (f : A → List ℕ) (xs : List A) (k : ℕ) (d : A) → k < length xs → flat_map f (take (suc k) xs) ≡ flat_map f (take k xs) ++ f (slice_index_or xs k d)
+pub mapped_more : {A : Type 0} (f : A → List ℕ) (xs : List A) (k : ℕ) (d : A) → k < length xs
+    → flat_map f (take (suc k) xs) ≡ flat_map f (take k xs) ++ f (slice_index_or xs k d)
 mapped_more f [] k d low = absurd (omega arith)
 mapped_more f (x ∷ xs) zero d low = ap (λ l. f x ++ flat_map f l) (take_none xs) ∙ append-nil (f x)
-mapped_more f (x ∷ xs) (suc k) d low = ap (λ l. f x ++ l) (mapped_more f xs k d (omega arith)) ∙ sym (append_assoc (f x) (flat_map f (take k xs)) (f (slice_index_or xs k d)))
+mapped_more f (x ∷ xs) (suc k) d low = ap (λ l. f x ++ l) (mapped_more f xs k d (omega arith))
+    ∙ sym (append_assoc (f x) (flat_map f (take k xs)) (f (slice_index_or xs k d)))
 
 -- one element's bytes were written behind those of the elements before it
-pub one_more : {A : Type 0} (f : A → List ℕ) (xs : List A) (k : ℕ) (x : A) (bytes : List ℕ) (old mid new : Option (List ℕ)) → k < length xs → slice_index_or xs k x ≡ x → bytes ≡ f x
+pub one_more : {A : Type 0} (f : A → List ℕ) (xs : List A) (k : ℕ) (x : A) (bytes : List ℕ) (old mid new : Option (List ℕ))
+    → k < length xs → slice_index_or xs k x ≡ x → bytes ≡ f x
     → Appends old mid (flat_map f (take k xs)) → Appends mid new bytes → Appends old new (flat_map f (take (k + 1) xs))
 one_more f xs k x bytes old mid new low is bytes_are before wrote =
     let plus : suc k ≡ k + 1 = omega arith in
     subst (λ n. Appends old new (flat_map f (take n xs))) plus
-    (subst (Appends old new) (sym (mapped_more f xs k x low ∙ ap (λ l. flat_map f (take k xs) ++ l) (ap f is ∙ sym bytes_are))) (appended old mid new (flat_map f (take k xs)) bytes before wrote))
+    (subst (Appends old new) (sym (mapped_more f xs k x low ∙ ap (λ l. flat_map f (take k xs) ++ l) (ap f is ∙ sym bytes_are)))
+    (appended old mid new (flat_map f (take k xs)) bytes before wrote))
 
 -- one worker's lines were written behind those of the workers before it
-pub one_worker_more : (ws : List (GroupWorker PortState)) (k : ℕ) (x : GroupWorker PortState) (old mid new : Option (List ℕ)) → k < length ws → slice_index_or ws k x ≡ x
-    → Appends old mid (lines_from 0 (map events_of (take k ws))) → Appends mid new (lines_of k (events_of x)) → Appends old new (lines_from 0 (map events_of (take (k + 1) ws)))
+pub one_worker_more : (ws : List (GroupWorker PortState)) (k : ℕ) (x : GroupWorker PortState) (old mid new : Option (List ℕ))
+    → k < length ws → slice_index_or ws k x ≡ x
+    → Appends old mid (lines_from 0 (map events_of (take k ws))) → Appends mid new (lines_of k (events_of x))
+    → Appends old new (lines_from 0 (map events_of (take (k + 1) ws)))
 one_worker_more ws k x old mid new low is before wrote =
     let plus : suc k ≡ k + 1 = omega arith in let zero_more : 0 + k ≡ k = omega arith in
     subst (λ n. Appends old new (lines_from 0 (map events_of (take n ws)))) plus
-    (subst (Appends old new) (sym (lines_more 0 k ws x low ∙ ap (λ n. lines_from 0 (map events_of (take k ws)) ++ lines_of n (events_of (slice_index_or ws k x))) zero_more ∙ ap (λ y. lines_from 0 (map events_of (take k ws)) ++ lines_of k (events_of y)) is)) (appended old mid new (lines_from 0 (map events_of (take k ws))) (lines_of k (events_of x)) before wrote))
+    (subst (Appends old new)
+    (sym (lines_more 0 k ws x low
+    ∙ ap (λ n. lines_from 0 (map events_of (take k ws)) ++ lines_of n (events_of (slice_index_or ws k x))) zero_more
+    ∙ ap (λ y. lines_from 0 (map events_of (take k ws)) ++ lines_of k (events_of y)) is))
+    (appended old mid new (lines_from 0 (map events_of (take k ws))) (lines_of k (events_of x)) before wrote))
 
 -- one worker more, at whose port the list is what the script does
 pub one_played_more : (ws : List (GroupWorker PortState)) (n : ℕ) (x : GroupWorker PortState) → n < length ws → slice_index_or ws n x ≡ x
@@ -94,7 +105,8 @@ silent accept fail_give scripts ports each k d low =
       no_events = λ story told.
           bool_cases (is_playable (slice_index_or ports k d).script)
           (λ yes.
-          let same : Some (story_of (slice_index_or ports k d)) ≡ Some story = sym (ap (λ b. cond b (Some (story_of (slice_index_or ports k d))) None) yes) ∙ told in
+          let same : Some (story_of (slice_index_or ports k d)) ≡ Some story = sym
+          (ap (λ b. cond b (Some (story_of (slice_index_or ports k d))) None) yes) ∙ told in
           let story_is : story_of (slice_index_or ports k d) ≡ story = cc in
           ap (λ (z : PortStory). z.events) (sym story_is) ∙ ap (λ (p : PortState). p.records) is.1)
           (λ no. let wrong : None ≡ Some story = sym (ap (λ b. cond b (Some (story_of (slice_index_or ports k d))) None) no) ∙ told in absurd (cc));

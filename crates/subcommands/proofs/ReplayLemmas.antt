@@ -1,6 +1,6 @@
 -- From a group's run over the ports of a script to what the script's bytes make it print.
 use Rattle.std.proofs.Common.{◌≡◌, ℕ, zero, suc, ◌+◌, ◌<◌, ◌==◌, Bool, true, false, ◌||◌, cond, List, [], ◌∷◌, ◌++◌, length, map, take, Option, Some, None, All, Contains, IsSome, refl, sym, ap, subst, ◌∙◌, arith}
-use Rattle.std.specs.Prelude.{flat_map, slice_index_or}
+use Rattle.std.specs.Prelude.{⊤, flat_map, slice_index_or}
 use Rattle.std.specs.List.{list_any}
 use Rattle.std.proofs.lemmas.List.{length-map}
 use Rattle.std.proofs.Common.{length-append}
@@ -14,19 +14,20 @@ use Rattle.proto.proofs.GrammarLaws.{has_reading}
 use Rattle.exchange.proofs.Lists.{at_below, at_some}
 use Rattle.session_book.specs.declared.causes.EndCause.{EndCause}
 use Rattle.session_book.specs.declared.causes.EndCause.TheVariants as causes
-use Rattle.storage_thread.specs.Serving.{moments, moment_after, moments_after, IsTimed}
+use Rattle.engine.specs.Reaching.{moments, moment_after, moments_after}
+use Rattle.storage_thread.specs.Serving.{IsTimed}
 use Rattle.script.specs.declared.event.ScriptEvent.{ScriptEvent}
 use Rattle.script.specs.Events as script
-use Rattle.script.specs.Clocks.{Clock, answer_of}
+use Rattle.script.specs.Clocks.{Clock, answer_of, first_answers}
 use Rattle.script.specs.Scripts.{Workers, AreEventsOf}
 use Rattle.worker.specs.declared.port.PortRecord.{PortRecord}
 use Rattle.worker.specs.declared.port.PortRecord.TheVariants as was
-use Rattle.worker.specs.Ports.{fed, given, was_opened, is_opening}
+use Rattle.worker.specs.Ports.{PortStory, fed, given, was_opened, is_opening}
 use Rattle.worker.specs.Sessions.{cause_of}
 use Rattle.worker.specs.Reports.{IsCauseOf}
 use Rattle.clocks.specs.declared.told_clock.ToldClock.{ToldClock}
 use Rattle.clocks.specs.Answers.{listed}
-use Rattle.clocks.specs.Leading.{GivesAnswers, first_answers}
+use Rattle.clocks.specs.Leading.{GivesAnswers}
 use Rattle.script_port.specs.Events.{is_playable}
 use Rattle.script_port.specs.Records.{opened}
 use Rattle.script_port.specs.Following.{IsPlayed}
@@ -89,7 +90,8 @@ module _ (history : List Answered) (w : ℕ) (events : List ScriptEvent) (worker
   one_outcome s =
       let l = worker.port.records in let reading = has_reading (fed s l) in record {
         came_first = played.fed_first s;
-        came_all = λ found. let caused = (answered.answered s causes.Drained found reading.0 reading.1 reading.2).caused in played.fed_all s answered.ended caused.0 caused.1;
+        came_all = λ found. let caused = (answered.answered s causes.Drained found reading.0 reading.1 reading.2).caused in
+            played.fed_all s answered.ended caused.0 caused.1;
         no_room = answered.no_stranger s;
         answered = λ cause found. let a = answered.answered s cause found reading.0 reading.1 reading.2 in record {
           messages = reading.0;
@@ -115,13 +117,15 @@ module _ (history : List Answered) (w : ℕ) (events : List ScriptEvent) (worker
 
 length-first : (clock : Clock) (n : ℕ) → length (first_answers clock n) ≡ n
 length-first clock zero = refl
-length-first clock (suc n) = let more = length-append (first_answers clock n) (answer_of clock n ∷ []) in let before = length-first clock n in omega (arith, more, before)
+length-first clock (suc n) = let more = length-append (first_answers clock n) (answer_of clock n ∷ []) in
+    let before = length-first clock n in omega (arith, more, before)
 
 length-after : (answers : List ℕ) (last : ℕ) → length (moments_after last answers) ≡ length answers
 length-after [] last = refl
 length-after (a ∷ answers) last = ap suc (length-after answers (moment_after last a))
 
-timed : (clock : Clock) (told after : ToldClock) (history : List Answered) → told.clock ≡ clock → listed told.answers ≡ [] → GivesAnswers told after → IsTimed (Some (listed told.answers)) (Some (listed after.answers)) history
+timed : (clock : Clock) (told after : ToldClock) (history : List Answered) → told.clock ≡ clock → listed told.answers ≡ []
+    → GivesAnswers told after → IsTimed (Some (listed told.answers)) (Some (listed after.answers)) history
     → moments history ≡ moments_after 0 (first_answers clock (length history))
 timed clock told after history clock_is none gives is =
     let told_are : Some (listed after.answers) ≡ Some (listed told.answers ++ is.0) = is.1 in
@@ -133,11 +137,32 @@ timed clock told after history clock_is none gives is =
     sym (sym (length-map history (λ (e : Answered). e.moment)) ∙ ap length is.2 ∙ length-after is.0 0 ∙ ap length first_are ∙ length-first clock gives.count) in
     is.2 ∙ ap (moments_after 0) (first_are ∙ ap (first_answers clock) count_is)
 
+-- ---- a store that keeps what it stores
+
+-- a group's run over it may be read as one that forgets nothing while little is stored
+pub keeping_run : {P C : Type 0} (told : P → Option PortStory) (leads_to : P → P → Type 0) (clock_told : C → Option (List ℕ)) (clock_leads : C → C → Type 0)
+    → (keeps : Type 0) (found sizes : Sizes) (ports : List P) (clock : C) (report : GroupReport P C)
+    → IsRun told leads_to clock_told clock_leads keeps found ports clock report → found ≡ sizes → keeps
+    → IsRun told leads_to clock_told clock_leads ⊤ sizes ports clock report
+keeping_run told leads_to clock_told clock_leads keeps found sizes ports clock report run same kept =
+    subst (λ (s : Sizes). IsRun told leads_to clock_told clock_leads ⊤ s ports clock report) same (record {
+      history = run.history;
+      legal = run.legal;
+      inside = run.inside;
+      executed = run.executed;
+      one_each = run.one_each;
+      each = run.each;
+      none_beyond = run.none_beyond;
+      leads = run.leads;
+      moments = run.moments;
+      bounded = λ _. run.bounded kept;
+    })
+
 -- ---- all workers
 
 pub replayed : (sizes : Sizes) (clock : Clock) (workers accept fail_give : ℕ) (text : List ℕ) (scripts : Workers) → AreEventsOf workers text scripts
     → (ports : List PortState) → AreEach (IsPort accept fail_give) scripts ports → (told : ToldClock) → told.clock ≡ clock → listed told.answers ≡ []
-    → (report : GroupReport PortState ToldClock) → IsRun told_of PlaysOn (λ (c : ToldClock). Some (listed c.answers)) GivesAnswers ⊥ sizes ports told report
+    → (report : GroupReport PortState ToldClock) → IsRun told_of PlaysOn (λ (c : ToldClock). Some (listed c.answers)) GivesAnswers ⊤ sizes ports told report
     → ArePlayed report.workers.items
     → IsReplayOf sizes clock workers text (lines_from 0 (map events_of report.workers.items))
 replayed sizes clock workers accept fail_give text scripts read ports ports_are told clock_is none report run played = record {
@@ -159,5 +184,6 @@ replayed sizes clock workers accept fail_give text scripts read ports ports_are 
       let answered = of.served (story_of x.0.port) (ap (λ b. cond b (Some (story_of x.0.port)) None) plays) in
       subst (AreOutcomesOf run.history w events) x.2
       (worker_outcomes run.history w events x.0 answered (subst (λ (s : List ScriptEvent). IsPlayed s x.0.port.records) script_is (played w x.0 x.1 plays)));
+  bounded = run.bounded tt;
   printed_is = lines_are 0 report.workers.items;
 }

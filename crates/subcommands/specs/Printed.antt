@@ -1,5 +1,5 @@
 -- What `segcached replay` prints for a script.
-use Rattle.std.specs.Prelude.{◌≡◌, ℕ, ◌+◌, true, List, [], ◌∷◌, ◌++◌, ◌==◌, length, codes, decimal, flat_map, map, if◌then◌else◌, Some}
+use Rattle.std.specs.Prelude.{◌≡◌, ℕ, ◌+◌, true, List, [], ◌∷◌, ◌++◌, ◌==◌, length, codes, decimal, flat_map, map, if◌then◌else◌, Some, ⊤}
 use mathlib.Core.Option.{some}
 use lib.ListN.{get_elem?}
 use Rattle.hex.specs.Hex.{encode_lower}
@@ -65,5 +65,5 @@ pub record IsPrinted (sizes : Sizes) (clock : Clock) (workers accept fail_give :
   pub told : ToldClock
   pub told_is : (told.clock ≡ clock) × (listed told.answers ≡ [])
   pub report : GroupReport PortState ToldClock
-  pub run : IsRun told_of PlaysOn (λ c. Some (listed c.answers)) GivesAnswers ⊥ sizes ports told report
+  pub run : IsRun told_of PlaysOn (λ c. Some (listed c.answers)) GivesAnswers ⊤ sizes ports told report
   pub printed_is : printed ≡ lines_from 0 (map events_of report.workers.items)

@@ -13,13 +13,13 @@ use Rattle.exchange.specs.Beginnings.{StartsWith}
 use Rattle.session_book.specs.declared.causes.EndCause.{EndCause}
 use Rattle.session_book.specs.declared.causes.EndCause.TheVariants as causes
 use Rattle.session_book.specs.Session.{ended_by}
-use Rattle.storage_thread.specs.Serving.{moments, moments_after}
+use Rattle.engine.specs.Reaching.{moments, moments_after}
+use Rattle.storage_thread.specs.Keeping.{MayForgetNothing}
 use Rattle.script.specs.declared.event.ScriptEvent.{ScriptEvent}
 use Rattle.script.specs.Events.{opened, sent}
-use Rattle.script.specs.Clocks.{Clock}
+use Rattle.script.specs.Clocks.{Clock, first_answers}
 use Rattle.script.specs.Scripts.{Workers, AreEventsOf}
 use Rattle.worker.specs.Reports.{is_complete}
-use Rattle.clocks.specs.Leading.{first_answers}
 use Rattle.subcommands.specs.Printed.{line_of}
 
 -- What came of a session: its bytes that were read, those that it was given, and why it ended; None where it found no
@@ -73,8 +73,9 @@ outcome_lines worker (outcomes ∷ more) =
     flat_map (λ (o : SessionOutcome). line_of worker o.number o.given) outcomes ++ outcome_lines (worker + 1) more
 
 -- What is printed for a script with these bytes: some legal history has the moments of the clock's answers; by it each
--- worker's sessions, those that the script opens, have their outcomes; and a line for each tells what it was given, in
--- order of worker and session.
+-- worker's sessions, those that the script opens, have their outcomes; it may be read as one that forgets nothing, where no
+-- request sets a deadline and little is stored; and a line for each session tells what it was given, in order of worker and
+-- session.
 pub record IsReplayOf (sizes : Sizes) (clock : Clock) (workers : ℕ) (text printed : List ℕ) : Type 0 where
   pub scripts : Workers
   pub read : AreEventsOf workers text scripts
@@ -84,5 +85,7 @@ pub record IsReplayOf (sizes : Sizes) (clock : Clock) (workers : ℕ) (text prin
   pub moments_are : moments history ≡ moments_after 0 (first_answers clock (length history))
   pub outcomes : List (List SessionOutcome)
   pub one_each : length outcomes ≡ length scripts
-  pub each : (w : ℕ) (script : List ScriptEvent) (os : List SessionOutcome) → get_elem? scripts w ≡ some script → get_elem? outcomes w ≡ some os → AreOutcomesOf history w script os
+  pub each : (w : ℕ) (script : List ScriptEvent) (os : List SessionOutcome) → get_elem? scripts w ≡ some script
+      → get_elem? outcomes w ≡ some os → AreOutcomesOf history w script os
+  pub bounded : MayForgetNothing sizes history
   pub printed_is : printed ≡ outcome_lines 0 outcomes

@@ -3,5 +3,6 @@
 
 pub mod fault;
 pub mod replay;
+pub mod seed;
 pub mod serve;
 pub mod words;

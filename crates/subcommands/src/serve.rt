@@ -102,13 +102,14 @@ fn announce<W: Write>(line: &str, out: &mut W) -> Result<(), Fault>
 }
 
 /// Listens on the options' address, prints it, and serves: a thread accepts streams, a group of workers serves them,
-/// and moments are Unix seconds. With a number of sessions it accepts so many streams, and ends when their sessions
+/// and moments are Unix seconds. Keys are hashed with the seed. With a number of sessions it accepts so many streams, and ends when their sessions
 /// have ended; else it goes on.
 pub fn serve<H, W: Write>(
     rt: H,
     alloc: Global,
     options: &ServeOptions,
     geometry: Geometry,
+    seed: u64,
     out: &mut W,
 ) -> Result<(), Fault>
 where
@@ -124,7 +125,7 @@ where
         Ok(made) => made,
         Err(fault) => return Err(cannot_listen(alloc, options, fault)),
     };
-    let store = Store::new(alloc, geometry)?;
+    let store = Store::seeded(alloc, geometry, 0, seed)?;
     let line = listening_line(alloc, options, listener.port())?;
     announce(line.as_str(), out)?;
     let limit = options.sessions;

@@ -1,7 +1,12 @@
 //! The words after the program's name.
 
-ghost use Rattle.std.specs.Prelude.{◌≡◌};
+ghost use Rattle.std.specs.Prelude.{◌≡◌, ◌≤◌, IfOk, Err};
+ghost use Rattle.clap.specs.Values.{kind_of};
+ghost use Rattle.clap.specs.declared.error.ErrorKind.TheVariants as clap;
+ghost use Rattle.std.specs.IoError.{error_kind};
+ghost use Rattle.std.specs.declared.io.ErrorKind.TheVariants as io;
 ghost use Rattle.subcommands.specs.declared.words.WordsFault.TheVariants as words;
+ghost use Rattle.subcommands.specs.Words.{IsJob, IsReplayInRange, IsServeInRange};
 
 use clap::error::ErrorKind;
 use clap::{Arg, ArgMatches, Command};
@@ -75,6 +80,8 @@ impl From<AllocError> for WordsFault {
 /// What `--version` shows behind the program's name.
 const VERSION: &str = "0.1.0";
 
+const OUT_OF_RANGE: &str = "error: a number is out of its range\n";
+
 const REPLAY_HELP: &str = "A script has a line for each event, with single spaces between its words:
   open W S      session S begins at worker W
   send W S HEX  its bytes come, in hexadecimal
@@ -103,7 +110,9 @@ fn segments<'a>(alloc: Global) -> Arg<'a> {
     Arg::new(alloc, "segments")
         .long("segments")
         .value_name("COUNT")
-        .help("Number of segments, 8 to 65536")
+        .help(
+            "Number of segments, 8 to 65536. What is set without a life is sure to stay while all that is written takes no more than 7/8 of all segments but one",
+        )
         .value_parser(clap::value_parser!(u64).range(8..=65_536))
         .default_value("64")
 }
@@ -183,6 +192,7 @@ fn serve_command<'a>(alloc: Global) -> Result<Command<'a>, AllocError> {
         .value_parser(clap::value_parser!(u64).range(1..));
     Command::new(alloc, "serve")
         .about("Listens on an address and serves")
+        .override_usage("segcached serve [OPTIONS] --listen <ADDR>")
         .after_help(SERVE_HELP)
         .arg(listen)?
         .arg(workers(alloc, "2"))?
@@ -206,31 +216,55 @@ fn number(matches: &ArgMatches<'_>, id: &str) -> u64 {
     matches.get_one::<u64>(id).unwrap_or(0)
 }
 
-fn replay_options(alloc: Global, matches: &ArgMatches<'_>) -> Result<Options, AllocError> {
+/// A number from `least` to `most`. The parser of the words refuses any other before.
+fn number_in(
+    alloc: Global,
+    matches: &ArgMatches<'_>,
+    id: &str,
+    least: u64,
+    most: u64,
+) -> Result<u64, WordsFault>
+    ensures { IfOk result (λ n. (least ≤ n) × (n ≤ most)) }
+{
+    let found = number(matches, id);
+    if found < least || most < found {
+        return Err(WordsFault::BadWords(String::from_str(alloc, OUT_OF_RANGE)?));
+    }
+    Ok(found)
+}
+
+fn replay_options(alloc: Global, matches: &ArgMatches<'_>) -> Result<Options, WordsFault>
+    ensures { IfOk result IsReplayInRange }
+{
     Ok(Options {
         file: String::from_str(alloc, matches.get_str("file").unwrap_or(""))?,
-        workers: number(matches, "workers"),
-        segment_size: number(matches, "segment-size"),
-        segments: number(matches, "segments"),
+        workers: number_in(alloc, matches, "workers", 1, 8)?,
+        segment_size: number_in(alloc, matches, "segment-size", 4096, 1_048_576)?,
+        segments: number_in(alloc, matches, "segments", 8, 65_536)?,
         now: number(matches, "now"),
         tick: number(matches, "tick"),
-        accept: number(matches, "accept"),
+        accept: number_in(alloc, matches, "accept", 0, 65_536)?,
         fail_give: number(matches, "fail-give"),
     })
 }
 
-fn serve_options(alloc: Global, matches: &ArgMatches<'_>) -> Result<ServeOptions, AllocError> {
+fn serve_options(alloc: Global, matches: &ArgMatches<'_>) -> Result<ServeOptions, WordsFault>
+    ensures { IfOk result IsServeInRange }
+{
     Ok(ServeOptions {
         listen: String::from_str(alloc, matches.get_str("listen").unwrap_or(""))?,
-        workers: number(matches, "workers"),
+        workers: number_in(alloc, matches, "workers", 1, 8)?,
         sessions: matches.get_one::<u64>("sessions"),
-        segment_size: number(matches, "segment-size"),
-        segments: number(matches, "segments"),
+        segment_size: number_in(alloc, matches, "segment-size", 4096, 1_048_576)?,
+        segments: number_in(alloc, matches, "segments", 8, 65_536)?,
     })
 }
 
 /// Why the parser of the words asks for nothing: to show a text, want of memory, or bad words.
-fn parse_fault(alloc: Global, error: &clap::Error) -> Result<Job, WordsFault> {
+fn parse_fault(alloc: Global, error: &clap::Error) -> Result<Job, WordsFault>
+    ensures job { IfOk result IsJob }
+    ensures memory { kind_of error.now ≡ clap.OutOfMemory → result ≡ Err words.NoMemory }
+{
     if error.kind() == ErrorKind::OutOfMemory {
         return Err(WordsFault::NoMemory);
     }
@@ -242,7 +276,9 @@ fn parse_fault(alloc: Global, error: &clap::Error) -> Result<Job, WordsFault> {
 }
 
 /// Why the words after the program's name can't be had: want of memory, or a word that isn't UTF-8.
-pub fn unreadable_words(alloc: Global, error: &io::Error) -> WordsFault {
+pub fn unreadable_words(alloc: Global, error: &io::Error) -> WordsFault
+    ensures { error_kind error.now ≡ io.OutOfMemory → result ≡ words.NoMemory }
+{
     if error.kind() == io::ErrorKind::OutOfMemory {
         return WordsFault::NoMemory;
     }
@@ -253,7 +289,9 @@ pub fn unreadable_words(alloc: Global, error: &io::Error) -> WordsFault {
 }
 
 /// What the words after the program's name ask for. Words that are bad are answered with the text to print.
-pub fn parse_words(alloc: Global, words: &[String]) -> Result<Job, WordsFault> {
+pub fn parse_words(alloc: Global, words: &[String]) -> Result<Job, WordsFault>
+    ensures { IfOk result IsJob }
+{
     let command = command(alloc)?;
     match command.try_get_matches_from(words) {
         Ok(matches) => match matches.subcommand() {

@@ -3,14 +3,13 @@
 ghost use Rattle.std.specs.Prelude.{◌≡◌, is_some};
 ghost use Rattle.proto.specs.Answers.{is_ask};
 
-use proto::head::View;
 use proto::hits::{HitRef, HitWriter, Hits};
 use proto::keys::Keys;
 use proto::message::{Message, Next, Reply, Request};
 use proto::next::next_message;
 use proto::no_memory::NoMemory;
 use proto::show::show;
-use proto::view::next_view;
+use proto::view::{View, next_view};
 use std::alloc::{AllocError, Global};
 use std::process::Abort;
 use std::test::Fail;

@@ -52,7 +52,20 @@ told_read v v' unopened ended t s read ms h open_is reads here_asked other_asked
     let here : facts v' t ≡ f' = facts_equal (facts v' t) f' (ap (λ l. port_facts l t) e) here_asked (λ i. (facts (record v { back = b i }) t).had)
     (λ i. (facts (record v { sessions = r i }) t).cause) (book t ∙ at_same t (Some read) (session_of v.book t)) (λ i. piece i t) in
     let now : IsConsistent f' = is_running f' run.opened run.cause
-    (record { gone = run.running.gone; shut = run.running.shut; s = read; state = refl; served = record { bytes = served.bytes; messages = served.messages; fed = served.fed; has_read = served.has_read; has_said = served.has_said; asked = served.asked } }) in
+    (record {
+      gone = run.running.gone;
+      shut = run.running.shut;
+      s = read;
+      state = refl;
+      served = record {
+        bytes = served.bytes;
+        messages = served.messages;
+        fed = served.fed;
+        has_read = served.has_read;
+        has_said = served.has_said;
+        asked = served.asked;
+      };
+    }) in
     let others : (k : ℕ) → t ≢ k → facts v' k ≡ facts v k =
     λ k ne. facts_equal (facts v' k) (facts v k) (ap (λ l. port_facts l k) e) (other_asked k ne) (λ i. (facts (record v { back = b i }) k).had)
     (λ i. (facts (record v { sessions = r i }) k).cause) (book k ∙ at_other t k (Some read) (session_of v.book k) ne) (λ i. piece i k) in

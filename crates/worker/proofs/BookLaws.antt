@@ -48,7 +48,15 @@ feed_keeps bytes piece given ms replies s h k = fed_by s.ended bytes piece given
 
 pub give_keeps : GiveKeeps
 give_keeps bytes given n ms replies s h k = (
-  record { pieces = h.pieces; dropped = h.dropped; whole = h.whole; spelled = h.spelled; ends_at_last = h.ends_at_last; ended = h.ended; nothing_dropped = h.nothing_dropped },
+  record {
+    pieces = h.pieces;
+    dropped = h.dropped;
+    whole = h.whole;
+    spelled = h.spelled;
+    ends_at_last = h.ends_at_last;
+    ended = h.ended;
+    nothing_dropped = h.nothing_dropped;
+  },
   record {
     whole = append_assoc given (take n s.out) (drop n s.out) ∙ ap (λ (x : List ℕ). given ++ x) (take-append-drop n s.out)
         ∙ k.whole;

@@ -69,7 +69,12 @@ first_of_reading b rest left ms ns h r =
       | inl ended ↦ ([], same_reading b rest left ms ns h (λ e. absurd (both_ways (has_ended ms) e ended)) r ∙ sym (append-nil ms))
       | inr goes_on ↦
           let on = has_reading rest in
-          let further : BeginsWith rest on.0 on.1 = record { pieces = on.2.pieces; whole = on.2.whole; spelled = on.2.spelled; ends_at_last = on.2.ends_at_last } in
+          let further : BeginsWith rest on.0 on.1 = record {
+            pieces = on.2.pieces;
+            whole = on.2.whole;
+            spelled = on.2.spelled;
+            ends_at_last = on.2.ends_at_last;
+          } in
           let joined = read_on b rest on.1 ms on.0 goes_on h further in (
             on.0,
             same_reading b on.1 left (ms ++ on.0) ns joined (λ e. on.2.no_more (sym (ended-append ms on.0 goes_on) ∙ e)) r,

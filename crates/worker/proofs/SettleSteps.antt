@@ -143,7 +143,20 @@ told_kept v v' unopened ended a s h open_is has k =
     let served = served_settled (facts v t) s (v.piece t) a.reply has was_served in
     let f' = record (facts v t) { had = had_by v.back t ++ a.reply ∷ []; state = Some (settled s a.reply) } in
     let now : IsConsistent f' = is_running f' run.opened run.cause
-    (record { gone = run.running.gone; shut = run.running.shut; s = settled s a.reply; state = refl; served = record { bytes = served.bytes; messages = served.messages; fed = served.fed; has_read = served.has_read; has_said = served.has_said; asked = served.asked } }) in
+    (record {
+      gone = run.running.gone;
+      shut = run.running.shut;
+      s = settled s a.reply;
+      state = refl;
+      served = record {
+        bytes = served.bytes;
+        messages = served.messages;
+        fed = served.fed;
+        has_read = served.has_read;
+        has_said = served.has_said;
+        asked = served.asked;
+      };
+    }) in
     told_within v v' unopened ended h k.events k.sessions (change_at t v v' (taken_elsewhere v v' a (Some (settled s a.reply)) k)
     (subst IsConsistent (sym (taken_here v v' a (Some (settled s a.reply)) k)) now) (λ j ne. h.each j))
 

@@ -246,7 +246,14 @@ running_on f port s q r o g h served =
           ∙ r.running.shut;
       s = s;
       state = refl;
-      served = record { bytes = served.bytes; messages = served.messages; fed = served.fed; has_read = served.has_read; has_said = served.has_said; asked = served.asked };
+      served = record {
+        bytes = served.bytes;
+        messages = served.messages;
+        fed = served.fed;
+        has_read = served.has_read;
+        has_said = served.has_said;
+        asked = served.asked;
+      };
     })
 
 -- bytes came and were fed

@@ -42,7 +42,8 @@ IsCauseOf events s messages causes.NoMemory = was_shut s events ≡ true
 pub record IsAnswered (events : List PortRecord) (history : List Answered) (worker s : ℕ) (cause : EndCause) (messages : List Message) : Type 0 where
   pub first : StartsWith (asks messages) (asked (session_share history worker s))
   pub beginning : StartsWith (said messages (had (session_share history worker s))) (given s events)
-  pub complete : is_complete cause ≡ true → (asked (session_share history worker s) ≡ asks messages) × (given s events ≡ said messages (had (session_share history worker s)))
+  pub complete : is_complete cause ≡ true → (asked (session_share history worker s) ≡ asks messages)
+      × (given s events ≡ said messages (had (session_share history worker s)))
   pub caused : IsCauseOf events s messages cause
 
 -- so it is for the messages that a session's bytes spell, in each history in which this worker's share is what it took

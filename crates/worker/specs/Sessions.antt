@@ -149,4 +149,11 @@ pub record RunView : Type 0 where
 -- what is known of a session
 abbrev pub facts : RunView → ℕ → SessionFacts
 facts v s =
-    record { port = port_facts v.events s; asked = asked_by v.posted s; had = had_by v.back s; cause = cause_of v.sessions s; state = session_of v.book s; piece = v.piece s }
+    record {
+      port = port_facts v.events s;
+      asked = asked_by v.posted s;
+      had = had_by v.back s;
+      cause = cause_of v.sessions s;
+      state = session_of v.book s;
+      piece = v.piece s;
+    }

@@ -52,7 +52,14 @@ pub record IsTold (v : RunView) (unopened : ℕ) (ended : Bool) : Type 0 where
 
 abbrev pub run_view : {P : Type 0} → PortStory → Worker P → RunView
 run_view story w =
-    record { events = story.events; posted = posted_by w.worker_end w.request; back = w.worker_end.back; sessions = w.sessions.items; book = w.book; piece = piece_of w.pieces }
+    record {
+      events = story.events;
+      posted = posted_by w.worker_end w.request;
+      back = w.worker_end.back;
+      sessions = w.sessions.items;
+      book = w.book;
+      piece = piece_of w.pieces;
+    }
 
 -- each session of which bytes are held is paused
 abbrev pub ArePaused : PortStory → (ℕ → List ℕ) → Type 0
@@ -134,10 +141,13 @@ pub record Holds {P : Type 0} (told : P → Option PortStory) (old : Worker P) (
 -- A piece of input came: it is fed, or held, or its session is shut for want of memory; a session that isn't
 -- open drops it. That bytes are held already is a reason to shut only at a port that tells nothing.
 pub data Receives {P : Type 0} (told : P → Option PortStory) (old : Worker P) (session : ℕ) (bytes : List ℕ) (new : Worker P) : Type 0 where
-  feeds : piece_of old.pieces session ≡ [] → Changes old.book new.book session (option_map (λ s. fed s bytes) (session_of old.book session)) → new.port ≡ old.port → new.pieces ≡ old.pieces → Leaves old new → Receives told old session bytes new
+  feeds : piece_of old.pieces session ≡ []
+      → Changes old.book new.book session (option_map (λ s. fed s bytes) (session_of old.book session)) → new.port ≡ old.port
+      → new.pieces ≡ old.pieces → Leaves old new → Receives told old session bytes new
   holds : piece_of old.pieces session ≡ [] → Holds told old session bytes new → Receives told old session bytes new
   shuts : ((piece_of old.pieces session ≡ [] → ⊥) → told old.port ≡ None) → Shuts told old new session causes.NoMemory → Receives told old session bytes new
-  drops : session_of old.book session ≡ None → new.book ≡ old.book → new.port ≡ old.port → new.pieces ≡ old.pieces → Leaves old new → Receives told old session bytes new
+  drops : session_of old.book session ≡ None → new.book ≡ old.book → new.port ≡ old.port → new.pieces ≡ old.pieces → Leaves old new
+      → Receives told old session bytes new
 
 -- The session was asked and gave no request; nothing else of the worker changed but what was read of it.
 pub record IsQuiet {P : Type 0} (old new : Worker P) (session : ℕ) : Type 0 where
@@ -170,4 +180,5 @@ pub record IsDrained {P : Type 0} (w : Worker P) : Type 0 where
   pub request : w.request ≡ None
   pub back : length w.worker_end.back ≡ length w.worker_end.sent
   pub pieces : (s : ℕ) → piece_of w.pieces s ≡ []
-  pub emptied : (k : ℕ) (d : ℕ × EndCause) → k < length w.sessions.items → (slice_index_or w.sessions.items k d).1 ≡ causes.Drained → (s : SessionState) → session_of w.book (slice_index_or w.sessions.items k d).0 ≡ Some s → IsEmptied s
+  pub emptied : (k : ℕ) (d : ℕ × EndCause) → k < length w.sessions.items → (slice_index_or w.sessions.items k d).1 ≡ causes.Drained
+      → (s : SessionState) → session_of w.book (slice_index_or w.sessions.items k d).0 ≡ Some s → IsEmptied s

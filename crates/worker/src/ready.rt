@@ -2,7 +2,7 @@
 
 use session_book::limits::MAX_WAITING;
 use std::alloc::{AllocError, Global};
-use std::collections::{BTreeMap, VecDeque};
+use std::collections::{HashMap, VecDeque};
 
 // In which lists a session stands.
 #[derive(Clone, Copy)]
@@ -17,11 +17,13 @@ struct Listed {
 // when it is admitted.
 #[derive(Drop)]
 pub(crate) struct Ready {
-    listed: BTreeMap<u64, Listed>,
+    listed: HashMap<u64, Listed>,
     feed: VecDeque<u64>,
     ask: VecDeque<u64>,
     give: VecDeque<u64>,
     slow: VecDeque<u64>,
+    // The session that was last to be given later, while it is listed: answers of a pipeline are mostly of one. Else 0.
+    last_to_give: u64,
 }
 
 // Takes room for so many more entries, twice as much as needed where there is none.
@@ -35,11 +37,12 @@ fn take_room(list: &mut VecDeque<u64>, room: usize) -> Result<(), AllocError> {
 impl Ready {
     pub(crate) fn new(alloc: Global) -> Ready {
         Ready {
-            listed: BTreeMap::new(alloc),
+            listed: HashMap::new(alloc),
             feed: VecDeque::new(alloc),
             ask: VecDeque::new(alloc),
             give: VecDeque::new(alloc),
             slow: VecDeque::new(alloc),
+            last_to_give: 0,
         }
     }
 
@@ -63,6 +66,7 @@ impl Ready {
 
     // A closed session is listed no more; its entries in the lists are passed over.
     pub(crate) fn dismiss(&mut self, session: u64) {
+        self.last_to_give = 0;
         self.listed.remove(&session);
     }
 
@@ -83,9 +87,15 @@ impl Ready {
     }
 
     pub(crate) fn give_later(&mut self, session: u64) {
+        if session == self.last_to_give {
+            return;
+        }
         if let Some(listed) = self.listed.get_mut(&session) {
             if !listed.give {
                 listed.give = self.give.push_back(session).is_ok();
+            }
+            if listed.give {
+                self.last_to_give = session;
             }
         }
     }
@@ -145,6 +155,7 @@ impl Ready {
 
     pub(crate) fn next_to_give(&mut self) -> Option<u64> {
         let session = self.give.pop_front()?;
+        self.last_to_give = 0;
         if let Some(listed) = self.listed.get_mut(&session) {
             listed.give = false;
         }
@@ -153,6 +164,7 @@ impl Ready {
 
     pub(crate) fn next_to_give_slowly(&mut self) -> Option<u64> {
         let session = self.slow.pop_front()?;
+        self.last_to_give = 0;
         if let Some(listed) = self.listed.get_mut(&session) {
             listed.give = false;
         }

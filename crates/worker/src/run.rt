@@ -14,6 +14,7 @@ use crate::report::WorkerReport;
 use crate::worker::Worker;
 use crossbeam_utils::Backoff;
 use exchange::WorkerEnd;
+use parking::ParkingWord;
 use session_book::book::Book;
 use session_book::causes::EndCause;
 use session_book::limits::{MAX_POSTS, MAX_UNSETTLED};
@@ -158,8 +159,8 @@ fn give_slowly<P: Port>(worker: &mut Worker<P>) -> bool
     moved
 }
 
-// One turn. False where there was nothing to do.
-fn take_turn<P: Port, G: Gate>(worker: &mut Worker<P>, gate: &G) -> bool
+// One turn. False where there was nothing to do. Once a turn in which it posted it unparks the storage thread.
+fn take_turn<P: Port, G: Gate>(worker: &mut Worker<P>, gate: &G, storage: &ParkingWord) -> bool
     requires { IsServing P.told worker.old }
     ensures goes_on { GoesOn P.told worker.old worker.new }
     ensures leads { P.leads_to worker.old.port worker.new.port }
@@ -167,6 +168,9 @@ fn take_turn<P: Port, G: Gate>(worker: &mut Worker<P>, gate: &G) -> bool
     let came = take_events(worker);
     let fed = feed_pieces(worker);
     let posted = post_requests(worker, gate);
+    if posted {
+        storage.unpark();
+    }
     let settled = settle_answers(worker, gate);
     let given = give_output(worker);
     let given_slowly = give_slowly(worker);
@@ -247,13 +251,14 @@ fn new_worker<P: Port>(alloc: Global, port: P, worker_end: WorkerEnd) -> Worker<
 /// Serves a port until it has ended and all was answered and given, and then says bye.
 ///
 /// The end has sent nothing yet, and the list of a port that tells it is empty. It may wait: for events, for answers
-/// and for a port that accepts no bytes.
+/// and for a port that accepts no bytes. It unparks the storage thread, which parks on the word, where it has posted.
 pub fn run_worker<P: Port, G: Gate, R: Wait>(
     rt: &R,
     alloc: Global,
     port: P,
     worker_end: WorkerEnd,
     gate: &G,
+    storage: &ParkingWord,
 ) -> WorkerReport<P>
     requires port { (story : PortStory) → P.told port ≡ Some story → story.events ≡ [] }
     requires fresh { (worker_end.sent ≡ []) × (worker_end.back ≡ []) × (worker_end.said_bye ≡ false) }
@@ -266,10 +271,10 @@ pub fn run_worker<P: Port, G: Gate, R: Wait>(
     let mut worker = new_worker(alloc, port, worker_end);
     let backoff = Backoff::new();
     for _ in rt.forever() {
-        if take_turn(&mut worker, gate) {
+        if take_turn(&mut worker, gate, storage) {
             backoff.reset();
         } else if has_drained(&mut worker) {
-            return leave(worker);
+            return leave(worker, storage);
         } else {
             backoff.snooze();
         }
@@ -278,7 +283,7 @@ pub fn run_worker<P: Port, G: Gate, R: Wait>(
 }
 
 // Says bye, and leaves the report.
-fn leave<P: Port>(worker: Worker<P>) -> WorkerReport<P>
+fn leave<P: Port>(worker: Worker<P>, storage: &ParkingWord) -> WorkerReport<P>
     requires serving { IsServing P.told worker }
     requires drained { IsDrained worker }
     ensures port { result.port ≡ worker.port }
@@ -299,6 +304,7 @@ fn leave<P: Port>(worker: Worker<P>) -> WorkerReport<P>
         ready: _,
     } = worker;
     worker_end.bye();
+    storage.unpark();
     WorkerReport {
         port,
         worker_end,

@@ -112,11 +112,11 @@ impl<P: Port> Worker<P> {
         ensures leads { P.leads_to self.old.port self.new.port }
         ensures drops { session_of self.old.book session ≡ None → self.new ≡ self.old }
     {
-        if !self.book.is_open(session) {
-            return;
-        }
         // At a port that tells, a session of which bytes are held is paused and has no data.
         if !held(&self.pieces, session).is_empty() {
+            if !self.book.is_open(session) {
+                return;
+            }
             self.shut(session, EndCause::NoMemory);
             return;
         }
@@ -220,11 +220,15 @@ impl<P: Port> Worker<P> {
         }
     }
 
-    // Whether no further request can be asked now: one is held, or the window is full.
+    // Whether no further request can be asked now: one is held, the window is full, or so much is unfinished that one
+    // request at a time goes on.
     pub(crate) fn is_busy(&self) -> bool
         ensures { result ≡ false → self.now.request ≡ None }
     {
-        self.request.is_some() || self.worker_end.outstanding() >= MAX_UNSETTLED as u64
+        let outstanding = self.worker_end.outstanding();
+        self.request.is_some()
+            || outstanding >= MAX_UNSETTLED as u64
+            || (outstanding > 0 && self.book.is_crowded())
     }
 
     // Reads the session's next request and posts it. False where none is left for now, or none can be asked: then the

@@ -2,19 +2,22 @@
 //! session that was forgotten.
 
 ghost use Rattle.std.specs.Prelude.{◌≡◌, None};
+ghost use Rattle.proto.specs.Cache.{empty_cache};
+ghost use Rattle.storage_thread.specs.Serving.{IsUnused};
 
 use crate::gates::OpenGate;
 use crate::running::{SteadyClock, made};
 use crate::scripts::repeated;
 use bytes::Bytes;
+use parking::ParkingWord;
 use std::alloc::Global;
 use std::collections::VecDeque;
 use std::process::Abort;
-use std::sync::Wait;
+use std::sync::{Arc, Wait};
 use std::thread;
 use std::thread::Threads;
 use std::time::Clock;
-use storage_thread::serving::run_storage;
+use storage_thread::serving::{StorageReport, run_storage};
 use worker::port::{Gone, Port, PortEvent};
 use worker::run::run_worker;
 
@@ -136,13 +139,17 @@ where
         waits_early: false,
     };
     let handle = *rt;
+    let parking = Arc::new(alloc, ParkingWord::new()).expect(rt, "memory");
+    let of_storage = Arc::try_clone(&parking).expect(rt, "memory");
     let (end, storage_end, store) = made(rt, alloc);
     let child = thread::spawn(
         rt,
-        move || run_storage(&handle, store, SteadyClock, storage_end),
+        move || -> StorageReport<SteadyClock>
+            requires { (store.cache ≡ empty_cache 0) × (store.moment ≡ 0) × (store.sizes ≡ storage_end.geometry) × IsUnused storage_end }
+        { run_storage(&handle, store, SteadyClock, storage_end, &of_storage) },
     )
     .expect(rt, "a thread");
-    let report = run_worker(rt, alloc, port, end, &OpenGate);
+    let report = run_worker(rt, alloc, port, end, &OpenGate, &parking);
     child.join(rt);
     assert!(*rt; report.port.is_served());
     assert_eq!(*rt; report.port.was_shut, peer.wanted == 0);

@@ -6,16 +6,17 @@ ghost use Rattle.storage_thread.specs.Serving.{IsUnused};
 
 use crate::port::TestPort;
 use exchange::{StorageEnd, WorkerEnd, make};
+use parking::ParkingWord;
 use plain_store::Store;
 use proto::geometry::Geometry;
 use session_book::causes::EndCause;
 use std::alloc::Global;
 use std::process::Abort;
-use std::sync::Wait;
+use std::sync::{Arc, Wait};
 use std::thread::Threads;
 use std::{thread, time};
 use storage_thread::clock::Clock;
-use storage_thread::serving::run_storage;
+use storage_thread::serving::{StorageReport, run_storage};
 use worker::gate::Gate;
 use worker::port::PortRecord;
 use worker::run::run_worker;
@@ -69,13 +70,17 @@ where
     requires { port.records.items ≡ [] }
 {
     let handle = *rt;
+    let parking = Arc::new(alloc, ParkingWord::new()).expect(rt, "memory");
+    let of_storage = Arc::try_clone(&parking).expect(rt, "memory");
     let (end, storage_end, store) = made(rt, alloc);
     let child = thread::spawn(
         rt,
-        move || run_storage(&handle, store, SteadyClock, storage_end),
+        move || -> StorageReport<SteadyClock>
+            requires { (store.cache ≡ empty_cache 0) × (store.moment ≡ 0) × (store.sizes ≡ storage_end.geometry) × IsUnused storage_end }
+        { run_storage(&handle, store, SteadyClock, storage_end, &of_storage) },
     )
     .expect(rt, "a thread");
-    let report = run_worker(rt, alloc, port, end, gate);
+    let report = run_worker(rt, alloc, port, end, gate, &parking);
     let executed = child.join(rt).executed;
     assert_eq!(*rt; report.unopened, 0);
     Outcome {

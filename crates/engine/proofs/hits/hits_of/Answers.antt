@@ -21,7 +21,11 @@ loop-key-preserved-in-Some-get g c =
     let hits : hits_of entries c.loop-key.keys ≡ hit ∷ rest = hits_there entries c.loop-key.keys c.next.new.self key
     (entry_of c.in-Some-get.entry) c.in-Some-next.ensures there in
     let pushed : c.push.new.self ≡ record { hits = c.loop-key.hits.hits ++ hit ∷ []; room = c.loop-key.hits.room - packed_size hit } =
-    c.push.ensures ∙ ap (λ (h : Hit). let w : Writing = record { hits = c.loop-key.hits.hits ++ h ∷ []; room = c.loop-key.hits.room - packed_size h } in w) c.hit_of.ensures in
+    c.push.ensures
+    ∙ ap (λ (h : Hit). let w : Writing = record {
+      hits = c.loop-key.hits.hits ++ h ∷ [];
+      room = c.loop-key.hits.room - packed_size h;
+    } in w) c.hit_of.ensures in
     let whole : c.loop-key.hits.hits ++ (hit ∷ rest) ≡ hits_of entries c.args.keys.now = ap (λ (hs : List Hit). c.loop-key.hits.hits ++ hs) (sym hits)
     ∙ i.found in
     let room : c.loop-key.hits.room ≡ sum_by packed_size (hit ∷ rest) = i.room ∙ ap (sum_by packed_size) hits in

@@ -1,5 +1,5 @@
 use Rattle.std.proofs.Common.{◌≡◌, None}
-use Rattle.storage_thread.specs.Serving.{Reaches}
+use Rattle.engine.specs.Reaching.{Reaches}
 use Rattle.exchange_runs.specs.Serving.{IsSameQueues}
 use Rattle.exchange_runs.proofs.serving.serve_queues.Given as goal
 

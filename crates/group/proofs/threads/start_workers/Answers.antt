@@ -5,7 +5,9 @@ use Rattle.group.proofs.Places.{first_of_all, all_more}
 use Rattle.group.proofs.threads.start_workers.Goals as goal
 
 pub start_worker-requires-clause-port : goal.start_worker-requires-clause-port
-start_worker-requires-clause-port g c κs within = (first_of_all (IsSilent g.P.Port.told) c.loop-end.ports.rest.items c.in-Some-next.port c.next-in-loop-end.new.self.rest.items c.in-Some-next.ensures.items c.loop-end.invariant.silent).0
+start_worker-requires-clause-port g c κs within = (first_of_all
+    (IsSilent g.P.Port.told) c.loop-end.ports.rest.items c.in-Some-next.port c.next-in-loop-end.new.self.rest.items
+    c.in-Some-next.ensures.items c.loop-end.invariant.silent).0
 
 pub loop-end-preserved : goal.loop-end-preserved
 loop-end-preserved g c =
@@ -14,13 +16,18 @@ loop-end-preserved g c =
     let more = ap (map (λ h. h.promise.end.value)) pushed ∙ map-append (λ h. h.promise.end.value) c.loop-end.handles.items (h ∷ []) in
     let ported = ap (map (λ h. h.promise.port.value)) pushed ∙ map-append (λ h. h.promise.port.value) c.loop-end.handles.items (h ∷ []) in record {
       ended = append_assoc y (c.in-Some.end ∷ []) c.next.new.self.rest.items ∙ ap (λ l. y ++ l) (sym c.in-Some.ensures.steps.0) ∙ i.ended;
-      ported = ap (λ l. l ++ c.next-in-loop-end.new.self.rest.items) (ported ∙ ap (λ p. map (λ h. h.promise.port.value) c.loop-end.handles.items ++ p ∷ []) c.in_ok-handle.ensures.given.0)
+      ported = ap (λ l. l ++ c.next-in-loop-end.new.self.rest.items)
+          (ported ∙ ap (λ p. map (λ h. h.promise.port.value) c.loop-end.handles.items ++ p ∷ []) c.in_ok-handle.ensures.given.0)
           ∙ append_assoc (map (λ h. h.promise.port.value) c.loop-end.handles.items) (c.in-Some-next.port ∷ []) c.next-in-loop-end.new.self.rest.items
           ∙ ap (λ l. map (λ h. h.promise.port.value) c.loop-end.handles.items ++ l) (sym c.in-Some-next.ensures.items) ∙ i.ported;
       lengths = (let a = c.in-Some.ensures.steps.1 in let b = c.in-Some-next.ensures.len in let e = i.lengths in search rules);
-      silent = (first_of_all (IsSilent g.P.Port.told) c.loop-end.ports.rest.items c.in-Some-next.port c.next-in-loop-end.new.self.rest.items c.in-Some-next.ensures.items i.silent).1;
+      silent = (first_of_all
+          (IsSilent g.P.Port.told) c.loop-end.ports.rest.items c.in-Some-next.port c.next-in-loop-end.new.self.rest.items
+          c.in-Some-next.ensures.items i.silent).1;
       fresh = (first_of_all IsFresh c.loop-end.end-iterator.rest.items c.in-Some.end c.next.new.self.rest.items c.in-Some.ensures.steps.0 i.fresh).1;
-      started = subst (All (λ h. h.promise.start.now.id ≡ c.args.start.now.id)) (sym pushed) (all_more (λ h. h.promise.start.now.id ≡ c.args.start.now.id) c.loop-end.handles.items h i.started c.in_ok-handle.ensures.start);
+      started = subst (All (λ h. h.promise.start.now.id ≡ c.args.start.now.id)) (sym pushed)
+          (all_more (λ h. h.promise.start.now.id ≡ c.args.start.now.id) c.loop-end.handles.items h i.started c.in_ok-handle.ensures.start);
       ends = more ∙ ap (λ l. l ++ h.promise.end.value ∷ []) i.ends ∙ ap (λ e. y ++ e ∷ []) c.in_ok-handle.ensures.given.1;
-      room = (let a = c.in-Some.ensures.steps.1 in let p = c.push_reserved.ensures.len in let k = c.push_reserved.ensures.capacity in let e = i.room in search rules);
+      room = (let a = c.in-Some.ensures.steps.1 in let p = c.push_reserved.ensures.len in
+          let k = c.push_reserved.ensures.capacity in let e = i.room in search rules);
     }

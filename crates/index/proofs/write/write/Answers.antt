@@ -35,7 +35,9 @@ returns-in-Some-clause-map c =
 
 pub insert-requires-clause-room : goal.insert-requires-clause-room
 insert-requires-clause-room c =
-    let stands = appended c.args.pool.now c.args.bucket c.args.moment _ c.append.new.self c.in_ok-place.place c.geometry.ensures.pool c.in_ok-place.ensures.appended in
-    let free = room_for_one c.args.pool.now c.append.new.self c.args.bucket c.args.moment _ c.in_ok-place.place c.args.index.now c.append.ensures.pool stands c.requires.index in
+    let stands = appended c.args.pool.now c.args.bucket c.args.moment _ c.append.new.self c.in_ok-place.place
+    c.geometry.ensures.pool c.in_ok-place.ensures.appended in
+    let free = room_for_one c.args.pool.now c.append.new.self c.args.bucket c.args.moment _ c.in_ok-place.place c.args.index.now
+    c.append.ensures.pool stands c.requires.index in
     let room = c.requires.room in
     omega (arith, free, room)

@@ -16,5 +16,6 @@ gathered-requires g c =
     let same : IsSameEnd e c.fill-2.new.end =
     same_end e c.number-3.new.end c.fill-2.new.end
     (same_end e c.number-2.new.end c.number-3.new.end
-    (same_end e c.number.new.end c.number-2.new.end (same_end e c.fill.new.end c.number.new.end c.fill.ensures c.number.ensures) c.number-2.ensures) c.number-3.ensures) c.fill-2.ensures in
+    (same_end e c.number.new.end c.number-2.new.end
+    (same_end e c.fill.new.end c.number.new.end c.fill.ensures c.number.ensures) c.number-2.ensures) c.number-3.ensures) c.fill-2.ensures in
     still_end e c.fill-2.new.end c.in_ok-ends.storage c.serve_one.new.end first same c.serve_one.ensures

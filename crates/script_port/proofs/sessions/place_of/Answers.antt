@@ -10,7 +10,8 @@ loop-low-preserved-then-found-number-2 c =
     let lt : middle < length xs = omega (arith, c.loop-low.invariant.order.0, c.loop-low.invariant.order.1, c.loop-low-test.true) in
     let here : x.number < c.args.number = omega (arith, c.number-found.ensures, c.if-found-number-2.true) in record {
       order = (omega (arith, c.loop-low-test.true), c.loop-low.invariant.order.1);
-      below = under_middle 0 xs c.args.number middle c.requires lt (λ d. subst (λ (e : SessionState). e.number < c.args.number) (c.index-sessions-middle.is ∙ get_or_default xs middle x d lt) here);
+      below = under_middle 0 xs c.args.number middle c.requires lt
+          (λ d. subst (λ (e : SessionState). e.number < c.args.number) (c.index-sessions-middle.is ∙ get_or_default xs middle x d lt) here);
       from = c.loop-low.invariant.from;
     }
 
@@ -21,7 +22,8 @@ loop-low-preserved c =
     let here : c.args.number < x.number = omega (arith, c.number-found.ensures, c.if-found-number.false, c.if-found-number-2.false) in record {
       order = (omega (arith, c.loop-low-test.true), omega (arith, lt));
       below = c.loop-low.invariant.below;
-      from = over_middle 0 xs c.args.number middle c.requires (λ d. subst (λ (e : SessionState). c.args.number < e.number) (c.index-sessions-middle.is ∙ get_or_default xs middle x d lt) here);
+      from = over_middle 0 xs c.args.number middle c.requires
+          (λ d. subst (λ (e : SessionState). c.args.number < e.number) (c.index-sessions-middle.is ∙ get_or_default xs middle x d lt) here);
     }
 
 pub returns : goal.returns

@@ -17,17 +17,20 @@ loop-segment-init c = record { known = c.requires.tied.known; cleared = λ n k l
 pub clear_segment-requires : goal.clear_segment-requires
 clear_segment-requires c =
     let lt = c.loop-segment-test.true in
-    let s : c.segments-segment-end.result ≡ c.loop-segment.tally.sizes.segments = c.segments-segment-end.ensures.value ∙ ap (λ z. z.segments) (c.geometry.ensures.sizes ∙ sym c.loop-segment.invariant.known.sizes) in
+    let s : c.segments-segment-end.result ≡ c.loop-segment.tally.sizes.segments = c.segments-segment-end.ensures.value
+    ∙ ap (λ z. z.segments) (c.geometry.ensures.sizes ∙ sym c.loop-segment.invariant.known.sizes) in
     omega (arith, lt, s)
 
 pub loop-segment-preserved : goal.loop-segment-preserved
 loop-segment-preserved c =
     let known = c.loop-segment.invariant.known in
     let lt = c.loop-segment-test.true in
-    let s : c.segments-segment-end.result ≡ c.loop-segment.tally.sizes.segments = c.segments-segment-end.ensures.value ∙ ap (λ z. z.segments) (c.geometry.ensures.sizes ∙ sym known.sizes) in
+    let s : c.segments-segment-end.result ≡ c.loop-segment.tally.sizes.segments = c.segments-segment-end.ensures.value
+    ∙ ap (λ z. z.segments) (c.geometry.ensures.sizes ∙ sym known.sizes) in
     let within : c.loop-segment.segment < c.loop-segment.tally.sizes.segments = omega (arith, lt, s) in
     record {
-      known = subst (λ t. KnowsPool t c.args.pool.now) (sym c.clear_segment.ensures) (knows_without c.loop-segment.tally c.args.pool.now c.loop-segment.segment known within);
+      known = subst (λ t. KnowsPool t c.args.pool.now) (sym c.clear_segment.ensures)
+          (knows_without c.loop-segment.tally c.args.pool.now c.loop-segment.segment known within);
       cleared = λ n k less.
           (let at = mark_without c.loop-segment.tally c.loop-segment.segment n k known.sized within in
           ap (λ t. mark_at t n k) c.clear_segment.ensures ∙ at ∙

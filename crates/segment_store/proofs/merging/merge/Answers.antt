@@ -5,6 +5,7 @@ use Rattle.tally.proofs.MarkedPlaces.{merge_ready}
 use Rattle.segment_store.specs.Kept.{IsTied}
 use Rattle.segment_store.proofs.MergedMarks.{has_planned, can_follow, merge_followed, tied_merged}
 use Rattle.segment_store.proofs.MergedRoom.{merged_made}
+use Rattle.segment_store.proofs.MergedKeys.{merged_evicted}
 use Rattle.segment_store.proofs.merging.merge.Goals as goal
 
 pub follow-requires-clause-can : goal.follow-requires-clause-can
@@ -41,3 +42,11 @@ returns-clause-made c =
     let w = merge_followed p c.merge_next.new.self c.args.index.now c.follow.new.self c.args.tally.now c.requires.tied h
     c.merge_next.ensures.merged c.merge_next.ensures.pool c.follow.ensures.followed c.follow.ensures.size in
     λ t crowded. merged_made p h.plan c.merge_next.new.self c.args.index.now c.follow.new.self c.args.tally.now t w crowded
+
+pub returns-clause-evicted : goal.returns-clause-evicted
+returns-clause-evicted c =
+    let p = c.args.pool.now in
+    let h = c.requires.planned in
+    let w = merge_followed p c.merge_next.new.self c.args.index.now c.follow.new.self c.args.tally.now c.requires.tied h
+    c.merge_next.ensures.merged c.merge_next.ensures.pool c.follow.ensures.followed c.follow.ensures.size in
+    merged_evicted p h.plan c.merge_next.new.self c.args.index.now c.follow.new.self c.args.tally.now w

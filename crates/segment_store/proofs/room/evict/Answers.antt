@@ -1,5 +1,6 @@
 use Rattle.std.proofs.Common.{None, Some}
 use Rattle.segment_store.proofs.MergePlans.{tied_replanned, made_replanned, has_plan}
+use Rattle.segment_store.proofs.Forgotten.{evicted_replanned, none_replanned}
 use Rattle.segment_store.proofs.room.evict.Goals as goal
 
 pub merge-requires-clause-tied : goal.merge-requires-clause-tied
@@ -32,3 +33,16 @@ returns-else-plan_merge-clause-made c =
     made_replanned c.args.pool.now c.plan_merge.new.self None c.args.index.now c.args.tally.now t c.clear_oldest.new.pool c.clear_oldest.new.index
     c.requires.tied c.plan_merge.ensures.pool h.1 crowded
     c.clear_oldest.ensures.made
+
+pub returns-then-plan_merge-clause-evicted : goal.returns-then-plan_merge-clause-evicted
+returns-then-plan_merge-clause-evicted c =
+    let h = c.if-plan_merge.ensures.plan in
+    evicted_replanned c.args.pool.now c.plan_merge.new.self (Some h.0) c.args.index.now c.args.tally.now c.merge.new.pool c.merge.new.index c.requires.tied
+    c.plan_merge.ensures.pool h.2 c.merge.ensures.evicted
+
+pub returns-else-plan_merge-clause-evicted : goal.returns-else-plan_merge-clause-evicted
+returns-else-plan_merge-clause-evicted c =
+    let h = c.if-plan_merge.ensures.plan in
+    evicted_replanned c.args.pool.now c.plan_merge.new.self None c.args.index.now c.args.tally.now c.clear_oldest.new.pool
+    c.clear_oldest.new.index c.requires.tied
+    c.plan_merge.ensures.pool h.1 (c.clear_oldest.ensures.evicted (none_replanned c.args.pool.now c.plan_merge.new.self None h.1 h.0))

@@ -7,19 +7,25 @@ use Rattle.storage_thread.proofs.Turns.{longer, same_sizes, same_byes, same_work
 use Rattle.storage_thread.proofs.serving.run_storage.Goals as goal
 
 pub loop-preserved-in-Some-Asked : goal.loop-preserved-in-Some-Asked
-loop-preserved-in-Some-Asked g c = let i = c.loop.invariant in let f = rw c.in-Some-Asked.field-0-is at c.in-Some-Asked.ensures.next in let now : StorageView = c.loop.end in let mid : StorageView = c.next-in-loop.new.self in let new : StorageView = c.execute.new.end in
-    let w : ℕ = c.in-Some-Asked.worker in let p : Posted = c.in-Some-Asked.posted in let m : ℕ = g.S.StorageEngine.moment c.execute.new.store in let a = c.execute.ensures.answered in
+loop-preserved-in-Some-Asked g c = let i = c.loop.invariant in
+    let f = rw c.in-Some-Asked.field-0-is at c.in-Some-Asked.ensures.next in let now : StorageView = c.loop.end in
+    let mid : StorageView = c.next-in-loop.new.self in let new : StorageView = c.execute.new.end in
+    let w : ℕ = c.in-Some-Asked.worker in let p : Posted = c.in-Some-Asked.posted in
+    let m : ℕ = g.S.StorageEngine.moment c.execute.new.store in let a = c.execute.ensures.answered in
     let long = longer now mid w p f new m a in let added = c.saturating_add-executed.ensures in let so_far = i.7 in let all = i.4 in
     let byes = same_byes now mid w p f new m a in let workers = same_workers now mid w p f new m a in (
       tt,
       tt,
-      serving_asked now mid w p f new m a c.args.storage_end (g.S.StorageEngine.cache c.loop.store) (g.S.StorageEngine.cache c.execute.new.store) (g.S.StorageEngine.moment c.loop.store) i.2 c.execute.ensures.reaches,
+      serving_asked now mid w p f new m a c.args.storage_end (g.S.StorageEngine.cache c.loop.store)
+          (g.S.StorageEngine.cache c.execute.new.store) (g.S.StorageEngine.moment c.loop.store) i.2 c.execute.ensures.reaches,
       c.execute.ensures.sizes ∙ (i.3 ∙ same_sizes now mid w p f new m a),
       omega (arith, all, byes, workers),
       g.met.C.Clock.leads_transitive c.args.clock c.loop.clock c.execute.new.clock i.5 c.execute.ensures.leads,
       timed_asked now mid w p f new m a _ _ _ (g.S.StorageEngine.moment c.loop.store) i.2.reaches.moment_is i.6 c.execute.ensures.moment,
       omega (arith, added, so_far, long),
-      λ start. c.execute.ensures.kept (subst (λ (z : StorageView). LeadsKeeping z.geometry z.history (g.S.StorageEngine.cache c.loop.store) (g.S.StorageEngine.keeps c.loop.store)) (sym f.after) (i.8 start)),
+      λ start. c.execute.ensures.kept
+          (subst (λ (z : StorageView). LeadsKeeping z.geometry z.history (g.S.StorageEngine.cache c.loop.store)
+          (g.S.StorageEngine.keeps c.loop.store)) (sym f.after) (i.8 start)),
     )
 
 pub returns-then-left-eq0-clause-bye : goal.returns-then-left-eq0-clause-bye

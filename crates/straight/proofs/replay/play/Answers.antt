@@ -12,12 +12,14 @@ returns-in_ok-feed_at-in-Send g c =
     let feeding = rw c.as_slice-in-Some.ensures at c.in_ok-feed_at-in-Send.ensures in
     rw c.in-Send.is
     (λ setup events run may.
-    run_fed setup events c.in-Send.number c.in-Send.bytes c.args.executor.now c.args.sessions.now.items c.in-Some.at c.feed_at.new.executor c.feed_at.new.sessions.items run may place.0 place.1 feeding)
+    run_fed setup events c.in-Send.number c.in-Send.bytes c.args.executor.now c.args.sessions.now.items
+    c.in-Some.at c.feed_at.new.executor c.feed_at.new.sessions.items run may place.0 place.1 feeding)
 
 pub returns-in_default : goal.returns-in_default
 returns-in_default g c =
     let none = rw c.as_slice.ensures.value at c.in_default.ensures in
-    rw c.in-Send.is (λ setup events run may. run_skipped setup events c.in-Send.number c.in-Send.bytes c.args.executor.now c.args.sessions.now.items run may none)
+    rw c.in-Send.is
+    (λ setup events run may. run_skipped setup events c.in-Send.number c.in-Send.bytes c.args.executor.now c.args.sessions.now.items run may none)
 
 pub returns-in-Gone : goal.returns-in-Gone
 returns-in-Gone g c =

@@ -10,7 +10,7 @@ use Rattle.script_port.specs.Events.{is_playable}
 use Rattle.script_port.specs.States.{PortState, told_of, PlaysOn}
 use Rattle.group.specs.Headline.{IsRun}
 use Rattle.subcommands.specs.Printed.{lines_from, events_of}
-use Rattle.subcommands.proofs.ReplayLemmas.{replayed}
+use Rattle.subcommands.proofs.ReplayLemmas.{replayed, keeping_run}
 use Rattle.subcommands.proofs.Lines.{silent}
 use Rattle.subcommands.proofs.replay.replay.Goals as goal
 
@@ -19,7 +19,8 @@ whole : (text bytes : List ℕ) → bytes ≡ take 16777217 text → length byte
 whole text bytes is small = is ∙ take_all 16777217 text (omega (arith, length-take 16777217 text, ap length is))
 
 pub run_group-requires-clause-ports : goal.run_group-requires-clause-ports
-run_group-requires-clause-ports g c κs within = silent c.args.options.now.accept c.args.options.now.fail_give c.in-Ok.scripts.items c.in_ok-ports.ports.items c.in_ok-ports.ensures
+run_group-requires-clause-ports g c κs within = silent c.args.options.now.accept c.args.options.now.fail_give c.in-Ok.scripts.items
+    c.in_ok-ports.ports.items c.in_ok-ports.ensures
 
 pub returns-clause-ran : goal.returns-clause-ran
 returns-clause-ran g c =
@@ -39,7 +40,10 @@ returns-clause-ran g c =
         told = c.new-clock.result;
         told_is = (c.new-clock.ensures.clock ∙ c.new.ensures, c.new-clock.ensures.answers);
         report = c.in_ok-report.report;
-        run = subst (λ sizes. IsRun told_of PlaysOn (λ (k : ToldClock). Some (listed k.answers)) GivesAnswers ⊥ sizes c.in_ok-ports.ports.items c.new-clock.result c.in_ok-report.report) c.in_ok-store.ensures.sizes c.in_ok-report.ensures.run;
+        run = keeping_run told_of PlaysOn
+            (λ (k : ToldClock). Some
+            (listed k.answers)) GivesAnswers _ _ c.args.geometry c.in_ok-ports.ports.items c.new-clock.result c.in_ok-report.report
+            c.in_ok-report.ensures.run c.in_ok-store.ensures.sizes c.in_ok-store.ensures.keeps;
         printed_is = refl;
       },
       (rw c.as_slice-2.ensures.value at wrote).0,
@@ -59,8 +63,12 @@ returns-clause-printed g c =
       lines_from 0 (map events_of c.in_ok-report.report.workers.items),
       replayed c.args.geometry _ c.args.options.now.workers c.args.options.now.accept c.args.options.now.fail_give text scripts
           (subst (λ (b : List ℕ). AreEventsOf c.args.options.now.workers b scripts) (c.as_slice.ensures.value ∙ whole text bytes is small) read)
-          c.in_ok-ports.ports.items c.in_ok-ports.ensures c.new-clock.result (c.new-clock.ensures.clock ∙ c.new.ensures) c.new-clock.ensures.answers c.in_ok-report.report
-          (subst (λ sizes. IsRun told_of PlaysOn (λ (k : ToldClock). Some (listed k.answers)) GivesAnswers ⊥ sizes c.in_ok-ports.ports.items c.new-clock.result c.in_ok-report.report) c.in_ok-store.ensures.sizes c.in_ok-report.ensures.run)
+          c.in_ok-ports.ports.items c.in_ok-ports.ensures c.new-clock.result
+          (c.new-clock.ensures.clock ∙ c.new.ensures) c.new-clock.ensures.answers c.in_ok-report.report
+          (keeping_run told_of PlaysOn
+          (λ (k : ToldClock). Some
+          (listed k.answers)) GivesAnswers _ _ c.args.geometry c.in_ok-ports.ports.items c.new-clock.result c.in_ok-report.report
+          c.in_ok-report.ensures.run c.in_ok-store.ensures.sizes c.in_ok-store.ensures.keeps)
           all.1,
       all.0,
     )))

@@ -2,7 +2,8 @@ use Rattle.std.proofs.Common.{◌≡◌, ◌++◌, List, [], take, ℕ, Option, 
 use Rattle.std.specs.Prelude.{IfSome, option_map}
 use Rattle.subcommands.proofs.replay.script_bytes.Goals as goal
 
-taken : (o : Option (List ℕ)) (bytes old : List ℕ) → old ≡ [] → IfSome (option_map (take 16777217) o) (λ xs. bytes ≡ old ++ xs) → IfSome o (λ text. bytes ≡ take 16777217 text)
+taken : (o : Option (List ℕ)) (bytes old : List ℕ) → old ≡ [] → IfSome (option_map (take 16777217) o) (λ xs. bytes ≡ old ++ xs)
+    → IfSome o (λ text. bytes ≡ take 16777217 text)
 taken None bytes old none h = tt
 taken (Some text) bytes old none h = rw none at h
 

@@ -18,7 +18,8 @@ loop-session-preserved g c =
     let bytes_are : bytes ≡ f x = search rules in
     let wrote : Appends (g.W.Write.contents c.loop-session.out) (g.W.Write.contents c.write_all.new.self) bytes = search rules in record {
       opened_are = i.opened_are;
-      written = one_more f xs k x bytes (g.W.Write.contents c.args.out.now) (g.W.Write.contents c.loop-session.out) (g.W.Write.contents c.write_all.new.self) low is bytes_are i.written wrote;
+      written = one_more f xs k x bytes (g.W.Write.contents c.args.out.now) (g.W.Write.contents c.loop-session.out)
+          (g.W.Write.contents c.write_all.new.self) low is bytes_are i.written wrote;
     }
 
 pub returns-clause-lines : goal.returns-clause-lines
@@ -26,4 +27,5 @@ returns-clause-lines g c =
     let i = c.loop-session.invariant in let k : ℕ = c.loop-session.session-index in let xs : List SessionState = c.sessions-session-items.result.now in
     let f = λ (n : ℕ). line_of c.args.worker n (given n c.args.port.now.records) in
     let past : length xs ≤ k = search rules in let all : take k xs ≡ xs = take_all k xs past in
-    subst (Appends (g.W.Write.contents c.args.out.now) (g.W.Write.contents c.loop-session.out)) (ap (flat_map (λ (x : SessionState). f x.number)) all ∙ over_numbers f xs ∙ ap (flat_map f) i.opened_are) i.written
+    subst (Appends (g.W.Write.contents c.args.out.now) (g.W.Write.contents c.loop-session.out))
+    (ap (flat_map (λ (x : SessionState). f x.number)) all ∙ over_numbers f xs ∙ ap (flat_map f) i.opened_are) i.written

@@ -10,5 +10,6 @@ use Rattle.subcommands.proofs.replay.write_worker.Given as goal
 abbrev pub invariant-loop-session : goal.invariant-loop-session
 invariant-loop-session g l = record {
   opened_are : numbers l.session-items ≡ opened l.fn.port.records;
-  written : Appends (g.W.Write.contents l.initial.out) (g.W.Write.contents l.out) (flat_map (λ (x : SessionState). line_of l.fn.worker x.number (given x.number l.fn.port.records)) (take l.session-index l.session-items));
+  written : Appends (g.W.Write.contents l.initial.out) (g.W.Write.contents l.out)
+      (flat_map (λ (x : SessionState). line_of l.fn.worker x.number (given x.number l.fn.port.records)) (take l.session-index l.session-items));
 }

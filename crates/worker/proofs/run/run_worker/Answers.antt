@@ -1,6 +1,12 @@
 use Rattle.std.proofs.Common.{sym, subst}
-use Rattle.worker.proofs.AskSteps.{goes_on_trans}
+use Rattle.worker.proofs.AskSteps.{goes_on_same, goes_on_trans}
 use Rattle.worker.proofs.run.run_worker.Goals as goal
+
+pub loop-init : goal.loop-init
+loop-init g c = record {
+  goes_on = goes_on_same g.P.Port.told c.new_worker-worker.result c.new_worker-worker.ensures.serving;
+  leads = g.met.P.Port.leads_reflexive c.new_worker-worker.result.port;
+}
 
 pub loop-preserved : goal.loop-preserved
 loop-preserved g c =

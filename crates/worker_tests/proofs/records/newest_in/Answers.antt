@@ -12,7 +12,8 @@ either true b e = inl refl
 either false b e = inr e
 
 -- one more record opened the session, or one of those before
-one_more : (t : ℕ) (records : List PortRecord) (i : ℕ) (x : PortRecord) → i < length records → x ≡ get_or records i x → was_opened t (take (i + 1) records) ≡ true → (was_opened t (take i records) ≡ true) ⊎ (is_opening t x ≡ true)
+one_more : (t : ℕ) (records : List PortRecord) (i : ℕ) (x : PortRecord) → i < length records → x ≡ get_or records i x
+    → was_opened t (take (i + 1) records) ≡ true → (was_opened t (take i records) ≡ true) ⊎ (is_opening t x ≡ true)
 one_more t records i x within at opened =
     elim (either (was_opened t (take i records)) (is_opening t (get_or records i x)) (sym (list_any_more (is_opening t) records i x within) ∙ opened))
     [ inl h ↦ inl h | inr h ↦ inr (ap (is_opening t) at ∙ h) ]
@@ -30,7 +31,12 @@ loop-entry-preserved c t opened =
     let before = c.loop-entry.invariant t in
     elim (one_more t c.args.records.now c.loop-entry.entry-index c.entry-item.result c.loop-entry-test.true c.entry-item.is opened) [
       | inl h ↦ let low = before h in elim c.match-entry.branch [ in-Opened w ↦ grind (arith, low) | in_default w ↦ grind (arith, low) ]
-      | inr h ↦ let is = opening_is t c.entry-item.result h in elim c.match-entry.branch [ in-Opened w ↦ grind (arith, is, w.in-Opened.is, w.newest-is, w.max-newest.ensures) | in_default w ↦ absurd (w.in_default.not-Opened t is) ]
+      | inr h ↦ let is = opening_is t c.entry-item.result h in
+          elim c.match-entry.branch [
+            | in-Opened w ↦ grind
+                (arith, is, w.in-Opened.is, w.newest-is, w.max-newest.ensures)
+            | in_default w ↦ absurd (w.in_default.not-Opened t is)
+          ]
     ]
 
 pub returns : goal.returns

@@ -38,7 +38,8 @@ invariant_of-self-in-Some c =
     let t : Table = c.self.inside.index in
     let place = c.in-Ok.place in
     let stands = appended pool _ _ _ c.append.new.self place c.geometry.ensures.pool c.in-Ok.ensures.appended in
-    let added : IsKeyAdded pool c.append.new.self place c.args.key.now = key_added pool c.append.new.self _ _ _ place c.geometry.ensures.pool c.in-Ok.ensures.appended in (
+    let added : IsKeyAdded pool c.append.new.self place c.args.key.now = key_added pool c.append.new.self _ _ _ place
+    c.geometry.ensures.pool c.in-Ok.ensures.appended in (
       (c.replace.ensures.map before after c.self.invariant.0 (sym c.look_up-held.ensures.place ∙ c.in-Some.is) added.new
           (λ p h other. added.kept p (held_key before t c.self.invariant.0 p h))).index,
       stands.sizes ∙ c.self.invariant.1,

@@ -9,6 +9,8 @@ pub invariant_of-self-2 : goal.invariant_of-self-2
 invariant_of-self-2 c =
     let before = c.self.inside.events.items in
     let may : MayCome before c.args.event = subst (λ (es : List ScriptEvent). MayCome es c.args.event) (sym c.self.view_is) c.requires in
-    let items : c.push_reserved.new.self.items ≡ before ++ c.args.event ∷ [] = c.push_reserved.ensures.items ∙ ap (λ (es : List ScriptEvent). es ++ c.args.event ∷ []) c.in_ok-reserve.ensures.items in
+    let items : c.push_reserved.new.self.items ≡ before ++ c.args.event ∷ [] = c.push_reserved.ensures.items
+    ∙ ap (λ (es : List ScriptEvent). es ++ c.args.event ∷ []) c.in_ok-reserve.ensures.items in
     subst (λ (es : List ScriptEvent). IsTracked es c.track.new.newest c.track.new.sessions) (sym items)
-    (tracked_more before c.args.event c.self.inside.newest c.track.new.newest c.self.inside.sessions c.track.new.sessions c.self.invariant may c.in_ok-track.ensures.newest c.in_ok-track.ensures.sessions)
+    (tracked_more before c.args.event c.self.inside.newest c.track.new.newest c.self.inside.sessions c.track.new.sessions
+    c.self.invariant may c.in_ok-track.ensures.newest c.in_ok-track.ensures.sessions)

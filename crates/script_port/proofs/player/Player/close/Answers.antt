@@ -1,4 +1,4 @@
-use Rattle.std.proofs.Common.{◌≡◌, ◌≢◌, ℕ, false, [], ◌∷◌, ◌++◌, refl, subst, sym, ◌∙◌, ap, arith, not, ne_eqb, ⊎_elim}
+use Rattle.std.proofs.Common.{◌≡◌, ◌≢◌, ℕ, false, [], ◌∷◌, ◌++◌, refl, subst, sym, ◌∙◌, ap, not, ne_eqb, ⊎_elim}
 use Rattle.worker.specs.declared.port.PortRecord.{PortRecord}
 use Rattle.worker.specs.declared.port.PortRecord.TheVariants as was
 use Rattle.worker.specs.Ports.{has_ended, is_end, fed_by}
@@ -8,7 +8,7 @@ use Rattle.worker.proofs.RunViews.{ended_same}
 use Rattle.script_port.specs.declared.stage.Stage.TheVariants.{Closed}
 use Rattle.script_port.specs.Sessions.{SessionState, newest, last_from, entry_of, is_open, is_some_and, is_closed, was_closed, is_waiting, with_stage}
 use Rattle.script_port.specs.Events.{plays_from}
-use Rattle.script_port.specs.Records.{RecordsState, opened_by}
+use Rattle.script_port.specs.Records.{opened_by}
 use Rattle.script_port.specs.Players.{Agrees, events_left}
 use Rattle.script_port.proofs.EventLemmas.{leave_out}
 use Rattle.script_port.proofs.FollowLemmas.{follows_close, opens_without}
@@ -18,34 +18,41 @@ use Rattle.script_port.proofs.player.Player.close.Goals as goal
 pub returns-then-change-clause-consistent : goal.returns-then-change-clause-consistent
 returns-then-change-clause-consistent c =
     let p = c.args.self.now in let k = c.requires.consistent in let s = c.args.session in let e = c.args.entry in
-    let ss = p.sessions in let ss' = c.change.new.self in let l = p.records.entries in let l' = c.write_promised.new.self.entries in
+    let ss = p.sessions in let ss' = c.change.new.self in let l = p.records in let l' = c.write.new.self in
     let a = c.change.ensures.changes c.if-change.true in
     let x = open_entry ss s (sym c.change.ensures.open ∙ c.if-change.true) in
-    let l_is : l' ≡ l ++ e ∷ [] = ap (λ (r : RecordsState). r.entries) c.write_promised.ensures in
-    let promised_is = ap (λ (r : RecordsState). r.promised) c.write_promised.ensures in
-    let apart : (t : ℕ) → t ≢ s → about t e ≡ false = λ t ne. ⊎_elim (λ (q : e ≡ was.Gone s). ap (about t) q ∙ ne_eqb s t (λ r. ne (sym r))) (λ (q : e ≡ was.Shut s). ap (about t) q ∙ ne_eqb s t (λ r. ne (sym r))) c.requires.ends in
+    let l_is : l' ≡ l ++ e ∷ [] = c.write.ensures in
+    let apart : (t : ℕ) → t ≢ s
+    → about t e ≡ false = λ t ne. ⊎_elim (λ (q : e ≡ was.Gone s). ap (about t) q ∙ ne_eqb s t (λ r. ne (sym r)))
+    (λ (q : e ≡ was.Shut s). ap (about t) q ∙ ne_eqb s t (λ r. ne (sym r))) c.requires.ends in
     let here : Agrees (entry_of ss' s) (port_facts (l ++ e ∷ []) s) =
     ⊎_elim
-    (λ (q : e ≡ was.Gone s). subst (λ (y : PortRecord). Agrees (entry_of ss' s) (port_facts (l ++ y ∷ []) s)) (sym q) (agrees_gone ss ss' l s x.0 a.at x.1 (k.each s)))
-    (λ (q : e ≡ was.Shut s). subst (λ (y : PortRecord). Agrees (entry_of ss' s) (port_facts (l ++ y ∷ []) s)) (sym q) (agrees_shut ss ss' l s x.0 a.at x.1 (k.each s)))
+    (λ (q : e ≡ was.Gone s). subst (λ (y : PortRecord). Agrees (entry_of ss' s) (port_facts (l ++ y ∷ []) s)) (sym q)
+    (agrees_gone ss ss' l s x.0 a x.1 (k.each s)))
+    (λ (q : e ≡ was.Shut s). subst (λ (y : PortRecord). Agrees (entry_of ss' s) (port_facts (l ++ y ∷ []) s)) (sym q)
+    (agrees_shut ss ss' l s x.0 a x.1 (k.each s)))
     c.requires.ends in
     let none = ⊎_elim (λ (q : e ≡ was.Gone s). ap opened_by q) (λ (q : e ≡ was.Shut s). ap opened_by q) c.requires.ends in
     let no_end = ⊎_elim (λ (q : e ≡ was.Gone s). ap is_end q) (λ (q : e ≡ was.Shut s). ap is_end q) c.requires.ends in
-    let left = left_without ss ss' s p.events.items (test_here (λ (y : SessionState). is_closed y.stage) ss ss' s (with_stage Closed) x.0 a.at x.1) (test_other (λ (y : SessionState). is_closed y.stage) ss ss' s (with_stage Closed) a.at) in record {
-      each = each_step ss ss' l l' e s k.each l_is apart a.at.others here;
-      opened_are = a.at.numbers_are ∙ k.opened_are ∙ sym (opened_more l l' e l_is none);
-      rising = rising_at ss ss' s (with_stage Closed) a.at k.rising;
-      promised = omega (arith, k.promised, promised_is, a.count);
+    let left = left_without ss ss' s p.events.items
+    (test_here (λ (y : SessionState). is_closed y.stage) ss ss' s (with_stage Closed) x.0 a x.1)
+    (test_other (λ (y : SessionState). is_closed y.stage) ss ss' s (with_stage Closed) a) in record {
+      each = each_step ss ss' l l' e s k.each l_is apart a.others here;
+      opened_are = a.numbers_are ∙ k.opened_are ∙ sym (opened_more l l' e l_is none);
+      rising = rising_at ss ss' s (with_stage Closed) a k.rising;
       at_end = ap has_ended l_is ∙ ended_same l e no_end ∙ k.at_end;
-      plays = λ tells. (λ i. plays_from (ap (last_from 0) a.at.numbers_are i) (is_open ss') (left i))
-          ∙ leave_out (newest ss) (is_open ss) (is_open ss') s (events_left ss p.events.items) (k.rising s x.0 x.1) (test_other (λ (y : SessionState). not (is_closed y.stage)) ss ss' s (with_stage Closed) a.at) (k.plays tells);
+      plays = λ tells. (λ i. plays_from (ap (last_from 0) a.numbers_are i) (is_open ss') (left i))
+          ∙ leave_out (newest ss) (is_open ss) (is_open ss') s (events_left ss p.events.items) (k.rising s x.0 x.1)
+          (test_other (λ (y : SessionState). not (is_closed y.stage)) ss ss' s (with_stage Closed) a) (k.plays tells);
       follows = λ tells.
-          let nothing : (t : ℕ) → fed_by t e ≡ [] = λ t. ⊎_elim (λ (q : e ≡ was.Gone s). ap (fed_by t) q) (λ (q : e ≡ was.Shut s). ap (fed_by t) q) c.requires.ends in
-          follows_close p.script.value.items (events_left ss p.events.items) (events_left ss' p.events.items) l l' e s (was_closed ss) (was_closed ss') left l_is none nothing
+          let nothing : (t : ℕ)
+          → fed_by t e ≡ [] = λ t. ⊎_elim (λ (q : e ≡ was.Gone s). ap (fed_by t) q) (λ (q : e ≡ was.Shut s). ap (fed_by t) q) c.requires.ends in
+          follows_close p.script.value.items (events_left ss p.events.items) (events_left ss' p.events.items) l l' e s
+          (was_closed ss) (was_closed ss') left l_is none nothing
           (opens_without (newest ss) (is_open ss) s (events_left ss p.events.items) (k.rising s x.0 x.1) (k.plays tells))
           (ap (is_some_and (λ (y : SessionState). is_closed y.stage)) x.1 ∙ x.2)
-          (test_here (λ (y : SessionState). is_closed y.stage) ss ss' s (with_stage Closed) x.0 a.at x.1)
-          (test_other (λ (y : SessionState). is_closed y.stage) ss ss' s (with_stage Closed) a.at)
+          (test_here (λ (y : SessionState). is_closed y.stage) ss ss' s (with_stage Closed) x.0 a x.1)
+          (test_other (λ (y : SessionState). is_closed y.stage) ss ss' s (with_stage Closed) a)
           (k.follows tells);
       finished = k.finished;
     }
@@ -56,14 +63,16 @@ returns-then-change-clause-closes c _ =
     let ss = p.sessions in let ss' = c.change.new.self in
     let a = c.change.ensures.changes c.if-change.true in
     let x = open_entry ss s (sym c.change.ensures.open ∙ c.if-change.true) in record {
-      records_are = ap (λ (r : RecordsState). r.entries) c.write_promised.ensures;
+      records_are = c.write.ensures;
       shuts = record {
-        left = left_without ss ss' s p.events.items (test_here (λ (y : SessionState). is_closed y.stage) ss ss' s (with_stage Closed) x.0 a.at x.1) (test_other (λ (y : SessionState). is_closed y.stage) ss ss' s (with_stage Closed) a.at);
-        here = test_here (λ (y : SessionState). is_waiting y.stage) ss ss' s (with_stage Closed) x.0 a.at x.1;
-        others = test_other (λ (y : SessionState). is_waiting y.stage) ss ss' s (with_stage Closed) a.at;
+        left = left_without ss ss' s p.events.items
+            (test_here (λ (y : SessionState). is_closed y.stage) ss ss' s (with_stage Closed) x.0 a x.1)
+            (test_other (λ (y : SessionState). is_closed y.stage) ss ss' s (with_stage Closed) a);
+        here = test_here (λ (y : SessionState). is_waiting y.stage) ss ss' s (with_stage Closed) x.0 a x.1;
+        others = test_other (λ (y : SessionState). is_waiting y.stage) ss ss' s (with_stage Closed) a;
         faults = (refl, refl, refl);
       };
-      closed = test_here (λ (y : SessionState). is_closed y.stage) ss ss' s (with_stage Closed) x.0 a.at x.1;
+      closed = test_here (λ (y : SessionState). is_closed y.stage) ss ss' s (with_stage Closed) x.0 a x.1;
       events_are = refl;
       ended_is = refl;
     }

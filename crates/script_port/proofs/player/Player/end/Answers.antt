@@ -1,4 +1,4 @@
-use Rattle.std.proofs.Common.{◌≡◌, List, [], ◌∷◌, ◌++◌, refl, subst, sym, ◌∙◌, ap, arith}
+use Rattle.std.proofs.Common.{◌≡◌, List, [], ◌∷◌, ◌++◌, refl, subst, sym, ◌∙◌, ap}
 use Rattle.worker.specs.declared.port.PortRecord.{PortRecord}
 use Rattle.worker.specs.declared.port.PortRecord.TheVariants as was
 use Rattle.worker.specs.Ports.{has_ended}
@@ -6,7 +6,6 @@ use Rattle.worker.specs.Sessions.{port_facts}
 use Rattle.worker.proofs.Facts.{elsewhere}
 use Rattle.worker.proofs.RunViews.{ended_now}
 use Rattle.script_port.specs.Sessions.{entry_of, was_closed}
-use Rattle.script_port.specs.Records.{RecordsState}
 use Rattle.script_port.specs.Players.{Agrees, events_left}
 use Rattle.script_port.proofs.FollowLemmas.{follows_still}
 use Rattle.script_port.proofs.PlayerLemmas.{opened_more}
@@ -14,16 +13,16 @@ use Rattle.script_port.proofs.player.Player.end.Goals as goal
 
 pub returns-clause-consistent : goal.returns-clause-consistent
 returns-clause-consistent c =
-    let p = c.args.self.now in let k = c.requires.consistent in let l = p.records.entries in let l' = c.write.new.self.entries in
-    let l_is : l' ≡ l ++ was.Ended ∷ [] = ap (λ (r : RecordsState). r.entries) c.write.ensures ∙ ap (λ (m : List PortRecord). m ++ was.Ended ∷ []) c.reserve.ensures.entries in
-    let promised_is = ap (λ (r : RecordsState). r.promised) c.write.ensures in record {
-      each = λ t. subst (λ (m : List PortRecord). Agrees (entry_of p.sessions t) (port_facts m t)) (sym l_is) (subst (Agrees (entry_of p.sessions t)) (sym (elsewhere l was.Ended t refl)) (k.each t));
+    let p = c.args.self.now in let k = c.requires.consistent in let l = p.records in let l' = c.write.new.self in
+    let l_is : l' ≡ l ++ was.Ended ∷ [] = c.write.ensures in record {
+      each = λ t. subst (λ (m : List PortRecord). Agrees (entry_of p.sessions t) (port_facts m t)) (sym l_is)
+          (subst (Agrees (entry_of p.sessions t)) (sym (elsewhere l was.Ended t refl)) (k.each t));
       opened_are = k.opened_are ∙ sym (opened_more l l' was.Ended l_is refl);
       rising = k.rising;
-      promised = omega (arith, k.promised, promised_is, c.reserve.ensures.promised);
       at_end = ap has_ended l_is ∙ ended_now l;
       plays = k.plays;
       follows = λ tells. let left = events_left p.sessions p.events.items in
-          follows_still p.script.value.items left left l l' was.Ended (was_closed p.sessions) (was_closed p.sessions) refl l_is refl (λ t. refl) (λ t. refl) (k.follows tells);
+          follows_still p.script.value.items left left l l' was.Ended (was_closed p.sessions)
+          (was_closed p.sessions) refl l_is refl (λ t. refl) (λ t. refl) (k.follows tells);
       finished = λ _. c.requires.none;
     }

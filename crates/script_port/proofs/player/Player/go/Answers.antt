@@ -8,20 +8,25 @@ use Rattle.script_port.proofs.EventLemmas.{bool_cases}
 use Rattle.script_port.proofs.StepLemmas.{GoesTo, removed_at, gone_consistent, gone_told, goes_open, odd_consistent}
 use Rattle.script_port.proofs.player.Player.go.Goals as goal
 
-goes : (c : goal.Joined-remove) → Closes c.args.self.now c.args.session (was.Gone c.args.session) c.close.new.self → GoesTo c.close.new.self (record (c.close.new.self) { events = c.remove.new.self }) c.requires.first.before c.requires.first.after
+goes : (c : goal.Joined-remove) → Closes c.args.self.now c.args.session (was.Gone c.args.session) c.close.new.self
+    → GoesTo c.close.new.self (record (c.close.new.self) { events = c.remove.new.self }) c.requires.first.before c.requires.first.after
 goes c closes = let f = c.requires.first in record {
   q_is = refl;
-  events_are = removed_at c.close.new.self.events.items c.remove.new.self.items c.remove.result f.before (Gone c.args.session) f.after c.args.at (ap (λ d. d.items) closes.events_are ∙ f.events_are) f.at_is c.remove.ensures.items (λ lt. c.remove.ensures.succeeds (Gone c.args.session) (subst (λ (n : ℕ). c.args.at < n) (sym c.close.new.self.events.ok.0) lt));
+  events_are = removed_at c.close.new.self.events.items c.remove.new.self.items c.remove.result f.before
+      (Gone c.args.session) f.after c.args.at (ap (λ d. d.items) closes.events_are ∙ f.events_are) f.at_is c.remove.ensures.items
+      (λ lt. c.remove.ensures.succeeds (Gone c.args.session) (subst (λ (n : ℕ). c.args.at < n) (sym c.close.new.self.events.ok.0) lt));
 }
 
 pub returns-clause-consistent : goal.returns-clause-consistent
 returns-clause-consistent c =
     let p = c.args.self.now in let m = c.close.new.self in let s = c.args.session in
     bool_cases (is_open p.sessions s)
-    (λ active. let closes = c.close.ensures.closes active in gone_consistent p m _ c.args.at s c.requires.consistent c.requires.first closes (goes c closes) c.close.ensures.consistent)
+    (λ active. let closes = c.close.ensures.closes active in
+    gone_consistent p m _ c.args.at s c.requires.consistent c.requires.first closes (goes c closes) c.close.ensures.consistent)
     (λ not_open.
     let same = c.close.ensures.same not_open in
-    odd_consistent p _ c.requires.consistent (ap (λ (x : Player). x.sessions) same) (ap (λ (x : Player). x.records.entries) same) (ap (λ (x : Player). x.records.promised) same) (ap (λ (x : Player). x.ended) same) (ap (λ (x : Player). x.script) same)
+    odd_consistent p _ c.requires.consistent (ap (λ (x : Player). x.sessions) same) (ap (λ (x : Player). x.records) same)
+    (ap (λ (x : Player). x.ended) same) (ap (λ (x : Player). x.script) same)
     (λ over. absurd (true≢false (sym over ∙ ap (λ (x : Player). x.ended) same ∙ c.requires.running)))
     (λ tells. true≢false (sym (goes_open p c.args.at s c.requires.consistent c.requires.first tells) ∙ not_open)))
 

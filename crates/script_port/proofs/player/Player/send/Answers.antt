@@ -1,18 +1,18 @@
-use Rattle.std.proofs.Common.{ℕ, List, [], ◌∷◌, ◌++◌, refl, sym, ap, subst, ◌∙◌}
+use Rattle.std.proofs.Common.{ℕ, List, [], ◌∷◌, ◌++◌, refl, sym, subst, ◌∙◌}
 use Rattle.worker.specs.declared.port.PortRecord.TheVariants as was
 use Rattle.worker.specs.declared.port.PortEvent.TheVariants as event
-use Rattle.script_port.specs.Records.{RecordsState}
 use Rattle.script_port.specs.Players.{state_of, TellsNext}
 use Rattle.script_port.proofs.StepLemmas.{SendsTo, send_consistent, send_told}
 use Rattle.script_port.proofs.player.Player.send.Goals as goal
 
-sends : (c : goal.After-take_piece) → SendsTo c.args.self.now (record (c.args.self.now) { events = c.take_piece.new.events; records = c.write.new.self }) c.args.session c.requires.first.0 c.requires.first.1.before c.requires.first.1.after
+sends : (c : goal.After-take_piece)
+    → SendsTo c.args.self.now
+    (record (c.args.self.now) { events = c.take_piece.new.events; records = c.write.new.self }) c.args.session c.requires.first.0
+    c.requires.first.1.before c.requires.first.1.after
 sends c =
-    let s = c.args.session in let bytes = c.requires.first.0 in let f = c.requires.first.1 in let w = c.write.ensures in
-    let promised_w = ap (λ (r : RecordsState). r.promised) w in record {
+    let s = c.args.session in let bytes = c.requires.first.0 in let f = c.requires.first.1 in record {
       sessions_are = refl;
-      records_are = ap (λ (r : RecordsState). r.entries) w ∙ (λ i. c.reserve.ensures.entries i ++ was.Data s (c.requires.first.3 i) ∷ []);
-      promised_is = promised_w ∙ c.reserve.ensures.promised;
+      records_are = c.write.ensures ∙ (λ i. c.args.self.now.records ++ was.Data s (c.requires.first.3 i) ∷ []);
       ended_is = refl;
       script_is = refl;
       accept_is = refl;
@@ -26,5 +26,6 @@ returns-clause-consistent c = send_consistent c.args.self.now _ c.args.at c.args
 pub returns-clause-played : goal.returns-clause-played
 returns-clause-played c tells =
     let p = c.args.self.now in let s = c.args.session in let bytes = c.requires.first.0 in
-    subst (λ (b : List ℕ). TellsNext (state_of p) (event.Data s b) (state_of (record p { events = c.take_piece.new.events; records = c.write.new.self }))) (sym c.requires.first.2)
+    subst (λ (b : List ℕ). TellsNext (state_of p) (event.Data s b)
+    (state_of (record p { events = c.take_piece.new.events; records = c.write.new.self }))) (sym c.requires.first.2)
     (send_told p _ c.args.at s bytes c.requires.consistent c.requires.first.1 (sends c) c.requires.running tells)

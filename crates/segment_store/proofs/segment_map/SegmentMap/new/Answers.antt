@@ -8,6 +8,8 @@ use Rattle.index.specs.Slots.{empty_slot}
 use Rattle.index.specs.Keys.{key_at}
 use Rattle.index.specs.Table.{Places}
 use Rattle.segment_store.specs.Shown.{live_in}
+use Rattle.segment_store.specs.State.{MapState}
+use Rattle.segment_store.proofs.KeptEntries.{keeps_none}
 use Rattle.segment_store.proofs.Showing.{shown_empty}
 use Rattle.segment_store.proofs.Starting.{tied_start, past_start}
 use Rattle.segment_store.proofs.segment_map.SegmentMap.new.Goals as goal
@@ -17,7 +19,8 @@ unfolding new_pool
 invariant_of-result c =
     let p = c.in_ok-new.field-0 in
     let sizes : p.sizes ≡ c.args.geometry = ap (λ (q : PoolState). q.sizes) c.in_ok-new.ensures.empty in
-    let len : length c.in_ok-new-2.field-0.slots ≡ c.slots_for.result = ap length c.in_ok-new-2.ensures.slots ∙ length-replicate c.slots_for.result empty_slot in
+    let len : length c.in_ok-new-2.field-0.slots ≡ c.slots_for.result = ap length c.in_ok-new-2.ensures.slots
+    ∙ length-replicate c.slots_for.result empty_slot in
     let many = c.slots_for.ensures.1 in
     let tally : c.in_ok-new-3.field-0 ≡ no_tally p.sizes = c.in_ok-new-3.ensures ∙ ap no_tally (sym sizes) in
     record {
@@ -34,3 +37,8 @@ pub returns-clause-entries : goal.returns-clause-entries
 returns-clause-entries c =
     let p = c.in_ok-new.field-0 in
     ap (λ (m : Places). live_in p m 0) (c.in_ok-new-2.ensures.map (key_at p)).places_are ∙ shown_empty p 0
+
+pub returns-clause-keeps : goal.returns-clause-keeps
+returns-clause-keeps c =
+    let m : MapState = record { pool = c.in_ok-new.field-0; index = c.in_ok-new-2.field-0; tally = c.in_ok-new-3.field-0; moment = 0 } in
+    keeps_none m c.args.geometry c.in_ok-new.ensures.empty

@@ -13,4 +13,7 @@ pub invariant_of-self : goal.invariant_of-self
 invariant_of-self c =
     let a = c.self.inside in
     let le = c.requires.not_before in
-    record { tied = c.self.invariant.tied; past = past_later a.pool a.moment c.args.now c.self.invariant.past (rw (← c.self.view_is) at le) c.requires.in_range }
+    record {
+      tied = c.self.invariant.tied;
+      past = past_later a.pool a.moment c.args.now c.self.invariant.past (rw (← c.self.view_is) at le) c.requires.in_range;
+    }

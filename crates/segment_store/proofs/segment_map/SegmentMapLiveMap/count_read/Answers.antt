@@ -3,6 +3,8 @@ use Rattle.std.specs.FinMap as finite
 use Rattle.index.specs.Table.{Places}
 use Rattle.segments.specs.Pools.{PoolState}
 use Rattle.segment_store.specs.Kept.{IsPast}
+use Rattle.segment_store.specs.State.{MapState}
+use Rattle.segment_store.proofs.KeptEntries.{keeps_read}
 use Rattle.segment_store.specs.Shown.{current, live_in}
 use Rattle.segment_store.proofs.Showing.{shown_same, touched_entry}
 use Rattle.segment_store.proofs.Tying.{tied_touched, current_some}
@@ -44,3 +46,12 @@ returns-clause-counted c =
       stands = c.requires;
       new_is = rw (← c.self.view_is) (ap (λ (q : PoolState). record { pool = q; index = a.index; tally = a.tally; moment = a.moment }) c.touch.ensures.touched);
     }
+
+pub returns-clause-kept : goal.returns-clause-kept
+returns-clause-kept c =
+    let a = c.self.inside in
+    let there : finite.get (current a.pool a.index) c.args._key.now ≡ Some c.args.place = (let h = c.requires in rw (← c.self.view_is) at h) in
+    let some = current_some a.pool a.index c.args._key.now c.args.place there in
+    let new : MapState = record { pool = c.touch.new.self; index = a.index; tally = a.tally; moment = a.moment } in
+    rw (← c.self.view_is)
+    (keeps_read (record { pool = a.pool; index = a.index; tally = a.tally; moment = a.moment }) new c.args.place some c.touch.ensures.touched)

@@ -7,4 +7,5 @@ use Rattle.segment_store.proofs.segment_map.SegmentMapLiveMap.remove.Goals as go
 pub returns-clause-entries : goal.returns-clause-entries
 returns-clause-entries c =
     let a = c.self.inside in
-    rw (← c.self.view_is) (ap (λ (m : Places). live_in a.pool m a.moment) c.leave_key.ensures.left ∙ shown_remove a.pool (current a.pool a.index) a.moment c.args.key.now)
+    rw (← c.self.view_is)
+    (ap (λ (m : Places). live_in a.pool m a.moment) c.leave_key.ensures.left ∙ shown_remove a.pool (current a.pool a.index) a.moment c.args.key.now)

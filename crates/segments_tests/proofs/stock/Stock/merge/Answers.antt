@@ -13,17 +13,20 @@ invariant_of-self c =
 pub carry-requires-clause-sources : goal.carry-requires-clause-sources
 carry-requires-clause-sources c =
     let s = c.args.self.now in
-    (merge_ready s.tally s.pool c.plan_merge.new.self c.moves.result.now s.known c.if-not-plan_merge.ensures.plan c.moves.ensures.planned c.moves.ensures.sources c.moves.ensures.carried).0
+    (merge_ready s.tally s.pool c.plan_merge.new.self c.moves.result.now s.known c.if-not-plan_merge.ensures.plan
+    c.moves.ensures.planned c.moves.ensures.sources c.moves.ensures.carried).0
 
 pub carry-requires-clause-targets : goal.carry-requires-clause-targets
 carry-requires-clause-targets c =
     let s = c.args.self.now in
-    (merge_ready s.tally s.pool c.plan_merge.new.self c.moves.result.now s.known c.if-not-plan_merge.ensures.plan c.moves.ensures.planned c.moves.ensures.sources c.moves.ensures.carried).1
+    (merge_ready s.tally s.pool c.plan_merge.new.self c.moves.result.now s.known c.if-not-plan_merge.ensures.plan
+    c.moves.ensures.planned c.moves.ensures.sources c.moves.ensures.carried).1
 
 pub invariant_of-self-2 : goal.invariant_of-self-2
 invariant_of-self-2 c =
     let s = c.args.self.now in
-    let d = merge_done s.tally s.pool c.plan_merge.new.self c.merge_next.new.self c.moves.result.now s.known c.if-not-plan_merge.ensures.plan c.moves.ensures.planned c.moves.ensures.sources
+    let d = merge_done s.tally s.pool c.plan_merge.new.self c.merge_next.new.self c.moves.result.now s.known
+    c.if-not-plan_merge.ensures.plan c.moves.ensures.planned c.moves.ensures.sources
     c.merge_next.ensures.merged c.merge_next.ensures.pool in
     record {
       sizes = d.1 ∙ s.sizes;

@@ -23,29 +23,38 @@ returns-in_err-reserve-clause-open c =
     let p = err_from_is_err_and c.from_residual.result c.from_residual.ensures.1 in
     λ s open_now.
     refused_ask _ _ c.args.self.now c.args.session s c.from_residual.result p.0 c.self.view_is p.1 c.self.invariant
-    (written_back c.self.inside.sessions (c.get_mut.follows.lender c.in-Some.open.now) c.args.session c.in-Some.open.now c.in-Some.open.now (c.get_mut.follows.holds c.in-Some.open.now) c.in-Some.ensures.value refl)
+    (written_back c.self.inside.sessions
+    (c.get_mut.follows.lender c.in-Some.open.now) c.args.session c.in-Some.open.now c.in-Some.open.now
+    (c.get_mut.follows.holds c.in-Some.open.now) c.in-Some.ensures.value refl)
     c.reserve.ensures.items refl open_now
 
 pub invariant_of-self-in_err-request : goal.invariant_of-self-in_err-request
 invariant_of-self-in_err-request c =
-    stays_unsettled _ _ c.args.session c.in-Some.open.now c.next_ask.new.self c.self.invariant (sym c.in-Some.ensures.value)
-    (written_only c.self.inside.sessions (c.get_mut.follows.lender c.next_ask.new.self) _ _ _ (c.get_mut.follows.holds c.next_ask.new.self) c.in-Some.ensures.value)
+    stays_unsettled _ _ c.args.session c.in-Some.open.now c.next_ask-read.new.self c.self.invariant (sym c.in-Some.ensures.value)
+    (written_only c.self.inside.sessions (c.get_mut.follows.lender c.next_ask-read.new.self) _ _ _
+    (c.get_mut.follows.holds c.next_ask-read.new.self) c.in-Some.ensures.value)
     refl c.reserve.ensures.items
-    (λ asked. fits_unasked c.in-Some.open.now c.next_ask.new.self c.self.inside.looks c.next_ask.new.looks c.next_ask.result c.next_ask.ensures (ap request_in c.in_err-request.was))
+    (λ asked. fits_unasked c.in-Some.open.now c.next_ask-read.new.self c.self.inside.looks c.next_ask-read.new.looks
+    c.next_ask-read.result c.next_ask-read.ensures (ap request_in c.in_err-request.was))
 
 pub invariant_of-self-in_default-2 : goal.invariant_of-self-in_default-2
 invariant_of-self-in_default-2 c =
-    stays_unsettled _ _ c.args.session c.in-Some.open.now c.next_ask.new.self c.self.invariant (sym c.in-Some.ensures.value)
-    (written_only c.self.inside.sessions (c.get_mut.follows.lender c.next_ask.new.self) _ _ _ (c.get_mut.follows.holds c.next_ask.new.self) c.in-Some.ensures.value)
+    stays_unsettled _ _ c.args.session c.in-Some.open.now c.next_ask-read.new.self c.self.invariant (sym c.in-Some.ensures.value)
+    (written_only c.self.inside.sessions (c.get_mut.follows.lender c.next_ask-read.new.self) _ _ _
+    (c.get_mut.follows.holds c.next_ask-read.new.self) c.in-Some.ensures.value)
     refl c.reserve.ensures.items
-    (λ asked. fits_unasked c.in-Some.open.now c.next_ask.new.self c.self.inside.looks c.next_ask.new.looks c.next_ask.result c.next_ask.ensures
+    (λ asked. fits_unasked c.in-Some.open.now c.next_ask-read.new.self c.self.inside.looks c.next_ask-read.new.looks
+    c.next_ask-read.result c.next_ask-read.ensures
     (ap request_in c.in_ok-request.was ∙ ap (λ (o : Option Request). request_in (Ok o)) c.in_default-2.is))
 
 pub invariant_of-self-2 : goal.invariant_of-self-2
 invariant_of-self-2 c =
     let given : Unsettled = record { number = c.self.inside.posted + 1; session = c.args.session } in
     let pushed : c.push_back.new.self.items ≡ c.reserve.new.self.items ++ given ∷ [] = search rules in
-    asks_book _ _ c.args.session (c.self.inside.posted + 1) c.in-Some.open.now c.next_ask.new.self c.in-Some-2.request c.next_ask.result c.self.inside.looks c.next_ask.new.looks c.self.invariant (sym c.in-Some.ensures.value)
-    (written_only c.self.inside.sessions (c.get_mut.follows.lender c.next_ask.new.self) _ _ _ (c.get_mut.follows.holds c.next_ask.new.self) c.in-Some.ensures.value)
+    asks_book _ _ c.args.session
+    (c.self.inside.posted + 1) c.in-Some.open.now c.next_ask-read.new.self c.in-Some-2.request c.next_ask-read.result
+    c.self.inside.looks c.next_ask-read.new.looks c.self.invariant (sym c.in-Some.ensures.value)
+    (written_only c.self.inside.sessions (c.get_mut.follows.lender c.next_ask-read.new.self) _ _ _
+    (c.get_mut.follows.holds c.next_ask-read.new.self) c.in-Some.ensures.value)
     refl (pushed ∙ ap (λ (us : List Unsettled). us ++ given ∷ []) c.reserve.ensures.items)
-    (c.in_ok-request.was ∙ ap (λ (o : Option Request). Ok o) c.in-Some-2.is) c.next_ask.ensures
+    (c.in_ok-request.was ∙ ap (λ (o : Option Request). Ok o) c.in-Some-2.is) c.next_ask-read.ensures

@@ -10,15 +10,18 @@ returns-in_err-read c =
 
 pub returns-in-Nothing : goal.returns-in-Nothing
 returns-in-Nothing c =
-    reads_none _ _ _ _ _ _ c.loop-alloc.invariant c.loop-alloc-test.ensures.ready (omega (arith, c.saturating_add.ensures)) (rw c.in-Nothing.is at c.in_ok-read.ensures)
+    reads_none _ _ _ _ _ _ c.loop-alloc.invariant c.loop-alloc-test.ensures.ready (omega (arith, c.saturating_add.ensures))
+    (rw c.in-Nothing.is at c.in_ok-read.ensures)
 
 pub loop-alloc-preserved : goal.loop-alloc-preserved
 loop-alloc-preserved c =
-    reads_local _ _ _ _ _ _ c.loop-alloc.invariant c.loop-alloc-test.ensures.ready (omega (arith, c.saturating_add.ensures)) (rw c.in-Local.is at c.in_ok-read.ensures)
+    reads_local _ _ _ _ _ _ c.loop-alloc.invariant c.loop-alloc-test.ensures.ready (omega (arith, c.saturating_add.ensures))
+    (rw c.in-Local.is at c.in_ok-read.ensures)
 
 pub returns-in-Ask : goal.returns-in-Ask
 returns-in-Ask c =
-    reads_ask _ _ _ _ _ _ _ c.loop-alloc.invariant c.loop-alloc-test.ensures.ready (omega (arith, c.saturating_add.ensures)) (rw c.in-Ask.is at c.in_ok-read.ensures)
+    reads_ask _ _ _ _ _ _ _ c.loop-alloc.invariant c.loop-alloc-test.ensures.ready (omega (arith, c.saturating_add.ensures))
+    (rw c.in-Ask.is at c.in_ok-read.ensures)
 
 pub returns : goal.returns
 returns c = reads_stops _ _ _ _ c.loop-alloc.invariant c.loop-alloc-test.ensures.stops

@@ -33,4 +33,5 @@ pub returns-in-Err-clause-goes_on : goal.returns-in-Err-clause-goes_on
 returns-in-Err-clause-goes_on g c =
     let w = c.args.self.now in
     let s = some_out (session_of w.book c.args.session) c.out-out.result.now c.out-out.ensures c.if-offered-eq0.false in
-    lost_goes_on g.P.Port.told w c.close.new.self c.give.new.self c.args.session s.0 s.1 c.in-Err.ensures.told c.requires c.close.ensures.port c.close.ensures.closes
+    lost_goes_on g.P.Port.told w c.close.new.self c.give.new.self c.args.session s.0 s.1 c.in-Err.ensures.told c.requires
+    c.close.ensures.port c.close.ensures.closes

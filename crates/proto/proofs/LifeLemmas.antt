@@ -1,0 +1,184 @@
+-- How long an entry is there that was set.
+use Rattle.std.proofs.Common.{◌≡◌, ℕ, ◌+◌, ◌-◌, ◌*◌, ◌<◌, ◌≤◌, min, max, Bool, true, false, List, Option, Some, None, refl, sym, ap, subst, ◌∙◌, inl, inr, arith, le-leb}
+use Rattle.std.specs.Prelude.{◌==◌, if◌then◌else◌}
+use Rattle.std.specs.FinMap as map
+use Rattle.std.proofs.lemmas.Bool.{lt-leb}
+use Rattle.proto.specs.declared.message.Put.{Put}
+use Rattle.proto.specs.declared.message.Request.TheVariants.{Set}
+use Rattle.proto.specs.declared.message.Reply.TheVariants.{Stored, TooLarge, NoCas}
+use Rattle.proto.specs.Sizes.{Sizes, item_limit}
+use Rattle.proto.specs.Cache.{Entry, Entries, Cache, empty_cache, has_arrived, live, found_at, deadline_of}
+use Rattle.proto.specs.Commands.{Outcome, max_cas, leaving, only_reply, put, write, is_too_large, act}
+use Rattle.proto.specs.Steps.{Step, IsDated, MayForget, contains_bytes, without, deadline_at, with_deadline}
+use Rattle.proto.specs.Buckets.{bucket_of, width_of, longest_life, MayLive}
+use Rattle.proto.specs.Lives.{HasPut, LivesItsTime, LivesForGood}
+use Rattle.proto.proofs.CacheLemmas.{get-live, get-without, if_live}
+use Rattle.proto.proofs.StepLemmas.{get-stored, deadline_at-insert, with_deadline-insert}
+
+-- ---- what a set leaves
+
+-- an outcome that stored the entry of a put
+record Sets (done : Outcome) (t : ℕ) (p : Put) : Type 0 where
+  entry : Entry
+  old : Entries
+  stored : done.stored ≡ Some p.key
+  entries : done.entries ≡ map.insert old p.key entry
+  value : entry.value ≡ p.value
+  flags : entry.flags ≡ p.flags
+  deadline : entry.deadline ≡ deadline_of p.exptime t
+
+-- the entry of a put with a cas number
+abbrev entry_put : ℕ → Put → ℕ → Entry
+entry_put t p cas = record { value = p.value; flags = p.flags; deadline = deadline_of p.exptime t; cas = cas }
+
+-- what a put leaves whose deadline hasn't come: by whether no cas number is left
+abbrev numbered : Cache → ℕ → Put → Bool → Outcome
+numbered cache t p none_left =
+    if none_left then only_reply cache NoCas
+    else record {
+      entries = map.insert cache.entries p.key (entry_put t p (cache.last_cas + 1));
+      last_cas = cache.last_cas + 1;
+      pending = cache.pending;
+      reply = Stored;
+      stored = Some p.key;
+    }
+
+-- what a put leaves: by whether its deadline has come
+abbrev dated : Cache → ℕ → Put → Bool → Outcome
+dated cache t p come = if come then leaving cache (map.remove cache.entries p.key) Stored else write cache p.key (entry_put t p) Stored
+
+sets_numbered : (cache : Cache) (t : ℕ) (p : Put) (b : Bool) → (numbered cache t p b).reply ≡ Stored → Sets (numbered cache t p b) t p
+sets_numbered cache t p true is = absurd (cc is)
+sets_numbered cache t p false is =
+    record {
+      entry = entry_put t p (cache.last_cas + 1);
+      old = cache.entries;
+      stored = refl;
+      entries = refl;
+      value = refl;
+      flags = refl;
+      deadline = refl;
+    }
+
+sets_waiting : (cache : Cache) (t : ℕ) (p : Put) (b : Bool) → b ≡ false → (dated cache t p b).reply ≡ Stored → Sets (dated cache t p b) t p
+sets_waiting cache t p true waits is = absurd (cc waits)
+sets_waiting cache t p false waits is = sets_numbered cache t p (cache.last_cas == max_cas) is
+
+-- a set stores its entry: its item isn't too large, its deadline hasn't come, and a cas number is left
+sets_fitting : (cache : Cache) (t : ℕ) (p : Put) (b : Bool) → has_arrived (deadline_of p.exptime t) t ≡ false
+    → (if b then only_reply cache TooLarge else put cache t p).reply ≡ Stored → Sets (if b then only_reply cache TooLarge else put cache t p) t p
+sets_fitting cache t p true waits is = absurd (cc is)
+sets_fitting cache t p false waits is = sets_waiting cache t p (has_arrived (deadline_of p.exptime t) t) waits is
+
+-- What a set leaves at its key: the entry, with a deadline that it may get.
+record SetLeaves (t : ℕ) (p : Put) (after : Cache) : Type 0 where
+  entry : Entry
+  there : map.get after.entries p.key ≡ Some entry
+  value : entry.value ≡ p.value
+  flags : entry.flags ≡ p.flags
+  may : MayLive t (deadline_of p.exptime t) entry.deadline
+
+others_forgotten : (sizes : Sizes) (old new : Entries) (key : List ℕ) (forgotten : List (List ℕ))
+    → MayForget sizes old new (Some key) forgotten → contains_bytes forgotten key ≡ false
+others_forgotten sizes old new key forgotten (inl none) = ap (λ (keys : List (List ℕ)). contains_bytes keys key) none
+others_forgotten sizes old new key forgotten (inr h) = h.not_stored
+
+set_leaves : (sizes : Sizes) (before after : Cache) (t : ℕ) (p : Put)
+    → has_arrived (deadline_of p.exptime t) t ≡ false → Step sizes before t (Set p) Stored after → SetLeaves t p after
+set_leaves sizes before after t p waits (inr x) = let e = x.reply_is in absurd (cc e)
+set_leaves sizes before after t p waits (inl x) =
+    let found = found_at before t in
+    let done = act (item_limit sizes) found t (Set p) in
+    let s : Sets done t p = sets_fitting found t p (is_too_large (item_limit sizes) p) waits (sym x.reply_is) in
+    let d : IsDated t done.entries (Some p.key) x.dated = subst (λ (o : Option (List ℕ)). IsDated t done.entries o x.dated) s.stored x.is_dated in
+    let e : Entry = record s.entry { deadline = d.0 } in
+    let dated : x.dated ≡ map.insert s.old p.key e =
+    d.2 ∙ ap (λ (m : Entries). with_deadline m p.key d.0) s.entries ∙ with_deadline-insert s.old p.key s.entry d.0 in
+    let asked : deadline_at done.entries p.key ≡ deadline_of p.exptime t =
+    ap (λ (m : Entries). deadline_at m p.key) s.entries ∙ deadline_at-insert s.old p.key s.entry ∙ s.deadline in
+    let other = others_forgotten sizes found.entries x.dated p.key x.forgotten
+    (subst (λ (o : Option (List ℕ)). MayForget sizes found.entries x.dated o x.forgotten) s.stored x.may_forget) in
+    let there : map.get (without x.dated x.forgotten) p.key ≡ Some e =
+    get-without x.dated x.forgotten p.key ∙ rw other (ap (λ (m : Entries). map.get m p.key) dated ∙ get-stored s.old p.key e) in
+    record {
+      entry = e;
+      there = ap (λ (m : Entries). map.get m p.key) x.entries ∙ there;
+      value = s.value;
+      flags = s.flags;
+      may = subst (λ (a : Option ℕ). MayLive t a d.0) asked d.1;
+    }
+
+-- ---- what is found of it
+
+found_later : (after : Cache) (u : ℕ) (key : List ℕ) → has_arrived after.pending u ≡ false
+    → map.get (found_at after u).entries key ≡ if_live u (map.get after.entries key)
+found_later after u key waits = by_test (has_arrived after.pending u) waits
+  where
+    found : Bool → Cache
+    found b = if b then empty_cache after.last_cas else record { entries = live after.entries u; last_cas = after.last_cas; pending = after.pending }
+
+    by_test : (b : Bool) → b ≡ false → map.get (found b).entries key ≡ if_live u (map.get after.entries key)
+    by_test true is = absurd (cc is)
+    by_test false is = get-live after.entries u key
+
+finds : (t u : ℕ) (p : Put) (after : Cache) (s : SetLeaves t p after) → has_arrived after.pending u ≡ false
+    → has_arrived s.entry.deadline u ≡ false → HasPut (found_at after u).entries p
+finds t u p after s pending waits =
+    let there : if_live u (map.get after.entries p.key) ≡ Some s.entry = ap (if_live u) s.there ∙ rw waits refl in
+    record { entry = s.entry; there = found_later after u p.key pending ∙ there; value = s.value; flags = s.flags }
+
+misses : (t u : ℕ) (p : Put) (after : Cache) (s : SetLeaves t p after) → has_arrived after.pending u ≡ false
+    → has_arrived s.entry.deadline u ≡ true → map.get (found_at after u).entries p.key ≡ None
+misses t u p after s pending gone =
+    let none : if_live u (map.get after.entries p.key) ≡ None = ap (if_live u) s.there ∙ rw gone refl in
+    found_later after u p.key pending ∙ none
+
+-- a deadline that stands for the end of a life
+record IsEnd (t life : ℕ) (given : Option ℕ) : Type 0 where
+  deadline : ℕ
+  given_is : given ≡ Some deadline
+  later : t < deadline
+  not_after : deadline ≤ t + life
+  long_enough : t + min life longest_life < deadline + 2 * width_of (bucket_of (Some life))
+
+ends : (t life : ℕ) (given : Option ℕ) → 1 ≤ life → MayLive t (Some (t + life)) given → IsEnd t life given
+ends t life None some may = absurd may
+ends t life (Some d) some may =
+    let is : max 1 (t + life - t) ≡ life = omega arith in
+    record {
+      deadline = d;
+      given_is = refl;
+      later = may.later;
+      not_after = may.not_after;
+      long_enough = subst (λ (x : ℕ). t + min x longest_life < d + 2 * width_of (bucket_of (Some x))) is may.long_enough;
+    }
+
+waits_until : (given : Option ℕ) (d u : ℕ) → given ≡ Some d → u < d → has_arrived given u ≡ false
+waits_until given d u is h = ap (λ (o : Option ℕ). has_arrived o u) is ∙ lt-leb d u h
+
+gone_from : (given : Option ℕ) (d u : ℕ) → given ≡ Some d → d ≤ u → has_arrived given u ≡ true
+gone_from given d u is h = ap (λ (o : Option ℕ). has_arrived o u) is ∙ le-leb d u h
+
+pub lives_its_time : LivesItsTime
+lives_its_time sizes before after t life u p some asked step pending =
+    let waits : has_arrived (deadline_of p.exptime t) t ≡ false = waits_until (deadline_of p.exptime t) (t + life) t asked (omega arith) in
+    let s = set_leaves sizes before after t p waits step in
+    let end = ends t life s.entry.deadline some (subst (λ (a : Option ℕ). MayLive t a s.entry.deadline) asked s.may) in
+    let later = end.later in
+    let bound = end.not_after in
+    let long = end.long_enough in (
+      λ at. finds t u p after s pending (waits_until s.entry.deadline end.deadline u end.given_is (omega arith)),
+      λ before. finds t u p after s pending (waits_until s.entry.deadline end.deadline u end.given_is (omega arith)),
+      λ over. misses t u p after s pending (gone_from s.entry.deadline end.deadline u end.given_is (omega arith)),
+    )
+
+no_end : (t : ℕ) (given : Option ℕ) → MayLive t None given → given ≡ None
+no_end t None may = refl
+no_end t (Some d) may = absurd may
+
+pub lives_for_good : LivesForGood
+lives_for_good sizes before after t u p is step pending =
+    let asked : deadline_of p.exptime t ≡ None = ap (λ e. deadline_of e t) is in
+    let s = set_leaves sizes before after t p (ap (λ (o : Option ℕ). has_arrived o t) asked) step in
+    let none = no_end t s.entry.deadline (subst (λ (a : Option ℕ). MayLive t a s.entry.deadline) asked s.may) in
+    finds t u p after s pending (ap (λ (o : Option ℕ). has_arrived o u) none)

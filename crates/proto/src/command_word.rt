@@ -1,0 +1,93 @@
+//! The words that begin lines.
+
+ghost use Rattle.std.specs.Prelude.{◌≡◌, ◌≢◌, length, slice_index, MatchOption};
+ghost use Rattle.proto.specs.Heads.{word_of};
+ghost use Rattle.proto.specs.declared.command_word.CommandWord.{CommandWord};
+
+/// The command word of a storage line.
+#[derive(Clone, Copy, Debug, PartialEq, Eq)]
+pub enum Verb {
+    Set,
+    Add,
+    Replace,
+    Cas,
+}
+
+/// The command words that begin no storage line.
+#[derive(Clone, Copy, Debug, PartialEq, Eq)]
+pub enum OtherWord {
+    Get,
+    Gets,
+    Delete,
+    Incr,
+    Decr,
+    FlushAll,
+    Quit,
+}
+
+/// A command word.
+#[derive(Clone, Copy, Debug, PartialEq, Eq)]
+pub enum CommandWord {
+    Storage(Verb),
+    Other(OtherWord),
+}
+
+/// The one command word that may have this length and first byte.
+fn candidate(size: usize, first: u8) -> Option<CommandWord>
+    ensures { (command : CommandWord) → size ≡ length (word_of command) → first ≡ slice_index (word_of command) 0 → result ≡ Some command }
+{
+    match (size, first) {
+        (3, b'g') => Some(CommandWord::Other(OtherWord::Get)),
+        (3, b's') => Some(CommandWord::Storage(Verb::Set)),
+        (3, b'a') => Some(CommandWord::Storage(Verb::Add)),
+        (3, b'c') => Some(CommandWord::Storage(Verb::Cas)),
+        (4, b'g') => Some(CommandWord::Other(OtherWord::Gets)),
+        (4, b'i') => Some(CommandWord::Other(OtherWord::Incr)),
+        (4, b'd') => Some(CommandWord::Other(OtherWord::Decr)),
+        (4, b'q') => Some(CommandWord::Other(OtherWord::Quit)),
+        (6, b'd') => Some(CommandWord::Other(OtherWord::Delete)),
+        (7, b'r') => Some(CommandWord::Storage(Verb::Replace)),
+        (9, b'f') => Some(CommandWord::Other(OtherWord::FlushAll)),
+        _ => None,
+    }
+}
+
+impl CommandWord {
+    /// The bytes of the word.
+    fn as_bytes(self) -> &'static [u8]
+        ensures { result.now ≡ word_of self }
+    {
+        match self {
+            CommandWord::Storage(Verb::Set) => b"set",
+            CommandWord::Storage(Verb::Add) => b"add",
+            CommandWord::Storage(Verb::Replace) => b"replace",
+            CommandWord::Storage(Verb::Cas) => b"cas",
+            CommandWord::Other(OtherWord::Get) => b"get",
+            CommandWord::Other(OtherWord::Gets) => b"gets",
+            CommandWord::Other(OtherWord::Delete) => b"delete",
+            CommandWord::Other(OtherWord::Incr) => b"incr",
+            CommandWord::Other(OtherWord::Decr) => b"decr",
+            CommandWord::Other(OtherWord::FlushAll) => b"flush_all",
+            CommandWord::Other(OtherWord::Quit) => b"quit",
+        }
+    }
+}
+
+/// The command that the word names: its length and its first byte leave one to be compared with.
+pub(crate) fn command_of(word: &[u8]) -> Option<CommandWord>
+    ensures { MatchOption result ((command : CommandWord) → word.now ≢ word_of command) (λ command. word.now ≡ word_of command) }
+{
+    let Some((first, _)) = word.split_first() else {
+        return None;
+    };
+    match candidate(word.len(), *first) {
+        Some(command) => {
+            if word == command.as_bytes() {
+                Some(command)
+            } else {
+                None
+            }
+        }
+        None => None,
+    }
+}

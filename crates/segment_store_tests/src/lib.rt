@@ -1,0 +1,13 @@
+//! Tests of the segmented store by its public calls.
+#![tactic(auto)]
+
+pub mod asking;
+#[cfg(test)]
+mod beside_plain;
+#[cfg(test)]
+mod bounded;
+#[cfg(test)]
+mod in_turn;
+pub mod random;
+#[cfg(test)]
+mod session;

@@ -1,0 +1,47 @@
+//! A session over a store.
+
+ghost use Rattle.std.specs.Prelude.{◌≡◌, is_some};
+ghost use Rattle.proto.specs.Answers.{is_ask};
+
+use engine::{MAX_MOMENT, StorageEngine};
+use proto::message::{Message, Next, Reply};
+use proto::next::next_message;
+use proto::no_memory::NoMemory;
+use proto::show::show;
+use std::alloc::Global;
+
+/// Executes the message, if it is a request; the moment is not before the last one.
+fn reply<S: StorageEngine>(store: &mut S, now: u64, message: &Message) -> Option<Reply>
+    ensures { is_some result ≡ is_ask message.now }
+{
+    match message {
+        Message::Ask(request, _) => {
+            let now = now.min(MAX_MOMENT).max(store.last_moment());
+            if now > MAX_MOMENT {
+                return Some(Reply::NoMemory);
+            }
+            Some(store.handle(now, request))
+        }
+        _ => None,
+    }
+}
+
+/// Executes the messages that the bytes spell, all at one moment, and gives what the session is sent.
+pub fn answers<S: StorageEngine>(
+    alloc: Global,
+    store: &mut S,
+    now: u64,
+    input: &[u8],
+) -> Result<Vec<u8>, NoMemory> {
+    let mut rest = input;
+    let mut out = Vec::new(alloc);
+    for _ in 0..input.len() {
+        let Next::Found(message, length) = next_message(alloc, rest)? else {
+            break;
+        };
+        let reply = reply(store, now, &message);
+        show(&message, reply.as_ref(), &mut out)?;
+        rest = rest.get(length..).unwrap_or(&[]);
+    }
+    Ok(out)
+}

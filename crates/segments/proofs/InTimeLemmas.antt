@@ -1,0 +1,184 @@
+-- The segments of chains stand in the order of their opening moments, whatever is written and whatever becomes free.
+use Rattle.std.proofs.Common.{◌≡◌, ℕ, ◌+◌, ◌≤◌, Bool, true, false, List, [], ◌∷◌, Option, Some, None, refl, sym, ap, subst, ◌∙◌, inl, inr, arith}
+use Rattle.std.specs.Prelude.{◌==◌, ◌⊎◌, if◌then◌else◌, All, IsSome, IsTrue, filter, not, option_map}
+use Rattle.std.specs.Option.{option_map_or}
+use Rattle.std.proofs.lemmas.Bool.{cases_Bool, eq-eqb, eqb-true, not-true}
+use Rattle.std.proofs.lemmas.Option.{none-some}
+use Rattle.std.proofs.lemmas.List.Elements.{All-nil, All-cons, All-head, All-tail, All-append}
+use Rattle.segments.specs.declared.place.Place.{Place}
+use Rattle.segments.specs.Items.{Item}
+use Rattle.segments.specs.Pools.{PoolState, IsPool, Used, Liveness, segment_at, has_live, oldest, times, item_in}
+use Rattle.segments.specs.Changes.{IsGivenBack, IsAddedToTail, IsAddedToFree, cleared, with_items, touched}
+use Rattle.segments.specs.Merges.{Evicts, qualifies, merged_segments, merged_into, contains_number, kept_items, opened_at}
+use Rattle.segments.specs.Filling.{AreInTime, IsInOrder, IsInTime}
+use Rattle.segments.proofs.LinkLemmas.{used_if}
+use Rattle.segments.proofs.Places.{cleared_segment}
+use Rattle.segments.proofs.MovedPlaces.{merged_front, merged_in_chain, merged_segment}
+use Rattle.segments.proofs.FilledLemmas.{opened_new, not_free, same_all, alike_same, alike_all, in_time_alike, past_alike, in_time_push, in_time_tail, read_alike}
+
+-- The segments of chains are some of those that were, with the opening moments that they had.
+pub record IsPart (p q : PoolState) : Type 0 where
+  pub stays : ℕ → Bool
+  pub order : q.order ≡ filter stays p.order
+  pub opened : (n : ℕ) → stays n ≡ true → opened_at q n ≡ opened_at p n
+
+-- of a list of numbers those that pass a test
+abbrev passing : (ℕ → Bool) → ℕ → List ℕ → Bool → List ℕ
+passing test n later b = if b then n ∷ filter test later else filter test later
+
+-- none of the numbers that stay was opened before x, where none was
+from_part : (p q : PoolState) (k : IsPart p q) (x : ℕ) (numbers : List ℕ) → All (λ m. x ≤ opened_at p m) numbers
+    → All (λ m. x ≤ opened_at q m) (filter k.stays numbers)
+from_part p q k x [] all = All-nil (λ m. x ≤ opened_at q m)
+from_part p q k x (n ∷ later) all =
+    let rest = from_part p q k x later (All-tail (λ m. x ≤ opened_at p m) n later all) in
+    elim (cases_Bool (k.stays n)) [
+      | inl y ↦
+          let le : x ≤ opened_at p n = All-head (λ m. x ≤ opened_at p m) n later all in
+          let same = k.opened n y in
+          subst (λ (b : Bool). All (λ m. x ≤ opened_at q m) (passing k.stays n later b)) (sym y)
+          (All-cons (λ m. x ≤ opened_at q m) n (filter k.stays later) (omega arith) rest)
+      | inr f ↦ subst (λ (b : Bool). All (λ m. x ≤ opened_at q m) (passing k.stays n later b)) (sym f) rest
+    ]
+
+-- none of the numbers that stay was opened after t, where none was
+until_part : (p q : PoolState) (k : IsPart p q) (t : ℕ) (numbers : List ℕ) → All (λ m. opened_at p m ≤ t) numbers
+    → All (λ m. opened_at q m ≤ t) (filter k.stays numbers)
+until_part p q k t [] all = All-nil (λ m. opened_at q m ≤ t)
+until_part p q k t (n ∷ later) all =
+    let rest = until_part p q k t later (All-tail (λ m. opened_at p m ≤ t) n later all) in
+    elim (cases_Bool (k.stays n)) [
+      | inl y ↦
+          let le : opened_at p n ≤ t = All-head (λ m. opened_at p m ≤ t) n later all in
+          let same = k.opened n y in
+          subst (λ (b : Bool). All (λ m. opened_at q m ≤ t) (passing k.stays n later b)) (sym y)
+          (All-cons (λ m. opened_at q m ≤ t) n (filter k.stays later) (omega arith) rest)
+      | inr f ↦ subst (λ (b : Bool). All (λ m. opened_at q m ≤ t) (passing k.stays n later b)) (sym f) rest
+    ]
+
+-- the numbers that stay are in the order in which they were
+in_order_of : (p q : PoolState) (k : IsPart p q) (numbers : List ℕ) → AreInTime p numbers → AreInTime q (filter k.stays numbers)
+in_order_of p q k [] f = tt
+in_order_of p q k (n ∷ later) f =
+    let rest = in_order_of p q k later f.1 in
+    elim (cases_Bool (k.stays n)) [
+      | inl y ↦
+          let here : All (λ m. opened_at q n ≤ opened_at p m) later = subst (λ (x : ℕ). All (λ m. x ≤ opened_at p m) later) (sym (k.opened n y)) f.0 in
+          let both : AreInTime q (n ∷ filter k.stays later) = (from_part p q k (opened_at q n) later here, rest) in
+          subst (λ (b : Bool). AreInTime q (passing k.stays n later b)) (sym y) both
+      | inr g ↦ subst (λ (b : Bool). AreInTime q (passing k.stays n later b)) (sym g) rest
+    ]
+
+-- a part of what is in order is in order
+pub order_part : (p q : PoolState) → IsPart p q → IsInOrder p → IsInOrder q
+order_part p q k f = subst (AreInTime q) (sym k.order) (in_order_of p q k p.order f)
+
+-- a part of what is in time is in time
+pub in_time_part : (p q : PoolState) (t : ℕ) → IsPart p q → IsInTime p t → IsInTime q t
+in_time_part p q t k f =
+    record { order = order_part p q k f.order; past = subst (All (λ m. opened_at q m ≤ t)) (sym k.order) (until_part p q k t p.order f.past) }
+
+-- ---- what leaves a part
+
+-- what is given back leaves the segments with a live item
+pub part_given : (lives : Liveness) (p after : PoolState) → IsGivenBack lives p after → IsPart p after
+part_given lives p after g =
+    record {
+      stays = has_live lives p;
+      order = g.order;
+      opened = λ n y.
+          (let same : segment_at after n ≡ segment_at p n = g.segments n ∙ rw y refl in ap (λ o. option_map_or (λ (s : Used). s.opened) o 0) same);
+    }
+
+-- a segment that is cleared leaves the others
+pub part_cleared : (p : PoolState) (n : ℕ) → IsSome (segment_at p n) → IsPart p (cleared p n)
+part_cleared p n some =
+    record {
+      stays = λ m. not (m == n);
+      order = refl;
+      opened = λ m y.
+          (let f = not-true (m == n) y in
+          let same : segment_at (cleared p n) m ≡ segment_at p m = cleared_segment p n m some ∙ rw f refl in
+          ap (λ o. option_map_or (λ (s : Used). s.opened) o 0) same);
+    }
+
+filled_opened : (items : List Item) (o : Option Used)
+    → option_map_or (λ (s : Used). s.opened) (option_map (with_items items) o) 0 ≡ option_map_or (λ (s : Used). s.opened) o 0
+filled_opened items None = refl
+filled_opened items (Some u) = refl
+
+merged_opened : (items : List Item) (p : PoolState) (first n : ℕ) (b : Bool) → (n == first) ≡ b
+    → option_map_or (λ (s : Used). s.opened) (if b then option_map (with_items items) (segment_at p first) else segment_at p n) 0 ≡ opened_at p n
+merged_opened items p first n true e = filled_opened items (segment_at p first) ∙ ap (opened_at p) (sym (eqb-true n first e))
+merged_opened items p first n false e = refl
+
+-- segments that are merged leave the first of them, and the others
+pub part_merged : (p : PoolState) (b : ℕ) (items : List Item) → IsTrue (qualifies p b)
+    → IsPart p (merged_into p b (merged_segments p b) items)
+part_merged p b items qualifying =
+    let f = merged_front p b qualifying in
+    let first = f.0 in
+    let others : List ℕ = f.1.0 ∷ f.1.1.0 in
+    let whole : merged_segments p b ≡ first ∷ others = f.1.1.1.whole in
+    let z = eq-eqb first first refl in
+    let some : 1 ≤ times first (merged_segments p b) =
+    (let e : times first (merged_segments p b) ≡ 1 + times first others = ap (times first) whole ∙ rw z refl in omega (arith, e)) in
+    let used = merged_in_chain p b first some in
+    subst (λ (xs : List ℕ). IsPart p (merged_into p b xs items)) (sym whole)
+    (record {
+      stays = λ n. not (contains_number others n);
+      order = refl;
+      opened = λ n y.
+          (let none = not-true (contains_number others n) y in
+          let now : segment_at (merged_into p b (first ∷ others) items) n
+          ≡ (if n == first then option_map (with_items items) (segment_at p first) else segment_at p n) =
+          merged_segment p b first others items n used.within ∙ rw none refl in
+          ap (λ o. option_map_or (λ (s : Used). s.opened) o 0) now ∙ merged_opened items p first n (n == first) refl);
+    })
+
+-- ---- what an eviction leaves
+
+oldest_stands : (order : List ℕ) (n : ℕ) → oldest order ≡ Some n → 1 ≤ times n order
+oldest_stands [] n e = absurd (none-some n e)
+oldest_stands (m ∷ order) n e =
+    let same : m ≡ n = cc in
+    let z = eq-eqb m n same in
+    rw z (omega arith)
+
+-- the segment that was opened first is one
+oldest_used : (p : PoolState) (n : ℕ) → IsPool p → oldest p.order ≡ Some n → IsSome (segment_at p n)
+oldest_used p n k e = used_if (segment_at p n) (times n p.order) (k.named n) (oldest_stands p.order n e)
+
+-- an eviction leaves a part
+pub part_evicted : (lives : Liveness) (p after : PoolState) → IsPool p → Evicts lives p after → IsPart p after
+part_evicted lives p after k (inl m) = subst (IsPart p) (sym m.after_is) (part_merged p m.bucket (kept_items m.judged) m.next.qualifying)
+part_evicted lives p after k (inr c) = subst (IsPart p) (sym c.after_is) (part_cleared p c.segment (oldest_used p c.segment k c.is_oldest))
+
+-- ---- what a write and a read leave
+
+-- an item for which a segment was opened at t, not before the others
+pub in_time_free : (p : PoolState) (b t : ℕ) (i : Item) (after : PoolState) (place : Place) → IsPool p
+    → IsAddedToFree p b t i after place → IsInTime p t → IsInTime after t
+in_time_free p b t i after place k a time =
+    let n = place.segment in
+    let new = opened_new p b t i after place k a in
+    let alike = alike_same p after p.order (same_all p after p.order (λ m h. new.others m (not_free p n m k a.free h))) in
+    let past = past_alike p after t p.order alike time.past in
+    let opened = new.opened in
+    record {
+      order = subst (AreInTime after) (sym new.order) (in_time_push after t n p.order (in_time_alike p after p.order alike time.order) past opened);
+      past = subst (All (λ m. opened_at after m ≤ t)) (sym new.order)
+          (All-append (λ m. opened_at after m ≤ t) p.order (n ∷ []) past
+          (All-cons (λ m. opened_at after m ≤ t) n [] (omega arith) (All-nil (λ m. opened_at after m ≤ t))));
+    }
+
+-- an item that was appended at t
+pub in_time_appended : (p : PoolState) (b t : ℕ) (i : Item) (after : PoolState) (place : Place) → IsPool p
+    → IsAddedToTail p b t i after place ⊎ IsAddedToFree p b t i after place
+    → IsInTime p t → IsInTime after t
+in_time_appended p b t i after place k (inl a) time = in_time_tail p b t t i after place a time
+in_time_appended p b t i after place k (inr a) time = in_time_free p b t i after place k a time
+
+-- a read changes no order
+pub order_touched : (p : PoolState) (place : Place) → IsInOrder p → IsInOrder (touched p place)
+order_touched p place f = in_time_alike p (touched p place) p.order (alike_all p (touched p place) p.order (λ n _. read_alike p place n)) f

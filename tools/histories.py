@@ -1,0 +1,185 @@
+#!/usr/bin/env python3
+"""Records what eight clients ask of a server and are answered, and checks that one order of it is a cache's.
+
+    tools/histories.py record PORT FILE [--seconds S]    eight clients on shared keys; a line an operation
+    tools/histories.py check FILE                        whether each key's operations fall into one order
+
+A line is CLIENT BEGIN END KEY VERB WORDS.. ANSWER.., the times in nanoseconds. The check knows nothing of the server. For each key it
+looks for an order of the operations in which each stands between its beginning and its end, and is answered as one value with
+one cas number would answer it (Wing and Gong's search, with what was seen before left out). Nothing may have been forgotten
+meanwhile, so the server's segments have to hold all keys.
+"""
+import argparse
+import collections
+import random
+import socket
+import sys
+import threading
+import time
+
+CLIENTS = 8
+KEYS_AT_A_TIME = 4
+OPERATIONS_OF_KEY = 60
+
+Operation = collections.namedtuple("Operation", "client begin end key verb words answer")
+# A key's value and its cas number: None where there is none, or where nothing has told the number yet. `newest` is the greatest
+# number that was told.
+State = collections.namedtuple("State", "value number newest")
+
+
+class Connection:
+    """A client that waits for each answer."""
+
+    def __init__(self, port):
+        self.socket = socket.create_connection(("127.0.0.1", port), 30)
+        self.socket.setsockopt(socket.IPPROTO_TCP, socket.TCP_NODELAY, 1)
+        self.file = self.socket.makefile("rb")
+
+    def ask(self, verb, key, words):
+        """The answer as words: of `gets` the value and its number, or nothing."""
+        if verb == "gets":
+            self.socket.sendall(f"gets {key}\r\n".encode())
+            head = self.file.readline().split()
+            if head[0] == b"END":
+                return []
+            value = self.file.read(int(head[3]) + 2)[:-2]
+            self.file.readline()
+            # (memcached leaves spaces behind a number that got shorter)
+            return [value.decode().rstrip(), head[4].decode()]
+        if verb in ("set", "add", "replace", "cas"):
+            value, *number = words
+            text = f"{verb} {key} 0 0 {len(value)}{''.join(f' {it}' for it in number)}\r\n{value}\r\n"
+        else:
+            text = " ".join([verb, key, *words]) + "\r\n"
+        self.socket.sendall(text.encode())
+        return self.file.readline().decode().split()
+
+
+def choose(chance, told):
+    """A verb and its words; `told` is the cas number that this client saw last."""
+    value = str(chance.randrange(1000))
+    verbs = ["gets"] * 4 + ["incr"] * 3 + ["add"] * 2 + ["set", "replace", "delete", "decr"] + ["cas"] * (4 if told else 0)
+    verb = chance.choice(verbs)
+    words = {"gets": [], "delete": [], "incr": [value], "decr": [value], "cas": [value, told]}
+    return verb, words.get(verb, [value])
+
+
+def run_client(number, port, until, operations, troubles):
+    try:
+        chance, connection, told, count = random.Random(number), Connection(port), {}, 0
+        while time.monotonic() < until:
+            # (all clients go on to further keys at about the same time, since each makes about as many operations)
+            group = count * CLIENTS // (OPERATIONS_OF_KEY * KEYS_AT_A_TIME)
+            key = f"history-{group}-{chance.randrange(KEYS_AT_A_TIME)}"
+            verb, words = choose(chance, told.get(key))
+            begin = time.monotonic_ns()
+            answer = connection.ask(verb, key, words)
+            operations.append(Operation(number, begin, time.monotonic_ns(), key, verb, words, answer))
+            if verb == "gets" and answer:
+                told[key] = answer[1]
+            count += 1
+    except (OSError, ValueError, IndexError) as trouble:
+        troubles.append(f"client {number}: {type(trouble).__name__} {trouble}")
+
+
+def record(port, seconds):
+    until, operations, troubles = time.monotonic() + seconds, [[] for _ in range(CLIENTS)], []
+    threads = [threading.Thread(target=run_client, args=(it, port, until, operations[it], troubles)) for it in range(CLIENTS)]
+    for thread in threads:
+        thread.start()
+    for thread in threads:
+        thread.join()
+    if troubles:
+        sys.exit(f"histories: {troubles[0]}")
+    return [it for of_client in operations for it in of_client]
+
+
+def next_state(state, operation):
+    """The state behind the operation, or None where it would be answered otherwise."""
+    value, number, newest = state
+    verb, words, answer = operation.verb, operation.words, operation.answer
+    there = value is not None
+    if verb == "gets":
+        if not there or not answer:
+            return state if not there and not answer else None
+        told = int(answer[1])
+        if answer[0] != value or (number is None and told <= newest) or number not in (None, told):
+            return None
+        return State(value, told, max(newest, told))
+    if verb == "delete":
+        return State(None, None, newest) if there and answer == ["DELETED"] else state if not there and answer == ["NOT_FOUND"] else None
+    if verb in ("incr", "decr"):
+        if not there:
+            return state if answer == ["NOT_FOUND"] else None
+        counted = str(int(value) + int(words[0]) if verb == "incr" else max(int(value) - int(words[0]), 0))
+        return State(counted, None, newest) if answer == [counted] else None
+    stored = {"set": True, "add": not there, "replace": there, "cas": there and number == int(words[-1])}[verb]
+    if stored:
+        return State(words[0], None, newest) if answer == ["STORED"] else None
+    refusal = {"add": "NOT_STORED", "replace": "NOT_STORED", "cas": "EXISTS" if there else "NOT_FOUND"}[verb]
+    return state if answer == [refusal] else None
+
+
+def has_order(operations):
+    """Whether one order of these operations of one key is a cache's."""
+    operations = sorted(operations, key=lambda it: it.begin)
+    count, begin = len(operations), (0, State(None, None, 0))
+    waiting, seen = [begin], {begin}
+    while waiting:
+        done, state = waiting.pop()
+        if done == (1 << count) - 1:
+            return True
+        left = [at for at in range(count) if not done >> at & 1]
+        first_end = min(operations[at].end for at in left)
+        for at in left:
+            # (one that begins behind the end of another that is left can't come before it)
+            if operations[at].begin > first_end:
+                break
+            after = next_state(state, operations[at])
+            if after is not None and (place := (done | 1 << at, after)) not in seen:
+                seen.add(place)
+                waiting.append(place)
+    return False
+
+
+def check(operations):
+    """The keys without an order, and how many keys and operations there were."""
+    by_key = collections.defaultdict(list)
+    for operation in operations:
+        by_key[operation.key].append(operation)
+    wrong = sorted(key for key, of_key in by_key.items() if not has_order(of_key))
+    at_once = sum(any(other.begin < it.end and other.end > it.begin and other is not it for other in by_key[it.key]) for it in operations)
+    return wrong, len(by_key), len(operations), at_once
+
+
+def line_of(it):
+    return f"{it.client} {it.begin} {it.end} {it.key} {it.verb} {','.join(it.words) or '-'} {','.join(it.answer) or '-'}\n"
+
+
+def operation_of(line):
+    client, begin, end, key, verb, words, answer = line.split()
+    split = lambda text: [] if text == "-" else text.split(",")
+    return Operation(int(client), int(begin), int(end), key, verb, split(words), split(answer))
+
+
+def main():
+    parser = argparse.ArgumentParser(description="Records and checks histories of eight clients.")
+    kinds = parser.add_subparsers(dest="kind", required=True)
+    recording, checking = kinds.add_parser("record"), kinds.add_parser("check")
+    recording.add_argument("port", type=int)
+    recording.add_argument("--seconds", type=float, default=60)
+    for it in (recording, checking):
+        it.add_argument("file")
+    words = parser.parse_args()
+    if words.kind == "record":
+        with open(words.file, "w", encoding="ascii") as file:
+            file.writelines(map(line_of, record(words.port, words.seconds)))
+        return 0
+    with open(words.file, encoding="ascii") as file:
+        wrong, keys, operations, at_once = check([operation_of(line) for line in file])
+    print(f"{operations} operations on {keys} keys, {at_once} of them beside another on their key; {len(wrong)} keys without an order {' '.join(wrong[:5])}")
+    return 1 if wrong else 0
+
+
+if __name__ == "__main__":
+    sys.exit(main())

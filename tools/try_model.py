@@ -1,0 +1,287 @@
+#!/usr/bin/env python3
+"""200,000 random requests, replayed by `segcached` and answered by a model of lists that forgets by the same rules.
+
+    tools/try_model.py PROGRAM [RUNS [REQUESTS]]
+
+The model below is written from the rules of segments alone (docs/OPERATIONS.md tells them in a user's words): it has lists where the
+program has bytes, and walks where the program has tables. Small pools and many writes make it give back, merge and clear all
+the time; a tick between requests lets entries die. Each answer has to be the program's, byte for byte.
+"""
+import os
+import random
+import subprocess
+import sys
+import tempfile
+
+LASTING = 1024  # the bucket of what has no deadline
+BUCKETS = 1025
+
+
+def bucket_of(ttl):
+    if ttl is None:
+        return LASTING
+    for bound, first, width in ((2048, 0, 8), (32768, 256, 128), (524288, 512, 2048), (8388608, 768, 32768)):
+        if ttl < bound:
+            return first + ttl // width
+    return 1023
+
+
+def width_and_lower_end(bucket):
+    for first, width in ((768, 32768), (512, 2048), (256, 128), (0, 8)):
+        if bucket >= first:
+            return width, width * (bucket - first)
+    raise ValueError(bucket)
+
+
+class Segment:
+    def __init__(self, bucket, opened):
+        self.bucket, self.opened, self.items = bucket, opened, []
+        if bucket == LASTING:
+            self.closes = self.deadline = None
+        else:
+            width, lower_end = width_and_lower_end(bucket)
+            self.deadline = opened + max(1, lower_end)
+            self.closes = min(self.deadline, opened + width)
+
+    def used(self):
+        return sum(it.size for it in self.items)
+
+    def is_over(self, now):
+        return self.deadline is not None and self.deadline <= now
+
+
+class Item:
+    def __init__(self, key, value, flags, cas, segment=None):
+        self.key, self.value, self.flags, self.cas, self.reads, self.segment = key, value, flags, cas, 0, segment
+        self.size = (24 + len(key) + len(value) + 7) // 8 * 8
+
+
+class Cache:
+    """The cache, by lists: `order` are the segments of chains, the one opened first in front."""
+
+    def __init__(self, segment_size, segments):
+        self.segment_size, self.free, self.order, self.cursor = segment_size, segments, [], 0
+        self.current, self.cas, self.pending = {}, 0, None
+        self.merges = self.clearings = self.given_back = 0
+
+    def find(self, key, now):
+        item = self.current.get(key)
+        return None if item is None or item.segment.is_over(now) else item
+
+    def is_live(self, item, now):
+        return self.find(item.key, now) is item
+
+    def append(self, item, bucket, now):
+        tail = next((it for it in reversed(self.order) if it.bucket == bucket), None)
+        if tail is None or (tail.closes is not None and now >= tail.closes) or tail.used() + item.size > self.segment_size:
+            if self.free == 0:
+                return False
+            self.free -= 1
+            tail = Segment(bucket, now)
+            self.order.append(tail)
+        tail.items.append(item)
+        item.segment = tail
+        return True
+
+    def give_back(self, now):
+        dead = [it for it in self.order if not any(self.is_live(item, now) for item in it.items)]
+        self.order = [it for it in self.order if it not in dead]
+        self.free += len(dead)
+        self.given_back += len(dead)
+        return bool(dead)
+
+    def front(self, bucket):
+        chain = [it for it in self.order if it.bucket == bucket]
+        front = []
+        for segment in chain[:-1]:
+            if bucket != LASTING and segment.opened != chain[0].opened:
+                break
+            front.append(segment)
+        return front
+
+    def merge(self, now):
+        for distance in range(BUCKETS):
+            bucket = (self.cursor + distance) % BUCKETS
+            front = self.front(bucket)[:4]
+            if len(front) < 2:
+                continue
+            live = [item for segment in front for item in segment.items if self.is_live(item, now)]
+            kept, size = set(), 0
+            for place in sorted(range(len(live)), key=lambda k: (-live[k].reads, -live[k].cas, k)):
+                if size + live[place].size <= self.segment_size:
+                    size += live[place].size
+                    kept.add(place)
+            front[0].items = []
+            for place, item in enumerate(live):
+                if place in kept:
+                    item.reads //= 2
+                    item.segment = front[0]
+                    front[0].items.append(item)
+                else:
+                    del self.current[item.key]
+            self.order = [it for it in self.order if it not in front[1:]]
+            self.free += len(front) - 1
+            self.cursor = (bucket + 1) % BUCKETS
+            self.merges += 1
+            return True
+        return False
+
+    def clear_oldest(self, now):
+        for item in self.order.pop(0).items:
+            if self.is_live(item, now):
+                del self.current[item.key]
+        self.free += 1
+        self.clearings += 1
+
+    def write(self, key, value, flags, ttl, now):
+        self.cas += 1
+        self.current.pop(key, None)
+        item = Item(key, value, flags, self.cas)
+        bucket = bucket_of(ttl)
+        if not self.append(item, bucket, now):
+            if not self.give_back(now) and not self.merge(now):
+                self.clear_oldest(now)
+            assert self.append(item, bucket, now)
+        self.current[key] = item
+
+    # ---- requests
+
+    def begin(self, now):
+        if self.pending is not None and self.pending <= now:
+            self.current.clear()
+            self.pending = None
+
+    def get(self, keys, with_cas, now):
+        out = b""
+        for key in keys:
+            item = self.find(key, now)
+            if item is not None:
+                item.reads = min(127, item.reads + 1)
+                unique = b" %d" % item.cas if with_cas else b""
+                out += b"VALUE %s %d %d%s\r\n%s\r\n" % (key, item.flags, len(item.value), unique, item.value)
+        return out + b"END\r\n"
+
+    def put(self, verb, key, flags, exptime, value, unique, now):
+        if Item(key, value, flags, 0).size > self.segment_size // 8:
+            return b"SERVER_ERROR object too large for cache\r\n"
+        there = self.find(key, now)
+        if (verb == b"add" and there) or (verb == b"replace" and not there):
+            return b"NOT_STORED\r\n"
+        if verb == b"cas":
+            if not there:
+                return b"NOT_FOUND\r\n"
+            if there.cas != unique:
+                return b"EXISTS\r\n"
+        deadline = None if exptime == 0 else now + exptime if 0 < exptime <= 2592000 else exptime
+        if deadline is not None and deadline <= now:
+            self.current.pop(key, None)
+        else:
+            self.write(key, value, flags, None if deadline is None else max(1, deadline - now), now)
+        return b"STORED\r\n"
+
+    def change(self, key, amount, adds, now):
+        item = self.find(key, now)
+        if item is None:
+            return b"NOT_FOUND\r\n"
+        if not (1 <= len(item.value) <= 20 and item.value.isdigit() and int(item.value) < 2**64):
+            return b"CLIENT_ERROR cannot increment or decrement non-numeric value\r\n"
+        number = (int(item.value) + amount) % 2**64 if adds else max(0, int(item.value) - amount)
+        ttl = None if item.segment.deadline is None else max(1, item.segment.deadline - now)
+        self.write(key, b"%d" % number, item.flags, ttl, now)
+        return b"%d\r\n" % number
+
+    def delete(self, key, now):
+        if self.find(key, now) is None:
+            return b"NOT_FOUND\r\n"
+        del self.current[key]
+        return b"DELETED\r\n"
+
+    def flush(self, delay, now):
+        if delay == 0:
+            self.current.clear()
+            self.pending = None
+        else:
+            self.pending = now + delay
+        return b"OK\r\n"
+
+
+def random_request(chance, cache, now, keys, lives):
+    """One request's bytes, and what the model answers."""
+    cache.begin(now)
+    key = b"key%d" % min(chance.randrange(keys), chance.randrange(keys))
+    kind = chance.random()
+    if kind < 0.4:
+        asked = [key] + [b"key%d" % chance.randrange(keys) for _ in range(chance.randrange(3))]
+        with_cas = chance.random() < 0.3
+        line = (b"gets " if with_cas else b"get ") + b" ".join(asked) + b"\r\n"
+        return line, cache.get(asked, with_cas, now)
+    if kind < 0.9:
+        verb = chance.choice((b"set", b"set", b"set", b"set", b"add", b"replace", b"cas"))
+        value = b"%d" % chance.randrange(10**chance.randrange(1, 21)) if chance.random() < 0.2 else b"v" * chance.randrange(chance.choice((20, 200, 500)))
+        flags, exptime = chance.randrange(2**32), chance.choice(lives)
+        there = cache.find(key, now)
+        unique = there.cas if there and chance.random() < 0.7 else chance.randrange(1000)
+        tail = b" %d" % unique if verb == b"cas" else b""
+        line = b"%s %s %d %d %d%s\r\n%s\r\n" % (verb, key, flags, exptime, len(value), tail, value)
+        return line, cache.put(verb, key, flags, exptime, value, unique, now)
+    if kind < 0.95:
+        return b"delete %s\r\n" % key, cache.delete(key, now)
+    if kind < 0.9995:
+        amount, adds = chance.randrange(2**chance.randrange(1, 65)), chance.random() < 0.5
+        return b"%s %s %d\r\n" % (b"incr" if adds else b"decr", key, amount), cache.change(key, amount, adds, now)
+    delay = chance.choice((0, 20))
+    return b"flush_all %d\r\n" % delay, cache.flush(delay, now)
+
+
+# segment size, segments, tick, how many keys, lives that are asked for
+RUNS = (
+    (4096, 8, 0, 600, (0,)),
+    (4096, 8, 1, 90, (0, 0, 5, 20, 60, 100, 300, -1)),
+    (4096, 9, 3, 90, (0, 16, 24, 40, 2047, 2048, 5000, 40000, 600000, 9000000)),
+    (8192, 8, 0, 900, (0, 0, 8, 30)),
+    (4096, 23, 1, 1500, (0, 0, 0, 50, 200, 400)),
+)
+
+
+def run(program, folder, number, requests):
+    segment_size, segments, tick, keys, lives = RUNS[number % len(RUNS)]
+    chance, cache = random.Random(number), Cache(segment_size, segments)
+    sent, wanted = [], []
+    for turn in range(requests):
+        line, answer = random_request(chance, cache, 1000 + tick * turn, keys, lives)
+        sent.append(line)
+        wanted.append(answer)
+    script = f"{folder}/script"
+    with open(script, "w", encoding="ascii") as file:
+        file.write("open 0 1\n")
+        for at in range(0, requests, 50):
+            file.write(f"send 0 1 {b''.join(sent[at : at + 50]).hex()}\n")
+    words = [program, "replay", script, "--segment-size", str(segment_size), "--segments", str(segments), "--tick", str(tick)]
+    ran = subprocess.run(words, stdout=subprocess.PIPE, text=True, check=True)
+    given = bytes.fromhex(ran.stdout.split()[2])
+    at = 0
+    for turn, answer in enumerate(wanted):
+        if given[at : at + len(answer)] != answer:
+            sys.exit(f"try_model: run {number}, request {turn}, {sent[turn][:60]!r}: {given[at : at + len(answer)][:200]!r}, and by the model {answer[:200]!r}")
+        at += len(answer)
+    if at != len(given):
+        sys.exit(f"try_model: run {number}: {len(given) - at} bytes more than the model's")
+    return cache
+
+
+def main():
+    program = os.path.abspath(sys.argv[1])
+    runs = int(sys.argv[2]) if len(sys.argv) > 2 else len(RUNS)
+    requests = int(sys.argv[3]) if len(sys.argv) > 3 else 40_000
+    merges = clearings = given_back = 0
+    with tempfile.TemporaryDirectory() as folder:
+        for number in range(runs):
+            cache = run(program, folder, number, requests)
+            merges, clearings, given_back = merges + cache.merges, clearings + cache.clearings, given_back + cache.given_back
+    if min(merges, clearings, given_back) < 100:
+        sys.exit(f"try_model: only {merges} merges, {clearings} clearings, {given_back} segments given back")
+    print(f"try_model: {runs * requests} requests answered as by the model, with {merges} merges, {clearings} clearings, {given_back} segments given back")
+
+
+if __name__ == "__main__":
+    main()

@@ -1,0 +1,84 @@
+#!/usr/bin/env python3
+"""Replays scripts of 16 MB, and looks at what is printed and how long it takes.
+
+    tools/try_replay.py PROGRAM
+
+Each script ends within SECONDS, which is many times what it takes on a quiet machine and far below what it takes where the
+port walks over all events for each one. Ends with status 0 where all do, and print what they should.
+"""
+import subprocess
+import sys
+import tempfile
+import time
+
+SIZE = 16_777_216
+SECONDS = 30
+GET = b"get a\r\n"
+QUIET_SET = b"set b 0 0 1 noreply\r\nx\r\n"
+
+
+def script_of(head, lines):
+    """The head, and then as many of the lines as a script has room for; with their number."""
+    text, count = list(head), 0
+    size = sum(len(line) + 1 for line in text)
+    for line in lines:
+        if size + len(line) + 1 > SIZE:
+            return "\n".join(text) + "\n", count
+        text.append(line)
+        size += len(line) + 1
+        count += 1
+    raise AssertionError("more lines are needed")
+
+
+def line(session, answers):
+    return f"0 {session} {answers.hex() or '-'}\n"
+
+
+def opens():
+    script, count = script_of([], (f"open 0 {session}" for session in range(1, SIZE)))
+    return script, "".join(line(session, b"") for session in range(1, count + 1))
+
+
+def one_session():
+    script, count = script_of(["open 0 1"], (f"send 0 1 {GET.hex()}" for _ in range(SIZE)))
+    return script, line(1, b"END\r\n" * count)
+
+
+def two_sessions():
+    pieces = [f"send 0 1 {GET.hex()}", f"send 0 2 {QUIET_SET.hex()}"]
+    script, count = script_of(["open 0 1", "open 0 2"], (pieces[at % 2] for at in range(SIZE)))
+    return script, line(1, b"END\r\n" * ((count + 1) // 2)) + line(2, b"")
+
+
+RUNS = [
+    ("opened sessions", opens, []),
+    ("one session", one_session, []),
+    ("one session that takes a byte at a time", one_session, ["--accept", "1"]),
+    ("two sessions that take two bytes at a time", two_sessions, ["--accept", "2"]),
+]
+
+
+def replay(program, name, made, words):
+    script, wanted = made()
+    with tempfile.NamedTemporaryFile("w", suffix=".script") as file:
+        file.write(script)
+        file.flush()
+        began = time.monotonic()
+        try:
+            done = subprocess.run([program, "replay", file.name, *words], capture_output=True, text=True, timeout=SECONDS)
+        except subprocess.TimeoutExpired:
+            print(f"replay: {name}: not done after {SECONDS} s")
+            return False
+    took = time.monotonic() - began
+    passed = done.returncode == 0 and done.stdout == wanted
+    print(f"replay: {name}: {took:.1f} s" if passed else f"replay: {name}: status {done.returncode}, {done.stderr[:200]!r}, or other lines")
+    return passed
+
+
+def main():
+    results = [replay(sys.argv[1], *run) for run in RUNS]
+    sys.exit(0 if all(results) else 1)
+
+
+if __name__ == "__main__":
+    main()

@@ -14,7 +14,7 @@ use std::time::Instant;
 /// Settles a request with no hit, and gives the output: so many bytes.
 fn answer(alloc: Global, book: &mut Book, session: u64, asked: (Request, u64)) -> Result<usize> {
     let (request, number) = asked;
-    let settled = book.settle(Answered {
+    let settled = book.settle(&Answered {
         worker: 0,
         session,
         number,

@@ -1,6 +1,9 @@
-//! The clock of a script, which tells the list of its answers.
+//! The clock of a script, which tells the list of its readings.
 #![tactic(auto)]
 
-mod answers;
-pub mod told_clock;
-pub mod unix_clock;
+mod readings;
+mod told_clock;
+mod unix_clock;
+
+pub use told_clock::ToldClock;
+pub use unix_clock::UnixClock;

@@ -59,6 +59,7 @@ handled_by m old found t q reply new cache same at alike kept leaves =
 
 -- ---- what a step asks of the entries
 
+-- the entries are those asked for, but that the stored one has a deadline that it may get, and some may have been forgotten
 record IsReached (sizes : Sizes) (t : ℕ) (old asked : Entries) (stored : Option (List ℕ)) (new : Entries) : Type 0 where
   dated : Entries
   is_dated : IsDated t asked stored dated

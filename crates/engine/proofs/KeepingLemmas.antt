@@ -4,12 +4,13 @@ use Rattle.std.specs.Prelude.{if◌then◌else◌}
 use Rattle.std.specs.FinMap as map
 use Rattle.proto.specs.declared.message.Request.{Request}
 use Rattle.proto.specs.declared.message.Reply.{Reply}
-use Rattle.proto.specs.declared.message.Reply.TheVariants.{Stored, NotStored, Exists, NotFound, Values, Deleted, Number, Flushed, TooLarge, NoMemory, NotNumber, NoCas}
+use Rattle.proto.specs.declared.message.Reply.TheVariants.{Stored, NotStored, Exists, NotFound, Values, Deleted, Number, Flushed, TooLarge, NoMemory}
+use Rattle.proto.specs.declared.message.Reply.TheVariants.{NotNumber, NoCas}
 use Rattle.proto.specs.Sizes.{Sizes, item_limit}
 use Rattle.proto.specs.Cache.{Entries, Cache, found_at}
 use Rattle.proto.specs.Commands.{Outcome}
 use Rattle.proto.specs.Steps.{IsDated, deadline_at}
-use Rattle.proto.specs.Stored.{StoredItem, item_of, item_stored, is_no_memory}
+use Rattle.proto.specs.Stored.{StoredItem, stored_item_of, item_stored, is_no_memory}
 use Rattle.proto.proofs.StepLemmas.{get-stored, deadline_at-insert, dated-insert}
 use Rattle.proto.proofs.DeadlineLemmas.{may_be_exact}
 use Rattle.engine.specs.declared.commands.Engine.{Engine}
@@ -48,8 +49,8 @@ kept_entry : {M P : Type 0} (m : MapOf M P) (old : M) (key : List ℕ) (done : O
 kept_entry m old key done new items s keeps none within =
     let e = s.entry in
     let there : map.get done.entries key ≡ Some e = ap (λ (asked : Entries). map.get asked key) s.asked_is ∙ get-stored (m.entries old) key e in
-    let item : item_stored (m.moment old) done (Some key) ≡ item_of (m.moment old) key (Some e) = ap (item_of (m.moment old) key) there in
-    let all : items ++ item_stored (m.moment old) done (Some key) ≡ items ++ item_of (m.moment old) key (Some e) = ap
+    let item : item_stored (m.moment old) done (Some key) ≡ stored_item_of (m.moment old) key (Some e) = ap (stored_item_of (m.moment old) key) there in
+    let all : items ++ item_stored (m.moment old) done (Some key) ≡ items ++ stored_item_of (m.moment old) key (Some e) = ap
     (λ (more : List StoredItem). items ++ more) item in
     let deadline : deadline_at done.entries key ≡ e.deadline = ap (λ (asked : Entries). deadline_at asked key) s.asked_is
     ∙ deadline_at-insert (m.entries old) key e in

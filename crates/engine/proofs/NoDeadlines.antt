@@ -19,6 +19,7 @@ abbrev pub AddsNone : Entries → Entries → Option (List ℕ) → Type 0
 AddsNone old asked None = ⊤
 AddsNone old asked (Some key) = (deadline_at asked key ≡ None) ⊎ (deadline_at asked key ≡ deadline_at old key)
 
+-- the entry that an outcome stores, if any, has no deadline, or the one that its key's entry had
 abbrev pub AddsNoneTo : Entries → Outcome → Type 0
 AddsNoneTo old done = AddsNone old done.entries done.stored
 

@@ -48,6 +48,7 @@ share_more h e w is =
     filter-append (λ (x : Answered). x.worker == w) h (e ∷ [])
     ∙ ap (λ (b : Bool). worker_share h w ++ (let l : List Answered = cond b (e ∷ []) [] in l)) (eq-eqb e.worker w is)
 
+-- where one more request is another worker's, the share of a worker stays
 share_else : (h : List Answered) (e : Answered) (w : ℕ) → e.worker ≢ w → worker_share (h ++ e ∷ []) w ≡ worker_share h w
 share_else h e w other =
     filter-append (λ (x : Answered). x.worker == w) h (e ∷ [])

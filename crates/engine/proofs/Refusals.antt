@@ -11,6 +11,7 @@ use Rattle.proto.specs.declared.message.Reply.TheVariants.{NoMemory, Stored, Num
 use Rattle.proto.specs.Cache.{Entry, Cache, has_arrived, deadline_of}
 use Rattle.proto.specs.Commands.{Outcome, max_cas, write, put, is_too_large, put_same, is_number, change, act}
 
+-- the outcome isn't answered with a want of memory
 abbrev pub Answers : Outcome → Type 0
 Answers done = done.reply ≢ NoMemory
 

@@ -2,7 +2,8 @@
 use Rattle.std.specs.Prelude.{◌≡◌, ℕ, List, [], ◌∷◌, map}
 use Rattle.proto.specs.Hits.{Hit}
 use Rattle.proto.specs.declared.message.Reply.{Reply}
-use Rattle.proto.specs.declared.message.Reply.TheVariants.{Stored, NotStored, Exists, NotFound, Values, Deleted, Number, Flushed, TooLarge, NoMemory, NotNumber, NoCas}
+use Rattle.proto.specs.declared.message.Reply.TheVariants.{Stored, NotStored, Exists, NotFound, Values, Deleted, Number, Flushed, TooLarge, NoMemory}
+use Rattle.proto.specs.declared.message.Reply.TheVariants.{NotNumber, NoCas}
 
 -- a read of each of the keys, one after the other
 abbrev pub CountsEach : {M : Type 0} → (M → List ℕ → M → Type 0) → M → List (List ℕ) → M → Type 0

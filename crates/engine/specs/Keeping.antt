@@ -7,7 +7,7 @@ use Rattle.proto.specs.declared.message.Reply.TheVariants.{NoMemory}
 use Rattle.proto.specs.Sizes.{Sizes, item_limit}
 use Rattle.proto.specs.Cache.{Entry, Entries, Cache}
 use Rattle.proto.specs.Steps.{IsDated, deadline_at}
-use Rattle.proto.specs.Stored.{StoredItem, item_of, item_stored, is_no_memory, written, spread, SetsNoDeadline}
+use Rattle.proto.specs.Stored.{StoredItem, stored_item_of, item_stored, is_no_memory, written, spread, SetsNoDeadline}
 use Rattle.engine.specs.Outcomes.{outcome_at}
 
 -- Few enough bytes that all segments but one for each bucket hold them, where each of these has no room left for
@@ -28,7 +28,7 @@ AddsNoDeadline old key entry = (entry.deadline ≡ None) ⊎ (entry.deadline ≡
 abbrev pub KeepsEntry : {M : Type 0} → (M → Sizes) → (M → Entries) → (M → ℕ) → (M → List StoredItem → Type 0) → M → List ℕ → Entry → M → Type 0
 KeepsEntry sizes entries moment keeps old key entry new =
     (items : List StoredItem) → keeps old items → AddsNoDeadline (entries old) key entry
-    → (let all = items ++ item_of (moment old) key (Some entry) in
+    → (let all = items ++ stored_item_of (moment old) key (Some entry) in
     IsWithinBound (sizes old) all → (entries new ≡ map.insert (entries old) key entry) × keeps new all)
 
 -- the item that the request stores, as a list of one: none where memory was refused

@@ -6,5 +6,6 @@ pub mod Outcomes
 pub mod Keeping
 pub mod Counting
 pub mod Members
+pub mod Showing
 pub mod Engines
 pub mod Reaching

@@ -23,12 +23,10 @@ use crate::storage_engine::StorageEngine;
 use itoa::Buffer;
 use proto::keys::Keys;
 use proto::message::{Put, Reply, Request};
-use std::alloc::Global;
 
 /// A cache over a map of live entries.
 #[derive(Drop)]
 pub struct Engine<M> {
-    alloc: Global,
     map: M,
     last_cas: u64,
     pending: Option<u64>,
@@ -38,12 +36,11 @@ impl<M: LiveMap> Engine<M> {
     ghost use Rattle.engine.specs.Engines.{cache_in, Leaves, IsHandled};
 
     /// An engine over a map that has given out this cas number last.
-    pub fn over(alloc: Global, map: M, last_cas: u64) -> Self
+    pub fn over(map: M, last_cas: u64) -> Self
         ensures cache { cache_in M.entries result ≡ record { entries = M.entries map; last_cas = last_cas; pending = None } }
         ensures map { result.map ≡ map }
     {
         Engine {
-            alloc,
             map,
             last_cas,
             pending: None,
@@ -184,10 +181,11 @@ impl<M: LiveMap> Engine<M> {
         is_too_large(self.map.item_limit(), item)
     }
 
-    fn get(&mut self, keys: &Keys) -> Reply
-        ensures { Leaves M.LiveMap self.old self.new (only_reply (cache_in M.entries self.old) (Reply.Values (hits_of (M.entries self.old.map) keys.now))) result }
+    fn get(&mut self, keys: &mut Keys) -> Reply
+        ensures leaves { Leaves M.LiveMap self.old self.new (only_reply (cache_in M.entries self.old) (Reply.Values (hits_of (M.entries self.old.map) keys.old))) result }
+        ensures same { keys.new ≡ keys.old }
     {
-        match hits_of(self.alloc, &mut self.map, keys) {
+        match hits_of(&mut self.map, keys) {
             Ok(hits) => Reply::Values(hits.finish()),
             Err(_) => Reply::NoMemory,
         }
@@ -246,9 +244,10 @@ impl<M: LiveMap> Engine<M> {
     }
 
     /// Executes the request at the last moment.
-    fn execute(&mut self, request: &Request) -> Reply
+    fn execute(&mut self, request: &mut Request) -> Reply
         requires { M.moment self.old.map ≤ max_moment }
-        ensures { Leaves M.LiveMap self.old self.new (act (item_limit (M.sizes self.old.map)) (cache_in M.entries self.old) (M.moment self.old.map) request.now) result }
+        ensures leaves { Leaves M.LiveMap self.old self.new (act (item_limit (M.sizes self.old.map)) (cache_in M.entries self.old) (M.moment self.old.map) request.old) result }
+        ensures same { request.new ≡ request.old }
     {
         match request {
             Request::Get { keys, .. } => self.get(keys),
@@ -263,23 +262,24 @@ impl<M: LiveMap> Engine<M> {
         }
     }
 
-    /// Executes the request at this moment, in seconds.
-    pub fn execute_at(&mut self, now: u64, request: &Request) -> Reply
+    /// Executes the request at this moment, in seconds. The hits of a `get` stand in the room that it was lent.
+    pub fn execute_at(&mut self, now: u64, request: &mut Request) -> Reply
         requires not_before { M.moment self.old.map ≤ now }
         requires in_range { now ≤ max_moment }
+        ensures request { request.new ≡ request.old }
 
         // what the map does beyond what any map does
-        ensures handled { IsHandled M.LiveMap self.old now request.now result self.new }
-        ensures step { Step (M.sizes self.old.map) (cache_in M.entries self.old) now request.now result (cache_in M.entries self.new) }
+        ensures handled { IsHandled M.LiveMap self.old now request.old result self.new }
+        ensures step { Step (M.sizes self.old.map) (cache_in M.entries self.old) now request.old result (cache_in M.entries self.new) }
         ensures sizes { M.sizes self.new.map ≡ M.sizes self.old.map }
         ensures moment { M.moment self.new.map ≡ now }
 
         // where memory was refused, what was found stays; and only what shows something needs any, or stores, where the map may refuse
         ensures refused { result ≡ Reply.NoMemory → cache_in M.entries self.new ≡ found_at (cache_in M.entries self.old) now }
-        ensures succeeds { needs_memory M.may_refuse (outcome_at (M.sizes self.old.map) (cache_in M.entries self.old) now request.now) ≡ false → result ≢ Reply.NoMemory }
+        ensures succeeds { needs_memory M.may_refuse (outcome_at (M.sizes self.old.map) (cache_in M.entries self.old) now request.old) ≡ false → result ≢ Reply.NoMemory }
 
         // nothing is forgotten while little is stored, and nothing with a deadline
-        ensures kept { KeepsAll (λ (engine : Engine M). M.sizes engine.map) (cache_in M.entries) (λ (engine : Engine M) items. M.keeps engine.map items) self.old now request.now result self.new }
+        ensures kept { KeepsAll (λ (engine : Engine M). M.sizes engine.map) (cache_in M.entries) (λ (engine : Engine M) items. M.keeps engine.map items) self.old now request.old result self.new }
     {
         self.advance(now);
         self.execute(request)
@@ -301,7 +301,7 @@ impl<M: LiveMap> StorageEngine for Engine<M> {
         Engine::last_moment(self)
     }
 
-    fn handle(&mut self, now: u64, request: &Request) -> Reply {
+    fn handle(&mut self, now: u64, request: &mut Request) -> Reply {
         self.execute_at(now, request)
     }
 }

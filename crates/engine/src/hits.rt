@@ -1,12 +1,11 @@
 //! What a `get` shows.
 
-ghost use Rattle.std.specs.Prelude.{◌≡◌, ◌<◌, length, sum_by, IfOk, MatchOption, OnErr, OnOk};
+ghost use Rattle.std.specs.Prelude.{◌≡◌, ◌<◌, ◌∷◌, [], length, sum_by, IfOk, MatchOption, OnErr, OnOk};
 ghost use Rattle.proto.specs.Commands.{hit_of, hits_of};
 ghost use Rattle.proto.specs.Hits.{packed_size};
 ghost use Rattle.proto.specs.SeenHits.{seen_hit};
 ghost use Rattle.engine.specs.Shown.{entry_of};
-ghost use Rattle.engine.specs.Keeping.{StaysKept};
-ghost use Rattle.engine.specs.Counting.{CountsEach, StaysAlike, keys_of};
+ghost use Rattle.engine.specs.Showing.{HasShown};
 
 use crate::entry_ref::EntryRef;
 use crate::live_map::LiveMap;
@@ -14,7 +13,6 @@ use proto::hits::{HitRef, HitWriter};
 use proto::keys::Keys;
 use proto::no_memory::NoMemory;
 use proto::words::Words;
-use std::alloc::Global;
 
 /// The entry at the key, lent.
 fn hit_of<'a>(key: &'a [u8], entry: EntryRef<'a>) -> HitRef<'a>
@@ -41,25 +39,36 @@ fn room_of<M: LiveMap>(map: &M, mut keys: Words) -> Option<usize>
     Some(room)
 }
 
-/// The hits of the keys, in memory without spare room; a read of each is counted. Where none of the keys is there no
-/// memory is taken, and where memory is refused no read is counted.
-pub fn hits_of<M: LiveMap>(alloc: Global, map: &mut M, keys: &Keys) -> Result<HitWriter, NoMemory>
-    ensures ok { IfOk result (λ hits. hits.hits ≡ hits_of (M.entries map.old) keys.now) }
-    ensures exact { IfOk result (λ hits. hits.room ≡ 0) }
-    ensures counted { OnOk result (CountsEach M.reads map.old (keys_of (hits_of (M.entries map.old) keys.now)) map.new) }
-    ensures err { OnErr result (0 < length (hits_of (M.entries map.old) keys.now)) }
+/// The hit of the only key, which is looked up once. The writer is new.
+fn hit_of_only<M: LiveMap>(map: &mut M, only: &[u8], hits: HitWriter) -> Result<HitWriter, NoMemory>
+    requires { hits ≡ record { hits = []; room = 0 } }
+    ensures ok { IfOk result (λ written. HasShown M.LiveMap map.old (only.now ∷ []) map.new written) }
+    ensures err { OnErr result (0 < length (hits_of (M.entries map.old) (only.now ∷ []))) }
     ensures refused { OnErr result (map.new ≡ map.old) }
-    ensures alike { OnErr result (StaysAlike M.alike map.old map.new) }
-    ensures entries { M.entries map.new ≡ M.entries map.old }
-    ensures sizes { M.sizes map.new ≡ M.sizes map.old }
-    ensures moment { M.moment map.new ≡ M.moment map.old }
-    ensures kept { StaysKept M.keeps map.old map.new }
 {
-    let Some(room) = room_of(map, keys.iter()) else {
-        return Err(NoMemory);
-    };
-    let mut hits = HitWriter::with_room(alloc, room)?;
-    let mut keys = keys.iter();
+    let mut hits = hits;
+    if let Some((entry, place)) = map.get(only) {
+        let hit = hit_of(only, entry);
+        hits.reserve(hit.room().ok_or(NoMemory)?)?;
+        hits.push(hit);
+        map.count_read(only, place);
+    }
+    Ok(hits)
+}
+
+/// The hits of the keys, for which all memory is taken at once. The writer is new.
+fn hits_of_keys<M: LiveMap>(
+    map: &mut M,
+    mut keys: Words,
+    hits: HitWriter,
+) -> Result<HitWriter, NoMemory>
+    requires { hits ≡ record { hits = []; room = 0 } }
+    ensures ok { IfOk result (λ written. HasShown M.LiveMap map.old keys.entry map.new written) }
+    ensures err { OnErr result (0 < length (hits_of (M.entries map.old) keys.entry)) }
+    ensures refused { OnErr result (map.new ≡ map.old) }
+{
+    let mut hits = hits;
+    hits.reserve(room_of(map, keys.again()).ok_or(NoMemory)?)?;
     while let Some(key) = keys.next() {
         if let Some((entry, place)) = map.get(key) {
             hits.push(hit_of(key, entry));
@@ -67,4 +76,19 @@ pub fn hits_of<M: LiveMap>(alloc: Global, map: &mut M, keys: &Keys) -> Result<Hi
         }
     }
     Ok(hits)
+}
+
+/// The hits of the keys, in the room that they were lent where that is large enough; a read of each is counted. Where none
+/// of the keys is there no memory is taken, and where memory is refused no read is counted.
+pub fn hits_of<M: LiveMap>(map: &mut M, keys: &mut Keys) -> Result<HitWriter, NoMemory>
+    ensures same { keys.new ≡ keys.old }
+    ensures ok { IfOk result (λ written. HasShown M.LiveMap map.old keys.old map.new written) }
+    ensures err { OnErr result (0 < length (hits_of (M.entries map.old) keys.old)) }
+    ensures refused { OnErr result (map.new ≡ map.old) }
+{
+    let hits = HitWriter::in_room(keys.take_room());
+    match keys.only() {
+        Some(only) => hit_of_only(map, only, hits),
+        None => hits_of_keys(map, keys.iter(), hits),
+    }
 }

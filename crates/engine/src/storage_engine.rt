@@ -33,17 +33,19 @@ pub trait StorageEngine {
     fn last_moment(&self) -> u64
         ensures { result ≡ moment self.now };
 
-    /// Executes the request at this moment in seconds, which is at most `MAX_MOMENT`.
-    fn handle(&mut self, now: u64, request: &Request) -> Reply
+    /// Executes the request at this moment in seconds, which is at most `MAX_MOMENT`. The room that a `get` was lent may be
+    /// taken for its hits: of that no clause speaks.
+    fn handle(&mut self, now: u64, request: &mut Request) -> Reply
         requires not_before { moment self.old ≤ now }
         requires in_range { now ≤ max_moment }
-        ensures step { Step (sizes self.old) (cache self.old) now request.now result (cache self.new) }
+        ensures request { request.new ≡ request.old }
+        ensures step { Step (sizes self.old) (cache self.old) now request.old result (cache self.new) }
         ensures sizes { sizes self.new ≡ sizes self.old }
         ensures moment { moment self.new ≡ now }
 
         // want of memory is answered only where an item would be stored or a hit be shown
-        ensures succeeds { needs_memory true (outcome_at (sizes self.old) (cache self.old) now request.now) ≡ false → result ≢ Reply.NoMemory }
+        ensures succeeds { needs_memory true (outcome_at (sizes self.old) (cache self.old) now request.old) ≡ false → result ≢ Reply.NoMemory }
 
         // nothing is forgotten while little is stored, and nothing with a deadline
-        ensures kept { KeepsAll sizes cache keeps self.old now request.now result self.new };
+        ensures kept { KeepsAll sizes cache keeps self.old now request.old result self.new };
 }

@@ -1,8 +1,9 @@
 -- Lists read by `get_elem?`, and beginnings.
-use Rattle.std.proofs.Common.{◌≡◌, ◌⊎◌, ℕ, zero, suc, ◌<◌, ◌≤◌, List, [], ◌∷◌, ◌++◌, length, take, refl, sym, ap, ◌∙◌, subst, inl, inr, ⊎_elim, arith}
+use Rattle.std.proofs.Common.{◌≡◌, ◌⊎◌, ℕ, zero, suc, ◌+◌, ◌<◌, ◌≤◌, List, [], ◌∷◌, ◌++◌, length, take, refl, sym, ap, ◌∙◌, subst, inl, inr, ⊎_elim, arith}
 use Rattle.std.proofs.Common.{length-append, append_assoc}
 use mathlib.Core.Option.{some, some-injective, some-ne-none}
 use lib.ListN.{get_elem?}
+use Rattle.atomic_table.proofs.Lists.{at_longer}
 use Rattle.exchange.specs.Beginnings.{StartsWith}
 
 module _ {A : Type 0} where
@@ -18,6 +19,14 @@ module _ {A : Type 0} where
   at_end [] x (suc k) a e = absurd (some-ne-none a (sym e))
   at_end (y ∷ l) x zero a e = inl e
   at_end (y ∷ l) x (suc k) a e = ⊎_elim (λ h. inl h) (λ (h : (k ≡ length l) × (x ≡ a)). inr (ap suc h.0, h.1)) (at_end l x k a e)
+
+  -- what stands in two lists one after the other stands in one of them
+  pub at_either : (l m : List A) (k : ℕ) (a : A) → get_elem? (l ++ m) k ≡ some a → (get_elem? l k ≡ some a)
+      ⊎ ((j : ℕ) × (k ≡ length l + j) × (get_elem? m j ≡ some a))
+  at_either [] m k a e = inr (k, omega arith, e)
+  at_either (y ∷ l) m zero a e = inl e
+  at_either (y ∷ l) m (suc k) a e = ⊎_elim (λ h. inl h) (λ (h : (j : ℕ) × (k ≡ length l + j) × (get_elem? m j ≡ some a)). let at : k ≡ length l + h.0 = h.1 in
+      inr (h.0, omega arith, h.2)) (at_either l m k a e)
 
   -- below the length something is there
   pub at_some : (l : List A) (k : ℕ) → k < length l → (a : A) × (get_elem? l k ≡ some a)
@@ -38,6 +47,10 @@ module _ {A : Type 0} where
   -- a beginning of a list is one of a longer list
   pub starts_longer : (l m n : List A) → StartsWith l m → StartsWith (l ++ n) m
   starts_longer l m n h = (h.0 ++ n, ap (λ (z : List A). z ++ n) h.1 ∙ append_assoc m h.0 n)
+
+  -- what stands in a beginning stands there in the whole
+  pub starts_at : (l m : List A) (k : ℕ) (a : A) → StartsWith l m → get_elem? m k ≡ some a → get_elem? l k ≡ some a
+  starts_at l m k a h e = subst (λ (z : List A). get_elem? z k ≡ some a) (sym h.1) (at_longer m h.0 k a e)
 
   -- a beginning is no longer
   pub starts_below : (l m : List A) → StartsWith l m → length m ≤ length l

@@ -1,7 +1,8 @@
 -- The looks of one call of `next`.
-use Rattle.std.proofs.Common.{◌≡◌, ◌≢◌, ◌⊎◌, ℕ, zero, suc, ◌+◌, ◌-◌, ◌<◌, ◌≤◌, List, [], ◌∷◌, ◌++◌, map, Some, Bool, cond, refl, sym, ap, ◌∙◌, subst, inl}
+use Rattle.std.proofs.Common.{◌≡◌, ◌≢◌, ◌⊎◌, ℕ, zero, suc, ◌+◌, ◌-◌, ◌<◌, ◌≤◌, List, [], ◌∷◌, ◌++◌, map, Option, Some, None, Bool, cond, refl, sym, ap, ◌∙◌}
+use Rattle.std.proofs.Common.{subst, inl}
 use Rattle.std.proofs.Common.{inr, ⊎_elim, arith, append_assoc, eq-eqb, ne_eqb}
-use Rattle.std.specs.Prelude.{◌==◌}
+use Rattle.std.specs.Prelude.{◌==◌, MatchOption}
 use Rattle.std.specs.List.{filter, range_with_len, All}
 use mathlib.Core.Logic.{dite}
 use mathlib.Core.List.{map-append}
@@ -10,8 +11,10 @@ use Rattle.std.proofs.lemmas.List.{append-nil}
 use Rattle.std.proofs.lemmas.List.Elements.{filter-append, All-append, All-nil, All-cons, All-head, All-tail}
 use Rattle.exchange.specs.declared.messages.Taken.{Taken}
 use Rattle.exchange.specs.declared.messages.Taken.TheVariants.{Asked, Bye}
-use Rattle.exchange.specs.Beginnings.{StartsWith, times}
-use Rattle.exchange.specs.Ends.{StorageView, looked, lanes_of, lanes_in_turn, done_in, FoundNone, LookedOnce, IsNext, with_taken, LooksAt, FindsNone, FindsOne}
+use Rattle.proto.specs.Counts.{times}
+use Rattle.exchange.specs.Beginnings.{StartsWith}
+use Rattle.exchange.specs.Ends.{StorageView, looked, lanes_of, lanes_in_turn, done_in, FoundNone, LookedOnce, IsNextMessage, with_taken, LooksAt, FindsNone}
+use Rattle.exchange.specs.Ends.{FindsOne}
 
 -- looks: lanes, each with its posted word
 abbrev Pairs : Type 0
@@ -91,10 +94,10 @@ module _ (old now : StorageView) (lanes : List ℕ) (r : InVain old now lanes) w
         ∙ (taken_looks n t ∙ ap (λ (k : Pairs). record (with_taken old w t) { looks = k }) (append_assoc old.looks r.looks ((w, n) ∷ [])));
   }
     where
-      same_next : (u : Taken) → IsNext now w u → IsNext old w u
-      same_next u h = next_of u (subst (λ (z : StorageView). IsNext z w u) r.now_is h)
+      same_next : (u : Taken) → IsNextMessage now w u → IsNextMessage old w u
+      same_next u h = next_of u (subst (λ (z : StorageView). IsNextMessage z w u) r.now_is h)
         where
-          next_of : (u : Taken) → IsNext (record old { looks = old.looks ++ r.looks }) w u → IsNext old w u
+          next_of : (u : Taken) → IsNextMessage (record old { looks = old.looks ++ r.looks }) w u → IsNextMessage old w u
           next_of (Asked v p) h = h
           next_of (Bye v) h = h
 
@@ -283,3 +286,13 @@ module _ (old now new : StorageView) (workers last lane : ℕ) (workers_is : wor
   all_looked low high r = looked_all old now (up_to workers last lane) r
       ((let low' : lane ≤ last + 1 = low in let high' : last + 1 ≤ lane = high in let e : lane ≡ last + 1 = omega arith in ap (up_to workers last) e)
       ∙ (λ i. lanes_in_turn (workers_is i) (last_is i)))
+
+-- taking a message leaves the history as it was
+taken_history : (v : StorageView) (w : ℕ) (t : Taken) → (with_taken v w t).history ≡ v.history
+taken_history v w (Asked worker posted) = refl
+taken_history v w (Bye worker) = refl
+
+-- a look changes no answer
+pub next_history : (old new : StorageView) (result : Option Taken) → MatchOption result (FindsNone old new) (FindsOne old new) → new.history ≡ old.history
+next_history old new None f = ap (λ (z : StorageView). z.history) f.3
+next_history old new (Some t) f = ap (λ (z : StorageView). z.history) f.after ∙ taken_history old f.lane t

@@ -1,5 +1,5 @@
 -- What stays true of the table when one lane moves.
-use Rattle.std.proofs.Common.{◌≡◌, ◌≢◌, ℕ, suc, ◌+◌, ◌*◌, ◌%◌, ◌<◌, ◌≤◌, List, length, get_or, set, Option, refl, sym, ap, ◌∙◌, subst, ⊎_elim, arith}
+use Rattle.std.proofs.Common.{◌≡◌, ◌≢◌, ◌⊎◌, ℕ, suc, ◌+◌, ◌*◌, ◌%◌, ◌<◌, ◌≤◌, List, length, get_or, set, Option, refl, sym, ap, ◌∙◌, subst, ⊎_elim, arith}
 use Rattle.std.proofs.Common.{length-set, mod-lt}
 use mathlib.Core.Logic.{dite}
 use mathlib.Core.Option.{none, some}
@@ -13,12 +13,12 @@ use Rattle.exchange.specs.declared.messages.LaneMessage.{LaneMessage}
 use Rattle.exchange.specs.declared.messages.LaneKey.{LaneKey}
 use Rattle.exchange.specs.declared.views.WorkerState.{WorkerState}
 use Rattle.exchange.specs.declared.views.StorageState.{StorageState}
-use Rattle.exchange.specs.declared.views.View.{View}
-use Rattle.exchange.specs.declared.views.View.TheVariants.{Nobody, Worker, Storage, Comparing}
+use Rattle.exchange.specs.declared.views.LaneView.{LaneView}
+use Rattle.exchange.specs.declared.views.LaneView.TheVariants.{Nobody, Worker, Storage, Comparing}
 use Rattle.exchange.specs.Beginnings.{StartsWith}
 use Rattle.proto.specs.History.{worker_share, Legal}
-use Rattle.exchange.specs.Lanes.{Homes, open_at, slot_of, At, at_home, LaneOk, LaneIs, Fits, LanesHold}
-use Rattle.exchange.specs.Beginnings.{times}
+use Rattle.exchange.specs.Lanes.{Homes, messages, open_at, slot_of, At, at_home, LaneOk, LaneIs, Fits, LanesHold}
+use Rattle.proto.specs.Counts.{times}
 use Rattle.exchange.proofs.Lists.{at_below, starts_trans}
 use Rattle.exchange.proofs.Lane.{Else}
 
@@ -82,16 +82,16 @@ module _ (homes : Homes) (w i : ℕ) (v : maybe.Option (Option LaneMessage)) whe
   slot_other j k other = set_else homes (slot_of w i) (slot_of j k) v (slots_apart w j k i other)
 
 -- a lane over equal posts_last
-pub lane_same : (c : WorkerState) (mine mine' : List Answered) (byes gone' : ℕ) (held held' : maybe.Option LaneMessage) (p p' d d' : ℕ) (at at' : At)
-    → mine' ≡ mine → gone' ≡ byes → held' ≡ held → p' ≡ p → d' ≡ d → ((k : ℕ) → at' k ≡ at k)
-    → LaneOk c mine byes held p d at → LaneOk c mine' gone' held' p' d' at'
-lane_same c mine mine' byes gone' held held' p p' d d' at at' e₀ e₁ e₂ e₃ e₄ e₅ ok =
-    let Six : Type 0 = List Answered × ℕ × maybe.Option LaneMessage × ℕ × ℕ × At in
-    subst (λ (z : Six). LaneOk c z.0 z.1 z.2 z.3 z.4 z.5) (λ i. (sym e₀ i, sym e₁ i, sym e₂ i, sym e₃ i, sym e₄ i, λ k. sym (e₅ k) i)) ok
+pub lane_same : (c : WorkerState) (mine mine' told told' : List Answered) (byes gone' : ℕ) (held held' : maybe.Option LaneMessage) (p p' d d' : ℕ) (at at' : At)
+    → mine' ≡ mine → told' ≡ told → gone' ≡ byes → held' ≡ held → p' ≡ p → d' ≡ d → ((k : ℕ) → at' k ≡ at k)
+    → LaneOk c mine told byes held p d at → LaneOk c mine' told' gone' held' p' d' at'
+lane_same c mine mine' told told' byes gone' held held' p p' d d' at at' e₀ f₀ e₁ e₂ e₃ e₄ e₅ ok =
+    let Seven : Type 0 = List Answered × List Answered × ℕ × maybe.Option LaneMessage × ℕ × ℕ × At in
+    subst (λ (z : Seven). LaneOk c z.0 z.1 z.2 z.3 z.4 z.5 z.6) (λ i. (sym e₀ i, sym f₀ i, sym e₁ i, sym e₂ i, sym e₃ i, sym e₄ i, λ k. sym (e₅ k) i)) ok
 
 -- the state of the table
 abbrev pub St : Type 0
-St = State (Option LaneMessage) View
+St = State (Option LaneMessage) LaneView
 
 -- the lane j stands as it was
 abbrev pub Stands : St → List ℕ → Homes → ℕ → Type 0
@@ -100,9 +100,9 @@ Stands s words' homes' j = (get_or words' (16 * j) 0 ≡ get_or s.words (16 * j)
 
 module _ (key : LaneKey) (s : St) (r : LanesHold key s) where
   -- a worker's view is its state
-  pub worker_of : (id : ℕ) (v : View) (c : WorkerState) → get_elem? s.views id ≡ some v → v ≡ Worker c
+  pub worker_of : (id : ℕ) (v : LaneView) (c : WorkerState) → get_elem? s.views id ≡ some v → v ≡ Worker c
       → (id ≡ suc c.worker) × (r.states c.worker ≡ c) × (c.worker < key.workers)
-  worker_of id v c at is = r.each_view id (Worker c) (at ∙ ap (λ (z : View). some z) is)
+  worker_of id v c at is = r.each_view id (Worker c) (at ∙ ap (λ (z : LaneView). some z) is)
 
   -- its lane is in order
   pub lane_of : (c : WorkerState) → r.states c.worker ≡ c → c.worker < key.workers → LaneIs s.words s.homes r.storage_state c c.worker
@@ -110,16 +110,18 @@ module _ (key : LaneKey) (s : St) (r : LanesHold key s) where
 
   -- a step of a worker
   pub worker_moves : (id : ℕ) (c c' : WorkerState) (words' : List ℕ) (homes' : Homes) → get_elem? s.views id ≡ some (Worker c) → c'.worker ≡ c.worker
-      → c'.geometry ≡ c.geometry → length words' ≡ length s.words → length homes' ≡ length s.homes
-      → ((j : ℕ) → j ≢ c.worker → Stands s words' homes' j) → LaneIs words' homes' r.storage_state c' c.worker → StartsWith r.storage_state.history c'.seen
+      → c'.geometry ≡ c.geometry → length (messages c) ≤ length (messages c') → length words' ≡ length s.words → length homes' ≡ length s.homes
+      → ((j : ℕ) → j ≢ c.worker → Stands s words' homes' j) → LaneIs words' homes' r.storage_state c' c.worker → StartsWith r.storage_state.told c'.seen
       → LanesHold key record { words = words'; homes = homes'; views = set s.views id (Worker c') }
-  worker_moves id c c' words' homes' at same geometry wide deep others lane seen =
+  worker_moves id c c' words' homes' at same geometry more wide deep others lane seen =
       let f = r.each_view id (Worker c) at in let w : ℕ = c.worker in let states' : ℕ → WorkerState = put r.states w c' in let was = r.each_seen w f.2 in
       let below : id < length s.views = at_below s.views id (Worker c) at in let id_is : id ≡ suc w = f.0 in
       let made : length s.views ≡ suc r.storage_state.made = r.count in record {
         states = states';
         storage_state = r.storage_state;
         legal = r.legal;
+        legal_told = r.legal_told;
+        told_first = r.told_first;
         judged = r.judged;
         wide = wide ∙ r.wide;
         deep = deep ∙ r.deep;
@@ -127,23 +129,29 @@ module _ (key : LaneKey) (s : St) (r : LanesHold key s) where
             (λ e. subst (λ (z : ℕ × WorkerState). LaneIs words' homes' r.storage_state z.1 z.0)
             (λ i. (sym e i, (sym (put_here r.states w c') ∙ ap states' (sym e)) i)) lane)
             (λ other. let st = others j other in subst (λ (z : WorkerState). LaneIs words' homes' r.storage_state z j) (sym (put_else r.states w c' j other))
-            (lane_same (r.states j) _ _ _ _ _ _ _ _ _ _ (at_home s.homes j) (at_home homes' j) refl refl refl st.0 st.1 st.2 (r.each_lane j l)));
+            (lane_same (r.states j) _ _ _ _ _ _ _ _ _ _ _ _ (at_home s.homes j) (at_home homes' j) refl refl refl refl st.0 st.1 st.2 (r.each_lane j l)));
         each_seen = λ j l. dite (ℕ_discrete j w)
-            (λ e. subst (λ (z : ℕ × WorkerState). StartsWith r.storage_state.history z.1.seen × (z.1.geometry ≡ key.geometry) × (z.1.worker ≡ z.0))
-            (λ i. (sym e i, (sym (put_here r.states w c') ∙ ap states' (sym e)) i))
+            (λ e. subst (λ (z : ℕ × WorkerState). StartsWith r.storage_state.told z.1.seen × (z.1.geometry ≡ key.geometry)
+            × (z.1.worker ≡ z.0)) (λ i. (sym e i, (sym (put_here r.states w c') ∙ ap states' (sym e)) i))
             (seen, geometry ∙ (ap (λ (z : WorkerState). z.geometry) (sym f.1) ∙ was.1), same))
-            (λ other. subst (λ (z : WorkerState). StartsWith r.storage_state.history z.seen × (z.geometry ≡ key.geometry) × (z.worker ≡ j))
-            (sym (put_else r.states w c' j other)) (r.each_seen j l));
+            (λ other. subst (λ (z : WorkerState). StartsWith r.storage_state.told z.seen × (z.geometry ≡ key.geometry)
+            × (z.worker ≡ j)) (sym (put_else r.states w c' j other)) (r.each_seen j l));
         each_view = λ j v e. ⊎_elim
-            (λ (x : (j ≡ id) × (Worker c' ≡ v)). subst (λ (z : ℕ × View). Fits key states' r.storage_state z.0 z.1) (λ i. (sym x.0 i, x.1 i))
+            (λ (x : (j ≡ id) × (Worker c' ≡ v)). subst (λ (z : ℕ × LaneView). Fits key states' r.storage_state z.0 z.1) (λ i. (sym x.0 i, x.1 i))
             (id_is ∙ ap suc (sym same), ap states' same ∙ put_here r.states w c', subst (λ (z : ℕ). z < key.workers) (sym same) f.2))
             (λ (x : (j ≢ id) × (get_elem? s.views j ≡ some v)). stay states' j v (λ e. x.0 (e ∙ sym id_is)) (r.each_view j v x.1))
             (at_set s.views id j (Worker c') v e);
         count = length-set s.views id (Worker c') ∙ r.count;
+        looked = λ k j n e l. let was_ = r.looked k j n e l in dite (ℕ_discrete j w)
+            (λ (same : j ≡ w). let low : n ≤ length (messages c) = subst (λ (z : WorkerState). n ≤ length (messages z)) (ap r.states same ∙ f.1) was_ in
+            let more' : length (messages c) ≤ length (messages c') = more in
+            subst (λ (z : WorkerState). n ≤ length (messages z)) (sym (ap states' same ∙ put_here r.states w c'))
+            (let g : n ≤ length (messages c') = omega arith in g))
+            (λ other. subst (λ (z : WorkerState). n ≤ length (messages z)) (sym (put_else r.states w c' j other)) was_);
         later = λ j l. let l' : r.storage_state.made ≤ j = l in put_else r.states w c' j (λ e. let e' : j ≡ w = e in absurd (omega arith)) ∙ r.later j l;
       }
     where
-      stay : (states' : ℕ → WorkerState) (j : ℕ) (v : View) → j ≢ suc c.worker → Fits key r.states r.storage_state j v
+      stay : (states' : ℕ → WorkerState) (j : ℕ) (v : LaneView) → j ≢ suc c.worker → Fits key r.states r.storage_state j v
           → Fits key (put r.states c.worker c') r.storage_state j v
       stay states' j Nobody other f = tt
       stay states' j (Worker u) other f = (f.0, put_else r.states c.worker c' u.worker (λ e. other (f.0 ∙ ap suc e)) ∙ f.1, f.2)
@@ -152,41 +160,49 @@ module _ (key : LaneKey) (s : St) (r : LanesHold key s) where
 
   -- a step of storage on the lane w
   pub storage_moves : (id : ℕ) (d d' : StorageState) (w : ℕ) (words' : List ℕ) (homes' : Homes) → get_elem? s.views id ≡ some (Storage d)
-      → d'.geometry ≡ d.geometry → d'.made ≡ d.made → Legal key.geometry d'.history → StartsWith d'.history d.history
+      → d'.geometry ≡ d.geometry → d'.made ≡ d.made → Legal key.geometry d'.history → Legal key.geometry d'.told
+      → StartsWith d'.history d'.told → StartsWith d'.told d.told
       → length words' ≡ length s.words → length homes' ≡ length s.homes
       → ((j : ℕ) → j ≢ w → Stands s words' homes' j)
-      → ((j : ℕ) → j ≢ w → (worker_share d'.history j ≡ worker_share d.history j) × (times j d'.byes ≡ times j d.byes)
+      → ((j : ℕ) → j ≢ w → (worker_share d'.history j ≡ worker_share d.history j) × (worker_share d'.told j ≡ worker_share d.told j)
+      × (times j d'.byes ≡ times j d.byes)
       × (open_at d'.holding j ≡ open_at d.holding j))
       → (w < key.workers → LaneIs words' homes' d' (r.states w) w)
+      → ((k j n : ℕ) → get_elem? d'.looks k ≡ some (j, n) → (get_elem? d.looks k ≡ some (j, n)) ⊎ (j < key.workers → n ≤ length (messages (r.states j))))
       → LanesHold key record { words = words'; homes = homes'; views = set s.views id (Storage d') }
-  storage_moves id d d' w words' homes' at geometry made legal longer wide deep others apart lane =
+  storage_moves id d d' w words' homes' at geometry made legal legal_told first longer wide deep others apart lane looks =
       let f = r.each_view id (Storage d) at in let is : r.storage_state ≡ d = f.1 in record {
         states = r.states;
         storage_state = d';
         legal = legal;
+        legal_told = legal_told;
+        told_first = first;
         judged = geometry ∙ (ap (λ (z : StorageState). z.geometry) (sym is) ∙ r.judged);
         wide = wide ∙ r.wide;
         deep = deep ∙ r.deep;
         each_lane = λ j l. dite (ℕ_discrete j w)
             (λ e. subst (λ (z : ℕ). LaneIs words' homes' d' (r.states z) z) (sym e) (lane (subst (λ (z : ℕ). z < key.workers) e l)))
             (λ other. let st = others j other in let ap' = apart j other in
-            lane_same (r.states j) _ _ _ _ _ _ _ _ _ _ (at_home s.homes j) (at_home homes' j) ap'.0 ap'.1 ap'.2 st.0 st.1 st.2
+            lane_same (r.states j) _ _ _ _ _ _ _ _ _ _ _ _ (at_home s.homes j) (at_home homes' j) ap'.0 ap'.1 ap'.2 ap'.3 st.0 st.1 st.2
             (subst (λ (z : StorageState). LaneIs s.words s.homes z (r.states j) j) is (r.each_lane j l)));
         each_seen = λ j l. let was = r.each_seen j l in (
-          starts_trans d'.history d.history (r.states j).seen longer
-              (subst (λ (z : StorageState). StartsWith z.history (r.states j).seen) is was.0),
+          starts_trans d'.told d.told (r.states j).seen longer
+              (subst (λ (z : StorageState). StartsWith z.told (r.states j).seen) is was.0),
           was.1,
           was.2,
         );
         each_view = λ j v e. ⊎_elim
-            (λ (x : (j ≡ id) × (Storage d' ≡ v)). subst (λ (z : ℕ × View). Fits key r.states d' z.0 z.1) (λ i. (sym x.0 i, x.1 i)) (f.0, refl))
+            (λ (x : (j ≡ id) × (Storage d' ≡ v)). subst (λ (z : ℕ × LaneView). Fits key r.states d' z.0 z.1) (λ i. (sym x.0 i, x.1 i)) (f.0, refl))
             (λ (x : (j ≢ id) × (get_elem? s.views j ≡ some v)). stay j v (λ e. x.0 (e ∙ sym f.0)) (r.each_view j v x.1))
             (at_set s.views id j (Storage d') v e);
+        looked = λ k j n e l. ⊎_elim (λ (h : get_elem? d.looks k ≡ some (j, n)).
+            r.looked k j n (subst (λ (z : StorageState). get_elem? z.looks k ≡ some (j, n)) (sym is) h) l) (λ (h : j < key.workers
+            → n ≤ length (messages (r.states j))). h l) (looks k j n e);
         count = length-set s.views id (Storage d') ∙ (r.count ∙ ap (λ (z : StorageState). suc z.made) is ∙ ap suc (sym made));
         later = λ j l. r.later j (subst (λ (z : ℕ). z ≤ j) (made ∙ ap (λ (z : StorageState). z.made) (sym is)) l);
       }
     where
-      stay : (j : ℕ) (v : View) → j ≢ 0 → Fits key r.states r.storage_state j v → Fits key r.states d' j v
+      stay : (j : ℕ) (v : LaneView) → j ≢ 0 → Fits key r.states r.storage_state j v → Fits key r.states d' j v
       stay j Nobody other f = tt
       stay j (Worker u) other f = f
       stay j (Storage e) other f = absurd (other f.0)

@@ -11,7 +11,8 @@ use Rattle.proto.specs.declared.history.Answered.{Answered}
 use Rattle.proto.specs.History.{Legal, worker_share, asked_posted}
 use Rattle.exchange.specs.declared.messages.Taken.{Taken}
 use Rattle.exchange.specs.declared.messages.Taken.TheVariants.{Asked, Bye}
-use Rattle.exchange.specs.Beginnings.{StartsWith, times}
+use Rattle.proto.specs.Counts.{times}
+use Rattle.exchange.specs.Beginnings.{StartsWith}
 
 -- What a worker knows: the exchange that its end belongs to, the sizes that histories are judged by, the
 -- requests that it sent, whether it said bye, the answers that it took back, the history that it was told
@@ -40,6 +41,18 @@ pub record StorageView : Type 0 where
   pub byes : List ℕ
   pub looks : List (ℕ × ℕ)
   pub last : ℕ
+
+-- What a worker knows whose end sends its requests in batches: the same, and the requests that it put and
+-- hasn't sent.
+pub record WorkerBatchView : Type 0 where
+  pub end : WorkerView
+  pub put : List Posted
+
+-- What storage knows that tells the workers of its answers in batches: the same, where the history has all that it
+-- answered, and the first entries of it that the workers can be told of.
+pub record StorageBatchView : Type 0 where
+  pub end : StorageView
+  pub told : List Answered
 
 -- Making
 
@@ -89,7 +102,7 @@ CanPost v = (length v.sent < length v.back + 64) × (v.said_bye ≡ false) × (l
 -- What a worker is told where it reads that d of its messages are done: a legal history that begins with the
 -- one that it had seen, in which its requests are the first d of those that it sent, or all of them where
 -- its bye is one of the d.
-pub record IsTold (v : WorkerView) (d : ℕ) (told : List Answered) : Type 0 where
+pub record IsToldDone (v : WorkerView) (d : ℕ) (told : List Answered) : Type 0 where
   pub legal : Legal v.geometry told
   pub later : StartsWith told v.seen
   pub asked : asked_posted (worker_share told v.worker) ≡ take d v.sent
@@ -106,10 +119,31 @@ given v d told a = record v { seen = told; loads = v.loads ++ d ∷ []; back = v
 
 -- What a `take` tells: the worker is told of a history. An answer is the next one of its entries there; none
 -- comes exactly where it took all of them back before.
-abbrev pub Takes : WorkerView → Option Answered → WorkerView → Type 0
-Takes old result new = (d : ℕ) × (told : List Answered) × IsTold old d told × MatchOption result
+abbrev pub TakesAnswer : WorkerView → Option Answered → WorkerView → Type 0
+TakesAnswer old result new = (d : ℕ) × (told : List Answered) × IsToldDone old d told × MatchOption result
     ((old.back ≡ worker_share told old.worker) × (new ≡ told_of old d told))
     (λ a. (get_elem? (worker_share told old.worker) (length old.back) ≡ some a) × (new ≡ given old d told a))
+
+-- what is known of a history that a worker was told of
+pub record WasTold (v : WorkerView) : Type 0 where
+  pub legal : Legal v.geometry v.seen
+  pub asked : asked_posted (worker_share v.seen v.worker) ≡ take (length (worker_share v.seen v.worker)) v.sent
+  pub back : StartsWith (worker_share v.seen v.worker) v.back
+
+-- What a `take_seen` tells: an answer is the next one of the worker's entries in the history that it was told of
+-- last; none comes exactly where it took all of them back before.
+abbrev pub TakesSeen : WorkerView → Option Answered → WorkerView → Type 0
+TakesSeen old result new = WasTold old × MatchOption result
+    ((old.back ≡ worker_share old.seen old.worker) × (new ≡ old))
+    (λ a. (get_elem? (worker_share old.seen old.worker) (length old.back) ≡ some a) × (new ≡ record old { back = old.back ++ a ∷ [] }))
+
+-- fewer than 64 requests are outstanding or put, the worker hasn't said bye, and it hasn't put its last request
+abbrev pub CanPut : WorkerBatchView → Type 0
+CanPut v = (length v.end.sent + length v.put < length v.end.back + 64) × (v.end.said_bye ≡ false) × (length v.end.sent + length v.put < max_posts)
+
+-- with all that was put sent, in order
+abbrev pub flushed : WorkerBatchView → WorkerBatchView
+flushed v = record { end = record v.end { sent = v.end.sent ++ v.put }; put = [] }
 
 -- Storage's calls
 
@@ -139,9 +173,9 @@ LookedOnce old new w = (n : ℕ) × (n ≤ done_in old w) × (looked new.looks w
 
 -- The next message of lane w: no bye of it came before, and a request has the number after that of the
 -- worker's last entry.
-abbrev pub IsNext : StorageView → ℕ → Taken → Type 0
-IsNext v w (Asked worker posted) = (worker ≡ w) × (times w v.byes ≡ 0) × (posted.number ≡ length (worker_share v.history w) + 1)
-IsNext v w (Bye worker) = (worker ≡ w) × (times w v.byes ≡ 0)
+abbrev pub IsNextMessage : StorageView → ℕ → Taken → Type 0
+IsNextMessage v w (Asked worker posted) = (worker ≡ w) × (times w v.byes ≡ 0) × (posted.number ≡ length (worker_share v.history w) + 1)
+IsNextMessage v w (Bye worker) = (worker ≡ w) × (times w v.byes ≡ 0)
 
 -- what taking a message from lane w changes: a request is open, a bye is done
 abbrev pub with_taken : StorageView → ℕ → Taken → StorageView
@@ -152,7 +186,7 @@ with_taken v w (Bye worker) = record v { byes = w ∷ v.byes; last = w }
 abbrev pub LooksAt : StorageView → ℕ → Option Taken → StorageView → Type 0
 LooksAt old w result new = (n : ℕ) × MatchOption result
     ((n ≤ done_in old w) × (new ≡ record old { looks = old.looks ++ (w, n) ∷ [] }))
-    (λ t. (done_in old w < n) × IsNext old w t × (new ≡ record (with_taken old w t) { looks = old.looks ++ (w, n) ∷ [] }))
+    (λ t. (done_in old w < n) × IsNextMessage old w t × (new ≡ record (with_taken old w t) { looks = old.looks ++ (w, n) ∷ [] }))
 
 -- Where `next` finds none, it looked at all lanes in turn and found none there.
 abbrev pub FindsNone : StorageView → StorageView → Type 0
@@ -168,8 +202,19 @@ pub record FindsOne (old new : StorageView) (t : Taken) : Type 0 where
   pub in_turn : StartsWith (lanes_in_turn old.workers old.last) (lanes_of (before ++ (lane, posted) ∷ []))
   pub none_before : FoundNone old before
   pub found : done_in old lane < posted
-  pub is_next : IsNext old lane t
+  pub is_next : IsNextMessage old lane t
   pub after : new ≡ record (with_taken old lane t) { looks = old.looks ++ (before ++ (lane, posted) ∷ []) }
+
+-- the look that came last was at lane w, and found the count n of posted messages
+abbrev pub LastLook : List (ℕ × ℕ) → ℕ → ℕ → Type 0
+LastLook looks w n = (before : List (ℕ × ℕ)) × (looks ≡ before ++ (w, n) ∷ [])
+
+-- What a `next_seen` tells: it takes the next message of the lane that was looked at last; none comes exactly where
+-- the count that was found there names no message that isn't done.
+abbrev pub SeesNext : StorageView → Option Taken → StorageView → Type 0
+SeesNext old result new = MatchOption result
+    (((w n : ℕ) → LastLook old.looks w n → n ≤ done_in old w) × (new ≡ old))
+    (λ t. (w : ℕ) × (n : ℕ) × LastLook old.looks w n × (w < old.workers) × (done_in old w < n) × IsNextMessage old w t × (new ≡ with_taken old w t))
 
 -- what an answer to the open request changes
 abbrev pub with_answer : StorageView → Answered → StorageView

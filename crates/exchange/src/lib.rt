@@ -8,12 +8,17 @@ mod rule;
 mod slots;
 mod steps;
 mod storage;
+mod storage_batch;
 mod views;
 mod worker;
+mod worker_batch;
 
 pub use gathering::{Gathered, gather};
 pub use messages::Taken;
 pub use opening::{MakeFault, make};
 pub use proto::history::{Answered, Posted};
+pub use proto::limits::{MAX_POSTS, WINDOW};
 pub use storage::StorageEnd;
-pub use worker::{MAX_POSTS, SentList, WINDOW, WorkerEnd};
+pub use storage_batch::StorageBatch;
+pub use worker::{SentList, WorkerEnd};
+pub use worker_batch::WorkerBatch;

@@ -1,14 +1,14 @@
 //! The rule of the table, and what each step tells.
-ghost use Rattle.exchange.specs.Steps.{begun, posted, bye_posted, done_loaded, slot_returned, posted_loaded, answered, settle_bye, with_one_more, new_worker, comparing, compared};
+ghost use Rattle.exchange.specs.Steps.{begun, request_put, posted, seen_taken, bye_posted, done_loaded, slot_returned, posted_loaded, answered, told_done, seen_opened, settle_bye, with_one_more, new_worker, comparing, compared};
 
 use crate::messages::{LaneKey, LaneMessage};
-use crate::views::View;
+use crate::views::LaneView;
 use atomic_table::{Join, Play, Seat, Split, Table, TableRule};
 use std::alloc::Global;
 
 pub struct Lanes;
 
-impl TableRule<Option<LaneMessage>, View, LaneKey> for Lanes {
+impl TableRule<Option<LaneMessage>, LaneView, LaneKey> for Lanes {
     ghost use Rattle.exchange.specs.Lanes.{LanesHold, opening_view};
 
     ghost holds = { LanesHold };
@@ -16,67 +16,91 @@ impl TableRule<Option<LaneMessage>, View, LaneKey> for Lanes {
     ghost first = { opening_view };
 }
 
-pub type LaneTable = Table<Option<LaneMessage>, View, LaneKey, Lanes, Global>;
+pub type LaneTable = Table<Option<LaneMessage>, LaneView, LaneKey, Lanes, Global>;
 
-pub type LaneSeat = Seat<Option<LaneMessage>, View>;
+pub type LaneSeat = Seat<Option<LaneMessage>, LaneView>;
 
 pub struct Begins;
 
-impl Play<Option<LaneMessage>, View> for Begins {
+impl Play<Option<LaneMessage>, LaneView> for Begins {
     ghost then = { begun };
+}
+
+pub struct PutsRequest;
+
+impl Play<Option<LaneMessage>, LaneView> for PutsRequest {
+    ghost then = { request_put };
+}
+
+pub struct TakesSeen;
+
+impl Play<Option<LaneMessage>, LaneView> for TakesSeen {
+    ghost then = { seen_taken };
 }
 
 pub struct Posts;
 
-impl Play<Option<LaneMessage>, View> for Posts {
+impl Play<Option<LaneMessage>, LaneView> for Posts {
     ghost then = { posted };
 }
 
 pub struct PostsBye;
 
-impl Play<Option<LaneMessage>, View> for PostsBye {
+impl Play<Option<LaneMessage>, LaneView> for PostsBye {
     ghost then = { bye_posted };
 }
 
 pub struct LoadsDone;
 
-impl Play<Option<LaneMessage>, View> for LoadsDone {
+impl Play<Option<LaneMessage>, LaneView> for LoadsDone {
     ghost then = { done_loaded };
 }
 
 pub struct ReturnsSlot;
 
-impl Play<Option<LaneMessage>, View> for ReturnsSlot {
+impl Play<Option<LaneMessage>, LaneView> for ReturnsSlot {
     ghost then = { slot_returned };
 }
 
 pub struct LoadsPosted;
 
-impl Play<Option<LaneMessage>, View> for LoadsPosted {
+impl Play<Option<LaneMessage>, LaneView> for LoadsPosted {
     ghost then = { posted_loaded };
 }
 
 pub struct Answers;
 
-impl Play<Option<LaneMessage>, View> for Answers {
+impl Play<Option<LaneMessage>, LaneView> for Answers {
     ghost then = { answered };
+}
+
+pub struct OpensSeen;
+
+impl Play<Option<LaneMessage>, LaneView> for OpensSeen {
+    ghost then = { seen_opened };
+}
+
+pub struct TellsDone;
+
+impl Play<Option<LaneMessage>, LaneView> for TellsDone {
+    ghost then = { told_done };
 }
 
 pub struct SettlesBye;
 
-impl Play<Option<LaneMessage>, View> for SettlesBye {
+impl Play<Option<LaneMessage>, LaneView> for SettlesBye {
     ghost then = { settle_bye };
 }
 
 pub struct Compares;
 
-impl Play<Option<LaneMessage>, View> for Compares {
+impl Play<Option<LaneMessage>, LaneView> for Compares {
     ghost then = { compared };
 }
 
 pub struct MakesWorker;
 
-impl Split<View> for MakesWorker {
+impl Split<LaneView> for MakesWorker {
     ghost left = { with_one_more };
 
     ghost right = { new_worker };
@@ -84,8 +108,8 @@ impl Split<View> for MakesWorker {
 
 pub struct JoinsWorker;
 
-impl Join<View> for JoinsWorker {
-    ghost use Rattle.exchange.specs.declared.views.View.TheVariants.{Nobody};
+impl Join<LaneView> for JoinsWorker {
+    ghost use Rattle.exchange.specs.declared.views.LaneView.TheVariants.{Nobody};
 
     ghost both = { comparing };
 

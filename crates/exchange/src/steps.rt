@@ -1,22 +1,24 @@
 //! The steps on the words of a lane.
-ghost use Rattle.std.specs.Prelude.{◌≡◌, ℕ, suc, ◌+◌, ◌*◌, ◌^◌, ◌<◌, ◌≤◌, [], ◌∷◌, ◌++◌, length, false};
+ghost use Rattle.std.specs.Prelude.{◌≡◌, ℕ, suc, ◌+◌, ◌*◌, ◌^◌, ◌<◌, ◌≤◌, [], ◌∷◌, ◌++◌, length, None, false};
 ghost use Rattle.exchange.specs.declared.messages.LaneMessage.TheVariants.{Ask, Bye};
-ghost use Rattle.exchange.specs.declared.views.View.TheVariants.{Worker, Storage};
+ghost use Rattle.exchange.specs.declared.views.LaneView.TheVariants.{Worker, Storage};
 ghost use Rattle.exchange.specs.Beginnings.{posted_of};
-ghost use Rattle.proto.specs.History.{Legal};
+ghost use mathlib.Core.Option.{some};
+ghost use lib.ListN.{get_elem?};
+ghost use Rattle.proto.specs.History.{Legal, worker_share};
 ghost use Rattle.exchange.specs.Lanes.{slot_of};
-ghost use Rattle.exchange.specs.Steps.{sent_on, with_bye, replied, bye_settled};
-ghost use Rattle.exchange.specs.Seats.{worker_state_in, storage_state_in, IsLane, SameSeat, MayPost, MayTake, MayLook, StateTakes, Looks, Holds};
+ghost use Rattle.exchange.specs.Steps.{put_on, all_sent, holding_slot, took_seen, with_bye, replied, all_told, bye_settled, reopened, settled, IsSent};
+ghost use Rattle.exchange.specs.Seats.{worker_state_in, storage_state_in, IsLane, SameSeat, MayPost, MaySend, MayTake, HasSeen, MayLook, HasSeenMessage, StateTakes, Looks, HoldsTaken, MayTell};
 
 use crate::messages::LaneMessage;
 use crate::rule::{
-    Answers, Begins, LaneSeat, LaneTable, LoadsDone, LoadsPosted, Posts, PostsBye, ReturnsSlot,
-    SettlesBye,
+    Answers, Begins, LaneSeat, LaneTable, LoadsDone, LoadsPosted, OpensSeen, Posts, PostsBye,
+    PutsRequest, ReturnsSlot, SettlesBye, TakesSeen, TellsDone,
 };
 use crate::slots::{put_in_answer, put_message, take_out_answer, take_out_message};
 use proto::history::{Answered, Posted};
 
-/// Puts a request into its slot, and stores posted.
+/// Puts a request into its slot. It loads the worker's own word alone, which no other thread writes.
 pub(crate) fn put_request(
     lane_table: &LaneTable,
     seat: &mut LaneSeat,
@@ -28,19 +30,28 @@ pub(crate) fn put_request(
     requires room { MayPost seat.old.me worker number }
     requires next { posted.number ≡ number + 1 }
     ensures table { SameSeat seat.old seat.new }
-    ensures sent { seat.new.me ≡ (Worker (sent_on (worker_state_in seat.old.me.0) posted), []) }
+    ensures put { seat.new.me ≡ (Worker (put_on (worker_state_in seat.old.me.0) posted), []) }
 {
     lane_table.shared.load::<Begins>(seat, 16 * worker);
     put_message(lane_table, seat, worker, number, LaneMessage::Ask(posted));
-    lane_table
-        .shared
-        .store::<Posts>(seat, 16 * worker, number + 1);
+    lane_table.shared.load::<PutsRequest>(seat, 16 * worker);
+}
+
+/// Stores posted for all requests that were put.
+pub(crate) fn send_put(lane_table: &LaneTable, seat: &mut LaneSeat, worker: usize, number: u64)
+    requires table { (seat.old.table_id ≡ lane_table.now.shared.table_id) × IsLane seat.old.table_id worker }
+    requires idle { MaySend seat.old.me worker number }
+    ensures table { SameSeat seat.old seat.new }
+    ensures sent { seat.new.me ≡ (Worker (all_sent (worker_state_in seat.old.me.0)), []) }
+{
+    lane_table.shared.store::<Posts>(seat, 16 * worker, number);
 }
 
 /// Puts the Bye into its slot, and stores posted.
 pub(crate) fn put_bye(lane_table: &LaneTable, seat: &mut LaneSeat, worker: usize, number: u64)
     requires table { (seat.old.table_id ≡ lane_table.now.shared.table_id) × IsLane seat.old.table_id worker }
     requires room { MayPost seat.old.me worker number }
+    requires none_put { (worker_state_in seat.old.me.0).put ≡ [] }
     requires quiet { length (worker_state_in seat.old.me.0).back ≡ length (worker_state_in seat.old.me.0).sent }
     ensures table { SameSeat seat.old seat.new }
     ensures sent { seat.new.me ≡ (Worker (with_bye (worker_state_in seat.old.me.0)), []) }
@@ -52,49 +63,88 @@ pub(crate) fn put_bye(lane_table: &LaneTable, seat: &mut LaneSeat, worker: usize
         .store::<PostsBye>(seat, 16 * worker, number + 1);
 }
 
-/// Loads done, and takes the next answer out of its slot, if there is one.
+/// Loads done, and takes the next answer out of its slot, if there is one. The number is the word.
 pub(crate) fn take_answer(
     lane_table: &LaneTable,
     seat: &mut LaneSeat,
     worker: usize,
     sent: u64,
     back: u64,
-) -> Option<Answered>
+) -> (u64, Option<Answered>)
     requires table { (seat.old.table_id ≡ lane_table.now.shared.table_id) × IsLane seat.old.table_id worker }
     requires idle { MayTake seat.old.me worker sent back }
     ensures table { SameSeat seat.old seat.new }
     ensures seat { seat.new.me ≡ (Worker (worker_state_in seat.new.me.0), []) }
-    ensures taken { StateTakes (worker_state_in seat.old.me.0) result (worker_state_in seat.new.me.0) }
+    ensures taken { StateTakes (worker_state_in seat.old.me.0) result.0 result.1 (worker_state_in seat.new.me.0) }
 {
     let done = lane_table.shared.load::<LoadsDone>(seat, 16 * worker + 8);
     if done <= back || sent <= back {
-        return None;
+        return (done, None);
     }
     let answered = take_out_answer(lane_table, seat, worker, back);
     lane_table.shared.load::<ReturnsSlot>(seat, 16 * worker);
-    Some(answered)
+    (done, Some(answered))
 }
 
-/// Loads posted, and takes the next message out of its slot, if there is one.
+/// Takes the next answer of the history that the worker saw out of its slot. It loads the worker's own word alone,
+/// which no other thread writes.
+pub(crate) fn take_seen_answer(
+    lane_table: &LaneTable,
+    seat: &mut LaneSeat,
+    worker: usize,
+    back: u64,
+) -> Answered
+    requires table { (seat.old.table_id ≡ lane_table.now.shared.table_id) × IsLane seat.old.table_id worker }
+    requires seen { HasSeen seat.old.me worker back }
+    ensures table { SameSeat seat.old seat.new }
+    ensures next { get_elem? (worker_share (worker_state_in seat.old.me.0).seen (worker_state_in seat.old.me.0).worker) (length (worker_state_in seat.old.me.0).back) ≡ some result }
+    ensures taken { seat.new.me ≡ (Worker (holding_slot (took_seen (worker_state_in seat.old.me.0) result) 0), []) }
+{
+    lane_table.shared.load::<TakesSeen>(seat, 16 * worker);
+    let answered = take_out_answer(lane_table, seat, worker, back);
+    lane_table.shared.load::<ReturnsSlot>(seat, 16 * worker);
+    answered
+}
+
+/// Loads posted, and takes the next message out of its slot, if there is one. The number is the word.
 pub(crate) fn take_message(
     lane_table: &LaneTable,
     seat: &mut LaneSeat,
     lane: usize,
     count: u64,
-) -> Option<LaneMessage>
+) -> (u64, Option<LaneMessage>)
     requires table { (seat.old.table_id ≡ lane_table.now.shared.table_id) × IsLane seat.old.table_id lane × (lane < lane_table.now.shared.key.workers) }
     requires idle { MayLook seat.old.me lane count }
     ensures table { SameSeat seat.old seat.new }
-    ensures looked { Looks (storage_state_in seat.old.me.0) lane result seat.new.me }
+    ensures looked { Looks (storage_state_in seat.old.me.0) lane result.0 result.1 seat.new.me }
 {
     let posted = lane_table.shared.load::<LoadsPosted>(seat, 16 * lane);
     if posted <= count {
-        return None;
+        return (posted, None);
     }
-    Some(take_out_message(lane_table, seat, lane, count))
+    let message = take_out_message(lane_table, seat, lane, count);
+    (posted, Some(message))
 }
 
-/// Puts an answer into the slot of its request, and stores done.
+/// Takes the next message, which an earlier look named, out of its slot. It loads done, which no other thread
+/// writes.
+pub(crate) fn take_seen_message(
+    lane_table: &LaneTable,
+    seat: &mut LaneSeat,
+    lane: usize,
+    count: u64,
+) -> LaneMessage
+    requires table { (seat.old.table_id ≡ lane_table.now.shared.table_id) × IsLane seat.old.table_id lane × (lane < lane_table.now.shared.key.workers) }
+    requires seen { HasSeenMessage seat.old.me lane count }
+    ensures table { SameSeat seat.old seat.new }
+    ensures sent { IsSent (storage_state_in seat.old.me.0) lane result }
+    ensures opened { seat.new.me ≡ (Storage (reopened (storage_state_in seat.old.me.0) lane result), (slot_of lane (settled (storage_state_in seat.old.me.0) lane), None) ∷ []) }
+{
+    lane_table.shared.load::<OpensSeen>(seat, 16 * lane + 8);
+    take_out_message(lane_table, seat, lane, count)
+}
+
+/// Puts an answer into the slot of its request. It loads done, which no other thread writes.
 pub(crate) fn put_answer(
     lane_table: &LaneTable,
     seat: &mut LaneSeat,
@@ -102,22 +152,32 @@ pub(crate) fn put_answer(
     answered: Answered,
 )
     requires table { (seat.old.table_id ≡ lane_table.now.shared.table_id) × IsLane seat.old.table_id answered.worker × (answered.worker < lane_table.now.shared.key.workers) }
-    requires held { Holds seat.old.me answered.worker count (Ask (posted_of answered)) }
+    requires held { HoldsTaken seat.old.me answered.worker count (Ask (posted_of answered)) }
     requires legal { Legal (storage_state_in seat.old.me.0).geometry ((storage_state_in seat.old.me.0).history ++ answered ∷ []) }
     ensures table { SameSeat seat.old seat.new }
     ensures answered { seat.new.me ≡ (Storage (replied (storage_state_in seat.old.me.0) answered), []) }
 {
     let lane = answered.worker;
     put_in_answer(lane_table, seat, lane, count, answered);
+    lane_table.shared.load::<Answers>(seat, 16 * lane + 8);
+}
+
+/// Stores done for all answers of the lane.
+pub(crate) fn tell_answers(lane_table: &LaneTable, seat: &mut LaneSeat, lane: usize, count: u64)
+    requires table { (seat.old.table_id ≡ lane_table.now.shared.table_id) × IsLane seat.old.table_id lane × (lane < lane_table.now.shared.key.workers) }
+    requires ready { MayTell seat.old.me lane count }
+    ensures table { SameSeat seat.old seat.new }
+    ensures told { seat.new.me ≡ (Storage (all_told (storage_state_in seat.old.me.0)), seat.old.me.1) }
+{
     lane_table
         .shared
-        .store::<Answers>(seat, 16 * lane + 8, count + 1);
+        .store::<TellsDone>(seat, 16 * lane + 8, count);
 }
 
 /// Gives the slot of a Bye back, and stores done.
 pub(crate) fn settle_bye(lane_table: &LaneTable, seat: &mut LaneSeat, lane: usize, count: u64)
     requires table { (seat.old.table_id ≡ lane_table.now.shared.table_id) × IsLane seat.old.table_id lane × (lane < lane_table.now.shared.key.workers) }
-    requires held { Holds seat.old.me lane count Bye }
+    requires held { HoldsTaken seat.old.me lane count Bye }
     ensures table { SameSeat seat.old seat.new }
     ensures byes { seat.new.me ≡ (Storage (bye_settled (storage_state_in seat.old.me.0) lane), []) }
 {

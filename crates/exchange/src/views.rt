@@ -9,6 +9,8 @@ pub struct WorkerState {
     pub worker: u64,
     pub geometry: Geometry,
     pub sent: LinkedList<Posted>,
+    /// The requests that stand in their slots and weren't sent yet.
+    pub put: LinkedList<Posted>,
     pub said_bye: bool,
     pub back: LinkedList<Answered>,
     /// The history that it was told of last.
@@ -26,7 +28,10 @@ pub struct StorageState {
     pub made: u64,
     /// The requests that it took, each with its worker.
     pub taken: LinkedList<(u64, Posted)>,
+    /// The requests that it answered.
     pub history: LinkedList<Answered>,
+    /// The first of them: those that the workers can know of by the done words.
+    pub told: LinkedList<Answered>,
     /// The workers whose Bye was taken.
     pub byes: LinkedList<u64>,
     /// The lane and the message that it holds.
@@ -35,7 +40,7 @@ pub struct StorageState {
     pub looks: LinkedList<(u64, u64)>,
 }
 
-pub enum View {
+pub enum LaneView {
     Nobody,
     Worker(WorkerState),
     Storage(StorageState),

@@ -1,41 +1,28 @@
 //! The worker's end of its lane.
 
 use crate::rule::{LaneSeat, LaneTable};
-use crate::steps::{put_bye, put_request, take_answer};
+use crate::worker_batch::WorkerBatch;
 use proto::history::{Answered, Posted};
 use std::alloc::Global;
 use std::marker::Model;
 use std::snapshot::Snapshot;
 use std::sync::Arc;
 
-/// The most requests of a worker in one run.
-pub const MAX_POSTS: u64 = 1 << 62;
-
-/// The most requests of a worker that are sent and not taken back.
-pub const WINDOW: u64 = 64;
-
 /// What a worker posts its requests with, and takes the answers back. One thread at a time uses it.
 #[derive(Drop)]
 pub struct WorkerEnd {
-    lane_table: Arc<LaneTable, Global>,
-    seat: LaneSeat,
-    worker: usize,
-    sent: u64,
-    back: u64,
-    said_bye: bool,
+    batch: WorkerBatch,
 }
 
 impl Model for WorkerEnd {
-    ghost use Rattle.std.specs.Prelude.{◌≡◌, ℕ, ◌+◌, ◌*◌, ◌<◌, ◌≤◌};
-    ghost use Rattle.std.specs.Arc.{arc_value};
+    ghost use Rattle.std.specs.Prelude.{◌≡◌, []};
     ghost use Rattle.exchange.specs.Ends.{WorkerView};
-    ghost use Rattle.exchange.specs.Seats.{WorkerAgrees, IsLane, worker_view, worker_state_in};
 
     ghost Value = { WorkerView };
 
-    ghost view = { λ e. worker_view e.seat.table_id (worker_state_in e.seat.me.0) };
+    ghost view = { λ e. e.batch.end };
 
-    ghost invariant = { λ e. (e.seat.table_id ≡ (arc_value e.lane_table).shared.table_id) × IsLane e.seat.table_id e.worker × WorkerAgrees e.seat.me e.worker e.sent e.back e.said_bye };
+    ghost invariant = { λ e. e.batch.put ≡ [] };
 }
 
 impl WorkerEnd {
@@ -45,11 +32,11 @@ impl WorkerEnd {
     ghost use mathlib.Core.Option.{some};
     ghost use lib.ListN.{get_elem?};
     ghost use Rattle.proto.specs.History.{worker_share};
-    ghost use Rattle.exchange.specs.declared.views.View.TheVariants.{Worker};
+    ghost use Rattle.exchange.specs.declared.views.LaneView.TheVariants.{Worker};
     ghost use Rattle.exchange.specs.declared.views.WorkerState.{WorkerState};
     ghost use Rattle.exchange.specs.Beginnings.{StartsWith, posted_of};
     ghost use Rattle.exchange.specs.Lanes.{first_worker_state};
-    ghost use Rattle.exchange.specs.Ends.{new_worker_view, max_posts, CanPost, Takes};
+    ghost use Rattle.exchange.specs.Ends.{new_worker_view, max_posts, CanPost, TakesAnswer, TakesSeen};
     ghost use Rattle.exchange.specs.Seats.{IsLane, worker_view};
 
     pub(crate) fn over(
@@ -62,13 +49,22 @@ impl WorkerEnd {
         ensures { (g : Sizes) → seat.me ≡ (Worker (first_worker_state g worker), []) → result ≡ new_worker_view seat.table_id g worker }
     {
         WorkerEnd {
-            lane_table,
-            seat,
-            worker,
-            sent: 0,
-            back: 0,
-            said_bye: false,
+            batch: WorkerBatch::over(lane_table, seat, worker),
         }
+    }
+
+    pub(crate) fn of(batch: WorkerBatch) -> WorkerEnd
+        requires { batch.put ≡ [] }
+        ensures { result ≡ batch.end }
+    {
+        WorkerEnd { batch }
+    }
+
+    /// The same end, for a worker that tells storage of several requests at once.
+    pub fn batched(self) -> WorkerBatch
+        ensures { result ≡ record { end = self; put = [] } }
+    {
+        self.batch
     }
 
     // The seat, and the numbers of requests and of answers.
@@ -77,15 +73,7 @@ impl WorkerEnd {
         ensures lane { IsLane result.0.table_id self.worker }
         ensures counts { (result.1 ≡ length self.sent) × (result.2 ≡ length self.back) }
     {
-        let WorkerEnd {
-            lane_table: _,
-            seat,
-            worker: _,
-            sent,
-            back,
-            said_bye: _,
-        } = self;
-        (seat, sent, back)
+        self.batch.into_seat()
     }
 
     /// The worker's number, from 0 on.
@@ -93,13 +81,13 @@ impl WorkerEnd {
         ensures value { result ≡ self.now.worker }
         ensures range { result < 8 }
     {
-        self.worker
+        self.batch.worker()
     }
 
     pub fn said_bye(&self) -> bool
         ensures { result ≡ self.now.said_bye }
     {
-        self.said_bye
+        self.batch.said_bye()
     }
 
     /// How many requests were sent.
@@ -107,7 +95,7 @@ impl WorkerEnd {
         ensures value { result ≡ length self.now.sent }
         ensures range { result ≤ max_posts }
     {
-        self.sent
+        self.batch.sent()
     }
 
     /// How many requests were sent and not taken back.
@@ -115,7 +103,7 @@ impl WorkerEnd {
         ensures value { result + length self.now.back ≡ length self.now.sent }
         ensures range { result ≤ 64 }
     {
-        self.sent - self.back
+        self.batch.outstanding()
     }
 
     /// Sends a request, or hands it back unchanged. Waits for nobody and takes no memory.
@@ -125,39 +113,30 @@ impl WorkerEnd {
             (λ _. CanPost self.old × (self.new ≡ record self.old { sent = self.old.sent ++ posted ∷ [] }))
             (λ p. (¬ (CanPost self.old)) × (p ≡ posted) × (self.new ≡ self.old)) }
     {
-        if self.sent - self.back == WINDOW || self.said_bye || self.sent == MAX_POSTS {
-            return Err(posted);
-        }
-        put_request(
-            &self.lane_table,
-            &mut self.seat,
-            self.worker,
-            self.sent,
-            posted,
-        );
-        self.sent += 1;
-        Ok(())
+        let answer = self.batch.put(posted);
+        self.batch.flush();
+        answer
     }
 
     /// The next answer of this worker, in the order of its requests. Waits for nobody and takes no
     /// memory.
     pub fn take(&mut self) -> Option<Answered>
-        ensures taken { Takes self.old result self.new }
+        ensures taken { TakesAnswer self.old result self.new }
         ensures own { IfSome result (λ a. (a.worker ≡ self.old.worker) × (get_elem? self.old.sent (length self.old.back) ≡ some (posted_of a))) }
         ensures in_order { IfSome result (λ a. a.number ≡ length self.old.back + 1) }
         ensures back { StartsWith (worker_share self.new.seen self.old.worker) self.new.back }
     {
-        let answer = take_answer(
-            &self.lane_table,
-            &mut self.seat,
-            self.worker,
-            self.sent,
-            self.back,
-        );
-        if answer.is_some() {
-            self.back += 1;
-        }
-        answer
+        self.batch.take()
+    }
+
+    /// The next answer of this worker among those that were done at its last `take`. It doesn't look for further
+    /// ones. Waits for nobody and takes no memory.
+    pub fn take_seen(&mut self) -> Option<Answered>
+        ensures taken { TakesSeen self.old result self.new }
+        ensures own { IfSome result (λ a. (a.worker ≡ self.old.worker) × (get_elem? self.old.sent (length self.old.back) ≡ some (posted_of a))) }
+        ensures in_order { IfSome result (λ a. a.number ≡ length self.old.back + 1) }
+    {
+        self.batch.take_seen()
     }
 
     /// Says that no request comes any more. Waits for nobody and takes no memory.
@@ -165,8 +144,7 @@ impl WorkerEnd {
         requires { (self.old.said_bye ≡ false) × (length self.old.back ≡ length self.old.sent) }
         ensures { self.new ≡ record self.old { said_bye = true } }
     {
-        put_bye(&self.lane_table, &mut self.seat, self.worker, self.sent);
-        self.said_bye = true;
+        self.batch.bye();
     }
 
     /// The requests that were sent, for clauses alone.

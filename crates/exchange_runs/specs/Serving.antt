@@ -7,5 +7,5 @@ abbrev pub IsSameQueues : StorageQueues → StorageQueues → Type 0
 IsSameQueues old new = (new.requests ≡ old.requests) × (new.room ≡ old.room) × (new.replies ≡ old.replies) × (new.geometry ≡ old.geometry)
 
 -- an end of which nothing was taken
-abbrev pub IsUntouched : StorageQueues → Type 0
-IsUntouched s = (s.taken ≡ []) × (s.open_request ≡ None) × (s.history ≡ []) × (s.byes ≡ [])
+abbrev pub HasTakenNothing : StorageQueues → Type 0
+HasTakenNothing s = (s.taken ≡ []) × (s.open_request ≡ None) × (s.history ≡ []) × (s.byes ≡ [])

@@ -1,4 +1,4 @@
-//! A worker that calls either exchange.
+//! A worker that calls either exchange, the lanes with single requests or with batches.
 
 use parking::ParkingWord;
 use proto::byte_string::ByteString;
@@ -14,10 +14,10 @@ use std::thread;
 
 /// The calls of a worker's end, of the lanes and of the queues.
 pub trait Caller {
-    /// How many requests were sent, and how many of them weren't taken back.
+    /// How many requests were asked, and how many of them weren't taken back.
     fn counts(&self) -> (u64, u64);
 
-    /// Posts the next request, and says whether it was sent.
+    /// Asks the next request, and says whether there was room for it.
     fn ask<R: Wait>(&mut self, rt: &R, request: Request) -> bool;
 
     /// The next answer.
@@ -52,6 +52,37 @@ impl Caller for exchange::WorkerEnd {
     }
 }
 
+impl Caller for exchange::WorkerBatch {
+    fn counts(&self) -> (u64, u64) {
+        (self.sent() + self.waiting(), self.outstanding())
+    }
+
+    fn ask<R: Wait>(&mut self, _rt: &R, request: Request) -> bool {
+        let posted = Posted {
+            session: 1,
+            number: self.sent() + self.waiting() + 1,
+            request,
+        };
+        self.put(posted).is_ok()
+    }
+
+    /// Where no answer is left that was seen, the requests asked so far are sent, and then it looks for answers.
+    fn answer<R: Wait>(&mut self, _rt: &R) -> Option<Answered> {
+        let seen = self.take_seen();
+        if seen.is_some() {
+            return seen;
+        }
+        self.flush();
+        self.take()
+    }
+
+    fn finish<R: Wait>(&mut self, _rt: &R) {
+        if !self.said_bye() && self.outstanding() == 0 && self.waiting() == 0 {
+            self.bye();
+        }
+    }
+}
+
 impl Caller for queue_exchange::WorkerEnd {
     fn counts(&self) -> (u64, u64) {
         (self.sent(), self.outstanding())
@@ -79,10 +110,10 @@ impl Caller for queue_exchange::WorkerEnd {
 
 /// What each worker asks for.
 #[derive(Clone, Copy)]
-pub struct Load {
+pub struct Workload {
     /// The requests of each worker.
     pub each: u64,
-    /// The most of them that are sent and not taken back.
+    /// The most of them that are asked and not taken back.
     pub window: u64,
     /// Whether they are of all kinds, over keys of the worker's own, and the answers are kept; else they delete a key
     /// that isn't there.
@@ -91,11 +122,11 @@ pub struct Load {
 
 /// A worker with its end, and the answers that it was given, as bytes.
 #[derive(Drop)]
-pub struct Player<C: Caller + Drop> {
+pub struct CallingWorker<C: Caller + Drop> {
     alloc: Global,
     end: C,
     worker: usize,
-    load: Load,
+    load: Workload,
     answers: Vec<u8>,
 }
 
@@ -125,9 +156,9 @@ fn request_at(alloc: Global, worker: usize, place: u64) -> Result<Request, NoMem
     })
 }
 
-impl<C: Caller + Drop> Player<C> {
-    pub(crate) fn new(alloc: Global, end: C, worker: usize, load: Load) -> Self {
-        Player {
+impl<C: Caller + Drop> CallingWorker<C> {
+    pub(crate) fn new(alloc: Global, end: C, worker: usize, load: Workload) -> Self {
+        CallingWorker {
             alloc,
             end,
             worker,
@@ -136,7 +167,7 @@ impl<C: Caller + Drop> Player<C> {
         }
     }
 
-    /// How many requests were sent, and how many of them weren't taken back.
+    /// How many requests were asked, and how many of them weren't taken back.
     pub fn counts(&self) -> (u64, u64) {
         self.end.counts()
     }
@@ -182,8 +213,10 @@ impl<C: Caller + Drop> Player<C> {
                 storage.unpark();
                 return;
             }
-            match self.turn(rt) {
-                Ok(true) => storage.unpark(),
+            let turn = self.turn(rt);
+            storage.unpark();
+            match turn {
+                Ok(true) => {}
                 Ok(false) => thread::yield_now(),
                 Err(NoMemory) => self.answers.clear(),
             }

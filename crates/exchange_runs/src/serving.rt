@@ -6,7 +6,7 @@ ghost use Rattle.proto.specs.History.{worker_share, Legal};
 ghost use Rattle.exchange.specs.Beginnings.{posted_of};
 ghost use Rattle.engine.specs.Reaching.{Reaches};
 ghost use Rattle.queue_exchange.specs.Queues.{after_answering};
-ghost use Rattle.exchange_runs.specs.Serving.{IsSameQueues, IsUntouched};
+ghost use Rattle.exchange_runs.specs.Serving.{IsSameQueues, HasTakenNothing};
 
 use engine::StorageEngine;
 use queue_exchange::{Answered, Posted, StorageEnd, Taken};
@@ -48,12 +48,12 @@ pub fn execute<R: Wait, S: StorageEngine>(
     ensures shut { end.new.open_request ≡ None }
 {
     let moment = store.last_moment();
-    let reply = store.handle(moment, &posted.request);
     let Posted {
         session,
         number,
-        request,
+        mut request,
     } = posted;
+    let reply = store.handle(moment, &mut request);
     let answered = Answered {
         worker,
         session,
@@ -74,7 +74,7 @@ pub fn serve_queues<R: Wait, S: StorageEngine + Drop>(
 ) -> StorageEnd
     requires empty { (S.cache store ≡ empty_cache 0) × (S.moment store ≡ 0) }
     requires sizes { S.sizes store ≡ storage_end.geometry }
-    requires unused { IsUntouched storage_end }
+    requires unused { HasTakenNothing storage_end }
     ensures same { IsSameQueues storage_end result }
 {
     let mut store = store;

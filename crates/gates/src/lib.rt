@@ -1,5 +1,8 @@
 //! Gates: one that is always open, and one that holds the workers of a run apart.
 #![tactic(auto)]
 
-pub mod hold;
-pub mod open;
+mod hold;
+mod open;
+
+pub use hold::HoldGate;
+pub use open::OpenGate;

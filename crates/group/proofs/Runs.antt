@@ -15,9 +15,9 @@ use Rattle.storage_thread.specs.Serving.{IsTimed}
 use Rattle.storage_thread.specs.declared.serving.StorageReport.{StorageReport}
 use Rattle.worker.specs.Ports.{PortStory}
 use Rattle.worker.specs.declared.report.WorkerReport.{WorkerReport}
-use Rattle.worker.specs.Reports.{IsReported, IsAnswered}
+use Rattle.worker.specs.Reports.{IsReported, IsSessionAnswered}
 use Rattle.group.specs.declared.report.GroupReport.{GroupReport}
-use Rattle.group.specs.Threads.{AreJoined, AreEach, IsFresh, IsStored, KeepsWorker, KeepsStorage, ends_of, worker_of, workers_of}
+use Rattle.group.specs.Threads.{AreJoined, AreEach, HasSentNothing, IsLeftByStorage, KeepsWorker, KeepsStorage, ends_of, worker_of, workers_of}
 use Rattle.group.specs.Headline.{AreAnsweredIn, IsWorkerOf, IsRun}
 use Rattle.group.proofs.Places.{at_map, at_mapped, at_or}
 
@@ -86,7 +86,7 @@ module _ {P : Type 0} (told : P → Option PortStory) (leads_to : P → P → Ty
         told.placed (record { session = e.session; number = e.number; request = e.request }) t.0 t.1
         (sym sent ∙ ap (λ n. asked_posted (worker_share h n)) is ∙ t.2);
     answered = λ s cause found messages rest reads.
-        subst (λ n. IsAnswered story.events h n s cause messages) is (told.answered s cause found h (sym back) sent messages rest reads);
+        subst (λ n. IsSessionAnswered story.events h n s cause messages) is (told.answered s cause found h (sym back) sent messages rest reads);
   }
 
   pub worker_holds : (sizes : Sizes) (s : StorageView) (g : Gathered) (port : P) (w : ℕ) (r : WorkerReport P)
@@ -114,7 +114,7 @@ module _ {P : Type 0} (told : P → Option PortStory) (leads_to : P → P → Ty
   pub stored : {C : Type 0} (clock_told : C → Option (List ℕ)) (clock_leads : C → C → Type 0) (keeps : Type 0) (n : ℕ) (g : Sizes)
       (ends : List WorkerView) (s : StorageView) → AreMade n g ends s → (ports : List P) → n ≡ length ports
       → (clock c₀ : C) (e₀ : StorageView) (report : StorageReport C) → c₀ ≡ clock → e₀ ≡ s → KeepsStorage clock_told clock_leads keeps c₀ e₀ report
-      → IsStored clock_told clock_leads keeps g ports clock report
+      → IsLeftByStorage clock_told clock_leads keeps g ports clock report
   stored {C} clock_told clock_leads keeps n g ends s made ports count clock c₀ e₀ report clock_is end_is kept =
       let k : KeepsStorage clock_told clock_leads keeps clock s report = subst
       (λ (z : C × StorageView). KeepsStorage clock_told clock_leads keeps z.0 z.1 report) (λ i. (clock_is i, end_is i)) kept in
@@ -122,7 +122,7 @@ module _ {P : Type 0} (told : P → Option PortStory) (leads_to : P → P → Ty
 
   pub run : {C : Type 0} (clock_told : C → Option (List ℕ)) (clock_leads : C → C → Type 0) (keeps : Type 0) (sizes : Sizes)
       (ports : List P) (clock : C) (reports : List (WorkerReport P)) (storage : StorageReport C) (report : GroupReport P C)
-      → IsStored clock_told clock_leads keeps sizes ports clock storage → AreJoined told leads_to sizes storage.storage_end ports reports
+      → IsLeftByStorage clock_told clock_leads keeps sizes ports clock storage → AreJoined told leads_to sizes storage.storage_end ports reports
       → report.workers.items ≡ workers_of reports → report.clock ≡ storage.clock → report.executed ≡ storage.executed
       → ((i : ℕ) (v : WorkerView) → get_elem? (ends_of reports) i ≡ some v
       → AreCounted storage.storage_end v (slice_index report.gathered.sent v.worker) (slice_index report.gathered.back v.worker))
@@ -146,5 +146,5 @@ module _ {P : Type 0} (told : P → Option PortStory) (leads_to : P → P → Ty
   }
 
 -- ends as they are made have sent nothing
-pub fresh_ends : (n : ℕ) (g : Sizes) (ends : List WorkerView) (s : StorageView) → AreMade n g ends s → All IsFresh ends
-fresh_ends n g ends s made k d low = subst IsFresh (sym (made.1 k (slice_index_or ends k d) (at_or ends k d low))) (refl, refl, refl)
+pub fresh_ends : (n : ℕ) (g : Sizes) (ends : List WorkerView) (s : StorageView) → AreMade n g ends s → All HasSentNothing ends
+fresh_ends n g ends s made k d low = subst HasSentNothing (sym (made.1 k (slice_index_or ends k d) (at_or ends k d low))) (refl, refl, refl)

@@ -15,8 +15,8 @@ use Rattle.worker.specs.declared.port.PortRecord.{PortRecord}
 use Rattle.worker.specs.Ports.{PortStory, fed, given, was_opened, was_shut, has_ended, AcceptsOnlyOpen}
 use Rattle.worker.specs.Sessions.{cause_of}
 use Rattle.worker.specs.Places.{Rises}
-use Rattle.worker.specs.Workers.{IsCounted}
-use Rattle.worker.specs.Reports.{IsAnswered}
+use Rattle.worker.specs.Workers.{AreSessionsCounted}
+use Rattle.worker.specs.Reports.{IsSessionAnswered}
 use Rattle.group.specs.declared.report.GroupWorker.{GroupWorker}
 use Rattle.group.specs.declared.report.GroupReport.{GroupReport}
 
@@ -31,12 +31,12 @@ pub record AreAnsweredIn (events : List PortRecord) (history : List Answered) (w
   pub once : Rises sessions
   pub opened : (s : ℕ) → IsSome (cause_of sessions s) → was_opened s events ≡ true
   pub refused : (s : ℕ) → was_opened s events ≡ true → cause_of sessions s ≡ None → was_shut s events ≡ true
-  pub counted : IsCounted events sessions unopened
+  pub counted : AreSessionsCounted events sessions unopened
   pub accepts : AcceptsOnlyOpen events
   pub no_stranger : (s : ℕ) → cause_of sessions s ≡ None → given s events ≡ []
   pub placed : (e : Answered) → Contains (worker_share history w) e → IsSome (cause_of sessions e.session)
   pub answered : (s : ℕ) (cause : EndCause) → cause_of sessions s ≡ Some cause
-      → (messages : List Message) (rest : List ℕ) → Reads (fed s events) messages rest → IsAnswered events history w s cause messages
+      → (messages : List Message) (rest : List ℕ) → Reads (fed s events) messages rest → IsSessionAnswered events history w s cause messages
 
 -- What a group says of worker w, whose port this was: the history holds exactly the requests that it sent, once each
 -- and in its order, and as many came back; the port is what the one handed in became; and its sessions were answered,

@@ -48,8 +48,8 @@ pub record IsSilent {P : Type 0} (told : P → Option PortStory) (port : P) : Ty
   pub no_events : (story : PortStory) → told port ≡ Some story → story.events ≡ []
 
 -- an end that has sent nothing
-abbrev pub IsFresh : WorkerView → Type 0
-IsFresh end = (end.sent ≡ []) × (end.back ≡ []) × (end.said_bye ≡ false)
+abbrev pub HasSentNothing : WorkerView → Type 0
+HasSentNothing end = (end.sent ≡ []) × (end.back ≡ []) × (end.said_bye ≡ false)
 
 -- two lists of one length, whose elements go together place by place
 abbrev pub AreEach : {A B : Type 0} → (A → B → Type 0) → List A → List B → Type 0
@@ -75,6 +75,6 @@ pub record AreJoined {P : Type 0} (told : P → Option PortStory) (leads_to : P 
       → KeepsWorker told leads_to port (new_worker_view storage.exchange sizes w) report
 
 -- what the storage thread left, which was given this clock and its end of the exchange that was made for these ports
-abbrev pub IsStored : {P C : Type 0} → (C → Option (List ℕ)) → (C → C → Type 0) → Type 0 → Sizes → List P → C → StorageReport C → Type 0
-IsStored told leads_to keeps sizes ports clock report =
+abbrev pub IsLeftByStorage : {P C : Type 0} → (C → Option (List ℕ)) → (C → C → Type 0) → Type 0 → Sizes → List P → C → StorageReport C → Type 0
+IsLeftByStorage told leads_to keeps sizes ports clock report =
     KeepsStorage told leads_to keeps clock (new_storage_view report.storage_end.exchange sizes (length ports)) report

@@ -2,8 +2,12 @@
 //! gathered.
 #![tactic(auto)]
 
-pub mod fault;
-pub mod report;
-pub mod run;
+mod fault;
+mod report;
+mod run;
 mod start;
 mod threads;
+
+pub use fault::GroupFault;
+pub use report::{Config, GroupReport, GroupWorker};
+pub use run::{MAX_WORKERS, run_group};

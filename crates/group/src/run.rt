@@ -4,7 +4,7 @@ ghost use Rattle.proto.specs.Sizes.{Sizes};
 ghost use Rattle.proto.specs.Cache.{empty_cache};
 ghost use Rattle.exchange.specs.Ends.{AreTogether, IsCount};
 ghost use Rattle.group.specs.declared.fault.GroupFault.TheVariants.{BadConfig};
-ghost use Rattle.group.specs.Threads.{IsSilent, AreJoined, IsStored, ends_of, workers_of};
+ghost use Rattle.group.specs.Threads.{IsSilent, AreJoined, IsLeftByStorage, ends_of, workers_of};
 ghost use Rattle.group.specs.Headline.{IsRun};
 
 use crate::fault::GroupFault;
@@ -68,7 +68,7 @@ fn finish<P: Port, E: StorageEngine, C: Clock>(
     requires workers { (workers.items ≡ []) × (vec_len reports ≤ vec_capacity workers) }
     requires ends { (ends.items ≡ []) × (vec_len reports ≤ vec_capacity ends) }
     requires together { AreTogether (ends_of reports.items) storage.storage_end }
-    ensures { (store : E) (sizes : Sizes) (ports : List P) (clock : C) → IsStored C.told C.leads_to (E.keeps store []) sizes ports clock storage → AreJoined P.told P.leads_to sizes storage.storage_end ports reports.items → IsRun P.told P.leads_to C.told C.leads_to (E.keeps store []) sizes ports clock result }
+    ensures { (store : E) (sizes : Sizes) (ports : List P) (clock : C) → IsLeftByStorage C.told C.leads_to (E.keeps store []) sizes ports clock storage → AreJoined P.told P.leads_to sizes storage.storage_end ports reports.items → IsRun P.told P.leads_to C.told C.leads_to (E.keeps store []) sizes ports clock result }
 {
     let (workers, ends) = part(reports, workers, ends);
     let StorageReport {

@@ -5,7 +5,7 @@ ghost use Rattle.worker.specs.declared.report.WorkerReport.{WorkerReport};
 ghost use Rattle.storage_thread.specs.Serving.{IsUnused};
 ghost use Rattle.exchange.specs.Ends.{WorkerView};
 ghost use Rattle.group.specs.declared.fault.GroupFault.TheVariants.{NoThread};
-ghost use Rattle.group.specs.Threads.{IsFinished, IsFresh, IsSilent, KeepsWorker, KeepsStorage, AreEach};
+ghost use Rattle.group.specs.Threads.{IsFinished, HasSentNothing, IsSilent, KeepsWorker, KeepsStorage, AreEach};
 
 use crate::fault::GroupFault;
 use crate::start::{Finished, hear};
@@ -72,7 +72,7 @@ fn work<'a, P: Port, G: Gate, R: Wait>(
     parking: &ParkingWord,
 ) -> Finished<'a, WorkerReport<P>>
     requires port { IsSilent P.told port }
-    requires fresh { IsFresh end }
+    requires fresh { HasSentNothing end }
     ensures { IsFinished start.now.id (KeepsWorker P.told P.leads_to port end) result }
 {
     let told = hear(rt, start);
@@ -157,7 +157,7 @@ fn start_worker<'s, 'e, P: Port + Send + 's, G: Gate + Sync, R: Threads + Wait +
     parking: &'s ParkingWord,
 ) -> Result<WorkerHandle<'s, P>, GroupFault>
     requires port { IsSilent P.told port }
-    requires fresh { IsFresh end }
+    requires fresh { HasSentNothing end }
     ensures fault { IfErr result (λ fault. fault ≡ NoThread) }
     ensures start { IfOk result (λ h. h.promise.start.now.id ≡ start.now.id) }
     ensures given { IfOk result (λ h. (h.promise.port.value ≡ port) × (h.promise.end.value ≡ end)) }
@@ -189,7 +189,7 @@ pub fn start_workers<'s, 'e, P: Port + Send + 's, G: Gate + Sync, R: Threads + W
     mut handles: Vec<WorkerHandle<'s, P>>,
 ) -> Result<Vec<WorkerHandle<'s, P>>, GroupFault>
     requires ports { All (IsSilent P.told) ports.items }
-    requires ends { All IsFresh ends.items }
+    requires ends { All HasSentNothing ends.items }
     requires lengths { vec_len ports ≡ vec_len ends }
     requires room { (handles.items ≡ []) × (vec_len ends ≤ vec_capacity handles) }
     ensures fault { IfErr result (λ fault. fault ≡ NoThread) }

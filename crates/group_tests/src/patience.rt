@@ -1,6 +1,6 @@
 //! When a gate that holds workers opens for good.
 
-use gates::hold::HoldGate;
+use gates::HoldGate;
 use worker::gate::Gate;
 
 /// As many refusals as there may be, less one.

@@ -5,9 +5,8 @@ use crate::ports::{Counters, TestClock, TestPort};
 use crate::running::{are_complete, ports_of, run};
 use crate::second_gate::SecondGate;
 use bytes::Bytes;
-use gates::hold::HoldGate;
-use gates::open::OpenGate;
-use group::fault::GroupFault;
+use gates::{HoldGate, OpenGate};
+use group::GroupFault;
 use std::alloc::Global;
 use std::test::Fail;
 

@@ -2,9 +2,7 @@
 
 use crate::ports::{Counters, TestPort};
 use bytes::Bytes;
-use group::fault::GroupFault;
-use group::report::{Config, GroupReport, GroupWorker};
-use group::run::run_group;
+use group::{Config, GroupFault, GroupReport, GroupWorker, run_group};
 use plain_store::Store;
 use proto::geometry::Geometry;
 use session_book::causes::EndCause;

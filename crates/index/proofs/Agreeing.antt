@@ -5,9 +5,10 @@ use Rattle.index.specs.declared.slot.Slot.{Slot}
 use Rattle.segments.specs.declared.place.Place.{Place}
 use Rattle.index.specs.Keys.{KeysOf}
 use Rattle.index.specs.Slots.{is_used, place_of, slot_at}
-use Rattle.index.specs.Table.{Table, places_in, Hashing, AreIndexed, IsIndex, Holds, IsMap, places}
+use Rattle.index.specs.Table.{Table, places_in, Hashing, AreIndexed, IsIndex, HasPlace, IsMap, places}
 use Rattle.index.proofs.Mapping.{Stands, same_places, stands_once, stands_from_get, get_from_stands}
 
+-- each place in the slots has the same key after as before
 abbrev Agree : KeysOf → KeysOf → List Slot → Type 0
 Agree before after slots = (i : ℕ) → i < length slots → is_used (slot_at slots i) ≡ true
     → after (place_of (slot_at slots i)) ≡ before (place_of (slot_at slots i))
@@ -46,7 +47,8 @@ module _ (h : Hashing) (before after : KeysOf) (slots : List Slot) (agree : Agre
       (λ q p st. (let was = agreed_to q p st in get_from_stands before slots q p was (λ r. stands_once h before slots indexed q p r was)))
       (λ q p is. agreed_from q p (stands_from_get before slots q p is))
 
-pub keys_agree : (before after : KeysOf) (t : Table) → IsIndex before t → ((p : Place) → Holds t p → after p ≡ before p) → IsMap after t (places before t)
+-- where the places in a table keep their keys, the table stays an index of the same map
+pub keys_agree : (before after : KeysOf) (t : Table) → IsIndex before t → ((p : Place) → HasPlace t p → after p ≡ before p) → IsMap after t (places before t)
 keys_agree before after t index agree =
     let each : Agree before after t.slots = λ i r u. agree (place_of (slot_at t.slots i)) record { at = i; in_range = r; used = u; place_is = refl } in
     record {
@@ -54,7 +56,8 @@ keys_agree before after t index agree =
       places_are = agreed_places _ before after t.slots each index;
     }
 
-pub held_key : (keys : KeysOf) (t : Table) → IsIndex keys t → (p : Place) → Holds t p → IsSome (keys p)
+-- each place that an index holds has a key
+pub held_key : (keys : KeysOf) (t : Table) → IsIndex keys t → (p : Place) → HasPlace t p → IsSome (keys p)
 held_key keys t index p h =
     let k = index.each h.at h.in_range h.used in
     let is : keys p ≡ Some k.0 = ap keys (sym h.place_is) ∙ k.1.of_key in

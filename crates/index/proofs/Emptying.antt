@@ -1,9 +1,11 @@
 -- A slot emptied step by step: the hole goes on to a place that is found through it, until an empty slot comes.
-use Rattle.std.proofs.Common.{◌≡◌, ◌≢◌, ℕ, ◌+◌, ◌-◌, ◌<◌, ◌≤◌, true, false, cond, List, length, refl, sym, ap, ◌∙◌, inl, inr, ◌⊎◌, arith, Some, subst, get_or-set_same, get_or-set_other, length-set}
+use Rattle.std.proofs.Common.{◌≡◌, ◌≢◌, ℕ, ◌+◌, ◌-◌, ◌<◌, ◌≤◌, true, false, cond, List, length, refl, sym, ap, ◌∙◌, inl, inr, ◌⊎◌, arith, Some, subst}
+use Rattle.std.proofs.Common.{get_or-set_same, get_or-set_other, length-set}
 use Rattle.std.specs.Prelude.{slice_set}
 use Rattle.std.proofs.lemmas.Bool.Decides.{leb_tells, eqb_tells}
 use Rattle.std.proofs.lemmas.List.Sums.{sum_by-set}
 use Rattle.index.specs.declared.slot.Slot.{Slot}
+use Rattle.index.specs.declared.layout.Layout.{Layout}
 use Rattle.segments.specs.declared.place.Place.{Place}
 use Rattle.std.proofs.lemmas.Nat.{and_le_r}
 use Rattle.std.specs.declared.hash.FoldHasher.{FoldHasher}
@@ -11,10 +13,12 @@ use Rattle.index.specs.Keys.{KeysOf, hash_of, home_of}
 use Rattle.index.specs.Slots.{is_used, place_of, slot_at, used_in, empty_slot, distance, behind, AreUsedUpTo}
 use Rattle.index.specs.Table.{hashing, Hashing, AreIndexed}
 use Rattle.index.specs.Closing.{IsWithout}
-use Rattle.index.proofs.Rounds.{distance_once, distance_itself, distance_below, distance_behind, behind_below, distance_add, distance_sum, distance_within, distance_apart}
+use Rattle.index.proofs.Rounds.{distance_once, distance_itself, distance_below, distance_behind, behind_below, distance_add, distance_sum, distance_within}
+use Rattle.index.proofs.Rounds.{distance_apart}
 use Rattle.index.proofs.Finding.{some_gap}
 use Rattle.index.proofs.Mapping.{Stands, removed_places, stands_once}
 
+-- true isn't false
 true_false : true ≡ false → ⊥
 true_false e = cc
 
@@ -53,9 +57,11 @@ pub record IsClosing (h : Hashing) (keys : KeysOf) (old slots : List Slot) (star
 emptied_here : (slots : List Slot) (at : ℕ) → at < length slots → is_used (slot_at (slice_set slots at empty_slot) at) ≡ false
 emptied_here slots at r = ap is_used (get_or-set_same slots at empty_slot empty_slot r)
 
+-- where a slot is emptied, the others stay as they are
 pub emptied_others : (slots : List Slot) (at x : ℕ) → x ≢ at → slot_at (slice_set slots at empty_slot) x ≡ slot_at slots x
 emptied_others slots at x differ = get_or-set_other slots at x empty_slot empty_slot differ
 
+-- a used slot and an empty one aren't the same slot
 not_at : (slots : List Slot) (i at : ℕ) → is_used (slot_at slots i) ≡ true → is_used (slot_at slots at) ≡ false → i ≢ at
 not_at slots i at u e same = true_false (sym u ∙ ap (λ (k : ℕ). is_used (slot_at slots k)) same ∙ e)
 
@@ -486,6 +492,6 @@ module _ (h : Hashing) (keys : KeysOf) (old : List Slot) (in_row : (k : List ℕ
         }
 
 -- the home of each key is one of the slots
-pub homes_in_row : (count : ℕ) (hasher : FoldHasher) → 1 ≤ count → (k : List ℕ) → (hashing count hasher).home k < count
+pub homes_in_row : (count : ℕ) (layout : Layout) (hasher : FoldHasher) → 1 ≤ count → (k : List ℕ) → (hashing count layout hasher).home k < count
 unfolding home_of
-homes_in_row count hasher some k = (let b = and_le_r (hash_of hasher k) (count - 1) in omega (arith, b))
+homes_in_row count layout hasher some k = (let b = and_le_r (hash_of hasher k) (count - 1) in omega (arith, b))

@@ -10,6 +10,7 @@ use Rattle.index.specs.declared.slot.Slot.{Slot}
 use Rattle.index.specs.Slots.{distance, behind, is_used, slot_at, used_in, AreUsedUpTo}
 use Rattle.index.proofs.Rounds.{distance_itself, distance_below, distance_once, distance_behind, distance_upto, behind_below}
 
+-- true isn't false
 true_false : true ≡ false → ⊥
 true_false e = cc
 
@@ -36,6 +37,7 @@ pub record IsOnWay (slots : List Slot) (from at : ℕ) : Type 0 where
   pub at_range : at < length slots
   pub up_to : AreUsedUpTo slots from at
 
+-- where a search begins, it has passed only used slots, since it has passed none
 pub way_begins : (slots : List Slot) (from : ℕ) → from < length slots → IsOnWay slots from from
 way_begins slots from f =
     record { at_range = f; up_to = λ x i less. absurd (omega (arith, less, distance_itself (length slots) from)) }
@@ -56,6 +58,7 @@ gap_ahead slots from at gap f way is used =
       | inr y ↦ y.1
     ]
 
+-- where some slot isn't used, a search at a used slot may go on to the next: it has passed only used ones there, too
 pub way_goes_on : (slots : List Slot) (from at : ℕ) → from < length slots → used_in slots < length slots → IsOnWay slots from at
     → is_used (slot_at slots at) ≡ true → IsOnWay slots from (behind (length slots) at)
 way_goes_on slots from at f less way used =
@@ -70,6 +73,7 @@ way_goes_on slots from at f less way used =
       ];
     }
 
+-- where some slot isn't used, a search that goes on from a used slot has fewer slots left to look at
 pub way_shortens : (slots : List Slot) (from at : ℕ) → from < length slots → used_in slots < length slots → IsOnWay slots from at
     → is_used (slot_at slots at) ≡ true
     → length slots - distance (length slots) from (behind (length slots) at) < length slots - distance (length slots) from at
@@ -95,9 +99,11 @@ way_keeps P slots from at f less way used passed here x i upto =
       | inr y ↦ subst P (sym y) here
     ]
 
+-- no slot is nearer to a search's first one than that one itself, so anything holds of those that are
 pub none_passed : (P : ℕ → Type 0) (n from : ℕ) (x : ℕ) → distance n from x < distance n from from → P x
 none_passed P n from x less = absurd (omega (arith, less, distance_itself n from))
 
+-- a comparison finds a place equal to itself
 same_place : (p : Place) → (eqb p.segment p.segment && eqb p.offset p.offset) ≡ true
 same_place p = grind (arith, nat_tests)
 
@@ -107,6 +113,7 @@ other_place p q b compared differ same =
     let e : b ≡ true = compared ∙ ap (λ (r : Place). eqb r.segment q.segment && eqb r.offset q.offset) same ∙ same_place q in
     true_false (sym e ∙ differ)
 
+-- where a comparison says that the key that is there differs from another one, the other one isn't there
 pub other_key : (k q : List ℕ) (o : Option (List ℕ)) (b : Bool) → o ≡ Some k → b ≡ bytes_eq k q → b ≡ false → ¬ (o ≡ Some q)
 other_key k q o b is compared differ same =
     let e : k ≡ q = cc in

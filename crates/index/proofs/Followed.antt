@@ -1,6 +1,6 @@
 -- Moves that forget their items, and moves that keep them.
 use Rattle.std.proofs.Common.{◌≡◌, ◌≢◌, ℕ, Bool, true, false, List, [], ◌∷◌, get_or, Option, Some, None, refl, sym, ap, subst, ◌∙◌, inl, inr, arith}
-use Rattle.std.specs.Prelude.{◌&&◌, not, option_and_then, All, IsSome, is_some}
+use Rattle.std.specs.Prelude.{◌&&◌, not, option_and_then, All, IfSome, IsSome, is_some}
 use Rattle.std.specs.List.{list_any}
 use Rattle.std.proofs.lemmas.Bool.{cases_Bool, false≢true}
 use Rattle.std.proofs.lemmas.List.Elements.{All-cons}
@@ -10,7 +10,9 @@ use Rattle.segments.specs.declared.place.Move.{Move}
 use Rattle.segments.specs.Places.{same_place, moved_by}
 use Rattle.segments.proofs.MovedPlaces.{same_place_is, same_place_itself}
 use Rattle.index.specs.Keys.{KeysOf}
-use Rattle.index.specs.Table.{Table, IsIndex, Holds, place_at}
+use Rattle.index.specs.declared.layout.Layout.{Layout}
+use Rattle.index.specs.Layouts.{IsInLayout}
+use Rattle.index.specs.Table.{Table, IsIndex, HasPlace, place_at}
 use Rattle.index.specs.Following.{IsFollowed, AreInTurn, CanFollow, forget_lost}
 use Rattle.index.proofs.Agreeing.{held_key}
 use Rattle.index.proofs.FollowingLemmas.{held_at, at_held}
@@ -19,6 +21,7 @@ use Rattle.index.proofs.FollowingLemmas.{held_at, at_held}
 abbrev pub is_lost : List Move → Place → Bool
 is_lost moves p = list_any (λ m. not (is_some m.target) && same_place m.source p) moves
 
+-- a comparison tells two different places apart
 differs : (a b : Place) → a ≢ b → same_place a b ≡ false
 differs a b differ =
     elim (cases_Bool (same_place a b)) [
@@ -26,6 +29,7 @@ differs a b differ =
       | inr f ↦ f
     ]
 
+-- what must hold together with something false is false
 and_false : (b : Bool) → (b && false) ≡ false
 and_false true = refl
 and_false false = refl
@@ -67,21 +71,22 @@ lost_moved (m ∷ moves) p turn h =
         let whole : is_lost (m ∷ moves) p ≡ false = rw (e, rest) refl in
         absurd (false≢true (sym whole ∙ h))
 
+-- where a key is there, it can be named
 some_key : (o : Option (List ℕ)) → IsSome o → (q : List ℕ) × (o ≡ Some q)
 some_key None h = cc
 some_key (Some q) h = (q, refl)
 
 module _ (keys after : KeysOf) (moves : List Move) (t u : Table) (can : CanFollow keys after t moves) (index : IsIndex keys t)
-    (taken : IsFollowed keys keys (forget_lost moves) t u) where
+    (taken : IsFollowed keys keys (forget_lost moves) t u) (same : u.layout ≡ t.layout) where
   -- a place that is held once lost items are out was held, and isn't lost
-  pub held_before : (p : Place) → Holds u p → Holds t p × (is_lost moves p ≡ false)
+  pub held_before : (p : Place) → HasPlace u p → HasPlace t p × (is_lost moves p ≡ false)
   held_before p h =
       let k = some_key (keys p) (held_key keys u taken.index p h) in
       let at : place_at keys u k.0 ≡ Some p = at_held keys u k.0 p taken.index h k.1 in
       by k.0 (place_at keys t k.0) refl (sym (taken.places k.0) ∙ at)
     where
       by : (q : List ℕ) (o : Option Place) → place_at keys t q ≡ o → option_and_then (forget_lost moves) (place_at keys t q) ≡ Some p
-          → Holds t p × (is_lost moves p ≡ false)
+          → HasPlace t p × (is_lost moves p ≡ false)
       by q None e went = (let no : None ≡ Some p = rw e at went in cc)
       by q (Some r) e went =
           let there : forget_lost moves r ≡ Some p = rw e at went in
@@ -93,7 +98,7 @@ module _ (keys after : KeysOf) (moves : List Move) (t u : Table) (can : CanFollo
                 (held_at keys t q p (e ∙ yes), subst (λ (x : Place). is_lost moves x ≡ false) same n)
           ]
 
-  held_still : (p : Place) → Holds t p → is_lost moves p ≡ false → Holds u p
+  held_still : (p : Place) → HasPlace t p → is_lost moves p ≡ false → HasPlace u p
   held_still p h n =
       let k = some_key (keys p) (held_key keys t index p h) in
       held_at keys u k.0 p (taken.places k.0 ∙ ap (option_and_then (forget_lost moves)) (at_held keys t k.0 p index h k.1) ∙ rw n refl)
@@ -105,11 +110,11 @@ module _ (keys after : KeysOf) (moves : List Move) (t u : Table) (can : CanFollo
         held = λ k d lt some. held_still (get_or moves k d).source (can.held k d lt some) (source_kept moves can.in_turn k d lt some);
         in_turn = can.in_turn;
         moved = can.moved;
-        segments = can.segments;
+        inside = subst (λ (y : Layout). All (λ (l : Move). IfSome l.target (IsInLayout y)) moves) (sym same) can.inside;
         others = λ p h none. can.others p (held_before p h).0 none;
       }
 
-  pub lost_out : All (λ m. m.target ≡ None → Holds u m.source → ⊥) moves
+  pub lost_out : All (λ m. m.target ≡ None → HasPlace u m.source → ⊥) moves
   lost_out k d lt none h =
       let m = get_or moves k d in
       let y = same_place_itself m.source in

@@ -1,31 +1,34 @@
 -- A table of the live items' places can follow the merge that was planned for them.
-use Rattle.std.proofs.Common.{◌≡◌, ℕ, ◌<◌, ◌^◌, Bool, true, List, [], ◌∷◌, get_or, map, Option, Some, None, refl, sym, ap, subst, ◌∙◌, inl, inr, arith}
+use Rattle.std.proofs.Common.{◌≡◌, ℕ, Bool, true, List, [], ◌∷◌, get_or, map, Option, Some, None, refl, sym, ap, subst, ◌∙◌, inl, inr}
 use Rattle.std.specs.Prelude.{All, IfSome, IsSome, option_map}
 use Rattle.std.proofs.lemmas.Bool.{cases_Bool, false≢true}
 use Rattle.std.proofs.lemmas.List.Elements.{All-nil, All-cons, All-head, All-tail, All-append, All-filter, All-map, filter_passes}
 use Rattle.segments.specs.declared.place.Place.{Place}
 use Rattle.segments.specs.declared.place.Move.{Move}
 use Rattle.segments.specs.Items.{Item, halved}
-use Rattle.segments.specs.Pools.{PoolState, Plan, IsPool, Liveness, Standing, segment_at, items_of, item_in, deadline_at, deadline_in, standing, live_standing}
+use Rattle.segments.specs.Pools.{PoolState, Plan, IsPool, Liveness, Standing, segment_at, items_of, item_in, place_deadline, deadline_in, standing}
+use Rattle.segments.specs.Pools.{live_standing}
 use Rattle.segments.specs.Places.{IsCarriedOut}
 use Rattle.segments.specs.Merges.{IsPlan, planned, carried_out, merged_segments, live_items, contains_number}
 use Rattle.segments.proofs.Agreeing.{in_segment}
 use Rattle.segments.proofs.PlanLemmas.{found_from}
 use Rattle.segments.proofs.MovedPlaces.{carried, moved_other, live_source, sources_live}
 use Rattle.index.specs.Keys.{key_at}
+use Rattle.index.specs.Layouts.{IsInLayout, IsLayoutOf}
+use Rattle.index.proofs.InLayout.{place_in_layout}
 use Rattle.index.specs.Table.{Table, IsIndex}
 use Rattle.index.specs.Following.{CanFollow, HoldsLive, keys_behind}
 use Rattle.index.proofs.Agreeing.{held_key}
 use Rattle.index.proofs.PoolKeys.{some_key}
-use Rattle.index.proofs.PoolPlaces.{item_within}
 use Rattle.index.proofs.InTurn.{plan_in_turn}
 
 -- an item that stands where it is said to, and is live
 pub record StandsLive (lives : Liveness) (p : PoolState) (q : Place) : Type 0 where
   pub item : Item
   pub stands : item_in p q ≡ Some item
-  pub live : lives q item (deadline_at p q) ≡ true
+  pub live : lives q item (place_deadline p q) ≡ true
 
+-- each live item of a segment stands where it is said to, and is live there
 live_one : (lives : Liveness) (p : PoolState) (n : ℕ) → All (λ s. StandsLive lives p s.place) (live_standing lives p n)
 live_one lives p n k d lt =
     let test : Standing → Bool = λ s. lives s.place s.item (deadline_in (segment_at p n)) in
@@ -38,11 +41,13 @@ live_one lives p n k d lt =
       live = subst (λ m. lives s.place s.item (deadline_in (segment_at p m)) ≡ true) (sym here) (filter_passes test (standing p n) k d lt);
     }
 
+-- each live item of several segments stands where it is said to, and is live there
 live_all : (lives : Liveness) (p : PoolState) (numbers : List ℕ) → All (λ s. StandsLive lives p s.place) (live_items lives p numbers)
 live_all lives p [] = All-nil (λ s. StandsLive lives p s.place)
 live_all lives p (n ∷ numbers) = All-append (λ s. StandsLive lives p s.place) (live_standing lives p n) (live_items lives p numbers)
     (live_one lives p n) (live_all lives p numbers)
 
+-- what holds of each place in the list of the moves' sources holds of each move's source
 unmapped : (P : Place → Type 0) (ms : List Move) → All P (map (λ m. m.source) ms) → All (λ m. P m.source) ms
 unmapped P [] all = All-nil (λ m. P m.source)
 unmapped P (m ∷ ms) all =
@@ -61,25 +66,30 @@ pub key_by : (p q : PoolState) (a b : Place) → item_in p a ≡ item_in q b →
 unfolding key_at
 key_by p q a b e = ap (option_map (λ (i : Item). i.key)) e
 
+-- an item keeps its key when its reads are halved
 half_key : (o : Option Item) → option_map (λ (i : Item). i.key) (option_map halved o) ≡ option_map (λ (i : Item). i.key) o
 half_key None = refl
 half_key (Some i) = refl
 
+-- where the item of one place stands at another, with its reads halved, both places have the same key
 key_half : (p q : PoolState) (a b : Place) → item_in p a ≡ option_map halved (item_in q b) → key_at p a ≡ key_at q b
 unfolding key_at
 key_half p q a b e = ap (option_map (λ (i : Item). i.key)) e ∙ half_key (item_in q b)
 
+-- what follows for every place follows for a place that may be missing, too
 if_some_map : {A B : Place → Type 0} (o : Option Place) → IfSome o A → ((r : Place) → A r → B r) → IfSome o B
 if_some_map None h f = tt
 if_some_map (Some r) h f = f r h
 
+-- where an item is there, it can be named
 some_item : (o : Option Item) → IsSome o → (i : Item) × (o ≡ Some i)
 some_item None h = cc
 some_item (Some i) h = (i, refl)
 
+-- a table of the live items' places can follow the moves of the merge that was planned for them
 pub plan_followed : (lives : Liveness) (p : PoolState) (plan : Plan) (t : Table) → IsPool p → IsPlan lives p plan → IsPool (carried_out (planned p plan) plan)
-    → IsIndex (key_at p) t → HoldsLive lives p t → CanFollow (key_at (planned p plan)) (keys_behind (planned p plan)) t plan.moves
-plan_followed lives p plan t k h behind index holds =
+    → IsLayoutOf p.sizes t.layout → IsIndex (key_at p) t → HoldsLive lives p t → CanFollow (key_at (planned p plan)) (keys_behind (planned p plan)) t plan.moves
+plan_followed lives p plan t k h behind layout index holds =
     let after = carried_out (planned p plan) plan in
     let c : IsCarriedOut p plan after = carried lives p plan after k h refl in
     let starts = starts_live lives p plan h in
@@ -88,19 +98,17 @@ plan_followed lives p plan t k h behind index holds =
       in_turn = plan_in_turn lives p plan k h;
       moved = λ i d lt.
           if_some_map {A = λ r. (item_in after r ≡ option_map halved (item_in p (get_or plan.moves i d).source)) ×
-          (deadline_at after r ≡ deadline_at p (get_or plan.moves i d).source)}
+          (place_deadline after r ≡ place_deadline p (get_or plan.moves i d).source)}
           {B = λ r. key_at after r ≡ key_at (planned p plan) (get_or plan.moves i d).source} (get_or plan.moves i d).target (c.moved i d lt)
           (λ r x. key_half after (planned p plan) r (get_or plan.moves i d).source x.0);
-      segments = λ i d lt.
+      inside = λ i d lt.
           if_some_map {A = λ r. (item_in after r ≡ option_map halved (item_in p (get_or plan.moves i d).source)) ×
-          (deadline_at after r ≡ deadline_at p (get_or plan.moves i d).source)}
-          {B = λ r. r.segment < 2 ^ 16} (get_or plan.moves i d).target (c.moved i d lt)
+          (place_deadline after r ≡ place_deadline p (get_or plan.moves i d).source)}
+          {B = IsInLayout t.layout} (get_or plan.moves i d).target (c.moved i d lt)
           (λ r x.
           let s = starts i d lt in
           let there : item_in after r ≡ Some (halved s.item) = x.0 ∙ ap (option_map halved) s.stands in
-          let within = item_within after r behind (rw there refl) in
-          let most = behind.geometry.most in
-          omega (arith, within, most));
+          place_in_layout after t.layout r (halved s.item) behind (rw c.sizes layout) there);
       others = λ q held none.
           (let i = some_item (item_in p q) (some_key p q (held_key (key_at p) t index q held)) in
           let live = holds.live q i.0 held i.1 in

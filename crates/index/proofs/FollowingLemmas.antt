@@ -16,7 +16,7 @@ use Rattle.segments.proofs.Agreeing.{in_segment}
 use Rattle.segments.proofs.MovedPlaces.{same_place_is, same_place_itself}
 use Rattle.index.specs.declared.slot.Slot.{Slot}
 use Rattle.index.specs.Keys.{KeysOf}
-use Rattle.index.specs.Table.{Table, IsIndex, Holds, IsSameSize, places_in, place_at}
+use Rattle.index.specs.Table.{Table, IsIndex, HasPlace, IsSameSize, places_in, place_at}
 use Rattle.index.specs.Following.{IsFollowed, forget_place, forget_segment, forget_lost}
 use Rattle.index.proofs.Mapping.{Stands, stands_from_get, get_from_stands, stands_once, get-remove}
 use Rattle.index.proofs.Agreeing.{keys_agree}
@@ -71,21 +71,22 @@ unforgotten keys slots key place is none q = by (map.get (places_in keys slots) 
 -- ---- followed in steps
 
 -- a key's place is held
-pub held_at : (keys : KeysOf) (t : Table) (key : List ℕ) (p : Place) → place_at keys t key ≡ Some p → Holds t p
+pub held_at : (keys : KeysOf) (t : Table) (key : List ℕ) (p : Place) → place_at keys t key ≡ Some p → HasPlace t p
 held_at keys t key p e = let st = stands_from_get keys t.slots key p e in record { at = st.at; in_range = st.in_range; used = st.used; place_is = st.place_is }
 
 -- a held place is that of its key
-pub at_held : (keys : KeysOf) (t : Table) (key : List ℕ) (p : Place) → IsIndex keys t → Holds t p → keys p ≡ Some key → place_at keys t key ≡ Some p
+pub at_held : (keys : KeysOf) (t : Table) (key : List ℕ) (p : Place) → IsIndex keys t → HasPlace t p → keys p ≡ Some key → place_at keys t key ≡ Some p
 at_held keys t key p index h e =
     let st : Stands keys t.slots key p = record { at = h.at; in_range = h.in_range; used = h.used; place_is = h.place_is; key_is = e } in
     get_from_stands keys t.slots key p st (λ r. stands_once _ keys t.slots index key p r st)
 
+-- a table that has the sizes of a second one, which has those of a first, has the sizes of the first
 pub same_size : (a b c : Table) → IsSameSize a b → IsSameSize b c → IsSameSize a c
-same_size a b c h k = record { count = k.count ∙ h.count; hasher = k.hasher ∙ h.hasher }
+same_size a b c h k = record { count = k.count ∙ h.count; hasher = k.hasher ∙ h.hasher; layout = k.layout ∙ h.layout }
 
 -- it is enough to say where held places go
 pub retargeted : (before after : KeysOf) (f g : Place → Option Place) (old new : Table) → IsFollowed before after f old new
-    → ((p : Place) → Holds old p → f p ≡ g p) → IsFollowed before after g old new
+    → ((p : Place) → HasPlace old p → f p ≡ g p) → IsFollowed before after g old new
 retargeted before after f g old new h same =
     record { index = h.index; places = λ key. h.places key ∙ by key (place_at before old key) refl }
   where
@@ -95,7 +96,7 @@ retargeted before after f g old new h same =
 
 -- two changes are one
 pub composed : (a b c : KeysOf) (f g h : Place → Option Place) (t u v : Table) → IsFollowed a b f t u → IsFollowed b c g u v
-    → ((p : Place) → Holds t p → option_and_then g (f p) ≡ h p) → IsFollowed a c h t v
+    → ((p : Place) → HasPlace t p → option_and_then g (f p) ≡ h p) → IsFollowed a c h t v
 composed a b c f g h t u v first second same =
     record { index = second.index; places = λ key. second.places key ∙ ap (option_and_then g) (first.places key) ∙ by key (place_at a t key) refl }
   where
@@ -104,8 +105,8 @@ composed a b c f g h t u v first second same =
     by key (Some p) e = same p (held_at a t key p e)
 
 -- where held places keep their keys, nothing moves
-pub followed_itself : (before after : KeysOf) (f : Place → Option Place) (t : Table) → IsIndex before t → ((p : Place) → Holds t p → after p ≡ before p)
-    → ((p : Place) → Holds t p → f p ≡ Some p) → IsFollowed before after f t t
+pub followed_itself : (before after : KeysOf) (f : Place → Option Place) (t : Table) → IsIndex before t → ((p : Place) → HasPlace t p → after p ≡ before p)
+    → ((p : Place) → HasPlace t p → f p ≡ Some p) → IsFollowed before after f t t
 followed_itself before after f t index agree same =
     let m = keys_agree before after t index agree in
     record { index = m.index; places = λ key. ap (λ (ps : _). map.get ps key) m.places_are ∙ by key (place_at before t key) refl }
@@ -120,6 +121,7 @@ followed_itself before after f t index agree same =
 abbrev pub forget_listed : List Standing → Place → Option Place
 forget_listed left p = if list_any (λ s. same_place s.place p) left then None else Some p
 
+-- where an item is there, it can be named
 some_item : (o : Option Item) → IsSome o → (i : Item) × (o ≡ Some i)
 some_item None h = cc
 some_item (Some i) h = (i, refl)
@@ -165,6 +167,8 @@ listed_step s left p =
 
 -- ---- moves that forget their items
 
+-- to forget where a move without a target starts, and then where the later ones without a target do,
+-- is to forget the places of all of them
 pub lost_step : (m : Move) (moves : List Move) (p : Place) → is_some m.target ≡ false
     → option_and_then (forget_lost moves) (forget_place m.source p) ≡ forget_lost (m ∷ moves) p
 lost_step m moves p e =
@@ -173,6 +177,7 @@ lost_step m moves p e =
       | inr f ↦ rw (e, f) refl
     ]
 
+-- a move that has a target adds no place to those that are forgotten
 pub kept_step : (m : Move) (moves : List Move) (p : Place) → is_some m.target ≡ true → forget_lost moves p ≡ forget_lost (m ∷ moves) p
 kept_step m moves p some = rw some refl
 

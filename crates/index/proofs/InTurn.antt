@@ -1,11 +1,13 @@
 -- The moves of a merge, in an order in which a table can follow them.
-use Rattle.std.proofs.Common.{◌≡◌, ◌≢◌, ℕ, ◌+◌, ◌<◌, ◌≤◌, Bool, true, false, eqb, List, [], ◌∷◌, ◌++◌, get_or, map, filter, Option, Some, None, refl, sym, ap, subst, ◌∙◌, inl, inr, arith}
+use Rattle.std.proofs.Common.{◌≡◌, ◌≢◌, ℕ, ◌+◌, ◌<◌, ◌≤◌, Bool, true, false, eqb, List, [], ◌∷◌, ◌++◌, get_or, map, filter, Option, Some, None, refl, sym, ap}
+use Rattle.std.proofs.Common.{subst, ◌∙◌, inl, inr, arith}
 use Rattle.std.specs.Prelude.{⊤, All}
 use Rattle.std.proofs.lemmas.Bool.{cases_Bool, cases_eq, eq-eqb, ne_eqb, le-ltb, false≢true, or_right}
 use Rattle.std.proofs.lemmas.List.Elements.{All-nil, All-cons, All-head, All-tail, All-append, All-filter}
 use Rattle.segments.specs.declared.place.Place.{Place}
 use Rattle.segments.specs.Items.{Item, item_size}
-use Rattle.segments.specs.Pools.{PoolState, Plan, IsPool, Liveness, Standing, segment_at, items_of, deadline_in, standing, standing_from, live_standing, times}
+use Rattle.proto.specs.Counts.{times}
+use Rattle.segments.specs.Pools.{PoolState, Plan, IsPool, Liveness, Standing, segment_at, items_of, deadline_in, standing, standing_from, live_standing}
 use Rattle.segments.specs.Merges.{IsPlan, Judged, moves_into, merged_segments, live_items, contains_number, first_of_list}
 use Rattle.segments.proofs.ItemLayout.{some_size}
 use Rattle.segments.proofs.Agreeing.{in_segment}
@@ -35,6 +37,7 @@ at_offset n off (i ∷ items) =
     (standing_from n (off + item_size i) items) (omega arith)
     (λ k d lt. let h = at_offset n (off + item_size i) items k d lt in omega arith)
 
+-- the items of a segment stand each before those behind it
 segment_laid : (first n off : ℕ) (items : List Item) → AreLaid first (standing_from n off items)
 segment_laid first n off [] = tt
 segment_laid first n off (i ∷ items) = (
@@ -45,6 +48,7 @@ segment_laid first n off (i ∷ items) = (
   segment_laid first n (off + item_size i) items,
 )
 
+-- items that stand each before those behind it still do where some are left out
 filter_laid : (first : ℕ) (p : Standing → Bool) (ss : List Standing) → AreLaid first ss → AreLaid first (filter p ss)
 filter_laid first p [] h = tt
 filter_laid first p (s ∷ ss) h =
@@ -53,6 +57,7 @@ filter_laid first p (s ∷ ss) h =
       | inr f ↦ rw f (filter_laid first p ss h.1)
     ]
 
+-- two lists of items that stand in order make one in order, where each item of the first list stands before all of the second
 append_laid : (first : ℕ) (xs ys : List Standing) → AreLaid first xs → AreLaid first ys → All (λ x. All (IsBefore first x) ys) xs → AreLaid first (xs ++ ys)
 append_laid first [] ys h k cross = k
 append_laid first (x ∷ xs) ys h k cross = (
@@ -65,6 +70,7 @@ abbrev pub AreOnce : List ℕ → Type 0
 AreOnce [] = ⊤
 AreOnce (n ∷ numbers) = (contains_number numbers n ≡ false) × AreOnce numbers
 
+-- no number stands twice in a list in which each is counted once at most
 once_from : (numbers : List ℕ) → ((m : ℕ) → times m numbers ≤ 1) → AreOnce numbers
 once_from [] h = tt
 once_from (n ∷ numbers) h =
@@ -88,6 +94,7 @@ in_one lives p n =
     All-filter (λ s. lives s.place s.item (deadline_in (segment_at p n))) (λ s. s.place.segment ≡ n) (standing p n)
     (in_segment n 0 (items_of (segment_at p n)))
 
+-- each live item of some segments stands in one of these segments
 in_all : (lives : Liveness) (p : PoolState) (numbers : List ℕ) → All (λ s. contains_number numbers s.place.segment ≡ true) (live_items lives p numbers)
 in_all lives p [] = All-nil (λ s. contains_number [] s.place.segment ≡ true)
 in_all lives p (n ∷ numbers) =
@@ -125,6 +132,7 @@ others_laid lives p first (m ∷ numbers) none once =
 
 -- ---- the moves
 
+-- what holds of each item where it stands, in a list without the judgements, holds of each judged item where it stands
 standing_all : (P : Standing → Type 0) (js : List Judged) → All P (map standing_in js) → All (λ j. P (standing_in j)) js
 standing_all P [] all = All-nil (λ j. P (standing_in j))
 standing_all P (j ∷ js) all =

@@ -1,3 +1,6 @@
+pub mod Words
+pub mod InLayout
+pub mod Rows
 pub mod Rounds
 pub mod Finding
 pub mod Mapping

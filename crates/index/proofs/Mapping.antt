@@ -1,5 +1,6 @@
 -- The finite map that the slots stand for.
-use Rattle.std.proofs.Common.{◌≡◌, ◌≢◌, ℕ, zero, suc, ◌<◌, Bool, true, false, cond, List, [], ◌∷◌, length, refl, sym, ap, ◌∙◌, inl, inr, ◌⊎◌, arith, Option, Some, None, subst}
+use Rattle.std.proofs.Common.{◌≡◌, ◌≢◌, ℕ, zero, suc, ◌<◌, Bool, true, false, cond, List, [], ◌∷◌, length, refl, sym, ap, ◌∙◌, inl, inr, ◌⊎◌, arith, Option}
+use Rattle.std.proofs.Common.{Some, None, subst}
 use Rattle.std.specs.Prelude.{bytes_eq, filter_map}
 use Rattle.std.specs.FinMap as map
 use Rattle.std.specs.FinMap.{slice_cmp-IsAntisymmetric, nat_cmp-IsAntisymmetric}
@@ -12,8 +13,9 @@ use Rattle.index.specs.declared.slot.Slot.{Slot}
 use Rattle.segments.specs.declared.place.Place.{Place}
 use Rattle.index.specs.Keys.{KeysOf}
 use Rattle.index.specs.Slots.{is_used, place_of, slot_at}
-use Rattle.index.specs.Table.{Places, entry_of, places_in, Hashing, AreIndexed}
+use Rattle.index.specs.Table.{Places, slot_entry, places_in, Hashing, AreIndexed}
 
+-- true isn't false
 true_false : true ≡ false → ⊥
 true_false e = cc
 
@@ -30,16 +32,19 @@ pub record HasKey (keys : KeysOf) (s : Slot) : Type 0 where
   pub key : List ℕ
   pub used : is_used s ≡ true
   pub key_is : keys (place_of s) ≡ Some key
-  pub entry : entry_of keys s ≡ Some (key, place_of s)
+  pub entry : slot_entry keys s ≡ Some (key, place_of s)
 
+-- a slot that is empty, or whose place has no key
 pub record HasNone (keys : KeysOf) (s : Slot) : Type 0 where
   pub none : (q : List ℕ) → is_used s ≡ true → keys (place_of s) ≡ Some q → ⊥
-  pub entry : entry_of keys s ≡ None
+  pub entry : slot_entry keys s ≡ None
 
+-- either there is a key or there is none
 of_option : (o : Option (List ℕ)) → ((k : List ℕ) × (o ≡ Some k)) ⊎ (o ≡ None)
 of_option (Some k) = inl (k, refl)
 of_option None = inr refl
 
+-- either a slot has a place of a key, or it is empty or its place has none
 slot_cases : (keys : KeysOf) (s : Slot) → HasKey keys s ⊎ HasNone keys s
 slot_cases keys s =
     elim (cases_Bool (is_used s)) [
@@ -50,13 +55,16 @@ slot_cases keys s =
       | inr free ↦ inr record { none = λ q u is. true_false (sym u ∙ free); entry = rw free refl }
     ]
 
+-- the place of a key in the first slot that has one, None where no slot does
 abbrev found : KeysOf → List Slot → List ℕ → Option Place
-found keys slots q = map.find (slice_cmp nat_cmp) q (filter_map (entry_of keys) slots)
+found keys slots q = map.find (slice_cmp nat_cmp) q (filter_map (slot_entry keys) slots)
 
+-- where a slot has a place of a key, one has it with another slot put in front, too
 shifted : (keys : KeysOf) (s : Slot) (slots : List Slot) (q : List ℕ) (p : Place) → Stands keys slots q p → Stands keys (s ∷ slots) q p
 shifted keys s slots q p h =
     record { at = suc h.at; in_range = (let r = h.in_range in omega (arith, r)); used = h.used; place_is = h.place_is; key_is = h.key_is }
 
+-- either the place of the key that comes first stands in a slot, or there is none and no slot has a place of the key
 Found : KeysOf → List Slot → List ℕ → Type 0
 Found keys slots q = ((p : Place) × (found keys slots q ≡ Some p) × Stands keys slots q p) ⊎
     ((found keys slots q ≡ None) × ((p : Place) → Stands keys slots q p → ⊥))
@@ -73,6 +81,7 @@ passed keys s slots q same other (inr h) = inr (same ∙ h.0, λ p st. first st.
     first zero p r u i k = other u (ap keys i ∙ k)
     first (suc at) p r u i k = h.1 p record { at = at; in_range = omega (arith, r); used = u; place_is = i; key_is = k }
 
+-- whatever the slots, the place of a key that comes first stands in one of them, or no slot has a place of the key
 found_in : (keys : KeysOf) (slots : List Slot) (q : List ℕ) → Found keys slots q
 unfolding Found
 found_in keys [] q = inr (refl, λ p h. (let r = h.in_range in omega (arith, r)))
@@ -92,9 +101,10 @@ found_in keys (s ∷ slots) q =
           passed keys s slots q skips (λ u is. n.none q u is) (found_in keys slots q))
     ]
 
+-- the map of the slots' places has at a key the place that comes first
 get-places : (keys : KeysOf) (slots : List Slot) (q : List ℕ) → map.get (places_in keys slots) q ≡ found keys slots q
 unfolding places_in
-get-places keys slots q = map.get-from_entries nat_list_cmp_total (filter_map (entry_of keys) slots) q
+get-places keys slots q = map.get-from_entries nat_list_cmp_total (filter_map (slot_entry keys) slots) q
 
 -- what the map has at a key stands in a slot
 pub stands_from_get : (keys : KeysOf) (slots : List Slot) (q : List ℕ) (p : Place) → map.get (places_in keys slots) q ≡ Some p → Stands keys slots q p
@@ -106,6 +116,7 @@ stands_from_get keys slots q p is =
       | inr h ↦ (let g : None ≡ Some p = sym h.0 ∙ f in cc)
     ]
 
+-- where a slot has a place of a key and no slot has another one, the map has that place at the key
 pub get_from_stands : (keys : KeysOf) (slots : List Slot) (q : List ℕ) (p : Place) → Stands keys slots q p
     → ((r : Place) → Stands keys slots q r → r ≡ p) → map.get (places_in keys slots) q ≡ Some p
 unfolding Found
@@ -115,6 +126,7 @@ get_from_stands keys slots q p st once =
       | inr h ↦ absurd (h.1 p st)
     ]
 
+-- where no slot has a place of a key, the map has nothing at the key
 pub get_none : (keys : KeysOf) (slots : List Slot) (q : List ℕ) → ((p : Place) → Stands keys slots q p → ⊥) → map.get (places_in keys slots) q ≡ None
 unfolding Found
 get_none keys slots q none =
@@ -123,6 +135,7 @@ get_none keys slots q none =
       | inr h ↦ get-places keys slots q ∙ h.0
     ]
 
+-- where the map has nothing at a key, no slot has a place of the key
 pub none_stands : (keys : KeysOf) (slots : List Slot) (q : List ℕ) → map.get (places_in keys slots) q ≡ None → (p : Place) → Stands keys slots q p → ⊥
 unfolding Found
 none_stands keys slots q none p st =
@@ -156,9 +169,11 @@ stands_once h keys slots indexed q p r a b =
     let one : b.at ≡ a.at = indexed.once b.at a.at b.in_range a.in_range b.used a.used same in
     sym b.place_is ∙ ap (λ (i : ℕ). place_of (slot_at slots i)) one ∙ a.place_is
 
+-- a map with one key written has the new place at this key, and at the others what it had
 pub get-insert : (m : Places) (key : List ℕ) (p : Place) (q : List ℕ) → map.get (map.insert m key p) q ≡ cond (bytes_eq q key) (Some p) (map.get m q)
 get-insert m key p q = map.get-insert nat_list_cmp_total m key p q ∙ ap (λ (b : Bool). cond b (Some p) (map.get m q)) (is_eq-slice_cmp q key)
 
+-- a map with one key taken out has nothing at this key, and at the others what it had
 pub get-remove : (m : Places) (key q : List ℕ) → map.get (map.remove m key) q ≡ cond (bytes_eq q key) None (map.get m q)
 get-remove m key q = map.get-remove nat_list_cmp_total m key q ∙ ap (λ (b : Bool). cond b None (map.get m q)) (is_eq-slice_cmp q key)
 

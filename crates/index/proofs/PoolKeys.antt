@@ -1,5 +1,6 @@
 -- The keys of a pool's places where an item is appended.
-use Rattle.std.proofs.Common.{◌≡◌, ◌≢◌, ℕ, ◌-◌, ◌<◌, List, [], ◌∷◌, ◌++◌, length, refl, sym, ap, ◌∙◌, inl, inr, ◌⊎◌, arith, Option, Some, None, get_or-set_same, get_or-set_other}
+use Rattle.std.proofs.Common.{◌≡◌, ◌≢◌, ℕ, ◌-◌, ◌<◌, List, [], ◌∷◌, ◌++◌, length, refl, sym, ap, ◌∙◌, inl, inr, ◌⊎◌, arith, Option, Some, None}
+use Rattle.std.proofs.Common.{get_or-set_same, get_or-set_other}
 use Rattle.std.specs.Prelude.{option_map, slice_index_or, IsSome, nat_lt}
 use Rattle.std.proofs.lemmas.Bool.{cases_Bool}
 use Rattle.std.proofs.lemmas.Bool.Decides.{leb_tells, eqb_tells}
@@ -23,6 +24,7 @@ item_at-append (i ∷ items) offset more some =
       ]
     ]
 
+-- a segment that is in use has a number below the count of segments
 in_range : (us : List (Option Used)) (n : ℕ) (s : Used) → slice_index_or us n None ≡ Some s → n < length us
 in_range us n s is =
     elim (leb_tells (length us) n) [
@@ -39,12 +41,15 @@ some_key p q some = by (item_in p q) some
     by None h = h
     by (Some i) h = refl
 
+-- where a segment of the pool is written, it is what was written
 written : (p : PoolState) (n : ℕ) (s : Option Used) → n < length p.segments → segment_at (with_segment p n s) n ≡ s
 written p n s r = get_or-set_same p.segments n s None r
 
+-- where a segment of the pool is written, the others stay as they are
 others : (p : PoolState) (n m : ℕ) (s : Option Used) → m ≢ n → segment_at (with_segment p n s) m ≡ segment_at p m
 others p n m s differ = get_or-set_other p.segments n m s None differ
 
+-- where an item goes behind those of its bucket's tail, its place gets its key, and every other place with a key keeps it
 to_tail : (p after : PoolState) (bucket t : ℕ) (i : Item) (place : Place) → IsPool p → IsAddedToTail p bucket t i after place → IsKeyAdded p after place i.key
 unfolding key_at
 to_tail p after bucket t i place pool h =
@@ -66,6 +71,7 @@ to_tail p after bucket t i place pool h =
       segment = (let c = pool.count in let g = pool.geometry.most in omega (arith, r, c, g));
     }
 
+-- where a free segment is opened for an item, its place gets its key, and every other place with a key keeps it
 to_free : (p after : PoolState) (bucket t : ℕ) (i : Item) (place : Place) → IsPool p → IsAddedToFree p bucket t i after place → IsKeyAdded p after place i.key
 unfolding key_at
 to_free p after bucket t i place pool h =
@@ -87,6 +93,7 @@ to_free p after bucket t i place pool h =
       segment = (let k = h.in_range in let g = pool.geometry.most in omega (arith, k, g));
     }
 
+-- where an item goes into a tail or a free segment, its place gets its key, and every other place with a key keeps it
 pub key_added : (p after : PoolState) (bucket t : ℕ) (i : Item) (place : Place) → IsPool p
     → IsAddedToTail p bucket t i after place ⊎ IsAddedToFree p bucket t i after place → IsKeyAdded p after place i.key
 key_added p after bucket t i place pool (inl h) = to_tail p after bucket t i place pool h

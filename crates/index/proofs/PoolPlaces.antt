@@ -1,5 +1,6 @@
 -- The places of a pool's items, and how many there are.
-use Rattle.std.proofs.Common.{◌≡◌, ℕ, zero, suc, ◌+◌, ◌*◌, ◌/◌, ◌<◌, ◌≤◌, List, [], ◌∷◌, ◌++◌, length, get_or, Option, Some, None, refl, sym, ap, subst, ◌∙◌, arith, inl, inr}
+use Rattle.std.proofs.Common.{◌≡◌, ℕ, zero, suc, ◌+◌, ◌*◌, ◌/◌, ◌<◌, ◌≤◌, List, [], ◌∷◌, ◌++◌, length, get_or, Option, Some, None, refl, sym, ap, subst, ◌∙◌}
+use Rattle.std.proofs.Common.{arith, inl, inr}
 use Rattle.std.specs.Prelude.{Contains, Bool, true, false, ◌≢◌, map, IsSome, if◌then◌else◌}
 use Rattle.std.specs.List.{remove}
 use Rattle.std.proofs.lemmas.List.{length-append, length-map, get_or-map, get_or_default}
@@ -28,10 +29,12 @@ abbrev places_below : PoolState → ℕ → List Place
 places_below p zero = []
 places_below p (suc n) = map (λ s. s.place) (standing p n) ++ places_below p n
 
+-- as many items stand in a segment from an offset on as were put there
 standing_long : (n offset : ℕ) (items : List Item) → length (standing_from n offset items) ≡ length items
 standing_long n offset [] = refl
 standing_long n offset (i ∷ items) = ap suc (standing_long n (offset + item_size i) items)
 
+-- no number is below 0
 zero_le : (n : ℕ) → 0 ≤ n
 zero_le n = omega arith
 
@@ -47,6 +50,7 @@ few_places p (suc n) k =
     let product : suc n * (p.sizes.segment_size / 32) ≡ p.sizes.segment_size / 32 + n * (p.sizes.segment_size / 32) = omega arith in
     omega arith
 
+-- where an item is there, it can be named
 some_item : (o : Option Item) → IsSome o → (i : Item) × (o ≡ Some i)
 some_item None h = cc
 some_item (Some i) h = (i, refl)
@@ -86,6 +90,7 @@ item_within p q k some =
       | inr y ↦ (let lt = y.1 in omega arith)
     ]
 
+-- where an item is there, one is there whether or not another takes its place
 kept_item : (b : Bool) (i : Item) (o : Option Item) → IsSome o → IsSome (if b then Some i else o)
 kept_item true i o some = refl
 kept_item false i o some = some

@@ -1,5 +1,5 @@
 -- Tables that follow moves, one after the other.
-use Rattle.std.proofs.Common.{◌≡◌, ◌≢◌, ◌⊎◌, ℕ, ◌<◌, ◌^◌, false, cond, List, [], ◌∷◌, length, get_or, Option, Some, None, refl, sym, ap, subst, ◌∙◌, inl, inr}
+use Rattle.std.proofs.Common.{◌≡◌, ◌≢◌, ◌⊎◌, ℕ, ◌<◌, false, cond, List, [], ◌∷◌, length, get_or, Option, Some, None, refl, sym, ap, subst, ◌∙◌, inl, inr}
 use Rattle.std.specs.Prelude.{bytes_eq, if◌then◌else◌, option_and_then, All, IfSome, IsSome}
 use Rattle.std.specs.List.{list_any}
 use Rattle.std.specs.FinMap as map
@@ -12,7 +12,9 @@ use Rattle.segments.specs.declared.place.Move.{Move}
 use Rattle.segments.specs.Places.{same_place, moved_by}
 use Rattle.segments.proofs.MovedPlaces.{same_place_is, same_place_itself}
 use Rattle.index.specs.Keys.{KeysOf}
-use Rattle.index.specs.Table.{Table, IsIndex, Holds, IsMap, IsSameSize, places, place_at}
+use Rattle.index.specs.declared.layout.Layout.{Layout}
+use Rattle.index.specs.Layouts.{IsInLayout}
+use Rattle.index.specs.Table.{Table, IsIndex, HasPlace, IsMap, IsSameSize, places, place_at}
 use Rattle.index.specs.Following.{IsFollowed, CanFollow}
 use Rattle.index.proofs.Mapping.{stands_from_get, get-insert}
 use Rattle.index.proofs.Agreeing.{held_key}
@@ -27,7 +29,7 @@ pub record IsRelocating (before after : KeysOf) (moves rest : List Move) (start 
   pub keys : KeysOf
   pub index : IsIndex keys t
   pub can : CanFollow keys after t rest
-  pub lost : All (λ m. m.target ≡ None → Holds t m.source → ⊥) rest
+  pub lost : All (λ m. m.target ≡ None → HasPlace t m.source → ⊥) rest
   pub same : All (λ m. IsSome m.target → keys m.source ≡ before m.source) rest
   pub size : IsSameSize start t
   pub ends : (end : Table) → IsFollowed keys after (moved_by rest) t end → IsFollowed before after (moved_by moves) start end
@@ -40,10 +42,12 @@ apart a b differ =
       | inr f ↦ f
     ]
 
+-- where a key is there, it can be named
 some_key : (o : Option (List ℕ)) → IsSome o → (q : List ℕ) × (o ≡ Some q)
 some_key None h = cc
 some_key (Some q) h = (q, refl)
 
+-- what follows for every place follows for a place that may be missing, too
 if_some_map : {A B : Place → Type 0} (o : Option Place) → IfSome o A → ((r : Place) → A r → B r) → IfSome o B
 if_some_map None h f = tt
 if_some_map (Some r) h f = f r h
@@ -53,20 +57,20 @@ pub skips : (before after : KeysOf) (moves : List Move) (m : Move) (rest : List 
     → IsRelocating before after moves (m ∷ rest) start t → m.target ≡ None
     → IsRelocating before after moves rest start t
 skips before after moves m rest start t h none =
-    let lost = All-head (λ (l : Move). l.target ≡ None → Holds t l.source → ⊥) m rest h.lost none in
-    let other : (p : Place) → Holds t p → same_place m.source p ≡ false =
-    λ p held. apart m.source p (λ e. lost (subst (Holds t) (sym e) held)) in
+    let lost = All-head (λ (l : Move). l.target ≡ None → HasPlace t l.source → ⊥) m rest h.lost none in
+    let other : (p : Place) → HasPlace t p → same_place m.source p ≡ false =
+    λ p held. apart m.source p (λ e. lost (subst (HasPlace t) (sym e) held)) in
     record {
       keys = h.keys;
       index = h.index;
       can = record {
-        held = All-tail (λ (l : Move). IsSome l.target → Holds t l.source) m rest h.can.held;
+        held = All-tail (λ (l : Move). IsSome l.target → HasPlace t l.source) m rest h.can.held;
         in_turn = h.can.in_turn.1;
         moved = All-tail (λ (l : Move). IfSome l.target (λ place. after place ≡ h.keys l.source)) m rest h.can.moved;
-        segments = All-tail (λ (l : Move). IfSome l.target (λ place. place.segment < 2 ^ 16)) m rest h.can.segments;
+        inside = All-tail (λ (l : Move). IfSome l.target (IsInLayout t.layout)) m rest h.can.inside;
         others = λ p held none_of. h.can.others p held (let f = other p held in rw f none_of);
       };
-      lost = All-tail (λ (l : Move). l.target ≡ None → Holds t l.source → ⊥) m rest h.lost;
+      lost = All-tail (λ (l : Move). l.target ≡ None → HasPlace t l.source → ⊥) m rest h.lost;
       same = All-tail (λ (l : Move). IsSome l.target → h.keys l.source ≡ before l.source) m rest h.same;
       size = h.size;
       ends = λ end k. h.ends end (retargeted h.keys after (moved_by rest) (moved_by (m ∷ rest)) t end k (λ p held. let f = other p held in rw f refl));
@@ -74,8 +78,8 @@ skips before after moves m rest start t h none =
 
 module _ (before after : KeysOf) (moves : List Move) (m : Move) (rest : List Move) (start t : Table) (h : IsRelocating before after moves (m ∷ rest) start t)
     (target : Place) (is : m.target ≡ Some target) (key : List ℕ) (own : h.keys m.source ≡ Some key) where
-  held_source : Holds t m.source
-  held_source = All-head (λ (l : Move). IsSome l.target → Holds t l.source) m rest h.can.held (rw is refl)
+  held_source : HasPlace t m.source
+  held_source = All-head (λ (l : Move). IsSome l.target → HasPlace t l.source) m rest h.can.held (rw is refl)
 
   -- where the key is before the move
   pub key_held : place_at h.keys t key ≡ Some m.source
@@ -96,7 +100,7 @@ module _ (before after : KeysOf) (moves : List Move) (m : Move) (rest : List Mov
   later_target k d lt = λ e. (h.can.in_turn.0 k d lt).1 (is ∙ ap Some e)
 
   -- the keys stay at the places that are held, other than the source
-  pub others_keep : (p : Place) → Holds t p → p ≢ m.source → rekeyed h.keys target key p ≡ h.keys p
+  pub others_keep : (p : Place) → HasPlace t p → p ≢ m.source → rekeyed h.keys target key p ≡ h.keys p
   others_keep p held differ =
       elim (cases_Bool (same_place target p)) [
         | inl y ↦
@@ -113,10 +117,10 @@ module _ (before after : KeysOf) (moves : List Move) (m : Move) (rest : List Mov
   pub target_rekeyed : rekeyed h.keys target key target ≡ Some key
   target_rekeyed = let y = same_place_itself target in rw y refl
 
-  pub target_segment : target.segment < 2 ^ 16
-  target_segment =
-      subst (λ (o : Option Place). IfSome o (λ place. place.segment < 2 ^ 16)) is
-      (All-head (λ (l : Move). IfSome l.target (λ place. place.segment < 2 ^ 16)) m rest h.can.segments)
+  pub target_inside : IsInLayout t.layout target
+  target_inside =
+      subst (λ (o : Option Place). IfSome o (IsInLayout t.layout)) is
+      (All-head (λ (l : Move). IfSome l.target (IsInLayout t.layout)) m rest h.can.inside)
 
   module _ (u : Table) (put : IsMap (rekeyed h.keys target key) u (map.insert (places h.keys t) key target)) where
     -- where a key is behind the move
@@ -124,7 +128,7 @@ module _ (before after : KeysOf) (moves : List Move) (m : Move) (rest : List Mov
     place_put q = ap (λ ps. map.get ps q) put.places_are ∙ get-insert (places h.keys t) key target q
 
     -- a place that is held behind the move is the target, or was held by another key
-    put_cases : (p : Place) → Holds u p → (p ≡ target) ⊎ ((q : List ℕ) × (q ≢ key) × (place_at h.keys t q ≡ Some p) × (rekeyed h.keys target key p ≡ Some q))
+    put_cases : (p : Place) → HasPlace u p → (p ≡ target) ⊎ ((q : List ℕ) × (q ≢ key) × (place_at h.keys t q ≡ Some p) × (rekeyed h.keys target key p ≡ Some q))
     put_cases p held =
         let k = some_key (rekeyed h.keys target key p) (held_key (rekeyed h.keys target key) u put.index p held) in
         let at : place_at (rekeyed h.keys target key) u k.0 ≡ Some p = at_held (rekeyed h.keys target key) u k.0 p put.index held k.1 in
@@ -136,7 +140,7 @@ module _ (before after : KeysOf) (moves : List Move) (m : Move) (rest : List Mov
         ]
 
     -- other places are held still
-    still_held : (p : Place) → Holds t p → m.source ≢ p → Holds u p
+    still_held : (p : Place) → HasPlace t p → m.source ≢ p → HasPlace u p
     still_held p held differ =
         let k = some_key (h.keys p) (held_key h.keys t h.index p held) in
         let at : place_at h.keys t k.0 ≡ Some p = at_held h.keys t k.0 p h.index held k.1 in
@@ -150,7 +154,7 @@ module _ (before after : KeysOf) (moves : List Move) (m : Move) (rest : List Mov
     later_key k d lt = let f = apart target (get_or rest k d).source (later_target k d lt) in rw f refl
 
     -- places at which no later move starts have their keys
-    others_put : (p : Place) → Holds u p → list_any (λ l. same_place l.source p) rest ≡ false → after p ≡ rekeyed h.keys target key p
+    others_put : (p : Place) → HasPlace u p → list_any (λ l. same_place l.source p) rest ≡ false → after p ≡ rekeyed h.keys target key p
     others_put p held none =
         elim (put_cases p held) [
           | inl e ↦ ap after e ∙ target_key ∙ sym (ap (rekeyed h.keys target key) e ∙ target_rekeyed)
@@ -200,20 +204,21 @@ module _ (before after : KeysOf) (moves : List Move) (m : Move) (rest : List Mov
           index = put.index;
           can = record {
             held = λ k d lt some. still_held (get_or rest k d).source (All-tail
-                (λ (l : Move). IsSome l.target → Holds t l.source) m rest h.can.held k d lt some) (later_source k d lt);
+                (λ (l : Move). IsSome l.target → HasPlace t l.source) m rest h.can.held k d lt some) (later_source k d lt);
             in_turn = h.can.in_turn.1;
             moved = λ k d lt.
                 if_some_map {A = λ place. after place ≡ h.keys (get_or rest k d).source} {B = λ place. after place ≡ rekeyed h.keys target key
                 (get_or rest k d).source} (get_or rest k d).target
                 (All-tail (λ (l : Move). IfSome l.target (λ place. after place ≡ h.keys l.source)) m rest h.can.moved k d lt)
                 (λ place e. e ∙ sym (later_key k d lt));
-            segments = All-tail (λ (l : Move). IfSome l.target (λ place. place.segment < 2 ^ 16)) m rest h.can.segments;
+            inside = subst (λ (y : Layout). All (λ (l : Move). IfSome l.target (IsInLayout y)) rest) (sym size.layout)
+                (All-tail (λ (l : Move). IfSome l.target (IsInLayout t.layout)) m rest h.can.inside);
             others = others_put;
           };
           lost = λ k d lt none held.
               elim (put_cases (get_or rest k d).source held) [
                 | inl e ↦ later_target k d lt (sym e)
-                | inr other ↦ All-tail (λ (l : Move). l.target ≡ None → Holds t l.source → ⊥) m rest h.lost k d lt none
+                | inr other ↦ All-tail (λ (l : Move). l.target ≡ None → HasPlace t l.source → ⊥) m rest h.lost k d lt none
                     (held_at h.keys t other.0 (get_or rest k d).source other.2)
               ];
           same = λ k d lt some. later_key k d lt ∙ All-tail (λ (l : Move). IsSome l.target → h.keys l.source ≡ before l.source) m rest h.same k d lt some;

@@ -5,21 +5,22 @@ use Rattle.segments.specs.Pools.{PoolState, Plan, IsPool, Liveness}
 use Rattle.segments.specs.Merges.{IsPlan, planned, carried_out}
 use Rattle.index.specs.Keys.{KeysOf, key_at}
 use Rattle.index.specs.Following.{CanFollow, HoldsLive, keys_behind}
+use Rattle.index.specs.Layouts.{IsLayoutOf}
 use Rattle.index.specs.Slots.{used_in}
-use Rattle.index.specs.Table.{Table, IsIndex, Holds, IsMap, places}
+use Rattle.index.specs.Table.{Table, IsIndex, HasPlace, IsMap, places}
 
 -- where the places in the table keep their keys, the table stays an index of the same map
 abbrev pub KeysMayChangeElsewhere : Type 0
 KeysMayChangeElsewhere =
-    (before after : KeysOf) (t : Table) → IsIndex before t → ((p : Place) → Holds t p → after p ≡ before p) → IsMap after t (places before t)
+    (before after : KeysOf) (t : Table) → IsIndex before t → ((p : Place) → HasPlace t p → after p ≡ before p) → IsMap after t (places before t)
 
 -- of the places that there are, each is in one slot at most
 abbrev pub EachPlaceOnce : Type 0
 EachPlaceOnce =
-    (keys : KeysOf) (t : Table) (all : List Place) → IsIndex keys t → ((p : Place) → Holds t p → Contains all p) → used_in t.slots ≤ length all
+    (keys : KeysOf) (t : Table) (all : List Place) → IsIndex keys t → ((p : Place) → HasPlace t p → Contains all p) → used_in t.slots ≤ length all
 
 -- a table of the live items' places can follow the merge that was planned for them
 abbrev pub PlansCanBeFollowed : Type 0
 PlansCanBeFollowed =
     (lives : Liveness) (p : PoolState) (plan : Plan) (t : Table) → IsPool p → IsPlan lives p plan → IsPool (carried_out (planned p plan) plan)
-    → IsIndex (key_at p) t → HoldsLive lives p t → CanFollow (key_at (planned p plan)) (keys_behind (planned p plan)) t plan.moves
+    → IsLayoutOf p.sizes t.layout → IsIndex (key_at p) t → HoldsLive lives p t → CanFollow (key_at (planned p plan)) (keys_behind (planned p plan)) t plan.moves

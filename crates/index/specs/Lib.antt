@@ -1,4 +1,5 @@
 pub mod Slots
+pub mod Layouts
 pub mod Keys
 pub mod Table
 pub mod Searches

@@ -5,12 +5,11 @@ ghost use Rattle.segments.specs.Pools.{item_in};
 ghost use Rattle.segments.specs.Merges.{planned_moves};
 ghost use Rattle.segments.specs.Places.{moved_by};
 ghost use Rattle.index.specs.Keys.{key_at};
-ghost use Rattle.index.specs.Table.{IsIndex, IsSameSize, Holds};
+ghost use Rattle.index.specs.Table.{IsIndex, IsSameSize, HasPlace};
 ghost use Rattle.index.specs.Following.{IsFollowed, CanFollow, forget_segment, forget_lost, keys_behind};
 
 use crate::index::Index;
-use segments::place::Move;
-use segments::pool::Pool;
+use segments::{Move, Pool};
 
 impl Index {
     /// Takes out the keys of a segment's items: before the segment is cleared, or once its deadline has come.
@@ -46,7 +45,7 @@ impl Index {
         requires index { IsIndex (key_at pool.now) self.old }
         requires sources { All (λ m. IsSome (item_in pool.now m.source)) moves.now }
         requires can { CanFollow (key_at pool.now) (keys_behind pool.now) self.old moves.now }
-        requires lost { All (λ m. m.target ≡ None → ¬ (Holds self.old m.source)) moves.now }
+        requires lost { All (λ m. m.target ≡ None → ¬ (HasPlace self.old m.source)) moves.now }
         ensures followed { IsFollowed (key_at pool.now) (keys_behind pool.now) (moved_by moves.now) self.old self.new }
         ensures size { IsSameSize self.old self.new }
     {

@@ -1,21 +1,23 @@
 //! The index.
 
-ghost use Rattle.std.specs.Prelude.{◌≡◌, ◌≢◌, ◌+◌, ◌*◌, ◌<◌, ◌≤◌, ◌^◌, List, ℕ, length, IfOk, Some, None, IsTrue, ◌↔◌, IfSome, IsSome, replicate};
+ghost use Rattle.std.specs.Prelude.{◌≡◌, ◌≢◌, ◌+◌, ◌*◌, ◌<◌, ◌≤◌, List, ℕ, length, IfOk, Some, None, IsTrue, ◌↔◌, IfSome, IsSome, replicate};
 ghost use Rattle.std.specs.FinMap as map;
 ghost use Rattle.segments.specs.declared.place.Place.{Place as Spot};
 ghost use Rattle.segments.specs.Pools.{item_in};
 ghost use Rattle.index.specs.Keys.{KeysOf, key_at};
 ghost use Rattle.index.specs.Slots.{used_in, empty_slot};
+ghost use Rattle.index.specs.Layouts.{IsLayout, IsInLayout};
 ghost use Rattle.index.specs.Following.{IsFollowed, forget_place};
-ghost use Rattle.index.specs.Table.{IsIndex, IsMap, IsSameSize, IsTable, places, place_at, Holds};
+ghost use Rattle.index.specs.Table.{IsIndex, IsMap, IsSameSize, IsTable, places, place_at, HasPlace};
 
 use crate::closing;
-use crate::hash::{hash_of, home_of, seeded, tag_of};
+use crate::hash::{hash_of, home_of, seeded};
+use crate::layout::Layout;
 use crate::search::{find_key, find_place, first_gap};
-use crate::slot::{EMPTY, Slot};
+use crate::slot::Slot;
+use crate::slots::Slots;
 use proto::no_memory::NoMemory;
-use segments::place::Place;
-use segments::pool::Pool;
+use segments::{Place, Pool};
 use std::alloc::Global;
 use std::hash::FoldHasher;
 use std::marker::Model;
@@ -23,34 +25,34 @@ use std::marker::Model;
 /// The places of items by their keys, in a table that was made once and is never more than half full.
 #[derive(Drop)]
 pub struct Index {
-    slots: Vec<Slot>,
+    slots: Slots,
     hasher: FoldHasher,
     /// How many slots have a place.
     used: usize,
 }
 
 impl Model for Index {
-    ghost use Rattle.index.specs.Table.{Table, IsTable, IsCounted};
+    ghost use Rattle.index.specs.Table.{Table, IsTable, AreSlotsCounted};
 
     ghost Value = { Table };
 
-    ghost view = { λ a. record { slots = a.slots.items; hasher = a.hasher } };
+    ghost view = { λ a. record { slots = a.slots.slots; hasher = a.hasher; layout = a.slots.layout } };
 
-    ghost invariant = { λ a. IsCounted (record { slots = a.slots.items; hasher = a.hasher }) a.used };
+    ghost invariant = { λ a. AreSlotsCounted (record { slots = a.slots.slots; hasher = a.hasher; layout = a.slots.layout }) a.used };
 }
 
 impl Index {
     /// A table of so many empty slots. The seed is hashed before each key, so that who doesn't know it can't choose keys
     /// that meet in few slots.
-    pub fn new(alloc: Global, count: usize, seed: u64) -> Result<Index, NoMemory>
-        requires { 1 ≤ count }
+    pub fn new(alloc: Global, count: usize, layout: Layout, seed: u64) -> Result<Index, NoMemory>
+        requires some { 1 ≤ count }
+        requires layout { IsLayout layout }
         ensures slots { IfOk result (λ index. index.slots ≡ replicate count empty_slot) }
         ensures map { IfOk result (λ index. (keys : KeysOf) → IsMap keys index map.empty) }
+        ensures layout { IfOk result (λ index. index.layout ≡ layout) }
     {
-        let mut slots = Vec::with_capacity(alloc, count)?;
-        slots.resize(count, EMPTY)?;
         Ok(Index {
-            slots,
+            slots: Slots::new(alloc, count, layout)?,
             hasher: seeded(seed),
             used: 0,
         })
@@ -80,14 +82,44 @@ impl Index {
     {
         let hash = hash_of(self.hasher, key);
         let home = home_of(self.slots.len(), hash);
-        let at = find_key(&self.slots, pool, home, tag_of(hash), key)?;
-        Some(self.slots[at].place())
+        let tag = self.slots.layout().tag_of(hash);
+        match find_key(&self.slots, pool, home, tag, key) {
+            Ok(at) => Some(self.slots.get(at).place()),
+            Err(_) => None,
+        }
+    }
+
+    /// Gives the key this place in place of the one that it had, by one search.
+    pub fn put(&mut self, pool: &Pool, key: &[u8], place: Place) -> Option<Place>
+        requires index { IsIndex (key_at pool.now) self.old }
+        requires key { key_at pool.now place ≡ Some key.now }
+        requires place { IsInLayout self.old.layout place }
+        requires room { 2 * (used_in self.old.slots + 1) ≤ length self.old.slots }
+        ensures had { result ≡ place_at (key_at pool.now) self.old key.now }
+        ensures map { IsMap (key_at pool.now) self.new (map.insert (places (key_at pool.now) self.old) key.now place) }
+        ensures size { IsSameSize self.old self.new }
+    {
+        let hash = hash_of(self.hasher, key);
+        let home = home_of(self.slots.len(), hash);
+        let tag = self.slots.layout().tag_of(hash);
+        match find_key(&self.slots, pool, home, tag, key) {
+            Ok(at) => {
+                let source = self.slots.get(at).place();
+                self.slots.set(at, Slot::new(tag, place));
+                Some(source)
+            }
+            Err(gap) => {
+                self.slots.set(gap, Slot::new(tag, place));
+                self.used += 1;
+                None
+            }
+        }
     }
 
     /// Adds the place of a key that has none.
     pub fn insert(&mut self, key: &[u8], place: Place)
         requires room { 2 * (used_in self.old.slots + 1) ≤ length self.old.slots }
-        requires segment { place.segment < 2 ^ 16 }
+        requires place { IsInLayout self.old.layout place }
         ensures map { (keys : KeysOf) → IsIndex keys self.old → keys place ≡ Some key.now
             → place_at keys self.old key.now ≡ None
             → IsMap keys self.new (map.insert (places keys self.old) key.now place) }
@@ -97,17 +129,18 @@ impl Index {
         let hash = hash_of(self.hasher, key);
         let home = home_of(self.slots.len(), hash);
         let at = first_gap(&self.slots, home);
-        self.slots[at] = Slot::new(tag_of(hash), place);
+        let tag = self.slots.layout().tag_of(hash);
+        self.slots.set(at, Slot::new(tag, place));
         self.used += 1;
     }
 
     /// Gives the key another place.
     pub fn replace(&mut self, key: &[u8], source: Place, target: Place)
-        requires segment { target.segment < 2 ^ 16 }
+        requires target { IsInLayout self.old.layout target }
         requires there { (keys : KeysOf) × IsIndex keys self.old × (place_at keys self.old key.now ≡ Some source) }
         ensures map { (before after : KeysOf) → IsIndex before self.old → place_at before self.old key.now ≡ Some source
             → after target ≡ Some key.now
-            → ((p : Spot) → Holds self.old p → p ≢ source → after p ≡ before p)
+            → ((p : Spot) → HasPlace self.old p → p ≢ source → after p ≡ before p)
             → IsMap after self.new (map.insert (places before self.old) key.now target) }
         ensures size { IsSameSize self.old self.new }
         ensures count { used_in self.new.slots ≡ used_in self.old.slots }
@@ -115,7 +148,8 @@ impl Index {
         let hash = hash_of(self.hasher, key);
         let home = home_of(self.slots.len(), hash);
         let at = find_place(&self.slots, home, source).unwrap();
-        self.slots[at] = Slot::new(self.slots[at].tag, target);
+        let tag = self.slots.layout().tag_of(hash);
+        self.slots.set(at, Slot::new(tag, target));
     }
 
     /// Takes a key out.
@@ -153,9 +187,7 @@ impl Index {
         ensures size { IsSameSize self.old self.new }
         ensures count { used_in self.new.slots ≡ 0 }
     {
-        for slot in self.slots.iter_mut() {
-            *slot = EMPTY;
-        }
+        self.slots.clear();
         self.used = 0;
     }
 }

@@ -9,12 +9,11 @@ ghost use Rattle.segments.specs.Pools.{bucket_count};
 ghost use Rattle.segments.specs.Changes.{IsAddedToTail, IsAddedToFree, HasNoRoom};
 ghost use Rattle.index.specs.Keys.{key_at};
 ghost use Rattle.index.specs.Sizing.{most_items};
+ghost use Rattle.index.specs.Layouts.{IsLayoutOf};
 ghost use Rattle.index.specs.Table.{IsIndex, IsMap, IsSameSize, places};
 
 use crate::index::Index;
-use segments::item::ItemRef;
-use segments::place::Place;
-use segments::pool::{NoRoom, Pool};
+use segments::{ItemRef, NoRoom, Place, Pool};
 
 /// Appends an item to the pool, and gives its key this place in place of one that it had.
 pub fn write(
@@ -26,6 +25,7 @@ pub fn write(
 ) -> Result<Place, NoRoom>
     requires index { IsIndex (key_at pool.old) index.old }
     requires room { 2 * most_items pool.old.sizes ≤ length index.old.slots }
+    requires layout { IsLayoutOf pool.old.sizes index.old.layout }
     requires bucket { bucket < bucket_count }
     requires moment { moment ≤ 2 ^ 62 }
     requires storable { IsStorable (item_limit pool.old.sizes) (item_of item) }

@@ -1,13 +1,12 @@
 //! A pool and an index of the size that goes with it, as a map from keys to values.
 
 use index::index::Index;
+use index::layout::layout_for;
 use index::sizing::slots_for;
 use index::write::write;
 use proto::geometry::Geometry;
 use proto::no_memory::NoMemory;
-use segments::bucket::LASTING;
-use segments::item::{ItemRef, size_of};
-use segments::pool::Pool;
+use segments::{ItemRef, LASTING, Pool, size_of};
 use std::alloc::Global;
 use std::marker::Model;
 
@@ -25,13 +24,14 @@ impl Model for Shelf {
     ghost use Rattle.index_tests.specs.Pairs.{Pairs};
     ghost use Rattle.index.specs.Keys.{key_at};
     ghost use Rattle.index.specs.Table.{IsIndex};
+    ghost use Rattle.index.specs.Layouts.{IsLayoutOf};
 
     ghost Value = { Pairs };
 
     ghost view = { λ a. record { pool = a.pool; index = a.index } };
 
     ghost invariant = { λ a. IsIndex (key_at a.pool) a.index × (a.pool.sizes ≡ a.geometry)
-        × (2 * most_items a.geometry ≤ length a.index.slots) };
+        × (2 * most_items a.geometry ≤ length a.index.slots) × IsLayoutOf a.geometry a.index.layout };
 }
 
 impl Shelf {
@@ -40,7 +40,12 @@ impl Shelf {
         Ok(Shelf {
             geometry,
             pool: Pool::new(alloc, geometry)?,
-            index: Index::new(alloc, slots_for(geometry).max(1), seed)?,
+            index: Index::new(
+                alloc,
+                slots_for(geometry).max(1),
+                layout_for(geometry),
+                seed,
+            )?,
         })
     }
 

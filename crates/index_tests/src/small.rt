@@ -1,11 +1,10 @@
 //! A pool and an index with few slots.
 
 use index::index::Index;
+use index::layout::layout_for;
 use proto::geometry::Geometry;
 use proto::no_memory::NoMemory;
-use segments::bucket::LASTING;
-use segments::item::{ItemRef, size_of};
-use segments::pool::Pool;
+use segments::{ItemRef, LASTING, Pool, size_of};
 use std::alloc::Global;
 use std::marker::Model;
 
@@ -22,12 +21,14 @@ impl Model for Small {
     ghost use Rattle.index_tests.specs.Pairs.{Pairs};
     ghost use Rattle.index.specs.Keys.{key_at};
     ghost use Rattle.index.specs.Table.{IsIndex};
+    ghost use Rattle.index.specs.Layouts.{IsLayoutOf};
 
     ghost Value = { Pairs };
 
     ghost view = { λ a. record { pool = a.pool; index = a.index } };
 
-    ghost invariant = { λ a. IsIndex (key_at a.pool) a.index × (a.pool.sizes ≡ a.geometry) };
+    ghost invariant = { λ a. IsIndex (key_at a.pool) a.index × (a.pool.sizes ≡ a.geometry)
+        × IsLayoutOf a.geometry a.index.layout };
 }
 
 impl Small {
@@ -36,7 +37,7 @@ impl Small {
         Ok(Small {
             geometry,
             pool: Pool::new(alloc, geometry)?,
-            index: Index::new(alloc, 64, seed)?,
+            index: Index::new(alloc, 64, layout_for(geometry), seed)?,
         })
     }
 

@@ -1,5 +1,5 @@
-//! Requests a second through the lanes, and through the exchange by queues, each to the plain store and back. The
-//! figures go to standard error, since they differ from run to run. `lanes_bench N` hands over N requests a run;
+//! Requests a second through the lanes, singly and in batches, and through the exchange by queues, each to the plain
+//! store and back. The figures go to standard error, since they differ from run to run. `lanes_bench N` hands over N requests a run;
 //! `lanes_bench idle N` lets the storage thread wait N seconds for nothing, to be timed from outside.
 #![tactic(auto)]
 
@@ -7,7 +7,7 @@ ghost use Rattle.std.specs.Prelude.{◌<◌};
 
 mod idle;
 
-use exchange_runs::{Load, run_lanes, run_queues};
+use exchange_runs::{Workload, run_batches, run_lanes, run_queues};
 use std::process::ExitCode;
 use std::rt::Env;
 use std::sync::Wait;
@@ -41,23 +41,29 @@ fn per_second(requests: u64, elapsed: Option<Duration>) -> u64 {
     }
 }
 
-/// Measures both exchanges for so many requests of all workers together.
+/// Measures the lanes with single requests and with batches, and the queues, for so many requests of all workers
+/// together.
 fn measure<R: Threads + Wait + time::Clock + Sync + AllocGlobal>(
     rt: &R,
     requests: u64,
     workers: usize,
     window: u64,
-) -> (u64, u64)
+) -> (u64, u64, u64)
     requires { 0 < workers }
 {
-    let load = Load {
+    let load = Workload {
         each: requests / workers as u64,
         window,
         kept: false,
     };
     let lanes = run_lanes(rt, rt.alloc(), workers, load).map(|run| run.elapsed);
+    let batches = run_batches(rt, rt.alloc(), workers, load).map(|run| run.elapsed);
     let queues = run_queues(rt, rt.alloc(), workers, load).map(|run| run.elapsed);
-    (per_second(requests, lanes), per_second(requests, queues))
+    (
+        per_second(requests, lanes),
+        per_second(requests, batches),
+        per_second(requests, queues),
+    )
 }
 
 fn main(rt: HostRuntime) -> ExitCode {
@@ -67,10 +73,10 @@ fn main(rt: HostRuntime) -> ExitCode {
     }
     let requests = number(&rt, 1).unwrap_or(FEW);
     for workers in [1, 2, 4] {
-        for window in [1, 64] {
-            let (lanes, queues) = measure(&rt, requests, workers, window);
+        for window in [1, 16, 64] {
+            let (lanes, batches, queues) = measure(&rt, requests, workers, window);
             let _ = eprintln!(rt;
-                "{workers} workers, window {window}: lanes {lanes}, queues {queues} a second"
+                "{workers} workers, window {window}: lanes {lanes}, in batches {batches}, queues {queues} a second"
             );
         }
     }

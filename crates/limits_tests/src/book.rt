@@ -1,8 +1,9 @@
 //! Where a book stops, and one step before.
 
 use proto::history::Answered;
-use proto::hits::{HitRef, Hits};
+use proto::hits::{HitRef, HitWriter};
 use proto::message::{Reply, Request};
+use proto::room::Room;
 use session_book::book::Book;
 use session_book::causes::{FeedFault, Settled};
 use std::alloc::Global;
@@ -46,7 +47,7 @@ fn answer(alloc: Global, book: &mut Book, session: u64, length: usize) -> Result
         return Err(Fail::new("no request"));
     };
     let reply = value_of(alloc, length)?;
-    Ok(book.settle(answered(session, number, request, reply)))
+    Ok(book.settle(&answered(session, number, request, reply)))
 }
 
 fn answered(session: u64, number: u64, request: Request, reply: Reply) -> Answered {
@@ -68,7 +69,7 @@ fn value_of(alloc: Global, length: usize) -> Result<Reply, Fail> {
         value: value.as_slice(),
         cas: 1,
     };
-    let mut hits = Hits::new(alloc).into_writer();
+    let mut hits = HitWriter::in_room(Room::new(alloc));
     if let Some(room) = hit.room() {
         hits.reserve(room)?;
         hits.push(hit);
@@ -121,7 +122,7 @@ fn check_waiting(rt: &impl Abort, alloc: Global) -> Result<(), Fail> {
     }
     for number in 1..=64 {
         let request = Request::FlushAll { delay: 0 };
-        let settled = book.settle(answered(1, number, request, value_of(alloc, 131_000)?));
+        let settled = book.settle(&answered(1, number, request, value_of(alloc, 131_000)?));
         assert_eq!(rt; settled, Settled::Kept, "answer {number}");
     }
     assert_eq!(rt; book.out(1).len(), 8_385_600);

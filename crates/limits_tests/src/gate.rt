@@ -1,6 +1,6 @@
 //! Which answers let request 2 of a worker pass a gate that holds two workers.
 
-use gates::hold::HoldGate;
+use gates::HoldGate;
 use std::process::Abort;
 use worker::gate::Gate;
 

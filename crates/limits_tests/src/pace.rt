@@ -3,9 +3,8 @@
 
 use crate::runs::SteadyClock;
 use bytes::Bytes;
-use gates::open::OpenGate;
-use group::report::Config;
-use group::run::run_group;
+use gates::OpenGate;
+use group::{Config, run_group};
 use plain_store::Store;
 use proto::geometry::Geometry;
 use std::test::Fail;

@@ -2,7 +2,7 @@
 
 ghost use Rattle.std.specs.Prelude.{◌≡◌, []};
 ghost use Rattle.worker.specs.Ports.{IsOpenIn};
-ghost use Rattle.script_port.specs.States.{told_of};
+ghost use Rattle.script_port.specs.States.{story_told};
 
 use bytes::Bytes;
 use script::event::ScriptEvent;
@@ -26,7 +26,7 @@ fn is_next(rt: &impl Abort, port: &mut ScriptPort, wanted: &str) {
 
 /// A port at which session 1 was opened, and nothing else has happened.
 fn with_session_1(rt: &impl Abort, alloc: Global, events: Vec<ScriptEvent>) -> ScriptPort
-    ensures { IsOpenIn 1 (told_of result) }
+    ensures { IsOpenIn 1 (story_told result) }
 {
     let mut port = ScriptPort::new(alloc, events);
     match port.next(false) {

@@ -2,7 +2,7 @@
 
 use crate::serving::serve;
 use crate::talk::{Shape, Talk, script_of, talk_of};
-use gates::open::OpenGate;
+use gates::OpenGate;
 use plain_store::Store;
 use proto::geometry::Geometry;
 use script::clock::ScriptClock;

@@ -1,15 +1,20 @@
 //! Streams on their way from the listener to a worker.
 
+use crate::fault::NetFault;
 use crossbeam_queue::ArrayQueue;
 use mio::net::{TcpStream, UnixStream};
 use mio::{Interest, Poll, Token};
 use std::alloc::Global;
 use std::io::{self, Read, Write};
+use std::net::Net;
 use std::sync::atomic::{AtomicBool, Ordering};
 use std::sync::{Arc, Wait};
 
 /// The bell's token in a port's poll: sessions are numbered from 1.
 pub(crate) const BELL: Token = Token(0);
+
+/// So many streams wait in a hand at most.
+const WAITING_STREAMS: usize = 64;
 
 /// Bytes of the bell that are read at once.
 const RINGS: usize = 128;
@@ -24,6 +29,30 @@ pub struct Hand {
 }
 
 impl Hand {
+    /// The listener's and the port's end of a queue of 64 streams.
+    ///
+    /// # Errors
+    ///
+    /// NoMemory; Poll where the system has no pair of sockets to wake the port by.
+    pub fn pair<N: Net>(net: &N, alloc: Global) -> Result<(Hand, Hand), NetFault> {
+        let streams = Arc::new(alloc, ArrayQueue::new(alloc, WAITING_STREAMS)?)?;
+        let has_ended = Arc::new(alloc, AtomicBool::new(false))?;
+        let Ok((near, far)) = UnixStream::pair(net) else {
+            return Err(NetFault::Poll);
+        };
+        let of_port = Hand {
+            streams: Arc::try_clone(&streams)?,
+            has_ended: Arc::try_clone(&has_ended)?,
+            bell: far,
+        };
+        let of_listener = Hand {
+            streams,
+            has_ended,
+            bell: near,
+        };
+        Ok((of_listener, of_port))
+    }
+
     // Offers a stream, which comes back where the queue is full.
     pub(crate) fn offer<R: Wait>(&self, rt: &R, stream: TcpStream) -> Result<(), TcpStream> {
         self.streams.push(rt, stream)?;

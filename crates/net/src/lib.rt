@@ -2,11 +2,16 @@
 #![tactic(auto)]
 
 mod ceasing;
-pub mod fault;
-pub mod hand;
-pub mod listener;
-pub mod pair;
-pub mod port;
-pub mod report;
+mod fault;
+mod hand;
+mod listener;
+mod port;
+mod report;
 mod streams;
 mod waiting;
+
+pub use fault::NetFault;
+pub use hand::Hand;
+pub use listener::Listener;
+pub use port::MioPort;
+pub use report::ListenReport;

@@ -8,6 +8,7 @@ use crate::fault::NetFault;
 use crate::hand::{BELL, Hand};
 use crate::streams::{Reading, Streams};
 use mio::{Events, Poll};
+use parking::Hope;
 use std::alloc::Global;
 use std::net::Net;
 use std::sync::Wait;
@@ -17,8 +18,11 @@ use worker::port::{Gone, Port, PortEvent};
 /// Events of one poll.
 const EVENTS: usize = 256;
 
-/// So many idle calls in a row poll without waiting, although the worker may wait: it had work a moment ago.
-const QUIET_CALLS: u32 = 64;
+/// So many idle calls in a row poll without waiting, although the worker may wait, where input has lately come within that
+/// time; and else so many.
+const LONG_ROW: u32 = 64;
+
+const SHORT_ROW: u32 = 2;
 
 /// While the worker may not wait, the sockets are looked at only at each so many idle calls.
 const CALLS_EACH_POLL: u32 = 4;
@@ -47,6 +51,9 @@ pub struct MioPort<R: Drop> {
     ceasing: CeasingSessions,
     // Idle calls in a row.
     quiet: u32,
+    // Whether the port has waited in this row.
+    has_waited: bool,
+    hope: Hope,
 }
 
 impl<R: Wait + Clock + Drop> MioPort<R> {
@@ -75,6 +82,8 @@ impl<R: Wait + Clock + Drop> MioPort<R> {
             streams: Streams::new(alloc)?,
             ceasing: CeasingSessions::new(alloc),
             quiet: 0,
+            has_waited: false,
+            hope: Hope::new(),
         })
     }
 
@@ -88,7 +97,9 @@ impl<R: Wait + Clock + Drop> MioPort<R> {
         if !may_wait && self.quiet % CALLS_EACH_POLL != 0 {
             return PortEvent::Idle;
         }
-        self.look(self.wait_millis(may_wait));
+        let millis = self.wait_millis(may_wait);
+        self.has_waited |= may_wait && millis > 0;
+        self.look(millis);
         if let Some(event) = self.known_event(may_wait) {
             return event;
         }
@@ -96,6 +107,27 @@ impl<R: Wait + Clock + Drop> MioPort<R> {
             return PortEvent::Ended;
         }
         PortEvent::Idle
+    }
+
+    // How many idle calls in a row poll without waiting while the worker may wait.
+    fn row(&self) -> u32 {
+        if self.hope.is_long() {
+            LONG_ROW
+        } else {
+            SHORT_ROW
+        }
+    }
+
+    // An event came: the next idle call is the first of a row.
+    fn end_row(&mut self)
+        ensures { self.new.streams.last ≡ self.old.streams.last }
+    {
+        if self.quiet == 0 {
+            return;
+        }
+        self.hope.note(self.has_waited);
+        self.has_waited = false;
+        self.quiet = 0;
     }
 
     // How long the next look at the sockets may wait.
@@ -107,7 +139,7 @@ impl<R: Wait + Clock + Drop> MioPort<R> {
                 STALLED_WAIT_MILLIS
             };
         }
-        if self.quiet < QUIET_CALLS {
+        if self.quiet < self.row() {
             0
         } else if self.ceasing.is_empty() {
             WAIT_MILLIS
@@ -198,7 +230,7 @@ impl<R: Wait + Clock + Drop> Port for MioPort<R> {
         let event = self.next_event(may_wait);
         match &event {
             PortEvent::Idle => self.quiet = self.quiet.saturating_add(1),
-            _ => self.quiet = 0,
+            _ => self.end_row(),
         }
         event
     }

@@ -9,10 +9,7 @@ use mio::{Events, Interest, Poll, Token};
 use std::alloc::{AllocError, Global};
 use std::collections::{HashMap, VecDeque};
 use std::io::{ErrorKind, Read, Write};
-use worker::port::Gone;
-
-/// The greatest piece of input.
-const PIECE: usize = 16_384;
+use worker::port::{Gone, MAX_PIECE};
 
 /// The most sessions of a port that are open at a time.
 const OPEN_SESSIONS: usize = 1024;
@@ -63,7 +60,7 @@ impl Streams {
             alloc,
             open: HashMap::with_capacity(alloc, OPEN_SESSIONS)?,
             ready: VecDeque::with_capacity(alloc, OPEN_SESSIONS)?,
-            scratch: Vec::from_elem(alloc, 0u8, PIECE)?,
+            scratch: Vec::from_elem(alloc, 0u8, MAX_PIECE)?,
             last: 0,
         })
     }

@@ -1,7 +1,6 @@
 //! Listeners that can't be bound.
 
-use net::fault::NetFault;
-use net::listener::Listener;
+use net::{Listener, NetFault};
 use std::alloc::Global;
 
 #[test]

@@ -1,15 +1,10 @@
 //! Groups of workers over sockets.
 
 use crate::clients::{ANSWER_A, ANSWER_B, ROW_A, ROW_B, ask, connect, send};
-use clocks::unix_clock::UnixClock;
-use gates::open::OpenGate;
-use group::report::{Config, GroupWorker};
-use group::run::run_group;
-use net::hand::Hand;
-use net::listener::Listener;
-use net::pair::hand;
-use net::port::MioPort;
-use net::report::ListenReport;
+use clocks::UnixClock;
+use gates::OpenGate;
+use group::{Config, GroupWorker, run_group};
+use net::{Hand, ListenReport, Listener, MioPort};
 use plain_store::Store;
 use proto::geometry::Geometry;
 use session_book::causes::EndCause;
@@ -33,7 +28,7 @@ fn two_workers<R: Wait + Clock + Net + Abort + Copy + Drop>(rt: R, alloc: Global
     let mut hands = Vec::new(alloc);
     let mut ports = Vec::new(alloc);
     for _ in 0..2 {
-        let (of_listener, of_port) = hand(&rt, alloc).expect(&rt, "a hand");
+        let (of_listener, of_port) = Hand::pair(&rt, alloc).expect(&rt, "a hand");
         hands.push(of_listener).expect(&rt, "memory");
         let port = MioPort::new(rt, &rt, alloc, of_port).expect(&rt, "a port");
         ports.push(port).expect(&rt, "memory");

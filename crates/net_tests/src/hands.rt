@@ -1,8 +1,7 @@
 //! A hand that nobody empties.
 
 use crate::clients::{connect, read_all};
-use net::listener::Listener;
-use net::pair::hand;
+use net::{Hand, Listener};
 use std::alloc::Global;
 use std::net::{Net, TcpStream};
 use std::process::Abort;
@@ -31,7 +30,7 @@ fn a_full_hand_has_64_streams_and_the_next_is_closed(rt: HostRuntime) {
     let clients = thread::spawn(&rt, move || connect_all(&rt, alloc, port, 65)).expect(
         &rt, "a thread",
     );
-    let (of_listener, of_port) = hand(&rt, alloc).expect(&rt, "a hand");
+    let (of_listener, of_port) = Hand::pair(&rt, alloc).expect(&rt, "a hand");
     let report = listener.run(&rt, &[of_listener], Some(65));
     assert!(rt; clients.join(&rt) == 0);
     assert!(rt; report.accepted == 65 && report.closed == 1 && report.failed == 0);

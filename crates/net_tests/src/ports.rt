@@ -1,9 +1,7 @@
 //! One port, asked by the tests in place of a worker.
 
 use crate::clients::{connect, send};
-use net::listener::Listener;
-use net::pair::hand;
-use net::port::MioPort;
+use net::{Hand, Listener, MioPort};
 use std::alloc::Global;
 use std::net::{Net, Shutdown, TcpStream};
 use std::process::Abort;
@@ -53,7 +51,7 @@ where
             .push(connect(&rt, alloc, listener.port()))
             .expect(&rt, "memory");
     }
-    let (of_listener, of_port) = hand(&rt, alloc).expect(&rt, "a hand");
+    let (of_listener, of_port) = Hand::pair(&rt, alloc).expect(&rt, "a hand");
     let report = listener.run(&rt, &[of_listener], Some(count));
     assert!(rt; report.accepted == count && report.closed == 0);
     let port = MioPort::new(rt, &rt, alloc, of_port).expect(&rt, "a port");

@@ -1,6 +1,9 @@
 //! How a thread that looks for work without a lock sleeps while there is none.
 #![tactic(auto)]
 
+mod hope;
+
+pub use hope::Hope;
 use std::sync::Wait;
 use std::sync::atomic::{AtomicU64, Ordering};
 use std::time::Duration;

@@ -46,7 +46,7 @@ impl Store {
         ensures { result ≡ record { sizes = geometry; cache = empty_cache last_cas; moment = 0 } }
     {
         Store {
-            engine: Engine::over(alloc, PlainMap::new(alloc, geometry), last_cas),
+            engine: Engine::over(PlainMap::new(alloc, geometry), last_cas),
         }
     }
 
@@ -65,20 +65,21 @@ impl Store {
     }
 
     /// Executes the request at this moment, in seconds.
-    pub fn handle(&mut self, now: u64, request: &Request) -> Reply
+    pub fn handle(&mut self, now: u64, request: &mut Request) -> Reply
         requires not_before { self.old.moment ≤ now }
         requires in_range { now ≤ max_moment }
+        ensures request { request.new ≡ request.old }
 
         // nothing is forgotten, and the stored entry has exactly the deadline that it asks for
-        ensures plain { IsPlain self.old.sizes self.old.cache now request.now result self.new.cache }
-        ensures step { Step self.old.sizes self.old.cache now request.now result self.new.cache }
+        ensures plain { IsPlain self.old.sizes self.old.cache now request.old result self.new.cache }
+        ensures step { Step self.old.sizes self.old.cache now request.old result self.new.cache }
         ensures sizes { self.new.sizes ≡ self.old.sizes }
         ensures moment { self.new.moment ≡ now }
 
         // where memory was refused, what was found stays; and only what stores or shows something needs any
         ensures refused { result ≡ Reply.NoMemory → self.new.cache ≡ found_at self.old.cache now }
-        ensures succeeds { needs_memory true (outcome_at self.old.sizes self.old.cache now request.now) ≡ false → result ≢ Reply.NoMemory }
-        ensures kept { KeepsAll (λ (s : State). s.sizes) (λ (s : State). s.cache) (λ (s : State) items. ⊤) self.old now request.now result self.new }
+        ensures succeeds { needs_memory true (outcome_at self.old.sizes self.old.cache now request.old) ≡ false → result ≢ Reply.NoMemory }
+        ensures kept { KeepsAll (λ (s : State). s.sizes) (λ (s : State). s.cache) (λ (s : State) items. ⊤) self.old now request.old result self.new }
     {
         self.engine.execute_at(now, request)
     }
@@ -97,7 +98,7 @@ impl StorageEngine for Store {
         Store::last_moment(self)
     }
 
-    fn handle(&mut self, now: u64, request: &Request) -> Reply {
+    fn handle(&mut self, now: u64, request: &mut Request) -> Reply {
         Store::handle(self, now, request)
     }
 }

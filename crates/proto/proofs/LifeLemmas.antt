@@ -1,5 +1,6 @@
 -- How long an entry is there that was set.
-use Rattle.std.proofs.Common.{◌≡◌, ℕ, ◌+◌, ◌-◌, ◌*◌, ◌<◌, ◌≤◌, min, max, Bool, true, false, List, Option, Some, None, refl, sym, ap, subst, ◌∙◌, inl, inr, arith, le-leb}
+use Rattle.std.proofs.Common.{◌≡◌, ℕ, ◌+◌, ◌-◌, ◌*◌, ◌<◌, ◌≤◌, min, max, Bool, true, false, List, Option, Some, None, refl, sym, ap, subst, ◌∙◌, inl, inr}
+use Rattle.std.proofs.Common.{arith, le-leb}
 use Rattle.std.specs.Prelude.{◌==◌, if◌then◌else◌}
 use Rattle.std.specs.FinMap as map
 use Rattle.std.proofs.lemmas.Bool.{lt-leb}
@@ -47,6 +48,7 @@ numbered cache t p none_left =
 abbrev dated : Cache → ℕ → Put → Bool → Outcome
 dated cache t p come = if come then leaving cache (map.remove cache.entries p.key) Stored else write cache p.key (entry_put t p) Stored
 
+-- a put that wants a cas number, and is answered as stored, has stored its entry
 sets_numbered : (cache : Cache) (t : ℕ) (p : Put) (b : Bool) → (numbered cache t p b).reply ≡ Stored → Sets (numbered cache t p b) t p
 sets_numbered cache t p true is = absurd (cc is)
 sets_numbered cache t p false is =
@@ -60,6 +62,7 @@ sets_numbered cache t p false is =
       deadline = refl;
     }
 
+-- a put whose deadline hasn't come, and that is answered as stored, has stored its entry
 sets_waiting : (cache : Cache) (t : ℕ) (p : Put) (b : Bool) → b ≡ false → (dated cache t p b).reply ≡ Stored → Sets (dated cache t p b) t p
 sets_waiting cache t p true waits is = absurd (cc waits)
 sets_waiting cache t p false waits is = sets_numbered cache t p (cache.last_cas == max_cas) is
@@ -78,11 +81,13 @@ record SetLeaves (t : ℕ) (p : Put) (after : Cache) : Type 0 where
   flags : entry.flags ≡ p.flags
   may : MayLive t (deadline_of p.exptime t) entry.deadline
 
+-- a key that is stored isn't among those that are forgotten
 others_forgotten : (sizes : Sizes) (old new : Entries) (key : List ℕ) (forgotten : List (List ℕ))
     → MayForget sizes old new (Some key) forgotten → contains_bytes forgotten key ≡ false
 others_forgotten sizes old new key forgotten (inl none) = ap (λ (keys : List (List ℕ)). contains_bytes keys key) none
 others_forgotten sizes old new key forgotten (inr h) = h.not_stored
 
+-- a set whose deadline hasn't come, and that is answered as stored, leaves its entry at its key
 set_leaves : (sizes : Sizes) (before after : Cache) (t : ℕ) (p : Put)
     → has_arrived (deadline_of p.exptime t) t ≡ false → Step sizes before t (Set p) Stored after → SetLeaves t p after
 set_leaves sizes before after t p waits (inr x) = let e = x.reply_is in absurd (cc e)
@@ -110,6 +115,7 @@ set_leaves sizes before after t p waits (inl x) =
 
 -- ---- what is found of it
 
+-- where no flush has come, a request finds at a key what was left there, if it is live by then
 found_later : (after : Cache) (u : ℕ) (key : List ℕ) → has_arrived after.pending u ≡ false
     → map.get (found_at after u).entries key ≡ if_live u (map.get after.entries key)
 found_later after u key waits = by_test (has_arrived after.pending u) waits
@@ -121,12 +127,14 @@ found_later after u key waits = by_test (has_arrived after.pending u) waits
     by_test true is = absurd (cc is)
     by_test false is = get-live after.entries u key
 
+-- where neither a flush nor the deadline of what a set left has come, what was put is found
 finds : (t u : ℕ) (p : Put) (after : Cache) (s : SetLeaves t p after) → has_arrived after.pending u ≡ false
     → has_arrived s.entry.deadline u ≡ false → HasPut (found_at after u).entries p
 finds t u p after s pending waits =
     let there : if_live u (map.get after.entries p.key) ≡ Some s.entry = ap (if_live u) s.there ∙ rw waits refl in
     record { entry = s.entry; there = found_later after u p.key pending ∙ there; value = s.value; flags = s.flags }
 
+-- where no flush has come, but the deadline of what a set left has, nothing is found at its key
 misses : (t u : ℕ) (p : Put) (after : Cache) (s : SetLeaves t p after) → has_arrived after.pending u ≡ false
     → has_arrived s.entry.deadline u ≡ true → map.get (found_at after u).entries p.key ≡ None
 misses t u p after s pending gone =
@@ -141,6 +149,7 @@ record IsEnd (t life : ℕ) (given : Option ℕ) : Type 0 where
   not_after : deadline ≤ t + life
   long_enough : t + min life longest_life < deadline + 2 * width_of (bucket_of (Some life))
 
+-- what an entry may get that asks for a life of some seconds is a deadline that stands for the end of this life
 ends : (t life : ℕ) (given : Option ℕ) → 1 ≤ life → MayLive t (Some (t + life)) given → IsEnd t life given
 ends t life None some may = absurd may
 ends t life (Some d) some may =
@@ -153,12 +162,16 @@ ends t life (Some d) some may =
       long_enough = subst (λ (x : ℕ). t + min x longest_life < d + 2 * width_of (bucket_of (Some x))) is may.long_enough;
     }
 
+-- a deadline hasn't come at a moment before it
 waits_until : (given : Option ℕ) (d u : ℕ) → given ≡ Some d → u < d → has_arrived given u ≡ false
 waits_until given d u is h = ap (λ (o : Option ℕ). has_arrived o u) is ∙ lt-leb d u h
 
+-- a deadline has come at its moment and at each later one
 gone_from : (given : Option ℕ) (d u : ℕ) → given ≡ Some d → d ≤ u → has_arrived given u ≡ true
 gone_from given d u is h = ap (λ (o : Option ℕ). has_arrived o u) is ∙ le-leb d u h
 
+-- what was set to live for some seconds is there at first, and until at most two widths of its bucket before they are over;
+-- once they are over it isn't; no flush may have come, and a life above the longest counts as the longest
 pub lives_its_time : LivesItsTime
 lives_its_time sizes before after t life u p some asked step pending =
     let waits : has_arrived (deadline_of p.exptime t) t ≡ false = waits_until (deadline_of p.exptime t) (t + life) t asked (omega arith) in
@@ -172,10 +185,12 @@ lives_its_time sizes before after t life u p some asked step pending =
       λ over. misses t u p after s pending (gone_from s.entry.deadline end.deadline u end.given_is (omega arith)),
     )
 
+-- an entry that asks for no deadline gets none
 no_end : (t : ℕ) (given : Option ℕ) → MayLive t None given → given ≡ None
 no_end t None may = refl
 no_end t (Some d) may = absurd may
 
+-- what was set with no deadline is there at each moment, where no flush has come
 pub lives_for_good : LivesForGood
 lives_for_good sizes before after t u p is step pending =
     let asked : deadline_of p.exptime t ≡ None = ap (λ e. deadline_of e t) is in

@@ -19,14 +19,14 @@ pub record StoredItem : Type 0 where
   pub bucket : ℕ
 
 -- the item that keeps the entry at the key, as a list of one, or no item
-abbrev pub item_of : ℕ → List ℕ → Option Entry → List StoredItem
-item_of t key None = []
-item_of t key (Some e) = record { size = entry_size key e; bucket = bucket_of (time_to_live e.deadline t) } ∷ []
+abbrev pub stored_item_of : ℕ → List ℕ → Option Entry → List StoredItem
+stored_item_of t key None = []
+stored_item_of t key (Some e) = record { size = entry_size key e; bucket = bucket_of (time_to_live e.deadline t) } ∷ []
 
 -- the item under the key that was stored
 abbrev pub item_stored : ℕ → Outcome → Option (List ℕ) → List StoredItem
 item_stored t done None = []
-item_stored t done (Some key) = item_of t key (finite.get done.entries key)
+item_stored t done (Some key) = stored_item_of t key (finite.get done.entries key)
 
 abbrev pub is_no_memory : Reply → Bool
 is_no_memory NoMemory = true

@@ -6,6 +6,7 @@ ghost use Rattle.proto.specs.Hits.{packed_hit, packed_size, first_hit};
 ghost use Rattle.proto.specs.SeenHits.{seen_hit};
 
 use crate::no_memory::NoMemory;
+use crate::room::Room;
 use std::alloc::Global;
 use std::marker::Model;
 
@@ -73,13 +74,9 @@ impl Hits {
         self.iter().next().is_none()
     }
 
-    /// A writer of further answers, in the same memory.
-    pub fn into_writer(self) -> HitWriter
-        ensures { result ≡ record { hits = []; room = 0 } }
-    {
-        let mut bytes = self.bytes;
-        bytes.clear();
-        HitWriter { bytes, room: 0 }
+    /// The memory of the hits, which are gone.
+    pub fn into_room(self) -> Room {
+        Room::emptied(self.bytes)
     }
 }
 
@@ -135,13 +132,14 @@ impl Model for HitWriter {
 }
 
 impl HitWriter {
-    /// Takes so much memory, and none where it is 0.
-    pub fn with_room(alloc: Global, room: usize) -> Result<HitWriter, NoMemory>
-        ensures ok { IfOk result (λ writer. writer ≡ record { hits = []; room = room }) }
-        ensures err { OnErr result (0 < room) }
+    /// Puts hits into this room, once it is reserved.
+    pub fn in_room(room: Room) -> HitWriter
+        ensures { result ≡ record { hits = []; room = 0 } }
     {
-        let bytes = Vec::with_capacity(alloc, room)?;
-        Ok(HitWriter { bytes, room })
+        HitWriter {
+            bytes: room.into_bytes(),
+            room: 0,
+        }
     }
 
     /// Sees to it that there is this room, or changes nothing.

@@ -1,19 +1,23 @@
 //! The keys of a `get`.
 
-ghost use Rattle.std.specs.Prelude.{◌≡◌, ◌++◌, ◌∷◌, ◌↔◌, [], length, IfOk, IsTrue, OnErr, OnOk};
+ghost use Rattle.std.specs.Prelude.{◌≡◌, ◌≢◌, ◌++◌, ◌∷◌, ◌↔◌, [], length, IfOk, IsTrue, MatchOption, OnErr, OnOk};
 ghost use Rattle.proto.specs.Lines.{space};
 ghost use Rattle.proto.specs.Words.{is_space, IsWord};
 ghost use Rattle.std.specs.List.{count_by};
 
 use crate::no_memory::NoMemory;
+use crate::room::Room;
 use crate::words::Words;
 use std::alloc::Global;
 use std::marker::Model;
+use std::mem;
 
-/// Keys in the order asked, in one piece of memory: a space stands before each.
+/// Keys in the order asked, in one piece of memory: a space stands before each. Beside them they have the room that they
+/// were lent for their hits, of which no clause speaks.
 #[derive(Debug, Drop)]
 pub struct Keys {
     bytes: Vec<u8>,
+    room: Room,
 }
 
 impl Model for Keys {
@@ -31,6 +35,7 @@ impl Keys {
     {
         Keys {
             bytes: Vec::new(alloc),
+            room: Room::new(alloc),
         }
     }
 
@@ -42,6 +47,7 @@ impl Keys {
             None => Ok(Keys::new(alloc)),
             Some(rest) => Ok(Keys {
                 bytes: spaced(alloc, rest)?,
+                room: Room::new(alloc),
             }),
         }
     }
@@ -73,11 +79,35 @@ impl Keys {
         self.iter().is_empty()
     }
 
+    /// The key, where it is the only one.
+    pub fn only(&self) -> Option<&[u8]>
+        ensures { MatchOption result (length self.now ≢ 1) (λ key. self.now ≡ key.now ∷ []) }
+    {
+        let mut words = self.iter();
+        let key = words.next()?;
+        if words.is_empty() { Some(key) } else { None }
+    }
+
     /// How many keys there are: their bytes are walked.
     pub fn len(&self) -> usize
         ensures { result ≡ length self.now }
     {
         spaces(self.bytes.as_slice())
+    }
+
+    /// Lends the room for the hits, in place of one that was lent before.
+    pub fn lend_room(&mut self, room: Room)
+        ensures { self.new ≡ self.old }
+    {
+        self.room = room;
+    }
+
+    /// The room that was lent; one without memory is left.
+    pub fn take_room(&mut self) -> Room
+        ensures { self.new ≡ self.old }
+    {
+        let none = Room::new(*self.bytes.allocator());
+        mem::replace(&mut self.room, none)
     }
 }
 

@@ -9,12 +9,13 @@ use Rattle.proto.specs.declared.history.Answered.{Answered}
 use Rattle.proto.specs.History.{Legal, worker_share, asked_posted}
 use Rattle.exchange.specs.declared.messages.Taken.{Taken}
 use Rattle.exchange.specs.declared.messages.Taken.TheVariants.{Asked, Bye}
-use Rattle.exchange.specs.Beginnings.{StartsWith, times, posted_of}
+use Rattle.proto.specs.Counts.{times}
+use Rattle.exchange.specs.Beginnings.{StartsWith, posted_of}
 use Rattle.exchange.specs.Ends.{open_of}
 use Rattle.queue_exchange.specs.declared.views.Sending.{Sending}
-use Rattle.queue_exchange.specs.Requests.{sender_of, part, requests_among, with_senders, byes_among, messages_of, open_after, Follows}
+use Rattle.queue_exchange.specs.Requests.{sender_of, part, requests_among, with_senders, byes_among, messages_of, open_request_after, MayBeTaken}
 use Rattle.queue_exchange.specs.Queues.{WorkerQueues, StorageQueues, AreMet, IsNextTaken, after_taking}
-use Rattle.queue_exchange.specs.Ends.{as_list, asked_by}
+use Rattle.queue_exchange.specs.Ends.{as_list, asked_in}
 use Rattle.queue_exchange.proofs.Messages.{requests_among-append, with_senders-append, byes_among-append, part-append, byes_count, byes_count-append}
 use Rattle.queue_exchange.proofs.Messages.{times-byes, bye_number, byes_of_messages, requests_of_messages}
 
@@ -52,9 +53,9 @@ entry_if true a h os e = ap (λ l. posted_of a ∷ l) e
 entry_if false a h os e = e
 
 -- of a history, they are its share's
-of_worker-asked_by : (w : ℕ) (h : List Answered) → of_worker w (asked_by h) ≡ asked_posted (worker_share h w)
+of_worker-asked_by : (w : ℕ) (h : List Answered) → of_worker w (asked_in h) ≡ asked_posted (worker_share h w)
 of_worker-asked_by w [] = refl
-of_worker-asked_by w (a ∷ h) = entry_if (a.worker == w) a (worker_share h w) (filter (λ (o : ℕ × Posted). o.0 == w) (asked_by h)) (of_worker-asked_by w h)
+of_worker-asked_by w (a ∷ h) = entry_if (a.worker == w) a (worker_share h w) (filter (λ (o : ℕ × Posted). o.0 == w) (asked_in h)) (of_worker-asked_by w h)
 
 -- the open request, where it is of the worker
 open_if : (b : Bool) (o : ℕ × Posted) → map (λ (o : ℕ × Posted). o.1) (cond b (o ∷ []) []) ≡ cond b (o.1 ∷ []) []
@@ -67,24 +68,24 @@ of_worker-open w None = refl
 of_worker-open w (Some o) = open_if (o.0 == w) o
 
 -- what was taken of a worker are its requests in the history, and its open one
-taken_of : (w : ℕ) (taken : List Taken) (h : List Answered) (o : Option (ℕ × Posted)) → with_senders taken ≡ asked_by h ++ as_list o
+taken_of : (w : ℕ) (taken : List Taken) (h : List Answered) (o : Option (ℕ × Posted)) → with_senders taken ≡ asked_in h ++ as_list o
     → requests_among (part w taken) ≡ asked_posted (worker_share h w) ++ open_of o w
 taken_of w taken h o e =
-    requests_of_part w taken ∙ ap (of_worker w) e ∙ of_worker-append w (asked_by h) (as_list o)
+    requests_of_part w taken ∙ ap (of_worker w) e ∙ of_worker-append w (asked_in h) (as_list o)
     ∙ ap (λ l. l ++ of_worker w (as_list o)) (of_worker-asked_by w h) ∙ ap (λ l. asked_posted (worker_share h w) ++ l) (of_worker-open w o)
 
 -- Taking
 
 -- where none is open, as many were taken of a worker as its share has
-none_open : (w : ℕ) (taken : List Taken) (h : List Answered) (o : Option (ℕ × Posted)) → with_senders taken ≡ asked_by h ++ as_list o → o ≡ None
+none_open : (w : ℕ) (taken : List Taken) (h : List Answered) (o : Option (ℕ × Posted)) → with_senders taken ≡ asked_in h ++ as_list o → o ≡ None
     → length (requests_among (part w taken)) ≡ length (worker_share h w)
 none_open w taken h o e none =
     ap length (taken_of w taken h o e ∙ ap (λ (z : Option (ℕ × Posted)). asked_posted (worker_share h w) ++ open_of z w) none
     ∙ append-nil (asked_posted (worker_share h w))) ∙ length-map (worker_share h w) posted_of
 
 -- what is taken is the next message
-pub is_next : (s : StorageQueues) (taken : List Taken) (x : Taken) → with_senders taken ≡ asked_by s.history ++ as_list s.open_request
-    → s.open_request ≡ None → byes_among taken ≡ s.byes → sender_of x < length s.replies → Follows taken x
+pub is_next : (s : StorageQueues) (taken : List Taken) (x : Taken) → with_senders taken ≡ asked_in s.history ++ as_list s.open_request
+    → s.open_request ≡ None → byes_among taken ≡ s.byes → sender_of x < length s.replies → MayBeTaken taken x
     → IsNextTaken s x
 is_next s taken (Asked w p) e none byes lt f = (
   lt,
@@ -102,7 +103,7 @@ pub taking : (s : StorageQueues) (taken : List Taken) (x : Taken) → with_sende
       replies = s.replies;
       geometry = s.geometry;
       taken = with_senders (taken ++ x ∷ []);
-      open_request = open_after s.open_request x;
+      open_request = open_request_after s.open_request x;
       history = s.history;
       byes = byes_among (taken ++ x ∷ []);
     } ≡ after_taking s x
@@ -117,11 +118,11 @@ taking s taken (Bye w) e byes = λ i. record s {
 }
 
 -- what was taken are still the requests of the history, and the open one
-pub still_taken : (taken : List Taken) (h : List Answered) (o : Option (ℕ × Posted)) (x : Taken) → with_senders taken ≡ asked_by h ++ as_list o → o ≡ None
-    → with_senders (taken ++ x ∷ []) ≡ asked_by h ++ as_list (open_after o x)
+pub still_taken : (taken : List Taken) (h : List Answered) (o : Option (ℕ × Posted)) (x : Taken) → with_senders taken ≡ asked_in h ++ as_list o → o ≡ None
+    → with_senders (taken ++ x ∷ []) ≡ asked_in h ++ as_list (open_request_after o x)
 still_taken taken h o (Asked w p) e none =
     with_senders-append taken (Asked w p ∷ [])
-    ∙ ap (λ l. l ++ (w, p) ∷ []) (e ∙ ap (λ (z : Option (ℕ × Posted)). asked_by h ++ as_list z) none ∙ append-nil (asked_by h))
+    ∙ ap (λ l. l ++ (w, p) ∷ []) (e ∙ ap (λ (z : Option (ℕ × Posted)). asked_in h ++ as_list z) none ∙ append-nil (asked_in h))
 still_taken taken h o (Bye w) e none = with_senders-append taken (Bye w ∷ []) ∙ append-nil (with_senders taken) ∙ e
 
 -- the worker of a request
@@ -130,14 +131,14 @@ first_of None = 0
 first_of (Some p) = p.0
 
 -- the open request is of a worker that was made
-pub still_inside : (o : Option (ℕ × Posted)) (x : Taken) (n : ℕ) → o ≡ None → sender_of x < n → (p : ℕ × Posted) → open_after o x ≡ Some p → p.0 < n
+pub still_inside : (o : Option (ℕ × Posted)) (x : Taken) (n : ℕ) → o ≡ None → sender_of x < n → (p : ℕ × Posted) → open_request_after o x ≡ Some p → p.0 < n
 unfolding first_of
 still_inside o (Asked w q) n none lt p e = subst (λ k. k < n) (ap first_of e) lt
 still_inside o (Bye w) n none lt p e = absurd (true≢false (sym (ap is_some (sym none ∙ e))))
 
 -- whether a request is open, where none was before
-pub open_known : (o : Option (ℕ × Posted)) (x : Taken) → o ≡ None → is_some (open_after None x) ≡ is_some (open_after o x)
-open_known o x none = ap (λ (z : Option (ℕ × Posted)). is_some (open_after z x)) (sym none)
+pub open_known : (o : Option (ℕ × Posted)) (x : Taken) → o ≡ None → is_some (open_request_after None x) ≡ is_some (open_request_after o x)
+open_known o x none = ap (λ (z : Option (ℕ × Posted)). is_some (open_request_after z x)) (sym none)
 
 -- Gathering
 
@@ -168,7 +169,7 @@ bye_said false lt = absurd (omega arith)
 
 -- both rules, told to storage once it has met the worker again
 pub are_met : (e : WorkerQueues) (s : StorageQueues) (taken items : List Taken) → Legal s.geometry s.history
-    → with_senders taken ≡ asked_by s.history ++ as_list s.open_request → byes_among taken ≡ s.byes
+    → with_senders taken ≡ asked_in s.history ++ as_list s.open_request → byes_among taken ≡ s.byes
     → messages_of e.worker record { sent = e.sent; said_bye = e.said_bye } ≡ part e.worker (taken ++ items)
     → StartsWith (worker_share s.history e.worker) e.back → (e.said_bye ≡ true → length e.back ≡ length e.sent)
     → AreMet s e

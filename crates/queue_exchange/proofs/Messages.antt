@@ -10,9 +10,10 @@ use Rattle.queue_exchange.proofs.Each.{at_last_or}
 use Rattle.proto.specs.declared.history.Posted.{Posted}
 use Rattle.exchange.specs.declared.messages.Taken.{Taken}
 use Rattle.exchange.specs.declared.messages.Taken.TheVariants.{Asked, Bye}
-use Rattle.exchange.specs.Beginnings.{times}
+use Rattle.proto.specs.Counts.{times}
 use Rattle.queue_exchange.specs.declared.views.Sending.{Sending}
-use Rattle.queue_exchange.specs.Requests.{sender_of, part, requests_among, with_senders, byes_among, last_bye, messages_of, Follows, after_sending, AreNumbered}
+use Rattle.queue_exchange.specs.Requests.{sender_of, part, requests_among, with_senders, byes_among, last_bye, messages_of, MayBeTaken, after_sending}
+use Rattle.queue_exchange.specs.Requests.{AreNumbered}
 
 -- Joined lists
 
@@ -192,7 +193,7 @@ cut w (q ∷ l) b (y ∷ xs) ys x e =
 
 -- so it may be taken next
 pub follows : (w : ℕ) (s : Sending) (taken ys : List Taken) (x : Taken) → sender_of x ≡ w → AreNumbered s.sent → part w taken ++ x ∷ ys ≡ messages_of w s
-    → Follows taken x
+    → MayBeTaken taken x
 follows w s taken ys (Asked v p) is numbered e =
     let c = cut w s.sent s.said_bye (part w taken) ys (Asked v p) e in
     subst (λ (k : ℕ). (times k (byes_among taken) ≡ 0) × (p.number ≡ length (requests_among (part k taken)) + 1)) (sym is)

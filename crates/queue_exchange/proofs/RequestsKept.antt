@@ -11,8 +11,8 @@ use Rattle.crossbeam_queue.proofs.Lists.{at_set}
 use Rattle.proto.specs.declared.history.Answered.{Answered}
 use Rattle.exchange.specs.declared.messages.Taken.{Taken}
 use Rattle.queue_exchange.specs.declared.views.Sending.{Sending}
-use Rattle.queue_exchange.specs.declared.views.RequestView.{RequestView}
-use Rattle.queue_exchange.specs.Requests.{sender_of, part, messages_of, nothing_sent, after_sending, AreNumbered, Follows, open_after, worker_pass}
+use Rattle.queue_exchange.specs.declared.views.RequestQueueView.{RequestQueueView}
+use Rattle.queue_exchange.specs.Requests.{sender_of, part, messages_of, nothing_sent, after_sending, AreNumbered, MayBeTaken, open_request_after, worker_pass}
 use Rattle.queue_exchange.specs.Requests.{storage_pass, meeting_pass, idle_pass, FitsRequests, RequestsHold}
 use Rattle.queue_exchange.proofs.Each.{Each, each_set, each_snoc}
 use Rattle.queue_exchange.proofs.Messages.{part_more, part-append, part_first, messages_more, follows, HasNumber, numbers_after}
@@ -41,7 +41,7 @@ idle_fits reader seat sending taken pass = record { sender = λ p. absurd (true�
 -- an empty queue with storage's pass
 pub begins : RequestsHold [] (storage_pass 0 [] None [] ∷ [])
 begins =
-    let F : ℕ → RequestView → Type 0 = FitsRequests 0 (λ _. none) (λ _. nothing_sent) [] in
+    let F : ℕ → RequestQueueView → Type 0 = FitsRequests 0 (λ _. none) (λ _. nothing_sent) [] in
     let nobody : Each F [] = λ j u e. absurd (some-ne-none u (sym e)) in record {
       reader = 0;
       seat = λ _. none;
@@ -56,12 +56,12 @@ begins =
     }
 
 -- a worker sends a message
-pub sends : (n pass : ℕ) (v : RequestView) (x : Taken) → v.sends ≡ true → v.takes ≡ false → sender_of x ≡ v.worker → v.sending.said_bye ≡ false
+pub sends : (n pass : ℕ) (v : RequestQueueView) (x : Taken) → v.sends ≡ true → v.takes ≡ false → sender_of x ≡ v.worker → v.sending.said_bye ≡ false
     → HasNumber v.sending x
     → Pushes RequestsHold n pass v x (λ w. w ≡ worker_pass v.worker (after_sending v.sending x))
 sends n pass v x may blind mine quiet number items views _ h at =
     let s : Sending = after_sending v.sending x in
-    let w : RequestView = worker_pass v.worker s in
+    let w : RequestQueueView = worker_pass v.worker s in
     let here = (h.each_pass pass v at).sender may in
     let numbers : AreNumbered s.sent = numbers_after v.sending x (subst (λ (z : Sending). AreNumbered z.sent) (sym here.1) (h.numbered v.worker)) number in
     let sending' : ℕ → Sending = at_else h.sending v.worker s in
@@ -81,7 +81,7 @@ sends n pass v x may blind mine quiet number items views _ h at =
     grown ∙ ap (λ b. messages_of k (h.sending k) ++ cond b (x ∷ []) []) (ne_eqb (sender_of x) k (λ e. other (sym e ∙ mine)))
     ∙ append-nil (messages_of k (h.sending k))
     ∙ ap (messages_of k) (sym (at_other h.sending v.worker s k other))) in
-    let F : ℕ → RequestView → Type 0 = FitsRequests h.reader h.seat sending' h.taken in (
+    let F : ℕ → RequestQueueView → Type 0 = FitsRequests h.reader h.seat sending' h.taken in (
       w,
       record {
         reader = h.reader;
@@ -112,7 +112,7 @@ sends n pass v x may blind mine quiet number items views _ h at =
     )
 
 -- what a worker knows of the queue: it holds the last of its messages
-pub holds_last : (pass : ℕ) (v : RequestView) → v.sends ≡ true
+pub holds_last : (pass : ℕ) (v : RequestQueueView) → v.sends ≡ true
     → Learns RequestsHold pass v (λ items. (before : List Taken) × (messages_of v.worker v.sending ≡ before ++ part v.worker items))
 holds_last pass v may items views h at =
     let here = (h.each_pass pass v at).sender may in
@@ -123,11 +123,11 @@ cut_at : (taken items : List Taken) (x : Taken) (w : ℕ) → sender_of x ≡ w 
 cut_at taken items x w is = part-append w taken (x ∷ items) ∙ ap (λ l. part w taken ++ l) (part_first w x items is)
 
 -- storage takes a message
-pub takes : (pass : ℕ) (v : RequestView) → v.takes ≡ true
+pub takes : (pass : ℕ) (v : RequestQueueView) → v.takes ≡ true
     → Pops RequestsHold pass v
-    (λ x w. (w ≡ storage_pass v.made (v.taken ++ x ∷ []) (open_after v.open_request x) v.history) × (sender_of x < v.made) × Follows v.taken x)
+    (λ x w. (w ≡ storage_pass v.made (v.taken ++ x ∷ []) (open_request_after v.open_request x) v.history) × (sender_of x < v.made) × MayBeTaken v.taken x)
 takes pass v may x items views h at =
-    let w : RequestView = storage_pass v.made (v.taken ++ x ∷ []) (open_after v.open_request x) v.history in
+    let w : RequestQueueView = storage_pass v.made (v.taken ++ x ∷ []) (open_request_after v.open_request x) v.history in
     let here = (h.each_pass pass v at).storage may in
     let k : ℕ = sender_of x in
     let cut : part k h.taken ++ x ∷ part k items ≡ messages_of k (h.sending k) = sym (cut_at h.taken items x k refl) ∙ h.each_part k in
@@ -137,7 +137,7 @@ takes pass v may x items views h at =
     let nothing : part k h.taken ++ x ∷ part k items ≡ [] = cut ∙ ap (messages_of k) (here.unmade k (omega (arith, not_less))).1 in
     let long : length (part k h.taken) + suc (length (part k items)) ≡ 0 = sym (length-append (part k h.taken) (x ∷ part k items))
     ∙ ap length nothing in absurd (omega arith)) in
-    let F : ℕ → RequestView → Type 0 = FitsRequests h.reader h.seat h.sending (h.taken ++ x ∷ []) in (
+    let F : ℕ → RequestQueueView → Type 0 = FitsRequests h.reader h.seat h.sending (h.taken ++ x ∷ []) in (
       w,
       record {
         reader = h.reader;
@@ -159,20 +159,20 @@ takes pass v may x items views h at =
             (λ j u apart e. let old = h.each_pass j u e in
             record { sender = old.sender; storage = λ p. absurd (apart ((old.storage p).reads ∙ sym here.reads)) });
       },
-      (refl, below, subst (λ (l : List Taken). Follows l x) (sym here.taken_is) (follows k (h.sending k) h.taken (part k items) x refl (h.numbered k) cut)),
+      (refl, below, subst (λ (l : List Taken). MayBeTaken l x) (sym here.taken_is) (follows k (h.sending k) h.taken (part k items) x refl (h.numbered k) cut)),
     )
 
 -- one more worker is made
-pub makes : (pass : ℕ) (v : RequestView) → v.takes ≡ true
+pub makes : (pass : ℕ) (v : RequestQueueView) → v.takes ≡ true
     → Forks RequestsHold pass v (storage_pass (v.made + 1) v.taken v.open_request v.history) (worker_pass v.made nothing_sent)
 makes pass v may items views h at =
-    let l : RequestView = storage_pass (v.made + 1) v.taken v.open_request v.history in
-    let r : RequestView = worker_pass v.made nothing_sent in
+    let l : RequestQueueView = storage_pass (v.made + 1) v.taken v.open_request v.history in
+    let r : RequestQueueView = worker_pass v.made nothing_sent in
     let here = (h.each_pass pass v at).storage may in
     let free = here.unmade v.made (omega arith) in
-    let vs : List RequestView = set views pass l in
+    let vs : List RequestQueueView = set views pass l in
     let seat : ℕ → maybe.Option ℕ = at_else h.seat v.made (some (length vs)) in
-    let F : ℕ → RequestView → Type 0 = FitsRequests h.reader seat h.sending h.taken in
+    let F : ℕ → RequestQueueView → Type 0 = FitsRequests h.reader seat h.sending h.taken in
     let old : Each F vs =
     each_set F views pass l record {
       sender = λ p. absurd (true≢false (sym p));
@@ -202,13 +202,13 @@ makes pass v may items views h at =
     }
 
 -- storage notes an entry
-pub notes : (pass : ℕ) (v : RequestView) (e : Answered) → v.takes ≡ true
+pub notes : (pass : ℕ) (v : RequestQueueView) (e : Answered) → v.takes ≡ true
     → Forks RequestsHold pass v (storage_pass v.made v.taken None (v.history ++ e ∷ [])) idle_pass
 notes pass v e may items views h at =
-    let l : RequestView = storage_pass v.made v.taken None (v.history ++ e ∷ []) in
+    let l : RequestQueueView = storage_pass v.made v.taken None (v.history ++ e ∷ []) in
     let here = (h.each_pass pass v at).storage may in
-    let vs : List RequestView = set views pass l in
-    let F : ℕ → RequestView → Type 0 = FitsRequests h.reader h.seat h.sending h.taken in
+    let vs : List RequestQueueView = set views pass l in
+    let F : ℕ → RequestQueueView → Type 0 = FitsRequests h.reader h.seat h.sending h.taken in
     let old : Each F vs =
     each_set F views pass l record {
       sender = λ p. absurd (true≢false (sym p));
@@ -224,19 +224,19 @@ notes pass v e may items views h at =
     }
 
 -- storage meets a worker again
-pub meets : (pass : ℕ) (v : RequestView) (other : ℕ) (u : RequestView) → v.takes ≡ true → u.sends ≡ true
+pub meets : (pass : ℕ) (v : RequestQueueView) (other : ℕ) (u : RequestQueueView) → v.takes ≡ true → u.sends ≡ true
     → Merges RequestsHold pass v other u (meeting_pass v u) idle_pass
 meets pass v other u a b items views h at two at' =
-    let both : RequestView = meeting_pass v u in
-    let vs : List RequestView = set views pass both in
+    let both : RequestQueueView = meeting_pass v u in
+    let vs : List RequestQueueView = set views pass both in
     let here = (h.each_pass pass v at).storage a in
     let was : get_elem? views other ≡ some u = ⊎_elim (λ x. absurd (two x.0)) (λ x. x.1) (at_set views pass other both u at') in
     let theirs = (h.each_pass other u was).sender b in
     let seat : ℕ → maybe.Option ℕ = at_else h.seat u.worker none in
     let gone : (k : ℕ) → h.seat k ≡ none → seat k ≡ none =
     λ k e. either_way k u.worker (λ same. ap seat same ∙ at_here h.seat u.worker none) (λ ne. at_other h.seat u.worker none k ne ∙ e) in
-    let F : ℕ → RequestView → Type 0 = FitsRequests h.reader seat h.sending h.taken in
-    let Now : ℕ → RequestView → Type 0 = λ j y. j ≢ other → F j y in
+    let F : ℕ → RequestQueueView → Type 0 = FitsRequests h.reader seat h.sending h.taken in
+    let Now : ℕ → RequestQueueView → Type 0 = λ j y. j ≢ other → F j y in
     let now : Each Now vs =
     each_set Now views pass both
     (λ _. record {
@@ -264,7 +264,7 @@ meets pass v other u a b items views h at two at' =
     }
 
 -- what is left of the worker that storage met
-pub lefts : (pass : ℕ) (v : RequestView) → v.takes ≡ true → v.meets ≡ true
+pub lefts : (pass : ℕ) (v : RequestQueueView) → v.takes ≡ true → v.meets ≡ true
     → Learns RequestsHold pass v (λ items. messages_of v.worker v.sending ≡ part v.worker (v.taken ++ items))
 lefts pass v a b items views h at =
     let here = (h.each_pass pass v at).storage a in

@@ -61,8 +61,8 @@ as_list None = []
 as_list (Some a) = a ∷ []
 
 -- the requests of a history, each with its worker
-abbrev pub asked_by : List Answered → List (ℕ × Posted)
-asked_by history = map (λ (a : Answered). (a.worker, posted_of a)) history
+abbrev pub asked_in : List Answered → List (ℕ × Posted)
+asked_in history = map (λ (a : Answered). (a.worker, posted_of a)) history
 
 -- what was taken are the requests of the history, and the open one; what was pushed for a worker is its share
 pub record IsStorageEnd (s : Storage.Inside) : Type 0 where
@@ -70,7 +70,7 @@ pub record IsStorageEnd (s : Storage.Inside) : Type 0 where
   pub reads : (view s.takes).takes ≡ true
   pub made : (view s.takes).made ≡ length s.lanes.items
   pub few : length s.lanes.items ≤ 8
-  pub taken : with_senders (view s.takes).taken ≡ asked_by (view s.takes).history ++ as_list (view s.takes).open_request
+  pub taken : with_senders (view s.takes).taken ≡ asked_in (view s.takes).history ++ as_list (view s.takes).open_request
   pub shares : (w : ℕ) (d : ReplyLog) → w < length s.lanes.items → (slice_index_or s.lanes.items w d).pushed ≡ worker_share (view s.takes).history w
   pub open_is : s.open_now ≡ is_some (view s.takes).open_request
   pub inside : (o : ℕ × Posted) → (view s.takes).open_request ≡ Some o → o.0 < length s.lanes.items

@@ -9,7 +9,8 @@ use Rattle.proto.specs.declared.history.Answered.{Answered}
 use Rattle.proto.specs.History.{Legal, worker_share, asked_posted}
 use Rattle.exchange.specs.declared.messages.Taken.{Taken}
 use Rattle.exchange.specs.declared.messages.Taken.TheVariants.{Asked, Bye}
-use Rattle.exchange.specs.Beginnings.{StartsWith, times}
+use Rattle.proto.specs.Counts.{times}
+use Rattle.exchange.specs.Beginnings.{StartsWith}
 use Rattle.exchange.specs.Ends.{max_posts, open_of}
 use Rattle.queue_exchange.specs.Requests.{part, requests_among}
 

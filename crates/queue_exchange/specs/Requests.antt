@@ -10,9 +10,9 @@ use Rattle.proto.specs.declared.message.Request.TheVariants.{FlushAll}
 use Rattle.proto.specs.declared.message.Reply.TheVariants.{NoMemory}
 use Rattle.exchange.specs.declared.messages.Taken.{Taken}
 use Rattle.exchange.specs.declared.messages.Taken.TheVariants.{Asked, Bye}
-use Rattle.exchange.specs.Beginnings.{times}
+use Rattle.proto.specs.Counts.{times}
 use Rattle.queue_exchange.specs.declared.views.Sending.{Sending}
-use Rattle.queue_exchange.specs.declared.views.RequestView.{RequestView}
+use Rattle.queue_exchange.specs.declared.views.RequestQueueView.{RequestQueueView}
 
 -- Messages
 
@@ -44,9 +44,9 @@ byes_among (Asked w p ∷ messages) = byes_among messages
 byes_among (Bye w ∷ messages) = w ∷ byes_among messages
 
 -- the open request once a message was taken: a request is open, a bye leaves it
-abbrev pub open_after : Option (ℕ × Posted) → Taken → Option (ℕ × Posted)
-open_after o (Asked w p) = Some (w, p)
-open_after o (Bye w) = o
+abbrev pub open_request_after : Option (ℕ × Posted) → Taken → Option (ℕ × Posted)
+open_request_after o (Asked w p) = Some (w, p)
+open_request_after o (Bye w) = o
 
 -- a bye, where it was said
 abbrev pub last_bye : ℕ → Bool → List Taken
@@ -58,9 +58,9 @@ abbrev pub messages_of : ℕ → Sending → List Taken
 messages_of w s = map (λ p. Asked w p) s.sent ++ last_bye w s.said_bye
 
 -- What may be taken after these messages: no bye of its worker came before, and a request has the next number.
-abbrev pub Follows : List Taken → Taken → Type 0
-Follows taken (Asked w p) = (times w (byes_among taken) ≡ 0) × (p.number ≡ length (requests_among (part w taken)) + 1)
-Follows taken (Bye w) = times w (byes_among taken) ≡ 0
+abbrev pub MayBeTaken : List Taken → Taken → Type 0
+MayBeTaken taken (Asked w p) = (times w (byes_among taken) ≡ 0) × (p.number ≡ length (requests_among (part w taken)) + 1)
+MayBeTaken taken (Bye w) = times w (byes_among taken) ≡ 0
 
 -- What a worker sent
 
@@ -79,11 +79,11 @@ AreNumbered sent = (k : ℕ) (p : Posted) → get_elem? sent k ≡ some p → p.
 -- Views
 
 -- a worker's pass
-abbrev pub worker_pass : ℕ → Sending → RequestView
+abbrev pub worker_pass : ℕ → Sending → RequestQueueView
 worker_pass w s = record { sends = true; takes = false; meets = false; worker = w; sending = s; made = 0; taken = []; open_request = None; history = [] }
 
 -- storage's pass
-abbrev pub storage_pass : ℕ → List Taken → Option (ℕ × Posted) → List Answered → RequestView
+abbrev pub storage_pass : ℕ → List Taken → Option (ℕ × Posted) → List Answered → RequestQueueView
 storage_pass made taken open_request history =
     record {
       sends = false;
@@ -98,7 +98,7 @@ storage_pass made taken open_request history =
     }
 
 -- storage's pass v, which has met the worker of the pass u again
-abbrev pub meeting_pass : RequestView → RequestView → RequestView
+abbrev pub meeting_pass : RequestQueueView → RequestQueueView → RequestQueueView
 meeting_pass v u =
     record {
       sends = false;
@@ -113,34 +113,34 @@ meeting_pass v u =
     }
 
 -- a pass that does nothing
-abbrev pub idle_pass : RequestView
+abbrev pub idle_pass : RequestQueueView
 idle_pass = record { sends = false; takes = false; meets = false; worker = 0; sending = nothing_sent; made = 0; taken = []; open_request = None; history = [] }
 
 -- a pass that sends is the one seated for its worker, and knows what that one sent
-abbrev pub FitsWorker : (ℕ → maybe.Option ℕ) → (ℕ → Sending) → ℕ → RequestView → Type 0
+abbrev pub FitsWorker : (ℕ → maybe.Option ℕ) → (ℕ → Sending) → ℕ → RequestQueueView → Type 0
 FitsWorker seat sending pass v = v.sends ≡ true → (seat v.worker ≡ some pass) × (v.sending ≡ sending v.worker)
 
 -- A pass that takes is the reader's and knows what was taken. Workers that aren't made yet have no seat and sent nothing,
 -- and one that was met again has no seat either.
-pub record FitsReader (reader : ℕ) (seat : ℕ → maybe.Option ℕ) (sending : ℕ → Sending) (taken : List Taken) (pass : ℕ) (v : RequestView) : Type 0 where
+pub record FitsReader (reader : ℕ) (seat : ℕ → maybe.Option ℕ) (sending : ℕ → Sending) (taken : List Taken) (pass : ℕ) (v : RequestQueueView) : Type 0 where
   pub reads : pass ≡ reader
   pub taken_is : v.taken ≡ taken
   pub unmade : (w : ℕ) → v.made ≤ w → (seat w ≡ none) × (sending w ≡ nothing_sent)
   pub met : v.meets ≡ true → (seat v.worker ≡ none) × (v.sending ≡ sending v.worker)
 
-pub record FitsRequests (reader : ℕ) (seat : ℕ → maybe.Option ℕ) (sending : ℕ → Sending) (taken : List Taken) (pass : ℕ) (v : RequestView) : Type 0 where
+pub record FitsRequests (reader : ℕ) (seat : ℕ → maybe.Option ℕ) (sending : ℕ → Sending) (taken : List Taken) (pass : ℕ) (v : RequestQueueView) : Type 0 where
   pub sender : FitsWorker seat sending pass v
   pub storage : v.takes ≡ true → FitsReader reader seat sending taken pass v
 
 -- the rule
-pub record RequestsHold (items : List Taken) (views : List RequestView) : Type 0 where
+pub record RequestsHold (items : List Taken) (views : List RequestQueueView) : Type 0 where
   pub reader : ℕ
   pub seat : ℕ → maybe.Option ℕ
   pub sending : ℕ → Sending
   pub taken : List Taken
   pub each_part : (w : ℕ) → part w (taken ++ items) ≡ messages_of w (sending w)
   pub numbered : (w : ℕ) → AreNumbered (sending w).sent
-  pub each_pass : (pass : ℕ) (v : RequestView) → get_elem? views pass ≡ some v → FitsRequests reader seat sending taken pass v
+  pub each_pass : (pass : ℕ) (v : RequestQueueView) → get_elem? views pass ≡ some v → FitsRequests reader seat sending taken pass v
 
 -- an entry, where none is picked
 abbrev pub any_entry : Answered

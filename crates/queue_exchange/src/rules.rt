@@ -1,6 +1,6 @@
 //! The rules of the two kinds of queue, and what each step tells.
 
-use crate::views::{ReplyView, RequestView};
+use crate::views::{ReplyView, RequestQueueView};
 use crossbeam_queue::protocol::{Join, Lesson, Outcome, Protocol, Split};
 use crossbeam_queue::{Pass, RuledArrayQueue};
 use exchange::{Answered, Taken};
@@ -86,7 +86,7 @@ pub type ReplyPass = Pass<Answered, ReplyView>;
 
 pub struct Requests;
 
-impl Protocol<Taken, RequestView> for Requests {
+impl Protocol<Taken, RequestQueueView> for Requests {
     ghost use Rattle.std.specs.Prelude.{[], None};
     ghost use Rattle.queue_exchange.specs.Requests.{storage_pass, RequestsHold};
 
@@ -98,7 +98,7 @@ impl Protocol<Taken, RequestView> for Requests {
 /// Makes the next worker's pass.
 pub struct Makes;
 
-impl Split<RequestView> for Makes {
+impl Split<RequestQueueView> for Makes {
     ghost use Rattle.std.specs.Prelude.{◌+◌};
     ghost use Rattle.queue_exchange.specs.Requests.{storage_pass, worker_pass, nothing_sent};
 
@@ -110,7 +110,7 @@ impl Split<RequestView> for Makes {
 /// Takes a worker's pass in again.
 pub struct Meets;
 
-impl Join<RequestView> for Meets {
+impl Join<RequestQueueView> for Meets {
     ghost use Rattle.queue_exchange.specs.Requests.{meeting_pass, idle_pass};
 
     ghost both = { meeting_pass };
@@ -121,14 +121,14 @@ impl Join<RequestView> for Meets {
 /// A push of a message, or that the queue held the last of the worker's.
 pub struct Sends;
 
-impl Outcome<Taken, RequestView> for Sends {
+impl Outcome<Taken, RequestQueueView> for Sends {
     ghost use Rattle.std.specs.Prelude.{◌≡◌};
     ghost use Rattle.queue_exchange.specs.Requests.{worker_pass, after_sending};
 
     ghost then = { λ v x w. w ≡ worker_pass v.worker (after_sending v.sending x) };
 }
 
-impl Lesson<Taken, RequestView> for Sends {
+impl Lesson<Taken, RequestQueueView> for Sends {
     ghost use Rattle.std.specs.Prelude.{◌≡◌, ◌++◌, List};
     ghost use Rattle.exchange.specs.declared.messages.Taken.{Taken};
     ghost use Rattle.queue_exchange.specs.Requests.{part, messages_of};
@@ -137,17 +137,17 @@ impl Lesson<Taken, RequestView> for Sends {
 }
 
 /// A pop of a message.
-pub struct Takes;
+pub struct TakesMessage;
 
-impl Outcome<Taken, RequestView> for Takes {
+impl Outcome<Taken, RequestQueueView> for TakesMessage {
     ghost use Rattle.std.specs.Prelude.{◌≡◌, ◌<◌, ◌++◌, ◌∷◌, []};
-    ghost use Rattle.queue_exchange.specs.Requests.{storage_pass, sender_of, open_after, Follows};
+    ghost use Rattle.queue_exchange.specs.Requests.{storage_pass, sender_of, open_request_after, MayBeTaken};
 
-    ghost then = { λ v x w. (w ≡ storage_pass v.made (v.taken ++ x ∷ []) (open_after v.open_request x) v.history) × (sender_of x < v.made)
-        × Follows v.taken x };
+    ghost then = { λ v x w. (w ≡ storage_pass v.made (v.taken ++ x ∷ []) (open_request_after v.open_request x) v.history) × (sender_of x < v.made)
+        × MayBeTaken v.taken x };
 }
 
-impl Lesson<Taken, RequestView> for Takes {
+impl Lesson<Taken, RequestQueueView> for TakesMessage {
     ghost use Rattle.std.specs.Prelude.{⊤};
 
     ghost fact = { λ v items. ⊤ };
@@ -156,7 +156,7 @@ impl Lesson<Taken, RequestView> for Takes {
 /// What is left in the request queue of the worker that was met.
 pub struct Left;
 
-impl Lesson<Taken, RequestView> for Left {
+impl Lesson<Taken, RequestQueueView> for Left {
     ghost use Rattle.std.specs.Prelude.{◌≡◌, ◌++◌};
     ghost use Rattle.queue_exchange.specs.Requests.{part, messages_of};
 
@@ -164,13 +164,13 @@ impl Lesson<Taken, RequestView> for Left {
 }
 
 /// The entry that is put behind the history. Each call picks it.
-pub trait Entry {
+pub trait PickedEntry {
     ghost use Rattle.proto.specs.declared.history.Answered.{Answered};
 
     ghost entry: { Answered };
 }
 
-impl Entry for Brand {
+impl PickedEntry for Brand {
     ghost use Rattle.queue_exchange.specs.Requests.{any_entry};
 
     ghost entry = { any_entry };
@@ -181,7 +181,7 @@ pub struct Notes<E> {
     of: PhantomData<E>,
 }
 
-impl<E: Entry> Split<RequestView> for Notes<E> {
+impl<E: PickedEntry> Split<RequestQueueView> for Notes<E> {
     ghost use Rattle.std.specs.Prelude.{◌++◌, ◌∷◌, [], None};
     ghost use Rattle.queue_exchange.specs.Requests.{storage_pass, idle_pass};
 
@@ -190,6 +190,6 @@ impl<E: Entry> Split<RequestView> for Notes<E> {
     ghost right = { λ v. idle_pass };
 }
 
-pub type RequestQueue = RuledArrayQueue<Taken, RequestView, Requests>;
+pub type RequestQueue = RuledArrayQueue<Taken, RequestQueueView, Requests>;
 
-pub type RequestPass = Pass<Taken, RequestView>;
+pub type RequestPass = Pass<Taken, RequestQueueView>;

@@ -2,10 +2,11 @@
 
 use crate::reply_side::ReplySide;
 use crate::rules::{
-    Entry, Left, Makes, Meets, Notes, ReplyQueue, RequestPass, RequestQueue, Sides, Takes,
+    Left, Makes, Meets, Notes, PickedEntry, ReplyQueue, RequestPass, RequestQueue, Sides,
+    TakesMessage,
 };
 use crate::worker::WorkerEnd;
-use exchange::{Answered, Taken};
+use exchange::{Answered, Taken, WINDOW};
 use proto::geometry::Geometry;
 use std::alloc::{AllocError, Global};
 use std::marker::{Brand, Model};
@@ -13,7 +14,7 @@ use std::snapshot::Snapshot;
 use std::sync::{Arc, Wait};
 
 /// The most answers that wait for one worker.
-const REPLY_ROOM: usize = 64;
+const REPLY_ROOM: usize = WINDOW as usize;
 
 /// What storage takes requests from, and answers them. One thread at a time uses it.
 #[derive(Drop)]
@@ -38,11 +39,11 @@ impl Model for StorageEnd {
 
 ghost use Rattle.std.specs.Prelude.{◌≡◌, ◌++◌, ◌∷◌, [], None, is_some, true};
 ghost use Rattle.crossbeam_queue.specs.Passes.{view, IsSamePass, IsPassOf};
-ghost use Rattle.queue_exchange.specs.Requests.{storage_pass, open_after};
+ghost use Rattle.queue_exchange.specs.Requests.{storage_pass, open_request_after};
 
 // Whether it is a request.
 fn is_request(taken: &Taken) -> bool
-    ensures { result ≡ is_some (open_after None taken.now) }
+    ensures { result ≡ is_some (open_request_after None taken.now) }
 {
     match taken {
         Taken::Asked { .. } => true,
@@ -51,7 +52,7 @@ fn is_request(taken: &Taken) -> bool
 }
 
 // Puts an entry behind the history, and closes the open request.
-fn note<E: Entry>(queue: &RequestQueue, pass: &mut RequestPass, entry: &Snapshot<Answered>)
+fn note<E: PickedEntry>(queue: &RequestQueue, pass: &mut RequestPass, entry: &Snapshot<Answered>)
     requires entry { entry.now.value ≡ E.entry }
     requires queue { IsPassOf queue.now pass.old × ((view pass.old).takes ≡ true) }
     ensures queue { IsSamePass pass.old pass.new }
@@ -128,7 +129,9 @@ impl StorageEnd {
         requires { self.old.open_request ≡ None }
         ensures { MatchOption result (self.new ≡ self.old) (λ t. IsNextTaken self.old t × (self.new ≡ after_taking self.old t)) }
     {
-        let taken = self.requests.pop_as::<Takes, R>(rt, &mut self.takes)?;
+        let taken = self
+            .requests
+            .pop_as::<TakesMessage, R>(rt, &mut self.takes)?;
         self.open_now = is_request(&taken);
         Some(taken)
     }

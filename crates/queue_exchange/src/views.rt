@@ -10,7 +10,7 @@ pub struct Sending {
 
 /// Of the request queue: a worker's pass sends, storage's takes. Storage's has the history too, and, once it met a
 /// worker again, what that one sent.
-pub struct RequestView {
+pub struct RequestQueueView {
     pub sends: bool,
     pub takes: bool,
     pub meets: bool,

@@ -1,6 +1,6 @@
 //! The same requests through the lanes and through the queues.
 
-use exchange_runs::{Load, run_lanes, run_queues};
+use exchange_runs::{Workload, run_lanes, run_queues};
 use std::test::Fail;
 
 /// The requests of each run, of all workers together: 80,000 in all, each way.
@@ -9,7 +9,7 @@ const REQUESTS: u64 = 10_000;
 #[test]
 fn both_give_each_worker_the_same_answers(rt: HostRuntime) -> Result<(), Fail> {
     for workers in 1..9 {
-        let load = Load {
+        let load = Workload {
             each: REQUESTS / workers as u64,
             window: 64,
             kept: true,

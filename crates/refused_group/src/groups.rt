@@ -2,10 +2,8 @@
 
 use crate::quiet_port::{Counters, QuietPort, SteadyClock};
 use crate::served::{Allowed, is_allowed, is_whole};
-use gates::open::OpenGate;
-use group::fault::GroupFault;
-use group::report::{Config, GroupReport};
-use group::run::run_group;
+use gates::OpenGate;
+use group::{Config, GroupFault, GroupReport, run_group};
 use plain_store::Store;
 use proto::geometry::Geometry;
 use std::alloc::Global;

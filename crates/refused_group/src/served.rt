@@ -1,7 +1,7 @@
 //! Whether a worker's session came to an end that one refusal allows.
 
 use crate::quiet_port::QuietPort;
-use group::report::GroupWorker;
+use group::GroupWorker;
 use session_book::causes::EndCause;
 
 /// What the session of a worker may be given: all as it is without a refusal, or one of its requests was answered

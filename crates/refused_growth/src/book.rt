@@ -39,7 +39,7 @@ fn answer_next(book: &mut Book, reply: Reply) -> Option<Settled> {
         Err(_) => book.next_ask(1).ok()?,
     };
     let (request, number) = asked?;
-    Some(book.settle(Answered {
+    Some(book.settle(&Answered {
         worker: 0,
         session: 1,
         number,

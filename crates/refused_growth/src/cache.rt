@@ -44,7 +44,7 @@ pub fn read(alloc: Global, input: &[u8]) -> Option<Message> {
     None
 }
 
-fn handle(store: &mut Store, now: u64, request: &Request) -> Option<Reply> {
+fn handle(store: &mut Store, now: u64, request: &mut Request) -> Option<Reply> {
     if store.last_moment() > now || now > LAST_MOMENT {
         return None;
     }
@@ -60,10 +60,10 @@ fn shown(alloc: Global, request: Request, reply: &Reply) -> Result<Vec<u8>, NoMe
 /// What stands in the store, where it is shown at the first, the second or the third try.
 fn entries(alloc: Global, store: &mut Store, now: u64) -> Option<Vec<u8>> {
     for _ in 0..3 {
-        let Some(Message::Ask(request, _)) = read(alloc, ALL) else {
+        let Some(Message::Ask(mut request, _)) = read(alloc, ALL) else {
             return None;
         };
-        let reply = handle(store, now, &request)?;
+        let reply = handle(store, now, &mut request)?;
         if matches!(&reply, Reply::NoMemory) {
             continue;
         }
@@ -79,10 +79,10 @@ fn entries(alloc: Global, store: &mut Store, now: u64) -> Option<Vec<u8>> {
 fn answer(alloc: Global, store: &mut Store, now: u64, input: &[u8]) -> Option<Vec<u8>> {
     let before = entries(alloc, store, now)?;
     let pending = store.pending();
-    let Message::Ask(request, _) = read(alloc, input)? else {
+    let Message::Ask(mut request, _) = read(alloc, input)? else {
         return None;
     };
-    let mut reply = handle(store, now, &request)?;
+    let mut reply = handle(store, now, &mut request)?;
     if matches!(&reply, Reply::NoMemory) {
         let after = entries(alloc, store, now)?;
         let is_kept = after.as_slice() == before.as_slice()
@@ -91,7 +91,7 @@ fn answer(alloc: Global, store: &mut Store, now: u64, input: &[u8]) -> Option<Ve
         if !is_kept {
             return None;
         }
-        reply = handle(store, now, &request)?;
+        reply = handle(store, now, &mut request)?;
     }
     let mut out = Vec::new(alloc);
     let message = Message::Ask(request, false);

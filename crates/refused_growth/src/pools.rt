@@ -4,8 +4,7 @@ ghost use Rattle.std.specs.Prelude.{◌≡◌, ◌<◌, IfSome};
 ghost use Rattle.segments.specs.Pools.{bucket_count};
 
 use proto::geometry::Geometry;
-use segments::item::{ItemRef, size_of};
-use segments::pool::Pool;
+use segments::{ItemRef, Pool, size_of};
 use std::alloc::Global;
 
 /// The pool, where it is made at the first or the second try.

@@ -31,18 +31,18 @@ fn make(alloc: Global, geometry: Geometry) -> Option<Store> {
 
 /// Whether the request is answered so at the first or the second try.
 fn is_answered(alloc: Global, store: &mut Store, input: &[u8], wanted: &[u8]) -> bool {
-    let Some(Message::Ask(request, _)) = read(alloc, input) else {
+    let Some(Message::Ask(mut request, _)) = read(alloc, input) else {
         return false;
     };
     if store.last_moment() > 0 {
         return false;
     }
-    let mut reply = store.handle(0, &request);
+    let mut reply = store.handle(0, &mut request);
     if matches!(&reply, Reply::NoMemory) {
         if store.last_moment() > 0 {
             return false;
         }
-        reply = store.handle(0, &request);
+        reply = store.handle(0, &mut request);
     }
     let message = Message::Ask(request, false);
     let mut out = Vec::new(alloc);

@@ -1,5 +1,6 @@
 -- The plain reader of a line finds what the line says, and nothing where it says nothing.
-use Rattle.std.proofs.Common.{◌≡◌, ℕ, ◌^◌, ◌<◌, true, false, cond, eqb, not, List, [], ◌∷◌, length, Option, Some, None, Ok, Result, refl, sym, ap, subst, ◌∙◌, arith, inl, inr, lt-ltb, lit≤}
+use Rattle.std.proofs.Common.{◌≡◌, ℕ, ◌^◌, ◌<◌, true, false, cond, eqb, not, List, [], ◌∷◌, length, Option, Some, None, Ok, Result, refl, sym, ap, subst, ◌∙◌}
+use Rattle.std.proofs.Common.{arith, inl, inr, lt-ltb, lit≤}
 use Rattle.std.specs.Prelude.{bytes_eq, codes, decimal, nat_lt, MatchOption}
 use Rattle.std.specs.List.{AllPass}
 use Rattle.std.specs.Result.{result_ok}
@@ -18,7 +19,7 @@ use Rattle.proto.proofs.WordLists.{AreWords, words_of-spaced, spaced-words_of}
 use Rattle.script.specs.declared.event.ScriptEvent.{ScriptEvent}
 use Rattle.script.specs.declared.event.ScriptEvent.TheVariants.{Open, Send, Gone}
 use Rattle.script.specs.declared.event.ScriptLine.{ScriptLine}
-use Rattle.script.specs.Lines.{FitsNumbers, IsHexOf, SaysAt, Says, SaysNothing}
+use Rattle.script.specs.Lines.{FitsNumbers, IsHexOf, SaysAt, LineSays, SaysNothing}
 use Rattle.script.specs.PlainLine.{session_in, bytes_in, event_in, line_in}
 
 -- ---- what is found is said
@@ -86,7 +87,7 @@ abbrev made : ℕ → ScriptEvent → Option ScriptLine
 made w e = Some (record { worker = w; event = e })
 
 -- a line that is read from words is said by them
-words_sound : (words : List (List ℕ)) (l : ScriptLine) → line_in words ≡ Some l → Says (spaced words) l
+words_sound : (words : List (List ℕ)) (l : ScriptLine) → line_in words ≡ Some l → LineSays (spaced words) l
 words_sound [] l e = absurd (none_is_some l e)
 words_sound (verb ∷ []) l e = absurd (none_is_some l e)
 words_sound (verb ∷ worker ∷ []) l e = absurd (none_is_some l e)
@@ -103,12 +104,12 @@ words_sound (verb ∷ worker ∷ session ∷ rest) l e =
     let line_is : spaced (verb ∷ decimal w ∷ decimal s ∷ rest) ≡ spaced (verb ∷ worker ∷ session ∷ rest) =
     ap (λ (ws : List (List ℕ)). spaced (verb ∷ ws))
     (ap (λ (v : List ℕ). v ∷ decimal s ∷ rest) (sym number.0) ∙ ap (λ (v : List ℕ). worker ∷ v ∷ rest) (sym found.0)) in
-    subst (λ (x : ScriptLine). Says (spaced (verb ∷ worker ∷ session ∷ rest)) x) (some_is (record { worker = w; event = third.0 }) l third.2)
+    subst (λ (x : ScriptLine). LineSays (spaced (verb ∷ worker ∷ session ∷ rest)) x) (some_is (record { worker = w; event = third.0 }) l third.2)
     (subst (λ (line : List ℕ). SaysAt line w third.0) line_is said)
 
 -- what the plain reader finds, the line says
-pub line_sound : (line : List ℕ) (l : ScriptLine) → line_in (words_of line) ≡ Some l → Says line l
-line_sound line l e = subst (λ (x : List ℕ). Says x l) (spaced-words_of line) (words_sound (words_of line) l e)
+pub line_sound : (line : List ℕ) (l : ScriptLine) → line_in (words_of line) ≡ Some l → LineSays line l
+line_sound line l e = subst (λ (x : List ℕ). LineSays x l) (spaced-words_of line) (words_sound (words_of line) l e)
 
 -- ---- what is said is found
 
@@ -164,6 +165,6 @@ line_complete line w (Send s bytes) (hex, fits, is_hex, is) =
     given_words line (codes "send") w s (hex ∷ []) (Send s bytes) fits refl (hex_word hex digits, tt) is (rw (bytes_found hex bytes is_hex) refl)
 
 -- the plain reader finds exactly what a line says
-pub line_meaning : (line : List ℕ) (found : Option ScriptLine) → found ≡ line_in (words_of line) → MatchOption found (SaysNothing line) (Says line)
+pub line_meaning : (line : List ℕ) (found : Option ScriptLine) → found ≡ line_in (words_of line) → MatchOption found (SaysNothing line) (LineSays line)
 line_meaning line None is = λ l said. none_is_some l (is ∙ line_complete line l.worker l.event said)
 line_meaning line (Some l) is = line_sound line l (sym is)

@@ -7,11 +7,11 @@ use Rattle.std.proofs.lemmas.List.{get_or_append_left, take-append-le}
 use Rattle.std.proofs.lemmas.List.Sums.{fold_push}
 use Rattle.std.proofs.lemmas.Bool.{cases_lt}
 use Rattle.script.specs.declared.event.ScriptEvent.{ScriptEvent}
-use Rattle.script.specs.Events.{newest_after, newest_of, open_after, is_open, MayCome, IsPlayable}
+use Rattle.script.specs.Events.{newest_after, newest_of, open_after, is_open, MayFollow, IsPlayable}
 use Rattle.script.specs.Tracking.{IsTracked}
 
 -- one event more that may come
-pub playable_more : (events : List ScriptEvent) (e : ScriptEvent) → IsPlayable events → MayCome events e → IsPlayable (events ++ e ∷ [])
+pub playable_more : (events : List ScriptEvent) (e : ScriptEvent) → IsPlayable events → MayFollow events e → IsPlayable (events ++ e ∷ [])
 playable_more events e playable may k d lt =
     elim (cases_lt k (length events)) [
       | inl before ↦
@@ -34,7 +34,7 @@ pub open_more : (events : List ScriptEvent) (e : ScriptEvent) (s : ℕ) → is_o
 open_more events e s = fold_push (open_after s) _ events e
 
 -- what is kept beside the events, with one event more
-pub tracked_more : (events : List ScriptEvent) (e : ScriptEvent) (n m : ℕ) (old new : BTreeSet ℕ) → IsTracked events n old → MayCome events e
+pub tracked_more : (events : List ScriptEvent) (e : ScriptEvent) (n m : ℕ) (old new : BTreeSet ℕ) → IsTracked events n old → MayFollow events e
     → m ≡ newest_after n e → ((s : ℕ) → contains nat_cmp new s ≡ open_after s (contains nat_cmp old s) e) → IsTracked (events ++ e ∷ []) m new
 tracked_more events e n m old new was may newest sessions = record {
   newest_is = newest ∙ ap (λ (k : ℕ). newest_after k e) was.newest_is ∙ sym (newest_more events e);

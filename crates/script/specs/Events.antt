@@ -1,5 +1,7 @@
 -- The events of a worker's sessions, and which may follow which.
-use Rattle.std.specs.Prelude.{◌≡◌, ℕ, ◌<◌, ◌≤◌, ◌==◌, Bool, true, false, List, [], IsTrue, fold, flat_map, filter_map, length, slice_index_or, take, if◌then◌else◌, Option, Some, None}
+use Rattle.std.specs.Prelude.{◌≡◌, ℕ, ◌<◌, ◌≤◌, ◌==◌, Bool, true, false, List, [], IsTrue, fold, flat_map, filter_map, length, slice_index_or, take}
+use Rattle.std.specs.Prelude.{if◌then◌else◌, Option, Some, None}
+use Rattle.std.specs.List.{list_any}
 use Rattle.script.specs.declared.event.ScriptEvent.{ScriptEvent}
 use Rattle.script.specs.declared.event.ScriptEvent.TheVariants.{Open, Send, Gone}
 use Rattle.script.specs.declared.fault.LineFault.{LineFault}
@@ -25,23 +27,23 @@ is_open events session = fold (open_after session) false events
 
 -- A session that begins has a number above each that was opened before. Bytes come, and a peer goes, only
 -- where the session is open.
-abbrev pub MayCome : List ScriptEvent → ScriptEvent → Type 0
-MayCome before (Open session) = newest_of before < session
-MayCome before (Send session bytes) = IsTrue (is_open before session)
-MayCome before (Gone session) = IsTrue (is_open before session)
+abbrev pub MayFollow : List ScriptEvent → ScriptEvent → Type 0
+MayFollow before (Open session) = newest_of before < session
+MayFollow before (Send session bytes) = IsTrue (is_open before session)
+MayFollow before (Gone session) = IsTrue (is_open before session)
 
 -- each event may come behind those before it
 abbrev pub IsPlayable : List ScriptEvent → Type 0
-IsPlayable events = (k : ℕ) (d : ScriptEvent) → k < length events → MayCome (take k events) (slice_index_or events k d)
+IsPlayable events = (k : ℕ) (d : ScriptEvent) → k < length events → MayFollow (take k events) (slice_index_or events k d)
 
-abbrev pub opened_by : ScriptEvent → Option ℕ
-opened_by (Open session) = Some session
-opened_by (Send session bytes) = None
-opened_by (Gone session) = None
+abbrev pub session_opened_by : ScriptEvent → Option ℕ
+session_opened_by (Open session) = Some session
+session_opened_by (Send session bytes) = None
+session_opened_by (Gone session) = None
 
 -- the sessions that were opened, in order
-abbrev pub opened : List ScriptEvent → List ℕ
-opened events = filter_map opened_by events
+abbrev pub sessions_opened : List ScriptEvent → List ℕ
+sessions_opened events = filter_map session_opened_by events
 
 abbrev pub sent_by : ℕ → ScriptEvent → List ℕ
 sent_by session (Open other) = []
@@ -51,6 +53,15 @@ sent_by session (Gone other) = []
 -- the bytes of a session, joined
 abbrev pub sent : List ScriptEvent → ℕ → List ℕ
 sent events session = flat_map (sent_by session) events
+
+abbrev pub goes_by_event : ℕ → ScriptEvent → Bool
+goes_by_event session (Open other) = false
+goes_by_event session (Send other bytes) = false
+goes_by_event session (Gone other) = other == session
+
+-- whether the script says that the session's peer goes
+abbrev pub goes_in_script : List ScriptEvent → ℕ → Bool
+goes_in_script events session = list_any (goes_by_event session) events
 
 -- what is wrong with an event that may not come
 abbrev pub IsOutOfPlace : List ScriptEvent → ScriptEvent → LineFault → Type 0

@@ -34,9 +34,9 @@ SaysAt line worker (Send session bytes) =
 SaysAt line worker (Gone session) =
     FitsNumbers worker session × (line ≡ spaced (codes "gone" ∷ decimal worker ∷ decimal session ∷ []))
 
-abbrev pub Says : List ℕ → ScriptLine → Type 0
-Says line l = SaysAt line l.worker l.event
+abbrev pub LineSays : List ℕ → ScriptLine → Type 0
+LineSays line l = SaysAt line l.worker l.event
 
 -- the line says nothing that a script may say
 abbrev pub SaysNothing : List ℕ → Type 0
-SaysNothing line = (l : ScriptLine) → ¬ (Says line l)
+SaysNothing line = (l : ScriptLine) → ¬ (LineSays line l)

@@ -6,8 +6,8 @@ use Rattle.script.specs.declared.fault.LineFault.{LineFault}
 use Rattle.script.specs.declared.fault.LineFault.TheVariants as kind
 use Rattle.script.specs.declared.fault.ScriptFault.{ScriptFault}
 use Rattle.script.specs.declared.fault.ScriptFault.TheVariants as script
-use Rattle.script.specs.Lines.{lines_of, Says, SaysNothing}
-use Rattle.script.specs.Events.{MayCome, IsOutOfPlace}
+use Rattle.script.specs.Lines.{lines_of, LineSays, SaysNothing}
+use Rattle.script.specs.Events.{MayFollow, IsOutOfPlace}
 
 -- the events of each worker, by its number
 abbrev pub Workers : Type 0
@@ -23,9 +23,9 @@ no_events workers = replicate workers []
 
 -- the line says an event that may come next at one of the workers
 pub record MayAdd (workers : Workers) (line : List ℕ) (said : ScriptLine) : Type 0 where
-  pub says : Says line said
+  pub says : LineSays line said
   pub in_range : said.worker < length workers
-  pub may_come : MayCome (events_at workers said.worker) said.event
+  pub may_come : MayFollow (events_at workers said.worker) said.event
 
 -- with one more event at its worker
 abbrev pub with_line : Workers → ScriptLine → Workers
@@ -42,14 +42,14 @@ AreRead before (line ∷ lines) after = (mid : Workers) × AddsLine before line 
 -- the line says an event at one of the workers, at which it may not come for this fault
 pub record IsMisplaced (workers : Workers) (line : List ℕ) (fault : LineFault) : Type 0 where
   pub said : ScriptLine
-  pub says : Says line said
+  pub says : LineSays line said
   pub in_range : said.worker < length workers
   pub out_of_place : IsOutOfPlace (events_at workers said.worker) said.event fault
 
 -- what is wrong with a line that comes behind those that gave these events
 abbrev pub IsFaulty : Workers → List ℕ → LineFault → Type 0
 IsFaulty workers line kind.NotAScriptLine = SaysNothing line
-IsFaulty workers line kind.WorkerOutOfRange = (said : ScriptLine) × Says line said × (length workers ≤ said.worker)
+IsFaulty workers line kind.WorkerOutOfRange = (said : ScriptLine) × LineSays line said × (length workers ≤ said.worker)
 IsFaulty workers line kind.NotAboveLast = IsMisplaced workers line kind.NotAboveLast
 IsFaulty workers line kind.NotOpen = IsMisplaced workers line kind.NotOpen
 

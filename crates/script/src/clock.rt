@@ -13,9 +13,9 @@ pub struct ScriptClock {
 }
 
 impl Model for ScriptClock {
-    ghost use Rattle.script.specs.Clocks.{Clock, clock_at};
+    ghost use Rattle.script.specs.Clocks.{ClockState, clock_at};
 
-    ghost Value = { Clock };
+    ghost Value = { ClockState };
 
     ghost view = { λ c. clock_at c.next c.tick };
 

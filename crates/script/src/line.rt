@@ -1,7 +1,7 @@
 //! Reads a line of a script.
 
 ghost use Rattle.std.specs.Prelude.{◌≡◌, ℕ, IfOk, MatchOption, option_copied, option_to_list, option_map};
-ghost use Rattle.script.specs.Lines.{Says, SaysNothing};
+ghost use Rattle.script.specs.Lines.{LineSays, SaysNothing};
 ghost use Rattle.script.specs.PlainLine.{bytes_in, event_in, line_in, session_in};
 ghost use Rattle.proto.specs.Words.{words_of};
 
@@ -99,7 +99,7 @@ fn line_of(alloc: Global, mut words: Words) -> Result<Option<ScriptLine>, NoMemo
 
 /// What the line, which has no line feed, says.
 pub fn script_line(alloc: Global, line: &[u8]) -> Result<Option<ScriptLine>, NoMemory>
-    ensures { IfOk result (λ found. MatchOption found (SaysNothing line.now) (Says line.now)) }
+    ensures { IfOk result (λ found. MatchOption found (SaysNothing line.now) (LineSays line.now)) }
 {
     line_of(alloc, Words::new(line))
 }

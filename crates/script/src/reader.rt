@@ -2,7 +2,7 @@
 
 ghost use Rattle.std.specs.Prelude.{◌≡◌, ◌+◌, ◌<◌, ◌≤◌, ◌↔◌, [], ◌∷◌, length, replicate, IfOk, IfErr, OnOk, OnErr, MatchResult, MatchOption, MatchBool, IfSome};
 ghost use Rattle.script.specs.Lines.{lines_of};
-ghost use Rattle.script.specs.Events.{MayCome};
+ghost use Rattle.script.specs.Events.{MayFollow};
 ghost use Rattle.script.specs.Scripts.{MayAdd, IsFaulty, events_at, with_line, no_events, max_script, first_position, ReadsLine, IsNextFault, AreEventsOf, IsFaultOf};
 
 use crate::event::ScriptLine;
@@ -60,7 +60,7 @@ fn checked(
 /// Adds the event at its worker, or changes nothing.
 fn add(workers: &mut [WorkerScript], said: ScriptLine) -> Result<(), NoMemory>
     requires in_range { said.worker < length workers.old }
-    requires may_come { MayCome (events_at workers.old said.worker) said.event }
+    requires may_come { MayFollow (events_at workers.old said.worker) said.event }
     ensures ok { OnOk result (workers.new ≡ with_line workers.old said) }
     ensures err { OnErr result (workers.new ≡ workers.old) }
 {

@@ -3,7 +3,7 @@
 ghost use Rattle.std.specs.Prelude.{◌≡◌, ℕ, ◌++◌, [], ◌∷◌, MatchOption, OnOk, OnErr};
 ghost use Rattle.std.specs.Ordering.{nat_cmp};
 ghost use Rattle.std.specs.BTreeSet.{contains};
-ghost use Rattle.script.specs.Events.{IsOutOfPlace, IsPlayable, MayCome, newest_after, open_after};
+ghost use Rattle.script.specs.Events.{IsOutOfPlace, IsPlayable, MayFollow, newest_after, open_after};
 
 use crate::event::ScriptEvent;
 use crate::fault::LineFault;
@@ -71,7 +71,7 @@ impl WorkerScript {
 
     /// Why the event may not come next, if it may not.
     pub fn fault(&self, event: &ScriptEvent) -> Option<LineFault>
-        ensures { MatchOption result (MayCome self.now event.now) (IsOutOfPlace self.now event.now) }
+        ensures { MatchOption result (MayFollow self.now event.now) (IsOutOfPlace self.now event.now) }
     {
         match event {
             ScriptEvent::Open(session) => {
@@ -93,7 +93,7 @@ impl WorkerScript {
 
     /// Adds the event, or changes nothing.
     pub fn push(&mut self, event: ScriptEvent) -> Result<(), NoMemory>
-        requires { MayCome self.old event }
+        requires { MayFollow self.old event }
         ensures ok { OnOk result (self.new ≡ self.old ++ event ∷ []) }
         ensures err { OnErr result (self.new ≡ self.old) }
     {

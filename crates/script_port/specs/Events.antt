@@ -4,14 +4,14 @@ use Rattle.script.specs.declared.event.ScriptEvent.{ScriptEvent}
 use Rattle.script.specs.declared.event.ScriptEvent.TheVariants.{Open, Send, Gone}
 use Rattle.script.specs.Events.{newest_after, open_after}
 
-abbrev pub session_of : ScriptEvent → ℕ
-session_of (Open session) = session
-session_of (Send session bytes) = session
-session_of (Gone session) = session
+abbrev pub event_session : ScriptEvent → ℕ
+event_session (Open session) = session
+event_session (Send session bytes) = session
+event_session (Gone session) = session
 
 -- the events of the other sessions
-abbrev pub without : ℕ → List ScriptEvent → List ScriptEvent
-without session events = filter (λ (e : ScriptEvent). not (session_of e == session)) events
+abbrev pub events_without : ℕ → List ScriptEvent → List ScriptEvent
+events_without session events = filter (λ (e : ScriptEvent). not (event_session e == session)) events
 
 -- what is left of a send behind its next piece
 abbrev pub send_after : ℕ → List ℕ → List ScriptEvent

@@ -1,12 +1,12 @@
 //! What a port that plays a script holds, and its steps.
 
-ghost use Rattle.std.specs.Prelude.{◌≡◌, ℕ, ◌+◌, ◌-◌, ◌<◌, ◌≤◌, ◌==◌, List, [], ◌∷◌, ◌++◌, length, take, true, false, Some, None, IfOk};
+ghost use Rattle.std.specs.Prelude.{◌≡◌, ℕ, ◌+◌, ◌-◌, ◌<◌, ◌≤◌, ◌==◌, ◌||◌, nat_lt, List, [], ◌∷◌, ◌++◌, length, take, true, false, Some, None, IfOk};
 ghost use Rattle.std.specs.List.{position};
 ghost use Rattle.script.specs.declared.event.ScriptEvent.TheVariants as script;
-ghost use Rattle.script_port.specs.Events.{session_of, is_playable};
+ghost use Rattle.script_port.specs.Events.{event_session, is_playable};
 ghost use Rattle.script_port.specs.Sessions.{is_closed, is_waiting};
 ghost use Rattle.script_port.specs.Sessions as sessions;
-ghost use Rattle.script_port.specs.Players.{is_left, is_ready, events_left, state_of, IsConsistent, IsFirst, Played, Closes, EndsSession, Keeps, SamePlayer, CountsOffer, GivesAs, TakesPiece};
+ghost use Rattle.script_port.specs.Players.{is_left, is_ready, events_left, player_state, IsPlayerConsistent, IsFirst, IsCausedAt, Played, RecordsClose, EndsSession, Keeps, SamePlayer, CountsOffer, GivesAs, TakesPiece};
 ghost use Rattle.script_port.specs.States.{IsNewPort, CountsGive, SetsHeld, most_accepted};
 ghost use Rattle.worker.specs.Ports.{given};
 
@@ -18,10 +18,7 @@ use script::event::ScriptEvent;
 use std::alloc::{AllocError, Global};
 use std::collections::VecDeque;
 use std::snapshot::Snapshot;
-use worker::port::{Gone, PortEvent, PortRecord};
-
-/// The most bytes of a piece of input.
-const PIECE: usize = 16_384;
+use worker::port::{Gone, MAX_PIECE, PortEvent, PortRecord};
 
 #[derive(Drop)]
 pub(crate) struct Player {
@@ -36,12 +33,14 @@ pub(crate) struct Player {
     pub(crate) accept: usize,
     /// The number of the `give` from now that fails, or 0.
     pub(crate) fail_give: u64,
+    /// Whether a `give` was asked to fail.
+    pub(crate) can_fail: bool,
     pub(crate) ended: bool,
 }
 
 // The session that an event is of.
-fn session_of(event: &ScriptEvent) -> u64
-    ensures { result ≡ session_of event.now }
+fn event_session(event: &ScriptEvent) -> u64
+    ensures { result ≡ event_session event.now }
 {
     match event {
         ScriptEvent::Open(session) => *session,
@@ -54,7 +53,7 @@ fn session_of(event: &ScriptEvent) -> u64
 fn is_left(sessions: &Sessions, event: &ScriptEvent) -> bool
     ensures { result ≡ is_left sessions.now event.now }
 {
-    match sessions.get(session_of(event)) {
+    match sessions.get(event_session(event)) {
         Some(session) => !session.stage().is_closed(),
         None => true,
     }
@@ -64,7 +63,7 @@ fn is_left(sessions: &Sessions, event: &ScriptEvent) -> bool
 fn is_ready(sessions: &Sessions, event: &ScriptEvent) -> bool
     ensures { result ≡ is_ready sessions.now event.now }
 {
-    match sessions.get(session_of(event)) {
+    match sessions.get(event_session(event)) {
         Some(session) => !session.stage().is_closed() && !session.stage().is_paused(),
         None => true,
     }
@@ -83,6 +82,15 @@ fn drop_closed(sessions: &Sessions, events: &mut VecDeque<ScriptEvent>)
     }
 }
 
+// Gives memory back once half of it has no event any more.
+fn give_back(events: &mut VecDeque<ScriptEvent>)
+    ensures { events.new.items ≡ events.old.items }
+{
+    if events.len() < events.capacity() / 2 {
+        events.shrink_to_fit();
+    }
+}
+
 // The place of the first event that may be played now.
 fn first_ready(sessions: &Sessions, events: &VecDeque<ScriptEvent>) -> Option<usize>
     ensures { result ≡ position (is_ready sessions.now) events.now.items }
@@ -94,7 +102,7 @@ fn first_ready(sessions: &Sessions, events: &VecDeque<ScriptEvent>) -> Option<us
 fn next_piece(bytes: &Bytes) -> Result<(Bytes, Bytes), AllocError>
     ensures { IfOk result (λ r. (r.0 ≡ take 16384 bytes.now) × (r.1 ≡ take 16384 bytes.now)) }
 {
-    let piece = bytes.slice(0..bytes.len().min(PIECE))?;
+    let piece = bytes.slice(0..bytes.len().min(MAX_PIECE))?;
     let copy = piece.clone()?;
     Ok((piece, copy))
 }
@@ -107,8 +115,8 @@ fn take_piece(events: &mut VecDeque<ScriptEvent>, at: usize)
     let Some(ScriptEvent::Send(session, mut bytes)) = events.remove(at) else {
         return;
     };
-    if bytes.len() > PIECE {
-        bytes.advance(PIECE);
+    if bytes.len() > MAX_PIECE {
+        bytes.advance(MAX_PIECE);
         if events
             .insert(at, ScriptEvent::Send(session, bytes))
             .is_err()
@@ -132,8 +140,8 @@ fn most_accepted(accept: usize, bytes: &[u8]) -> usize
 
 impl Player {
     pub(crate) fn new(alloc: Global, events: Vec<ScriptEvent>) -> Player
-        ensures consistent { IsConsistent result }
-        ensures fresh { IsNewPort events.items (state_of result) }
+        ensures consistent { IsPlayerConsistent result }
+        ensures fresh { IsNewPort events.items (player_state result) }
     {
         let script = Snapshot::of(&events);
         Player {
@@ -144,13 +152,25 @@ impl Player {
             records: Records::new(),
             accept: 0,
             fail_give: 0,
+            can_fail: false,
             ended: false,
         }
     }
 
+    /// From now on each `give` accepts at most `accept` bytes, and the `fail_give`th fails.
+    pub(crate) fn set_faults(&mut self, accept: usize, fail_give: u64)
+        requires consistent { IsPlayerConsistent self.old }
+        ensures consistent { IsPlayerConsistent self.new }
+        ensures state { player_state self.new ≡ record (player_state self.old) { accept = accept; fail_give = fail_give; can_fail = self.old.can_fail || nat_lt 0 fail_give } }
+    {
+        self.accept = accept;
+        self.fail_give = fail_give;
+        self.can_fail |= fail_give > 0;
+    }
+
     /// The bytes given to a session.
     pub(crate) fn given(&self, session: u64) -> &[u8]
-        requires { IsConsistent self.now }
+        requires { IsPlayerConsistent self.now }
         ensures { result.now ≡ given session self.now.records }
     {
         match self.sessions.get(session) {
@@ -161,12 +181,13 @@ impl Player {
 
     // Begins a session.
     fn open(&mut self, at: usize, session: u64) -> PortEvent
-        requires consistent { IsConsistent self.old }
+        requires consistent { IsPlayerConsistent self.old }
         requires running { self.old.ended ≡ false }
         requires first { IsFirst self.old at (script.Open session) }
-        ensures consistent { IsConsistent self.new }
+        ensures consistent { IsPlayerConsistent self.new }
         ensures script { self.new.script ≡ self.old.script }
         ensures accept { self.new.accept ≡ self.old.accept }
+        ensures can_fail { self.new.can_fail ≡ self.old.can_fail }
         ensures played { Played self.old result self.new }
     {
         if session <= self.sessions.newest() {
@@ -183,12 +204,13 @@ impl Player {
 
     // Gives the next piece of a send.
     fn send(&mut self, at: usize, session: u64, piece: Bytes, copy: Bytes) -> PortEvent
-        requires consistent { IsConsistent self.old }
+        requires consistent { IsPlayerConsistent self.old }
         requires running { self.old.ended ≡ false }
         requires first { (bytes : List ℕ) × IsFirst self.old at (script.Send session bytes) × (piece ≡ take 16384 bytes) × (copy ≡ take 16384 bytes) }
-        ensures consistent { IsConsistent self.new }
+        ensures consistent { IsPlayerConsistent self.new }
         ensures script { self.new.script ≡ self.old.script }
         ensures accept { self.new.accept ≡ self.old.accept }
+        ensures can_fail { self.new.can_fail ≡ self.old.can_fail }
         ensures played { Played self.old result self.new }
     {
         self.records.write(PortRecord::Data(session, copy));
@@ -198,12 +220,13 @@ impl Player {
 
     // Ends a session whose peer has gone.
     fn go(&mut self, at: usize, session: u64) -> PortEvent
-        requires consistent { IsConsistent self.old }
+        requires consistent { IsPlayerConsistent self.old }
         requires running { self.old.ended ≡ false }
         requires first { IsFirst self.old at (script.Gone session) }
-        ensures consistent { IsConsistent self.new }
+        ensures consistent { IsPlayerConsistent self.new }
         ensures script { self.new.script ≡ self.old.script }
         ensures accept { self.new.accept ≡ self.old.accept }
+        ensures can_fail { self.new.can_fail ≡ self.old.can_fail }
         ensures played { Played self.old result self.new }
     {
         self.close(session, PortRecord::Gone(session));
@@ -213,12 +236,13 @@ impl Player {
 
     // Plays the event at this place.
     fn play(&mut self, at: usize) -> PortEvent
-        requires consistent { IsConsistent self.old }
+        requires consistent { IsPlayerConsistent self.old }
         requires running { self.old.ended ≡ false }
         requires first { position (is_ready self.old.sessions) self.old.events.items ≡ Some at }
-        ensures consistent { IsConsistent self.new }
+        ensures consistent { IsPlayerConsistent self.new }
         ensures script { self.new.script ≡ self.old.script }
         ensures accept { self.new.accept ≡ self.old.accept }
+        ensures can_fail { self.new.can_fail ≡ self.old.can_fail }
         ensures played { Played self.old result self.new }
     {
         match self.events.get(at) {
@@ -243,12 +267,13 @@ impl Player {
 
     // Ends the port, as no event is left.
     fn end(&mut self) -> PortEvent
-        requires consistent { IsConsistent self.old }
+        requires consistent { IsPlayerConsistent self.old }
         requires running { self.old.ended ≡ false }
         requires none { self.old.events.items ≡ [] }
-        ensures consistent { IsConsistent self.new }
+        ensures consistent { IsPlayerConsistent self.new }
         ensures script { self.new.script ≡ self.old.script }
         ensures accept { self.new.accept ≡ self.old.accept }
+        ensures can_fail { self.new.can_fail ≡ self.old.can_fail }
         ensures played { Played self.old result self.new }
     {
         self.records.write(PortRecord::Ended);
@@ -259,16 +284,18 @@ impl Player {
     /// The first event left whose session isn't paused, of a send its next piece. `Idle` where there is none, once
     /// `Ended` was given, and where no memory is found.
     pub(crate) fn next(&mut self) -> PortEvent
-        requires consistent { IsConsistent self.old }
-        ensures consistent { IsConsistent self.new }
+        requires consistent { IsPlayerConsistent self.old }
+        ensures consistent { IsPlayerConsistent self.new }
         ensures script { self.new.script ≡ self.old.script }
         ensures accept { self.new.accept ≡ self.old.accept }
+        ensures can_fail { self.new.can_fail ≡ self.old.can_fail }
         ensures played { Played self.old result self.new }
     {
         if self.ended {
             return PortEvent::Idle;
         }
         drop_closed(&self.sessions, &mut self.events);
+        give_back(&mut self.events);
         match first_ready(&self.sessions, &self.events) {
             Some(at) => self.play(at),
             None => {
@@ -295,12 +322,14 @@ impl Player {
 
     /// Ends an open session with this entry. Its events are left no more.
     pub(crate) fn close(&mut self, session: u64, entry: PortRecord)
-        requires consistent { IsConsistent self.old }
+        requires consistent { IsPlayerConsistent self.old }
         requires ends { EndsSession session entry }
-        ensures consistent { IsConsistent self.new }
+        requires caused { IsCausedAt self.old session entry }
+        ensures consistent { IsPlayerConsistent self.new }
         ensures script { self.new.script ≡ self.old.script }
         ensures accept { self.new.accept ≡ self.old.accept }
-        ensures closes { sessions.is_open self.old.sessions session ≡ true → Closes self.old session entry self.new }
+        ensures can_fail { self.new.can_fail ≡ self.old.can_fail }
+        ensures closes { sessions.is_open self.old.sessions session ≡ true → RecordsClose self.old session entry self.new }
         ensures same { sessions.is_open self.old.sessions session ≡ false → self.new ≡ self.old }
     {
         if self.sessions.change(session, Stage::Closed) {
@@ -310,21 +339,22 @@ impl Player {
 
     /// Pauses or resumes an open session.
     pub(crate) fn hold(&mut self, session: u64, stage: Stage)
-        requires consistent { IsConsistent self.old }
+        requires consistent { IsPlayerConsistent self.old }
         requires stage { is_closed stage ≡ false }
-        ensures consistent { IsConsistent self.new }
+        ensures consistent { IsPlayerConsistent self.new }
         ensures script { self.new.script ≡ self.old.script }
         ensures accept { self.new.accept ≡ self.old.accept }
+        ensures can_fail { self.new.can_fail ≡ self.old.can_fail }
         ensures records { self.new.records ≡ self.old.records }
-        ensures held { sessions.is_open self.old.sessions session ≡ true → SetsHeld (state_of self.old) session (is_waiting stage) (state_of self.new) }
+        ensures held { sessions.is_open self.old.sessions session ≡ true → SetsHeld (player_state self.old) session (is_waiting stage) (player_state self.new) }
     {
         self.sessions.change(session, stage);
     }
 
     // Keeps bytes that a session is given. False where there is no memory, and then nothing changes.
     fn keep(&mut self, session: u64, bytes: &[u8]) -> bool
-        requires consistent { IsConsistent self.old }
-        ensures consistent { IsConsistent self.new }
+        requires consistent { IsPlayerConsistent self.old }
+        ensures consistent { IsPlayerConsistent self.new }
         ensures kept { result ≡ true → Keeps self.old session bytes.now self.new }
         ensures same { result ≡ false → SamePlayer self.old self.new }
     {
@@ -340,7 +370,9 @@ impl Player {
 
     // Whether this offer is the one that fails.
     fn fails(&mut self, bytes: &[u8]) -> bool
-        ensures { CountsOffer self.old bytes.now self.new result }
+        requires { IsPlayerConsistent self.old }
+        ensures consistent { IsPlayerConsistent self.new }
+        ensures counts { CountsOffer self.old bytes.now self.new result }
     {
         if bytes.is_empty() || self.fail_give == 0 {
             return false;
@@ -351,10 +383,11 @@ impl Player {
 
     /// Offers bytes to a session.
     pub(crate) fn give(&mut self, session: u64, bytes: &[u8]) -> Result<usize, Gone>
-        requires consistent { IsConsistent self.old }
-        ensures consistent { IsConsistent self.new }
+        requires consistent { IsPlayerConsistent self.old }
+        ensures consistent { IsPlayerConsistent self.new }
         ensures within { IfOk result (λ n. n ≤ length bytes.now) }
-        ensures counts { CountsGive (state_of self.old) bytes.now (state_of self.new) }
+        ensures counts { CountsGive (player_state self.old) bytes.now (player_state self.new) }
+        ensures can_fail { self.new.can_fail ≡ self.old.can_fail }
         ensures given { sessions.is_open self.old.sessions session ≡ true → GivesAs self.old session bytes.now result self.new }
     {
         if self.fails(bytes) {

@@ -1,6 +1,6 @@
 //! A port that plays a script.
 
-ghost use Rattle.std.specs.Prelude.{◌≡◌, ℕ, ◌++◌, [], ◌∷◌, ◌≤◌, ◌↔◌, length, true, false, IfOk, option_map, Some};
+ghost use Rattle.std.specs.Prelude.{◌≡◌, ℕ, ◌++◌, [], ◌∷◌, ◌≤◌, ◌↔◌, ◌||◌, nat_lt, length, true, false, IfOk, option_map, Some};
 ghost use Rattle.script.specs.Events.{IsPlayable};
 ghost use Rattle.worker.specs.declared.port.PortRecord.TheVariants.{Shut};
 ghost use Rattle.worker.specs.Ports.{PortStory, then_told, with_pause, event_records, give_records, IsOpenIn, MayCome, given};
@@ -8,11 +8,11 @@ ghost use Rattle.script_port.specs.Events.{is_playable};
 ghost use Rattle.script_port.specs.Sessions.{numbers};
 ghost use Rattle.script_port.specs.Records.{opened};
 ghost use Rattle.script_port.specs.Following.{IsPlayed};
-ghost use Rattle.script_port.specs.States.{told_of, PlaysOn, Plays, Gives, GoesOn, CountsGive, SetsHeld, Shuts, IsNewPort};
+ghost use Rattle.script_port.specs.States.{story_told, PlaysOn, Plays, Gives, PortGoesOn, CountsGive, SetsHeld, DropsSession, IsNewPort};
 
 use crate::awake::Awake;
 use crate::player::Player;
-use crate::sessions::Session;
+use crate::sessions::ScriptSession;
 use crate::stage::Stage;
 use script::event::ScriptEvent;
 use std::alloc::Global;
@@ -31,13 +31,13 @@ pub struct ScriptPort {
 
 impl Model for ScriptPort {
     ghost use Rattle.script_port.specs.States.{PortState};
-    ghost use Rattle.script_port.specs.Players.{state_of, IsConsistent};
+    ghost use Rattle.script_port.specs.Players.{player_state, IsPlayerConsistent};
 
     ghost Value = { PortState };
 
-    ghost view = { λ p. state_of p.player };
+    ghost view = { λ p. player_state p.player };
 
-    ghost invariant = { λ p. IsConsistent p.player };
+    ghost invariant = { λ p. IsPlayerConsistent p.player };
 }
 
 impl ScriptPort {
@@ -55,10 +55,9 @@ impl ScriptPort {
     /// From now on each `give` accepts at most `accept` bytes, and the `fail_give`th that is offered at least one
     /// byte accepts none and answers that the peer has gone. 0 is none for either.
     pub fn with_faults(mut self, accept: usize, fail_give: u64) -> ScriptPort
-        ensures { result ≡ record self { accept = accept; fail_give = fail_give } }
+        ensures { result ≡ record self { accept = accept; fail_give = fail_give; can_fail = self.can_fail || nat_lt 0 fail_give } }
     {
-        self.player.accept = accept;
-        self.player.fail_give = fail_give;
+        self.player.set_faults(accept, fail_give);
         self
     }
 
@@ -70,19 +69,19 @@ impl ScriptPort {
     }
 
     /// The sessions that were opened, in order. The list tells what the script says of them.
-    pub fn sessions(&self) -> &[Session]
+    pub fn sessions(&self) -> &[ScriptSession]
         ensures sessions { result.now ≡ self.now.sessions }
         ensures opened { numbers result.now ≡ opened self.now.records }
-        ensures played { is_playable self.now.script ≡ true → IsPlayed self.now.script self.now.records }
+        ensures played { is_playable self.now.script ≡ true → IsPlayed self.now.script self.now.records self.now.can_fail }
     {
         self.player.sessions.as_slice()
     }
 }
 
 impl Port for ScriptPort {
-    ghost use Rattle.script_port.specs.States.{told_of, PlaysOn, plays_same, plays_later};
+    ghost use Rattle.script_port.specs.States.{story_told, PlaysOn, plays_same, plays_later};
 
-    ghost told = { told_of };
+    ghost told = { story_told };
 
     ghost leads_to = { PlaysOn };
 
@@ -93,10 +92,10 @@ impl Port for ScriptPort {
     /// It never waits.
     fn next(&mut self, _may_wait: bool) -> PortEvent
         ensures leads { PlaysOn self.old self.new }
-        ensures told { told_of self.new ≡ option_map (then_told (event_records result)) (told_of self.old) }
-        ensures may { (story : PortStory) → told_of self.old ≡ Some story → MayCome story result }
+        ensures told { story_told self.new ≡ option_map (then_told (event_records result)) (story_told self.old) }
+        ensures may { (story : PortStory) → story_told self.old ≡ Some story → MayCome story result }
         ensures plays { is_playable self.old.script ≡ true → Plays self.old result self.new }
-        ensures goes_on { is_playable self.old.script ≡ true → GoesOn self.old self.new }
+        ensures goes_on { is_playable self.old.script ≡ true → PortGoesOn self.old self.new }
     {
         if self.awake.is_none() {
             return PortEvent::Idle;
@@ -108,10 +107,10 @@ impl Port for ScriptPort {
     }
 
     fn give(&mut self, session: u64, bytes: &[u8]) -> Result<usize, Gone>
-        requires { IsOpenIn session (told_of self.old) }
+        requires { IsOpenIn session (story_told self.old) }
         ensures within { IfOk result (λ n. n ≤ length bytes.now) }
         ensures leads { PlaysOn self.old self.new }
-        ensures told { told_of self.new ≡ option_map (then_told (give_records session bytes.now result)) (told_of self.old) }
+        ensures told { story_told self.new ≡ option_map (then_told (give_records session bytes.now result)) (story_told self.old) }
         ensures gives { is_playable self.old.script ≡ true → Gives self.old session bytes.now result self.new }
         ensures counts { CountsGive self.old bytes.now self.new }
     {
@@ -122,9 +121,9 @@ impl Port for ScriptPort {
     }
 
     fn pause(&mut self, session: u64)
-        requires { IsOpenIn session (told_of self.old) }
+        requires { IsOpenIn session (story_told self.old) }
         ensures leads { PlaysOn self.old self.new }
-        ensures told { told_of self.new ≡ option_map (with_pause session true) (told_of self.old) }
+        ensures told { story_told self.new ≡ option_map (with_pause session true) (story_told self.old) }
         ensures held { is_playable self.old.script ≡ true → SetsHeld self.old session true self.new }
     {
         self.player.hold(session, Stage::Paused);
@@ -132,9 +131,9 @@ impl Port for ScriptPort {
     }
 
     fn resume(&mut self, session: u64)
-        requires { IsOpenIn session (told_of self.old) }
+        requires { IsOpenIn session (story_told self.old) }
         ensures leads { PlaysOn self.old self.new }
-        ensures told { told_of self.new ≡ option_map (with_pause session false) (told_of self.old) }
+        ensures told { story_told self.new ≡ option_map (with_pause session false) (story_told self.old) }
         ensures held { is_playable self.old.script ≡ true → SetsHeld self.old session false self.new }
     {
         self.player.hold(session, Stage::Playing);
@@ -142,10 +141,10 @@ impl Port for ScriptPort {
     }
 
     fn shut(&mut self, session: u64)
-        requires { IsOpenIn session (told_of self.old) }
+        requires { IsOpenIn session (story_told self.old) }
         ensures leads { PlaysOn self.old self.new }
-        ensures told { told_of self.new ≡ option_map (then_told (Shut session ∷ [])) (told_of self.old) }
-        ensures shuts { is_playable self.old.script ≡ true → Shuts self.old session self.new }
+        ensures told { story_told self.new ≡ option_map (then_told (Shut session ∷ [])) (story_told self.old) }
+        ensures shuts { is_playable self.old.script ≡ true → DropsSession self.old session self.new }
     {
         let was_paused = self.player.is_paused(session);
         self.player.close(session, PortRecord::Shut(session));

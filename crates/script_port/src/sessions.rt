@@ -1,7 +1,7 @@
 //! The sessions that a port has opened.
 
 ghost use Rattle.std.specs.Prelude.{◌≡◌, ℕ, ◌+◌, ◌<◌, [], ◌∷◌, ◌++◌, length, map, true, false, Some, None, option_map, MatchOption, OnOk, OnErr, slice_index_or, if◌then◌else◌};
-ghost use Rattle.script_port.specs.Sessions.{SessionState, numbers, RisesFrom, newest, entry_of, is_open, ChangesAt, with_stage, IsPlaceOf, is_closed, AcceptsAt};
+ghost use Rattle.script_port.specs.Sessions.{ScriptSessionState, numbers, RisesFrom, newest, session_entry, is_open, ChangesAt, with_stage, IsPlaceOf, is_closed, AcceptsAt};
 
 use crate::stage::Stage;
 use std::alloc::{AllocError, Global};
@@ -9,25 +9,25 @@ use std::marker::Model;
 
 /// A session that was opened.
 #[derive(Drop)]
-pub struct Session {
+pub struct ScriptSession {
     number: u64,
     stage: Stage,
     output: Vec<u8>,
 }
 
-impl Model for Session {
-    ghost use Rattle.script_port.specs.Sessions.{SessionState};
+impl Model for ScriptSession {
+    ghost use Rattle.script_port.specs.Sessions.{ScriptSessionState};
 
-    ghost Value = { SessionState };
+    ghost Value = { ScriptSessionState };
 
     ghost view = { λ s. record { number = s.number; stage = s.stage; output = s.output.items } };
 }
 
-impl Session {
-    fn new(alloc: Global, number: u64) -> Session
+impl ScriptSession {
+    fn new(alloc: Global, number: u64) -> ScriptSession
         ensures { result ≡ record { number = number; stage = Stage.Playing; output = [] } }
     {
-        Session {
+        ScriptSession {
             number,
             stage: Stage::Playing,
             output: Vec::new(alloc),
@@ -71,14 +71,14 @@ impl Session {
 #[derive(Drop)]
 pub(crate) struct Sessions {
     alloc: Global,
-    entries: Vec<Session>,
+    entries: Vec<ScriptSession>,
 }
 
 impl Model for Sessions {
     ghost use Rattle.std.specs.Prelude.{List};
-    ghost use Rattle.script_port.specs.Sessions.{SessionState, RisesFrom, numbers};
+    ghost use Rattle.script_port.specs.Sessions.{ScriptSessionState, RisesFrom, numbers};
 
-    ghost Value = { List SessionState };
+    ghost Value = { List ScriptSessionState };
 
     ghost view = { λ s. s.entries.items };
 
@@ -86,7 +86,7 @@ impl Model for Sessions {
 }
 
 // The place of the session with this number, by a binary search.
-fn place_of(sessions: &[Session], number: u64) -> Option<usize>
+fn place_of(sessions: &[ScriptSession], number: u64) -> Option<usize>
     requires { RisesFrom 0 (numbers sessions.now) }
     ensures { IsPlaceOf sessions.now number result }
 {
@@ -117,15 +117,15 @@ impl Sessions {
         }
     }
 
-    pub(crate) fn as_slice(&self) -> &[Session]
+    pub(crate) fn as_slice(&self) -> &[ScriptSession]
         ensures { result.now ≡ self.now }
     {
         self.entries.as_slice()
     }
 
     /// The session with this number.
-    pub(crate) fn get(&self, number: u64) -> Option<&Session>
-        ensures { MatchOption result (entry_of self.now number ≡ None) (λ s. entry_of self.now number ≡ Some s.now) }
+    pub(crate) fn get(&self, number: u64) -> Option<&ScriptSession>
+        ensures { MatchOption result (session_entry self.now number ≡ None) (λ s. session_entry self.now number ≡ Some s.now) }
     {
         let at = place_of(self.entries.as_slice(), number)?;
         Some(&self.entries[at])
@@ -148,7 +148,8 @@ impl Sessions {
         ensures err { OnErr result (self.new ≡ self.old) }
     {
         self.entries.reserve(1)?;
-        self.entries.push_reserved(Session::new(self.alloc, number));
+        self.entries
+            .push_reserved(ScriptSession::new(self.alloc, number));
         Ok(())
     }
 

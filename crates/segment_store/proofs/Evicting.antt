@@ -1,6 +1,7 @@
 -- What is forgotten where room is made: keys of shown entries, of which there are as many as segments, and not too many
 -- bytes of them.
-use Rattle.std.proofs.Common.{◌≡◌, ℕ, zero, suc, ◌+◌, ◌-◌, ◌*◌, ◌<◌, ◌≤◌, Bool, true, false, cond, List, [], ◌∷◌, map, Option, Some, None, refl, sym, ap, subst, ◌∙◌, inl, inr, arith}
+use Rattle.std.proofs.Common.{◌≡◌, ℕ, zero, suc, ◌+◌, ◌-◌, ◌*◌, ◌<◌, ◌≤◌, Bool, true, false, cond, List, [], ◌∷◌, map, Option, Some, None, refl, sym, ap}
+use Rattle.std.proofs.Common.{subst, ◌∙◌, inl, inr, arith}
 use Rattle.std.specs.Prelude.{bytes_eq, IsSome, All, ◌||◌, ◌⊎◌, option_map, sum_by, filter, is_some, ◌==◌, if◌then◌else◌}
 use Rattle.std.specs.List.{list_any, list_all}
 use Rattle.std.specs.Option.{option_map_or}
@@ -17,7 +18,7 @@ use Rattle.proto.specs.Steps.{size_at, contains_bytes, without}
 use Rattle.proto.proofs.CacheLemmas.{get-remove, if_live}
 use Rattle.segments.specs.declared.place.Place.{Place}
 use Rattle.segments.specs.Items.{Item, item_size, size_of_all}
-use Rattle.segments.specs.Pools.{PoolState, IsPool, Used, Standing, item_in, deadline_at, standing, standing_from, items_of, segment_at, has_live}
+use Rattle.segments.specs.Pools.{PoolState, IsPool, Used, Standing, item_in, place_deadline, standing, standing_from, items_of, segment_at, has_live}
 use Rattle.segments.specs.Changes.{cleared}
 use Rattle.segments.specs.Places.{same_place, HasFree}
 use Rattle.segments.proofs.Places.{cleared_item, cleared_deadline, cleared_free}
@@ -26,7 +27,7 @@ use Rattle.tally.proofs.MarkedPlaces.{knows_after}
 use Rattle.index.specs.Keys.{key_at}
 use Rattle.tally.specs.Marks.{Marks, is_marked, lives_by}
 use Rattle.index.specs.Table.{Table, Places}
-use Rattle.segment_store.specs.Shown.{current, shown, entry_at, kept_entry, gone}
+use Rattle.segment_store.specs.Shown.{current, shown_entries, entry_at, kept_entry, gone}
 use Rattle.segment_store.specs.Leaving.{HasLeft}
 use Rattle.segment_store.proofs.Opening.{past_cleared}
 use Rattle.segment_store.specs.Kept.{IsTied, IsPast}
@@ -41,33 +42,38 @@ use Rattle.segment_store.proofs.LeftPlaces.{is_left, standing_all, standing_left
 abbrev pub IsCurrent : PoolState → Table → Standing → Type 0
 IsCurrent p index s = (item_in p s.place ≡ Some s.item) × (finite.get (current p index) s.item.key ≡ Some s.place)
 
+-- where no current deadline has come, a current item is shown as the entry that it keeps, with its segment's deadline
 pub shown_item : (p : PoolState) (index : Table) (t : ℕ) (s : Standing) → AllWait p (current p index) t → IsCurrent p index s
-    → finite.get (shown p index t) s.item.key ≡ Some (kept_entry (deadline_at p s.place) s.item)
+    → finite.get (shown_entries p index t) s.item.key ≡ Some (kept_entry (place_deadline p s.place) s.item)
 shown_item p index t s wait c =
     get-live_in p (current p index) t s.item.key ∙ ap (λ (o : Option Place). if_live t (option_map (entry_at p) o)) c.1
     ∙ entry_live p s.place t s.item c.0 (wait s.item.key s.place c.1) ∙ ap Some (entry_is p s.place s.item c.0)
 
+-- the key of an item that stands at a place
 abbrev pub key_in : Standing → List ℕ
 key_in s = s.item.key
 
+-- the bytes that an item at a place takes
 abbrev pub size_in : Standing → ℕ
 size_in s = item_size s.item
 
+-- where no current deadline has come, an entry is shown at the key of each of some current items
 pub all_shown : (p : PoolState) (index : Table) (t : ℕ) (ss : List Standing) → AllWait p (current p index) t → All (IsCurrent p index) ss
-    → list_all (finite.contains_key (shown p index t)) (map key_in ss) ≡ true
+    → list_all (finite.contains_key (shown_entries p index t)) (map key_in ss) ≡ true
 all_shown p index t [] wait all = refl
 all_shown p index t (s ∷ ss) wait all =
-    let here : finite.contains_key (shown p index t) s.item.key ≡ true = ap is_some (shown_item p index t s wait (All-head (IsCurrent p index) s ss all)) in
+    let here : finite.contains_key (shown_entries p index t) s.item.key ≡ true = ap is_some (shown_item p index t s wait (All-head (IsCurrent p index) s ss all)) in
     rw here (all_shown p index t ss wait (All-tail (IsCurrent p index) s ss all))
 
+-- where no current deadline has come, the entries shown at the keys of current items take the bytes that these items take
 pub shown_sizes : (p : PoolState) (index : Table) (t : ℕ) (ss : List Standing) → AllWait p (current p index) t → All (IsCurrent p index) ss
-    → sum_by (size_at (shown p index t)) (map key_in ss) ≡ sum_by size_in ss
+    → sum_by (size_at (shown_entries p index t)) (map key_in ss) ≡ sum_by size_in ss
 shown_sizes p index t [] wait all = refl
 shown_sizes p index t (s ∷ ss) wait all =
-    let here : size_at (shown p index t) s.item.key ≡ item_size s.item = ap
+    let here : size_at (shown_entries p index t) s.item.key ≡ item_size s.item = ap
     (λ (o : Option Entry). option_map_or (entry_size s.item.key) o 0) (shown_item p index t s wait (All-head (IsCurrent p index) s ss all)) in
     let rest = shown_sizes p index t ss wait (All-tail (IsCurrent p index) s ss all) in
-    let one = sum_by-cons (size_at (shown p index t)) s.item.key (map key_in ss) in
+    let one = sum_by-cons (size_at (shown_entries p index t)) s.item.key (map key_in ss) in
     let other = sum_by-cons size_in s ss in
     omega (arith, here, rest, one, other)
 
@@ -81,6 +87,7 @@ pub record HasKeyIn (m : Places) (entries : Entries) (n : ℕ) : Type 0 where
   pub segment : place.segment ≡ n
   pub entry : finite.contains_key entries key ≡ true
 
+-- a map without one of its keys has one entry less
 one_less : (e : Entries) (q : List ℕ) → finite.contains_key e q ≡ true → finite.len (finite.remove e q) + 1 ≡ finite.len e
 one_less e q h =
     let l = finite.len-remove nat_list_cmp_total e q in
@@ -93,6 +100,7 @@ one_less e q h =
           omega (arith, is, some)
     ]
 
+-- where each segment below a number has a key with a place in it and an entry, there are at least that many entries
 pub many_keys : (k : ℕ) (m : Places) (entries : Entries) → ((n : ℕ) → n < k → HasKeyIn m entries n) → k ≤ finite.len entries
 many_keys zero m entries h = omega arith
 many_keys (suc k) m entries h =
@@ -117,6 +125,7 @@ many_keys (suc k) m entries h =
         absurd (omega (arith, lt, s))
     other n y x lt (inr apart) = rw apart y.entry
 
+-- of items that all have a property, and of which some pass a test, one passes it and has the property
 found_live : (t : Standing → Bool) (xs : List Standing) → list_any t xs ≡ true → (P : Standing → Type 0) → All P xs → (s : Standing) × (t s ≡ true) × P s
 found_live t [] h P all = absurd (false≢true h)
 found_live t (x ∷ xs) h P all =
@@ -127,9 +136,9 @@ found_live t (x ∷ xs) h P all =
 
 -- where each segment has a current item, and all are live, there are as many entries as segments
 pub many_shown : (p : PoolState) (index : Table) (marks : Marks) (t : ℕ) → IsTied p index marks → AllWait p (current p index) t
-    → ((n : ℕ) → n < p.sizes.segments → has_live (lives_by marks) p n ≡ true) → p.sizes.segments ≤ finite.len (shown p index t)
+    → ((n : ℕ) → n < p.sizes.segments → has_live (lives_by marks) p n ≡ true) → p.sizes.segments ≤ finite.len (shown_entries p index t)
 many_shown p index marks t tied wait live =
-    many_keys p.sizes.segments (current p index) (shown p index t)
+    many_keys p.sizes.segments (current p index) (shown_entries p index t)
     (λ n lt.
     let w = found_live (λ s. is_marked marks s.place) (standing p n) (live n lt)
     (λ (s : Standing). (s.place.segment ≡ n) × (item_in p s.place ≡ Some s.item)) (standing_all p n) in
@@ -138,6 +147,7 @@ many_shown p index marks t tied wait live =
 
 -- ---- all that is forgotten
 
+-- a key with a place is one of the keys of some current items exactly where its place is one of theirs
 key_left : (p : PoolState) (index : Table) (ss : List Standing) (q : List ℕ) (r : Place) → All (IsCurrent p index) ss → finite.get (current p index) q ≡ Some r
     → contains_bytes (map key_in ss) q ≡ is_left ss r
 key_left p index [] q r all there = refl
@@ -169,10 +179,12 @@ pub record HaveStayed (p : PoolState) (old : Places) (after : PoolState) (new : 
   pub stays : (q : List ℕ) (r : Place) → finite.get old q ≡ Some r → is_left ss r ≡ false → (s : Place)
       × (finite.get new q ≡ Some s) × (entry_at after s ≡ entry_at p r)
 
+-- a choice between no entry and no entry is no entry
 no_entry : (b : Bool) → ◌≡◌ {A = Option Entry} None (cond b None None)
 no_entry true = refl
 no_entry false = refl
 
+-- where some current items leave and the others stay, a key of theirs shows nothing, and any other shows what it did
 shown_but : (p : PoolState) (index : Table) (after : PoolState) (new : Places) (t : ℕ) (ss : List Standing) (q : List ℕ)
     (o : Option Place) → All (IsCurrent p index) ss
     → HaveStayed p (current p index) after new ss → finite.get (current p index) q ≡ o
@@ -193,7 +205,7 @@ shown_but p index after new t ss q (Some r) all h e =
 
 -- where current items leave and the others stay, exactly their keys aren't shown any more
 pub left_entries : (p : PoolState) (index : Table) (after : PoolState) (found : Table) (t : ℕ) (ss : List Standing) → All (IsCurrent p index) ss
-    → HaveStayed p (current p index) after (current after found) ss → shown after found t ≡ without (shown p index t) (map key_in ss)
+    → HaveStayed p (current p index) after (current after found) ss → shown_entries after found t ≡ without (shown_entries p index t) (map key_in ss)
 left_entries p index after found t ss all stayed =
     shown_without p after (current p index) (current after found) t (map key_in ss)
     (λ q. get-live_in after (current after found) t q ∙ shown_but p index after (current after found) t ss q (finite.get (current p index) q) all stayed refl
@@ -203,7 +215,7 @@ left_entries p index after found t ss all stayed =
 pub evicted_kept : (p : PoolState) (index : Table) (after : PoolState) (found : Table) (t : ℕ) (ss : List Standing)
     → IsCrowded p index t → All (IsCurrent p index) ss
     → HaveStayed p (current p index) after (current after found) ss → sum_by size_in ss ≤ 4 * p.sizes.segment_size
-    → AreKept p.sizes (shown p index t) (shown after found t)
+    → AreKept p.sizes (shown_entries p index t) (shown_entries after found t)
 evicted_kept p index after found t ss crowded all stayed small =
     record {
       forgotten = map key_in ss;
@@ -230,6 +242,7 @@ current_among p index marks (s ∷ ss) tied all =
       | inr n ↦ rw n rest
     ]
 
+-- a marked place is one of those of the marked items exactly where it is one of those of all items
 left_marked : (marks : Marks) (ss : List Standing) (r : Place) → is_marked marks r ≡ true
     → is_left (filter (λ (s : Standing). is_marked marks s.place) ss) r ≡ is_left ss r
 left_marked marks [] r h = refl
@@ -245,6 +258,7 @@ left_marked marks (s ∷ ss) r h =
           rw (n, apart) rest
     ]
 
+-- a place in another segment is none of those of a segment's items
 none_left : (ss : List Standing) (n : ℕ) (r : Place) → All (λ (s : Standing). s.place.segment ≡ n) ss → (r.segment ≡ n → ⊥) → is_left ss r ≡ false
 none_left [] n r all ne = refl
 none_left (s ∷ ss) n r all ne =
@@ -255,6 +269,7 @@ none_left (s ∷ ss) n r all ne =
       | inr f ↦ rw f rest
     ]
 
+-- those of some items that are marked take no more bytes than all of them
 marked_sizes : (marks : Marks) (ss : List Standing) → sum_by size_in (filter (λ (s : Standing). is_marked marks s.place) ss) ≤ sum_by size_in ss
 marked_sizes marks [] = omega arith
 marked_sizes marks (s ∷ ss) =
@@ -265,6 +280,7 @@ marked_sizes marks (s ∷ ss) =
       | inr n ↦ rw n (omega (arith, rest, whole))
     ]
 
+-- items that stand one behind the other in a segment take as many bytes as they do in a list
 pub standing_sizes : (n from : ℕ) (items : List Item) → sum_by size_in (standing_from n from items) ≡ size_of_all items
 standing_sizes n from [] = refl
 standing_sizes n from (i ∷ items) =
@@ -273,10 +289,12 @@ standing_sizes n from (i ∷ items) =
     let other = sum_by-cons item_size i items in
     omega (arith, rest, one, other)
 
+-- the items under a segment's number, none where it is free, take no more bytes than a segment has
 size_by : (p : PoolState) (n : ℕ) (o : Option Used) → IsPool p → segment_at p n ≡ o → size_of_all (items_of o) ≤ p.sizes.segment_size
 size_by p n None k e = omega arith
 size_by p n (Some u) k e = (k.used n u e).fits
 
+-- the items that stand in a segment take no more bytes than it has
 pub segment_sizes : (p : PoolState) (n : ℕ) → IsPool p → sum_by size_in (standing p n) ≤ p.sizes.segment_size
 segment_sizes p n k =
     let is = standing_sizes n 0 (items_of (segment_at p n)) in
@@ -285,18 +303,21 @@ segment_sizes p n k =
 
 -- ---- a segment is cleared whose keys have left
 
+-- where a segment is cleared, places in other segments show what they did
 cleared_entry : (p : PoolState) (n : ℕ) (r : Place) → IsSome (segment_at p n) → (r.segment ≡ n → ⊥) → entry_at (cleared p n) r ≡ entry_at p r
 unfolding entry_at
 cleared_entry p n r some ne =
     let f = ne_eqb r.segment n ne in
     let item : item_in (cleared p n) r ≡ item_in p r = cleared_item p n r some ∙ rw f refl in
-    let deadline : deadline_at (cleared p n) r ≡ deadline_at p r = cleared_deadline p n r some ∙ rw f refl in
+    let deadline : place_deadline (cleared p n) r ≡ place_deadline p r = cleared_deadline p n r some ∙ rw f refl in
     ap (λ (d : Option ℕ). option_map_or (kept_entry d) (item_in (cleared p n) r) gone) deadline
-    ∙ ap (λ (o : Option Item). option_map_or (kept_entry (deadline_at p r)) o gone) item
+    ∙ ap (λ (o : Option Item). option_map_or (kept_entry (place_deadline p r)) o gone) item
 
+-- where a segment is cleared, the items in other segments stay where they stood
 cleared_key : (p : PoolState) (n : ℕ) (r : Place) → IsSome (segment_at p n) → (r.segment ≡ n → ⊥) → item_in (cleared p n) r ≡ item_in p r
 cleared_key p n r some ne = let f = ne_eqb r.segment n ne in cleared_item p n r some ∙ rw f refl
 
+-- where a segment is cleared in which no key has its current place, all stays tied, and the current places stay
 pub tied_cleared : (p after : PoolState) (n : ℕ) (index : Table) (marks : Marks) → IsTied p index marks → IsPool after
     → after ≡ cleared p n → IsSome (segment_at p n)
     → ((q : List ℕ) (r : Place) → finite.get (current p index) q ≡ Some r → r.segment ≡ n → ⊥) → IsTied after index marks
@@ -350,6 +371,8 @@ cleared_stayed p after n index found marks others tied left pool is some h =
           (r, ap (λ (m : Places). finite.get m q) same ∙ h.others q r e ne, ap (λ (a : PoolState). entry_at a r) is ∙ cleared_entry p n r some ne));
     }
 
+-- where all current items are live, and no fewer than the segments, clearing a segment whose keys have left makes room,
+-- and forgets no more than may be forgotten for it
 pub cleared_made : (p after : PoolState) (n : ℕ) (index found : Table) (marks others : Marks) (t : ℕ) → IsTied p index marks
     → IsTied p found others → IsPool after → after ≡ cleared p n → IsSome (segment_at p n)
     → HasLeft n (current p index) (current p found) → IsCrowded p index t → IsRoomMade p index t after found

@@ -12,20 +12,20 @@ use Rattle.proto.specs.Steps.{without, contains_bytes}
 use Rattle.proto.proofs.CacheLemmas.{without-nil, same_entries, get-insert, get-remove, get-without}
 use Rattle.segments.specs.declared.place.Place.{Place}
 use Rattle.segments.specs.Items.{Item}
-use Rattle.segments.specs.Pools.{PoolState, IsPool, Plan, Used, Liveness, segment_at, item_in, deadline_at, has_live}
+use Rattle.segments.specs.Pools.{PoolState, IsPool, Plan, Used, Liveness, segment_at, item_in, place_deadline, has_live}
 use Rattle.segments.specs.Changes.{HasNoRoom, IsGivenBack, IsAddedToTail, IsAddedToFree, dead_segments}
 use Rattle.segments.specs.Merges.{Evicts, NoneQualifies, merged_into, merged_segments, front}
 use Rattle.segments.specs.Places.{AgreeIn}
 use Rattle.segments.proofs.Agreeing.{same_live_items, same_live_standing, same_dead, same_given}
 use Rattle.tally.specs.Marks.{Marks, is_marked, lives_by}
 use Rattle.index.specs.Table.{Table, Places}
-use Rattle.segment_store.specs.Shown.{current, shown, live_in, entry_at}
+use Rattle.segment_store.specs.Shown.{current, shown_entries, live_entries, entry_at}
 use Rattle.segment_store.specs.Kept.{IsTied}
 use Rattle.segment_store.specs.Leaving.{HaveExpiredLeft}
 use Rattle.segment_store.specs.Living.{live_marks, live_others}
 use Rattle.segment_store.specs.Making.{MakesRoom}
 use Rattle.segment_store.specs.Making.MakesRoom.{has_room, gives_back, evicts}
-use Rattle.segment_store.specs.Forgetting.{IsEvicted, HasMadeRoom, IsPlaced, keys_evicted, keys_forgotten}
+use Rattle.segment_store.specs.Forgetting.{IsEvicted, HasMadeRoom, PlacesItem, keys_evicted, keys_forgotten}
 use Rattle.segment_store.proofs.Tying.{removed_at, removed_other}
 use Rattle.segment_store.proofs.Giving.{all_alive}
 use Rattle.segment_store.proofs.MergePlans.{with_plan, shown_replanned}
@@ -39,6 +39,7 @@ pub record EvictsKeys (lives : Liveness) (p after : PoolState) (keys : List (Lis
 
 -- ---- whatever the plan is
 
+-- what a merge of one or more segments makes of a pool doesn't depend on the pool's plan
 pub merged_replanned : (p : PoolState) (o : Option Plan) (b : ℕ) (numbers : List ℕ) (items : List Item) → 1 ≤ length numbers
     → merged_into (with_plan p o) b numbers items ≡ merged_into p b numbers items
 merged_replanned p o b [] items some = absurd (omega (arith, some))
@@ -113,6 +114,7 @@ makes_agree one other p bucket t i _ a (evicts after full none evicted) =
 
 -- ---- where nothing is given back
 
+-- a list in which no number fails a test has only numbers that pass it
 all_kept : (f : ℕ → Bool) (xs : List ℕ) → count_by (λ m. not (f m)) xs ≡ 0 → filter f xs ≡ xs
 all_kept f [] e = refl
 all_kept f (x ∷ xs) e =
@@ -126,6 +128,7 @@ all_kept f (x ∷ xs) e =
           absurd (omega (arith, e, count, one_here))
     ]
 
+-- a segment that is kept where a test holds, which it does unless the segment is free, is as it was
 same_segment : (b : Bool) (o : Option Used) → (IsSome o → b ≡ true) → (if b then o else None) ≡ o
 same_segment true o h = refl
 same_segment false None h = refl
@@ -142,20 +145,24 @@ none_given lives p after pool g none =
 
 -- ---- the items that are live at a moment
 
+-- where two tests can't both hold, their conjunction is false
 both_false : (a b : Bool) → (a ≡ true → b ≡ true → ⊥) → a && b ≡ false
 both_false true true h = absurd (h refl refl)
 both_false true false h = refl
 both_false false b h = refl
 
+-- where each of two tests holds, their conjunction does
 both_true : (a b : Bool) → a ≡ true → b ≡ true → a && b ≡ true
 both_true true true h k = refl
 both_true true false h k = k
 both_true false b h k = h
 
+-- a test whose denial holds is false
 not_true : (b : Bool) → not b ≡ true → b ≡ false
 not_true true h = sym h
 not_true false h = refl
 
+-- the denial of a test that is false holds
 not_false : (b : Bool) → b ≡ false → not b ≡ true
 not_false true h = sym h
 not_false false h = refl
@@ -168,10 +175,10 @@ expired_agree p index found marks others t tied left h =
       each = λ place i e. elim (cases_Bool (is_marked others place)) [
         | inl y ↦
             let now = left.marked place i e y in
-            y ∙ sym (both_true (is_marked marks place) (not (has_arrived (deadline_at p place) t)) (tied.held i.key place (h.before i.key place now))
+            y ∙ sym (both_true (is_marked marks place) (not (has_arrived (place_deadline p place) t)) (tied.held i.key place (h.before i.key place now))
             (not_false _ (h.waiting i.key place now)))
         | inr n ↦
-            n ∙ sym (both_false (is_marked marks place) (not (has_arrived (deadline_at p place) t))
+            n ∙ sym (both_false (is_marked marks place) (not (has_arrived (place_deadline p place) t))
             (λ was waits. false≢true (sym n ∙ left.held i.key place (h.others i.key place (tied.marked place i e was) (not_true _ waits)))))
       ];
     }
@@ -200,6 +207,7 @@ without_key p index found marks others key place i tied left is e =
     other true eq ne = absurd (ne ((bytes_eq-Decides i.key key).0 eq))
     other false eq ne = refl
 
+-- of three tests that must all hold the last two can change places
 swapped : (a b c : Bool) → (a && b) && c ≡ (a && c) && b
 swapped true true true = refl
 swapped true true false = refl
@@ -212,8 +220,8 @@ pub others_agree : (p : PoolState) (index found : Table) (marks others : Marks) 
     → current p found ≡ finite.remove (current p index) key → AgreeIn p (live_marks others t) (live_others key marks t)
 others_agree p index found marks others key t tied left is =
     record {
-      each = λ place i e. ap (λ b. b && not (has_arrived (deadline_at p place) t)) (without_key p index found marks others key place i tied left is e)
-          ∙ swapped (is_marked marks place) (not (bytes_eq i.key key)) (not (has_arrived (deadline_at p place) t));
+      each = λ place i e. ap (λ b. b && not (has_arrived (place_deadline p place) t)) (without_key p index found marks others key place i tied left is e)
+          ∙ swapped (is_marked marks place) (not (bytes_eq i.key key)) (not (has_arrived (place_deadline p place) t));
     }
 
 -- ---- room that was made
@@ -228,7 +236,7 @@ evicted_replanned p mid o index marks after found tied pool is e =
     record {
       evicted = k.evicted;
       entries = λ t. e.entries t ∙ ap (λ (es : Entries). without es keys) (shown_replanned p mid o index marks t tied pool is)
-          ∙ ap (without (shown p index t)) k.keys_are;
+          ∙ ap (without (shown_entries p index t)) k.keys_are;
     }
 
 -- what had no live item was given back
@@ -239,7 +247,7 @@ pub room_given : (p : PoolState) (index : Table) (one other : Liveness) (bucket 
 room_given p index one other bucket t i after found marks a full dead given s =
     record {
       room = gives_back after full (subst (λ n. 0 < n) (same_dead p one other a) dead) (same_given p after one other a given);
-      entries = s.entries ∙ sym (without-nil (shown p index t));
+      entries = s.entries ∙ sym (without-nil (shown_entries p index t));
     }
 
 -- or, where there was none, something was evicted
@@ -254,7 +262,7 @@ room_evicted p index one other bucket t i mid between marks after found pool a f
     (keys_replanned one p None after keys (subst (λ (q : PoolState). EvictsKeys one q after keys) is (record { evicted = e.evicted; keys_are = refl }))) in
     record {
       room = evicts after full (sym (same_dead p one other a) ∙ none) k.evicted;
-      entries = e.entries t ∙ ap (λ (es : Entries). without es keys) s.entries ∙ ap (without (shown p index t)) k.keys_are;
+      entries = e.entries t ∙ ap (λ (es : Entries). without es keys) s.entries ∙ ap (without (shown_entries p index t)) k.keys_are;
     }
 
 -- where an item was appended, there was room for it
@@ -267,7 +275,7 @@ room_was p bucket t i after place (inr a) h = false≢true (sym (ap is_some a.fr
 -- and none was made
 pub room_there : (lives : Liveness) (p : PoolState) (index : Table) (bucket t : ℕ) (i : Item) → (HasNoRoom p bucket t i → ⊥)
     → HasMadeRoom lives p index bucket t i p index
-room_there lives p index bucket t i there = record { room = has_room there; entries = sym (without-nil (shown p index t)) }
+room_there lives p index bucket t i there = record { room = has_room there; entries = sym (without-nil (shown_entries p index t)) }
 
 -- ---- a key that is written
 
@@ -288,19 +296,19 @@ put_over e keys key w =
 pub placed_over : (p : PoolState) (index between : Table) (marks others : Marks) (bucket t : ℕ) (i : Item) (after : PoolState)
     (found : Table) → IsTied p index marks
     → IsTied p between others → current p between ≡ finite.remove (current p index) i.key
-    → IsPlaced (live_marks others t) p between bucket t i after found → IsPlaced (live_others i.key marks t) p index bucket t i after found
+    → PlacesItem (live_marks others t) p between bucket t i after found → PlacesItem (live_others i.key marks t) p index bucket t i after found
 placed_over p index between marks others bucket t i after found tied left is h =
     let one = live_marks others t in
     let keys = keys_forgotten one p bucket t i h.written.roomy h.written.room in
     let k = makes_agree one (live_others i.key marks t) p bucket t i h.written.roomy
     (others_agree p index between marks others i.key t tied left is) h.written.room in
-    let shows : shown p between t ≡ finite.remove (shown p index t) i.key =
-    ap (λ (m : Places). live_in p m t) is ∙ shown_remove p (current p index) t i.key in
+    let shows : shown_entries p between t ≡ finite.remove (shown_entries p index t) i.key =
+    ap (λ (m : Places). live_entries p m t) is ∙ shown_remove p (current p index) t i.key in
     record {
       place = h.place;
       stands = h.stands;
       written = record { roomy = h.written.roomy; room = k.room; added = h.written.added };
       entries = h.entries ∙ ap (λ (e : Entries). finite.insert (without e keys) i.key (entry_at after h.place)) shows
-          ∙ put_over (shown p index t) keys i.key (entry_at after h.place)
-          ∙ ap (λ (ks : List (List ℕ)). finite.insert (without (shown p index t) ks) i.key (entry_at after h.place)) k.keys_are;
+          ∙ put_over (shown_entries p index t) keys i.key (entry_at after h.place)
+          ∙ ap (λ (ks : List (List ℕ)). finite.insert (without (shown_entries p index t) ks) i.key (entry_at after h.place)) k.keys_are;
     }

@@ -4,15 +4,17 @@ use Rattle.std.specs.Prelude.{IsSome, is_some, not, count_by, if◌then◌else�
 use Rattle.std.proofs.lemmas.Bool.{cases_Bool, cases_eq, ne_eqb}
 use Rattle.std.proofs.lemmas.Option.{none-some}
 use Rattle.std.proofs.lemmas.List.Sums.{sum_by-cons}
-use Rattle.segments.specs.Pools.{PoolState, IsPool, segment_at, has_live, times, oldest, Liveness}
-use Rattle.segments.specs.Changes.{IsFull, IsGivenBack, dead_segments}
+use Rattle.proto.specs.Counts.{times}
+use Rattle.segments.specs.Pools.{PoolState, IsPool, segment_at, has_live, oldest, Liveness}
+use Rattle.segments.specs.Changes.{IsPoolFull, IsGivenBack, dead_segments}
 
+-- an order of segments that has no first one is empty
 none_first : (order : List ℕ) → oldest order ≡ None → order ≡ []
 none_first [] e = refl
 none_first (n ∷ order) e = absurd (none-some n (sym e))
 
 -- where no segment is free, one was opened first
-pub some_oldest : (p : PoolState) → IsPool p → IsFull p → oldest p.order ≡ None → ⊥
+pub some_oldest : (p : PoolState) → IsPool p → IsPoolFull p → oldest p.order ≡ None → ⊥
 some_oldest p pool full none =
     let empty = none_first p.order none in
     let fewest = pool.geometry.fewest in
@@ -22,6 +24,7 @@ some_oldest p pool full none =
     let zero_times : times 0 p.order ≡ 0 = ap (times 0) empty in
     omega (arith, one, zero_times)
 
+-- where no number of a list fails a test, each number that stands in the list passes it
 no_dead : (f : ℕ → Bool) (xs : List ℕ) (n : ℕ) → count_by (λ m. not (f m)) xs ≡ 0 → 1 ≤ times n xs → f n ≡ true
 no_dead f [] n e h = absurd (omega (arith, h))
 no_dead f (x ∷ xs) n e h =
@@ -47,7 +50,7 @@ all_alive lives p n pool none some =
     no_dead (has_live lives p) p.order n none (omega (arith, named))
 
 -- and none was given back
-pub full_given : (lives : Liveness) (p after : PoolState) → IsPool p → IsFull p → IsGivenBack lives p after → dead_segments lives p ≡ 0 → IsFull after
+pub full_given : (lives : Liveness) (p after : PoolState) → IsPool p → IsPoolFull p → IsGivenBack lives p after → dead_segments lives p ≡ 0 → IsPoolFull after
 full_given lives p after pool full g none n lt =
     let within : n < p.sizes.segments = subst (λ s. n < s.segments) g.sizes lt in
     let alive = all_alive lives p n pool none (full n within) in

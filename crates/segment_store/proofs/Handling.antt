@@ -2,7 +2,8 @@
 use Rattle.std.proofs.Common.{◌≡◌, ℕ, false, List, Option, Some, None, refl, sym, ap, subst, ◌∙◌, inl, inr}
 use Rattle.proto.specs.declared.message.Request.{Request}
 use Rattle.proto.specs.declared.message.Reply.{Reply}
-use Rattle.proto.specs.declared.message.Reply.TheVariants.{Stored, NotStored, Exists, NotFound, Values, Deleted, Number, Flushed, TooLarge, NoMemory, NotNumber, NoCas}
+use Rattle.proto.specs.declared.message.Reply.TheVariants.{Stored, NotStored, Exists, NotFound, Values, Deleted, Number, Flushed, TooLarge, NoMemory}
+use Rattle.proto.specs.declared.message.Reply.TheVariants.{NotNumber, NoCas}
 use Rattle.proto.specs.Cache.{Cache}
 use Rattle.proto.specs.Commands.{Outcome}
 use Rattle.proto.specs.Steps.{has_hits}
@@ -13,8 +14,8 @@ use Rattle.engine.specs.Outcomes.{outcome_at}
 use Rattle.engine.specs.Counting.{CountsShown}
 use Rattle.engine.specs.Engines.{Changes, IsHandled}
 use Rattle.segment_store.specs.declared.segment_map.SegmentMap.{SegmentMap}
-use Rattle.segment_store.specs.Shown.{shown}
-use Rattle.segment_store.specs.State.{MapState, IsKept}
+use Rattle.segment_store.specs.Shown.{shown_entries}
+use Rattle.segment_store.specs.State.{MapState, IsSegmentedMap}
 use Rattle.segment_store.specs.StoreState.{sizes_in, segmented_cache}
 use Rattle.segment_store.specs.Writes.{StandsAt, WritesToSegments, IsReadAgain, HasSamePool}
 use Rattle.segment_store.specs.Keeping.{KeepsStored}
@@ -26,7 +27,7 @@ abbrev pub members : MapOf SegmentMap Place
 members =
     record {
       sizes = λ m. m.pool.sizes;
-      entries = λ m. shown m.pool m.index m.moment;
+      entries = λ m. shown_entries m.pool m.index m.moment;
       moment = λ m. m.moment;
       may_refuse = false;
       stands = StandsAt;
@@ -37,7 +38,7 @@ members =
     }
 
 -- a reply without hits leaves the pool, and one with hits counts their reads
-shown_by : (found : MapState) (done : Outcome) (after : MapState) (r : Reply) → IsKept found → done.stored ≡ None → done.reply ≡ r
+shown_by : (found : MapState) (done : Outcome) (after : MapState) (r : Reply) → IsSegmentedMap found → done.stored ≡ None → done.reply ≡ r
     → CountsShown IsReadAgain HasSamePool found r after → LeavesSegments found done after done.reply
 shown_by found done after (Values hits) kept none e counts = reads hits none e counts
 shown_by found done after Stored kept none e alike = stays none (ap has_hits e) (alike found (record { pool = refl; kept = kept })).pool
@@ -53,7 +54,7 @@ shown_by found done after NotNumber kept none e alike = stays none (ap has_hits 
 shown_by found done after NoCas kept none e alike = stays none (ap has_hits e) (alike found (record { pool = refl; kept = kept })).pool
 
 -- what was asked for is written, or nothing is
-changed_by : (found : MapState) (done : Outcome) (after : MapState) (stored : Option (List ℕ)) → IsKept found → done.stored ≡ stored
+changed_by : (found : MapState) (done : Outcome) (after : MapState) (stored : Option (List ℕ)) → IsSegmentedMap found → done.stored ≡ stored
     → Changes members found done stored after → LeavesSegments found done after done.reply
 changed_by found done after None kept e is = shown_by found done after done.reply kept e refl is.shown
 changed_by found done after (Some key) kept e s = writes key s.entry e s.asked_is s.exactly
@@ -71,7 +72,7 @@ handles_segments before t q reply after h =
         pool = h.alike.pool;
         kept = kept;
         moment = h.moment_is;
-        entries = ap (shown found.pool found.index) (sym h.moment_is) ∙ ap (λ (c : Cache). c.entries) h.found_is;
+        entries = ap (shown_entries found.pool found.index) (sym h.moment_is) ∙ ap (λ (c : Cache). c.entries) h.found_is;
       };
       leaves = elim h.leaves.gives [
         | inl d ↦ subst (LeavesSegments found done after.map) (sym d.reply_is) (changed_by found done after.map done.stored kept refl d.changes)

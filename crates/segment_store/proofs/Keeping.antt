@@ -18,11 +18,11 @@ use Rattle.segments.specs.Changes.{HasNoRoom, IsAddedToTail, IsAddedToFree}
 use Rattle.segments.specs.Filling.{IsFilled, HoldsLittle, held_size, Group, group_for, group_of, same_group, groups_among, groups_with}
 use Rattle.segments.proofs.FilledLemmas.{has_space, keeps_append, AreUsed, order_used}
 use Rattle.index.specs.Table.{Table}
-use Rattle.segment_store.specs.Shown.{shown, entry_at}
+use Rattle.segment_store.specs.Shown.{shown_entries, entry_at}
 use Rattle.segment_store.specs.Kept.{IsPast}
 use Rattle.segment_store.specs.Making.{MakesRoom}
 use Rattle.segment_store.specs.Making.MakesRoom.{has_room, gives_back, evicts}
-use Rattle.segment_store.specs.Forgetting.{keys_forgotten, IsPlaced}
+use Rattle.segment_store.specs.Forgetting.{keys_forgotten, PlacesItem}
 use Rattle.segment_store.specs.Keeping.{AllLast}
 use Rattle.segment_store.proofs.Opening.{in_time_past}
 use Rattle.segment_store.proofs.Putting.{in_segment}
@@ -32,6 +32,7 @@ record IsUnmade (lives : Liveness) (p : PoolState) (bucket t : ℕ) (i : Item) (
   same : after ≡ p
   nothing : keys_forgotten lives p bucket t i after room ≡ []
 
+-- where an item has room, to make room for it leaves the pool as it was and forgets no key
 room_there : (lives : Liveness) (p : PoolState) (bucket t : ℕ) (i : Item) (after : PoolState) (room : MakesRoom lives p bucket t i after)
     → (HasNoRoom p bucket t i → ⊥)
     → IsUnmade lives p bucket t i after room
@@ -43,14 +44,14 @@ room_there lives p bucket t i _ (evicts after full none evicted) fits = absurd (
 -- it, segments stay filled, and what is held grows by the item.
 pub record IsKeptWith (p : PoolState) (index : Table) (bucket t : ℕ) (i : Item) (after : PoolState) (found : Table) (place : Place) : Type 0 where
   pub added : IsAddedToTail p bucket t i after place ⊎ IsAddedToFree p bucket t i after place
-  pub entries : shown after found t ≡ finite.insert (shown p index t) i.key (entry_at after place)
+  pub entries : shown_entries after found t ≡ finite.insert (shown_entries p index t) i.key (entry_at after place)
   pub filled : IsFilled after
   pub held : held_size after ≡ held_size p + item_size i
 
 -- so it is with an item that was placed where little was held
 pub kept_with : (lives : Liveness) (p : PoolState) (index : Table) (bucket t : ℕ) (i : Item) (after : PoolState) (found : Table)
     → IsPool p → IsPast p t → IsStorable (item_limit p.sizes) i → IsFilled p → HoldsLittle p bucket t
-    → (x : IsPlaced lives p index bucket t i after found) → IsKeptWith p index bucket t i after found x.place
+    → (x : PlacesItem lives p index bucket t i after found) → IsKeptWith p index bucket t i after found x.place
 kept_with lives p index bucket t i after found pool past storable filled little x =
     let time = in_time_past p t pool past in
     let there = room_there lives p bucket t i x.written.roomy x.written.room (has_space p bucket t i pool time filled little storable) in
@@ -59,8 +60,8 @@ kept_with lives p index bucket t i after found pool past storable filled little 
     let kept = keeps_append p bucket t i after x.place pool storable (record { filled = filled; in_time = time }) added in
     record {
       added = added;
-      entries = x.entries ∙ ap (λ (keys : List (List ℕ)). finite.insert (without (shown p index t) keys) i.key (entry_at after x.place)) there.nothing
-          ∙ ap (λ (e : Entries). finite.insert e i.key (entry_at after x.place)) (without-nil (shown p index t));
+      entries = x.entries ∙ ap (λ (keys : List (List ℕ)). finite.insert (without (shown_entries p index t) keys) i.key (entry_at after x.place)) there.nothing
+          ∙ ap (λ (e : Entries). finite.insert e i.key (entry_at after x.place)) (without-nil (shown_entries p index t));
       filled = kept.0.filled;
       held = kept.1;
     }
@@ -71,6 +72,7 @@ kept_with lives p index bucket t i after found pool past storable filled little 
 abbrev AreOf : Group → List Group → Type 0
 AreOf g groups = AllByRecursion (λ (h : Group). h ≡ g) groups
 
+-- groups that are all the same count as one
 groups_of_one : (g : Group) (groups : List Group) → AreOf g groups → groups_among (g ∷ groups) ≡ 1
 groups_of_one g [] all = refl
 groups_of_one g (h ∷ groups) all =
@@ -85,6 +87,7 @@ groups_of_one g (h ∷ groups) all =
     same_itself : (g : Group) → same_group g g ≡ true
     same_itself g = and_from (g.bucket == g.bucket) (g.opened == g.opened) (eq-eqb g.bucket g.bucket refl) (eq-eqb g.opened g.opened refl)
 
+-- where each segment is of the bucket of what has no deadline, segments of chains are all of that bucket's one group
 groups_last : (p : PoolState) (t : ℕ) (numbers : List ℕ) → AreUsed p numbers → AllLast p
     → AreOf (group_for lasting t) (map (group_of p) numbers)
 groups_last p t [] used all = tt
@@ -100,9 +103,11 @@ one_group p t pool all = groups_of_one (group_for lasting t) (map (group_of p) p
 
 -- ---- items without deadlines
 
+-- these stored items are all of the bucket of what has no deadline
 abbrev AreLast : List StoredItem → Type 0
 AreLast items = AllByRecursion (λ (i : StoredItem). i.bucket ≡ lasting) items
 
+-- stored items without deadlines, of which there is at least one, are all in one bucket
 spread_last : (items : List StoredItem) (one : StoredItem) → AreLast items → one.bucket ≡ lasting → spread (items ++ one ∷ []) ≡ 1
 spread_last [] one all is = refl
 spread_last (i ∷ items) one all is =
@@ -115,13 +120,16 @@ spread_last (i ∷ items) one all is =
     any_last [] one b all e = or_left (one.bucket == b) false (eq-eqb one.bucket b e)
     any_last (i ∷ items) one b all e = or_right (i.bucket == b) _ (any_last items one b all.1 e)
 
+-- with one stored item more the bytes that were written grow by its size
 pub written_more : (items : List StoredItem) (one : StoredItem) → written (items ++ one ∷ []) ≡ written items + one.size
 written_more items one = sum_by_push (λ (i : StoredItem). i.size) items one
 
+-- with one more that has no deadline, stored items without deadlines still have none
 pub all_last : (items : List StoredItem) (one : StoredItem) → AreLast items → one.bucket ≡ lasting → AreLast (items ++ one ∷ [])
 all_last [] one all is = (is, tt)
 all_last (i ∷ items) one all is = (all.0, all_last items one all.1 is)
 
+-- what is, with something added, no more than all but one of some equal parts is with one part no more than all of them
 within_bound : (held d more s one : ℕ) → one ≡ 1 → 1 ≤ s → held + more ≤ (s - one) * d → held + 1 * d ≤ s * d
 within_bound held d more s one is some h = grind arith
 

@@ -1,6 +1,6 @@
 -- What a segmented map keeps of what was stored, where an entry is written, and where items leave or are read.
 use Rattle.std.proofs.Common.{◌≡◌, ℕ, ◌≤◌, Bool, true, false, cond, List, [], Option, Some, None, refl, sym, ap, subst, ◌∙◌, inl, inr, arith, le-leb}
-use Rattle.std.specs.Prelude.{bytes_eq, ◌==◌, option_map, IsSome}
+use Rattle.std.specs.Prelude.{◌==◌, option_map, IsSome}
 use Rattle.std.specs.Option.{option_map_or}
 use Rattle.std.specs.FinMap as finite
 use Rattle.std.proofs.lemmas.Bool.{cases_Bool, eq-eqb}
@@ -11,22 +11,22 @@ use Rattle.proto.proofs.StepLemmas.{get-stored}
 use Rattle.proto.specs.Cache.{Entry, Entries, is_live, entry_size}
 use Rattle.proto.specs.Steps as steps
 use Rattle.proto.specs.Stored.{StoredItem, written}
-use Rattle.proto.proofs.CacheLemmas.{same_entries, get-insert, get-remove, if_live}
+use Rattle.proto.proofs.CacheLemmas.{if_live}
 use Rattle.engine.specs.Keeping.{StaysKept, AddsNoDeadline, KeepsEntry}
 use Rattle.segments.specs.declared.place.Place.{Place}
 use Rattle.segments.specs.Items.{Item, IsStorable}
-use Rattle.segments.specs.Pools.{PoolState, IsPool, Used, Liveness, item_in, deadline_at, deadline_in, segment_at, lasting}
+use Rattle.segments.specs.Pools.{PoolState, IsPool, Used, Liveness, item_in, place_deadline, deadline_in, segment_at, lasting}
 use Rattle.segments.specs.Changes.{read_in, touched, new_pool}
 use Rattle.segments.specs.Filling.{IsFilled, held_size}
 use Rattle.segments.proofs.Places.{appended, touched_segment}
 use Rattle.segments.proofs.FilledLemmas.{filled_touched}
-use Rattle.index.specs.Table.{Table, Places}
-use Rattle.segment_store.specs.Shown.{current, shown, live_in, entry_at, kept_entry, gone}
+use Rattle.index.specs.Table.{Places}
+use Rattle.segment_store.specs.Shown.{current, shown_entries, live_entries, entry_at, kept_entry, gone}
 use Rattle.segment_store.specs.State.{MapState}
 use Rattle.segment_store.specs.Kept.{IsPast}
 use Rattle.segment_store.specs.Living.{live_others}
 use Rattle.segment_store.specs.Writes.{unread, WritesToSegments}
-use Rattle.segment_store.specs.Forgetting.{IsPlaced, keys_forgotten}
+use Rattle.segment_store.specs.Forgetting.{PlacesItem, keys_forgotten}
 use Rattle.segment_store.specs.Keeping.{AllLast, KeepsStored}
 use Rattle.segment_store.proofs.Showing.{get-live_in, entry_is}
 use Rattle.segment_store.proofs.Starting.{nothing_at}
@@ -35,16 +35,20 @@ use Rattle.segment_store.proofs.Keeping.{kept_with, holds_little, written_more, 
 
 -- ---- no entry has a deadline where all segments are of the bucket of what has none
 
+-- a segment of the bucket of what has no deadline has none, nor has a free one
 undated_segment : (o : Option Used) → ((u : Used) → o ≡ Some u → u.bucket ≡ lasting) → deadline_in o ≡ None
 undated_segment None all = refl
 undated_segment (Some u) all = let z = eq-eqb u.bucket lasting (all u refl) in rw z refl
 
-undated_place : (p : PoolState) (r : Place) → AllLast p → deadline_at p r ≡ None
+-- where all segments are of that bucket, no place has a deadline
+undated_place : (p : PoolState) (r : Place) → AllLast p → place_deadline p r ≡ None
 undated_place p r all = undated_segment (segment_at p r.segment) (all r.segment)
 
+-- the deadline of an entry, none where there is no entry
 abbrev asked_at : Option Entry → Option ℕ
 asked_at o = option_map_or (λ (e : Entry). e.deadline) o None
 
+-- what is shown of a place without a deadline has none either; where no item stands there, nothing is shown
 undated_item : (t : ℕ) (d : Option ℕ) (o : Option Item) → d ≡ None
     → asked_at (if_live t (Some (option_map_or (kept_entry d) o gone))) ≡ None
 undated_item t d None none = let z = le-leb 0 t (omega arith) in rw z refl
@@ -54,31 +58,23 @@ undated_item t d (Some i) none = by_test (is_live (kept_entry d i) t)
     by_test true = none
     by_test false = refl
 
+-- where all segments are of that bucket, what is shown of a place, if there is one, has no deadline
 undated_entry : (p : PoolState) (t : ℕ) (o : Option Place) → AllLast p → asked_at (if_live t (option_map (entry_at p) o)) ≡ None
 unfolding entry_at
 undated_entry p t None all = refl
-undated_entry p t (Some r) all = undated_item t (deadline_at p r) (item_in p r) (undated_place p r all)
+undated_entry p t (Some r) all = undated_item t (place_deadline p r) (item_in p r) (undated_place p r all)
 
-undated_shown : (p : PoolState) (m : Places) (t : ℕ) (key : List ℕ) → AllLast p → steps.deadline_at (live_in p m t) key ≡ None
+-- where all segments are of that bucket, no key is shown with a deadline
+undated_shown : (p : PoolState) (m : Places) (t : ℕ) (key : List ℕ) → AllLast p → steps.deadline_at (live_entries p m t) key ≡ None
 undated_shown p m t key all = ap asked_at (get-live_in p m t key) ∙ undated_entry p t (finite.get m key) all
 
 -- so an entry that is written has none either
 adds_none : (p : PoolState) (m : Places) (t : ℕ) (key : List ℕ) (e : Entry) → AllLast p
-    → AddsNoDeadline (live_in p m t) key e → e.deadline ≡ None
+    → AddsNoDeadline (live_entries p m t) key e → e.deadline ≡ None
 adds_none p m t key e all (inl none) = none
 adds_none p m t key e all (inr same) = same ∙ undated_shown p m t key all
 
 -- ---- one write
-
--- a key put where it was taken out is put
-insert_removed : (m : Entries) (key : List ℕ) (e : Entry) → finite.insert (finite.remove m key) key e ≡ finite.insert m key e
-insert_removed m key e =
-    same_entries _ _ (λ q. get-insert (finite.remove m key) key e q ∙ ap (cond (bytes_eq q key) (Some e)) (get-remove m key q)
-    ∙ twice (bytes_eq q key) (finite.get m q) ∙ sym (get-insert m key e q))
-  where
-    twice : (b : Bool) (o : Option Entry) → cond b (Some e) (cond b None o) ≡ cond b (Some e) o
-    twice true o = refl
-    twice false o = refl
 
 -- the entry of an item that was appended, in a pool without deadlines
 entry_there : (after : PoolState) (place : Place) (key : List ℕ) (e : Entry)
@@ -87,21 +83,22 @@ entry_there after place key e here all none =
     entry_is after place (unread key e) here ∙ ap (λ (d : Option ℕ). kept_entry d (unread key e)) (undated_place after place all ∙ sym none)
 
 -- An entry that is written where little is stored, and nothing with a deadline, is kept with what was.
-pub keeps_entry : (lives : Liveness) (old new : MapState) (left : Table) (key : List ℕ) (e : Entry) → IsPool old.pool
+pub keeps_entry : (lives : Liveness) (old new : MapState) (key : List ℕ) (e : Entry) → IsPool old.pool
     → IsPast old.pool old.moment
     → IsStorable (item_limit old.pool.sizes) (unread key e)
-    → shown old.pool left old.moment ≡ finite.remove (shown old.pool old.index old.moment) key → new.moment ≡ old.moment
-    → IsPlaced lives old.pool left (bucket_of (time_to_live e.deadline old.moment)) old.moment (unread key e) new.pool new.index
-    → KeepsEntry (λ (m : MapState). m.pool.sizes) (λ (m : MapState). shown m.pool m.index m.moment) (λ (m : MapState). m.moment) KeepsStored old key e new
-keeps_entry lives old new left key e pool past storable removed moment placed items keeps adds within =
+    → new.moment ≡ old.moment
+    → PlacesItem lives old.pool old.index (bucket_of (time_to_live e.deadline old.moment)) old.moment (unread key e) new.pool new.index
+    → KeepsEntry (λ (m : MapState). m.pool.sizes) (λ (m : MapState). shown_entries m.pool m.index m.moment) (λ (m : MapState). m.moment) KeepsStored old key e new
+keeps_entry lives old new key e pool past storable moment placed items keeps adds within =
     let p = old.pool in
+    let left = old.index in
     let t = old.moment in
     let none : e.deadline ≡ None = adds_none p (current p old.index) t key e keeps.all_last adds in
     let bucket : bucket_of (time_to_live e.deadline t) ≡ lasting = ap (λ (d : Option ℕ). bucket_of (time_to_live d t)) none in
     let one : StoredItem = record { size = entry_size key e; bucket = bucket_of (time_to_live e.deadline t) } in
     let i = unread key e in
     let little = holds_little p t items one pool keeps.all_last keeps.undated bucket keeps.held within in
-    let x : IsPlaced lives p left lasting t i new.pool new.index = subst (λ (b : ℕ). IsPlaced lives p left b t i new.pool new.index) bucket placed in
+    let x : PlacesItem lives p left lasting t i new.pool new.index = subst (λ (b : ℕ). PlacesItem lives p left b t i new.pool new.index) bucket placed in
     let kept = kept_with lives p left lasting t i new.pool new.index pool past storable keeps.filled little x in
     let all = last_appended p t i new.pool x.place pool past kept.added keeps.all_last in
     let here = appended_here p new.pool lasting t i x.place (appended p lasting t i new.pool x.place pool kept.added) in
@@ -109,8 +106,7 @@ keeps_entry lives old new left key e pool past storable removed moment placed it
     let held = kept.held in
     let more = written_more items one in
     let was = keeps.held in (
-      ap (λ (u : ℕ). shown new.pool new.index u) moment ∙ kept.entries ∙ ap (finite.insert (shown p left t) key) is
-          ∙ ap (λ (m : Entries). finite.insert m key e) removed ∙ insert_removed (shown p old.index t) key e,
+      ap (λ (u : ℕ). shown_entries new.pool new.index u) moment ∙ kept.entries ∙ ap (finite.insert (shown_entries p left t) key) is,
       record { filled = kept.filled; all_last = all; undated = all_last items one keeps.undated bucket; held = omega arith },
     )
 
@@ -124,10 +120,10 @@ same_put all m n key a b one other =
 
 -- An item that was placed is that of the entry, with the deadline that is shown.
 pub writes_to_segments : (old new : MapState) (key : List ℕ) (e : Entry) → IsStorable (item_limit old.pool.sizes) (unread key e)
-    → IsPlaced (live_others key old.tally old.moment) old.pool old.index
+    → PlacesItem (live_others key old.tally old.moment) old.pool old.index
     (bucket_of (time_to_live e.deadline old.moment)) old.moment (unread key e) new.pool new.index
     → (deadline : Option ℕ) → MayLive old.moment e.deadline deadline → (kept : Entries)
-    → shown new.pool new.index old.moment ≡ finite.insert kept key (kept_entry deadline (unread key e)) → WritesToSegments old key e new
+    → shown_entries new.pool new.index old.moment ≡ finite.insert kept key (kept_entry deadline (unread key e)) → WritesToSegments old key e new
 writes_to_segments old new key e storable placed deadline may kept entries =
     let lives = live_others key old.tally old.moment in
     let bucket = bucket_of (time_to_live e.deadline old.moment) in
@@ -137,13 +133,14 @@ writes_to_segments old new key e storable placed deadline may kept entries =
       placed = placed;
       deadline = deadline;
       may_live = may;
-      stands = same_put (shown new.pool new.index old.moment) (steps.without (shown old.pool old.index old.moment) keys) kept key
+      stands = same_put (shown_entries new.pool new.index old.moment) (steps.without (shown_entries old.pool old.index old.moment) keys) kept key
           (entry_at new.pool placed.place)
           (kept_entry deadline (unread key e)) placed.entries entries;
     }
 
 -- ---- what else happens to a map
 
+-- a segment of the bucket of what has no deadline is still of it when one of its items has been read
 same_bucket : (offset : ℕ) (o : Option Used) (u : Used) → option_map (read_in offset) o ≡ Some u
     → ((s : Used) → o ≡ Some s → s.bucket ≡ lasting) → u.bucket ≡ lasting
 same_bucket offset None u e all = absurd (none-some u e)

@@ -8,7 +8,7 @@ use Rattle.std.proofs.lemmas.List.Folds.{list_any_at}
 use Rattle.std.proofs.lemmas.List.Elements.{All-head, All-tail}
 use Rattle.segments.specs.declared.place.Place.{Place}
 use Rattle.segments.specs.Items.{Item}
-use Rattle.segments.specs.Pools.{PoolState, Standing, item_in, items_of, segment_at, standing, deadline_in, deadline_at}
+use Rattle.segments.specs.Pools.{PoolState, Standing, item_in, items_of, segment_at, standing, deadline_in, place_deadline}
 use Rattle.proto.specs.Cache.{has_arrived}
 use Rattle.segments.specs.Places.{same_place}
 use Rattle.segments.proofs.Places.{standing_by, mark_within}
@@ -49,6 +49,7 @@ standing_left p r i e =
     list_any_at (λ (s : Standing). same_place s.place r) (standing p r.segment) w.0 d w.1
     (ap (λ (s : Standing). same_place s.place r) there ∙ same_place_itself r)
 
+-- at the start of a walk through a segment none of its keys has left yet
 pub leaving_first : (p : PoolState) (n : ℕ) (index : Table) (t : Marks) (left : List Standing) → IsTied p index t → left ≡ standing p n
     → IsLeaving p n (current p index) index t left
 leaving_first p n index t left tied is =
@@ -108,6 +109,7 @@ leaving_more p n old index found t u s left h there tied is =
       standing = All-tail (λ (x : Standing). (x.place.segment ≡ n) × (item_in p x.place ≡ Some x.item)) s left h.standing;
     }
 
+-- at the end of the walk exactly the keys with a place in the segment have left
 pub has_left : (p : PoolState) (n : ℕ) (old : Places) (index : Table) (t : Marks) (left : List Standing)
     → IsLeaving p n old index t left → left ≡ [] → HasLeft n old (current p index)
 has_left p n old index t left h none =
@@ -123,9 +125,10 @@ has_left p n old index t left h none =
 pub record IsExpiring (p : PoolState) (t : ℕ) (old : Places) (index : Table) (marks : Marks) (n : ℕ) : Type 0 where
   pub tied : IsTied p index marks
   pub before : (q : List ℕ) (r : Place) → finite.get (current p index) q ≡ Some r → finite.get old q ≡ Some r
-  pub others : (q : List ℕ) (r : Place) → finite.get old q ≡ Some r → has_arrived (deadline_at p r) t ≡ false → finite.get (current p index) q ≡ Some r
-  pub waiting : (q : List ℕ) (r : Place) → finite.get (current p index) q ≡ Some r → r.segment < n → has_arrived (deadline_at p r) t ≡ false
+  pub others : (q : List ℕ) (r : Place) → finite.get old q ≡ Some r → has_arrived (place_deadline p r) t ≡ false → finite.get (current p index) q ≡ Some r
+  pub waiting : (q : List ℕ) (r : Place) → finite.get (current p index) q ≡ Some r → r.segment < n → has_arrived (place_deadline p r) t ≡ false
 
+-- before the first segment no key has left yet
 pub expiring_first : (p : PoolState) (t : ℕ) (index : Table) (marks : Marks) → IsTied p index marks → IsExpiring p t (current p index) index marks 0
 expiring_first p t index marks tied = record { tied = tied; before = λ q r h. h; others = λ q r h w. h; waiting = λ q r h lt. absurd (omega arith) }
 
@@ -157,6 +160,7 @@ expiring_more p t old index found marks others n h arrived tied left =
       waiting = λ q r e lt. (let ne = left.elsewhere q r e in h.waiting q r (left.before q r e) (omega (arith, lt, ne)));
     }
 
+-- behind the last segment exactly the keys have left whose deadline has come
 pub expired_left : (p : PoolState) (t : ℕ) (old : Places) (index : Table) (marks : Marks) (n : ℕ)
     → IsExpiring p t old index marks n → p.sizes.segments ≤ n → HaveExpiredLeft p t old (current p index)
 expired_left p t old index marks n h le =

@@ -4,14 +4,14 @@ use Rattle.std.specs.Prelude.{IsSome}
 use Rattle.std.specs.FinMap as finite
 use Rattle.proto.specs.Sizes.{Sizes}
 use Rattle.segments.specs.declared.place.Place.{Place}
-use Rattle.segments.specs.Pools.{PoolState, Plan, IsPool, item_in, deadline_at}
+use Rattle.segments.specs.Pools.{PoolState, Plan, IsPool, item_in, place_deadline}
 use Rattle.proto.specs.Cache.{Entries, has_arrived}
 use Rattle.segments.specs.Merges.{IsPlan, planned}
 use Rattle.tally.specs.Marks.{Marks, lives_by}
 use Rattle.tally.proofs.MarkedPlaces.{knows_after}
 use Rattle.index.specs.Keys.{key_at}
 use Rattle.index.specs.Table.{Table, Places}
-use Rattle.segment_store.specs.Shown.{current, shown, live_in, entry_at}
+use Rattle.segment_store.specs.Shown.{current, shown_entries, live_entries, entry_at}
 use Rattle.segment_store.specs.Kept.{IsTied, IsPast}
 use Rattle.segment_store.specs.Room.{IsCrowded, IsRoomMade}
 use Rattle.segment_store.specs.Merging.{HasPlan}
@@ -29,6 +29,7 @@ same_key : (p after : PoolState) (o : Option Plan) (r : Place) → after ≡ wit
 unfolding key_at
 same_key p after o r is = ap (λ (a : PoolState). key_at a r) is
 
+-- with another plan each place shows the same entry
 same_entry : (p after : PoolState) (o : Option Plan) (r : Place) → after ≡ with_plan p o → entry_at after r ≡ entry_at p r
 unfolding entry_at
 same_entry p after o r is = ap (λ (a : PoolState). entry_at a r) is
@@ -44,9 +45,9 @@ tied_replanned p after o index marks tied pool is =
 
 -- the same is shown
 pub shown_replanned : (p after : PoolState) (o : Option Plan) (index : Table) (marks : Marks) (t : ℕ) → IsTied p index marks → IsPool after
-    → after ≡ with_plan p o → shown after index t ≡ shown p index t
+    → after ≡ with_plan p o → shown_entries after index t ≡ shown_entries p index t
 shown_replanned p after o index marks t tied pool is =
-    ap (λ (m : Places). live_in after m t) (tied_replanned p after o index marks tied pool is).1
+    ap (λ (m : Places). live_entries after m t) (tied_replanned p after o index marks tied pool is).1
     ∙ shown_same p after (current p index) t (λ q r e. same_entry p after o r is)
 
 -- the same is found
@@ -62,7 +63,7 @@ swept_replanned p after o index marks t tied pool is crowded =
       tied = same.0;
       absent = λ q none. ap (λ (m : Places). finite.get m q) same.1 ∙ none;
       waiting = λ q r e.
-          ap (λ (a : PoolState). has_arrived (deadline_at a r) t) is ∙ crowded.waiting q r (ap (λ (m : Places). finite.get m q) (sym same.1) ∙ e);
+          ap (λ (a : PoolState). has_arrived (place_deadline a r) t) is ∙ crowded.waiting q r (ap (λ (m : Places). finite.get m q) (sym same.1) ∙ e);
       entries = shown_replanned p after o index marks t tied pool is;
     }
 
@@ -76,7 +77,7 @@ crowded_replanned p after o index marks t tied pool is crowded =
       past = s.past;
       waiting = s.waiting;
       many = subst (λ (e : Entries). after.sizes.segments ≤ finite.len e) (sym s.entries)
-          (subst (λ (z : Sizes). z.segments ≤ finite.len (shown p index t)) (sym s.sizes) crowded.many);
+          (subst (λ (z : Sizes). z.segments ≤ finite.len (shown_entries p index t)) (sym s.sizes) crowded.many);
     }
 
 -- so room that is made then is made

@@ -17,7 +17,7 @@ use Rattle.tally.specs.Marks.{Marks, is_marked, lives_by}
 use Rattle.index.specs.Table.{Table}
 use Rattle.index.specs.Following.{AreInTurn}
 use Rattle.index.proofs.InTurn.{plan_in_turn}
-use Rattle.segment_store.specs.Shown.{current, shown}
+use Rattle.segment_store.specs.Shown.{current, shown_entries}
 use Rattle.segment_store.specs.Kept.{IsTied}
 use Rattle.segment_store.specs.Leaving.{HasLeft}
 use Rattle.segment_store.specs.Forgetting.{IsEvicted}
@@ -33,9 +33,11 @@ use Rattle.segment_store.proofs.Forgotten.{merged_replanned}
 abbrev going : Move → Place × Bool
 going m = (m.source, is_some m.target)
 
+-- where a judged item stands, and whether it is kept
 abbrev keeping : Judged → Place × Bool
 keeping j = (j.place, j.is_kept)
 
+-- with a move in front that goes somewhere exactly where a test holds, a list of moves has its source and the test in front
 going_by : (n offset : ℕ) (b : Bool) (source : Place) (xs ys : List Move) (zs : List (Place × Bool)) → map going xs ≡ zs → map going ys ≡ zs
     → map going
     (if b then record {
@@ -53,10 +55,12 @@ judged_going n offset (j ∷ js) =
     going_by n offset j.is_kept j.place (moves_into n (offset + item_size j.item) js) (moves_into n offset js) (map keeping js)
     (judged_going n (offset + item_size j.item) js) (judged_going n offset js)
 
+-- what holds of all values of a function on a list holds of the value at each element
 all_of : {X Y : Type 0} (P : X → Type 0) (f : Y → X) (ys : List Y) → All P (map f ys) → All (λ y. P (f y)) ys
 all_of P f [] all = All-nil (λ y. P (f y))
 all_of P f (y ∷ ys) all = All-cons (λ x. P (f x)) y ys (All-head P (f y) (map f ys) all) (all_of P f ys (All-tail P (f y) (map f ys) all))
 
+-- moves that go somewhere exactly where the judged item of the same turn is kept put an item's place somewhere exactly where it is kept
 kept_judged : (moves : List Move) (js : List Judged) → AreInTurn moves → map going moves ≡ map keeping js
     → All (λ j. is_some (moved_by moves j.place) ≡ j.is_kept) js
 kept_judged moves js turn e =
@@ -102,7 +106,7 @@ merged_evicted p plan after index found marks w =
       entries = λ t. left_entries p index after found t ss
           (All-filter (λ (s : Standing). not (is_some (moved_by plan.moves s.place))) (IsCurrent p index) all (live_current p index marks numbers w.tied))
           (merged_stayed p plan after index found marks w)
-          ∙ ap (without (shown p index t)) keys;
+          ∙ ap (without (shown_entries p index t)) keys;
     }
 
 -- where nothing can be merged, the segment that was opened first is cleared, and exactly its keys are forgotten

@@ -1,5 +1,6 @@
 -- What ties pool, index and tally together, behind a merge that index and tally followed.
-use Rattle.std.proofs.Common.{◌≡◌, ℕ, zero, suc, ◌*◌, ◌/◌, ◌<◌, ◌≤◌, Bool, true, false, List, [], ◌∷◌, length, get_or, Option, Some, None, refl, sym, ap, subst, ◌∙◌, inl, inr, arith}
+use Rattle.std.proofs.Common.{◌≡◌, ℕ, zero, suc, ◌*◌, ◌/◌, ◌<◌, ◌≤◌, Bool, true, false, List, [], ◌∷◌, length, get_or, Option, Some, None, refl, sym, ap}
+use Rattle.std.proofs.Common.{subst, ◌∙◌, inl, inr, arith}
 use Rattle.std.specs.Prelude.{IsSome, IfSome, All, option_map, option_and_then, if◌then◌else◌}
 use Rattle.std.specs.List.{list_any}
 use Rattle.std.specs.Option.{option_map_or}
@@ -12,13 +13,14 @@ use Rattle.proto.specs.Sizes.{Sizes}
 use Rattle.segments.specs.declared.place.Place.{Place}
 use Rattle.segments.specs.declared.place.Move.{Move}
 use Rattle.segments.specs.Items.{Item, halved}
-use Rattle.segments.specs.Pools.{PoolState, Plan, IsPool, Liveness, item_in, deadline_at}
+use Rattle.segments.specs.Pools.{PoolState, Plan, IsPool, Liveness, item_in, place_deadline}
 use Rattle.segments.specs.Places.{same_place, moved_by, IsCarriedOut}
 use Rattle.segments.specs.Merges.{IsPlan, planned, carried_out, planned_moves, merged_segments, contains_number}
 use Rattle.segments.proofs.MovedPlaces.{carried, moved_other, live_source, same_place_is, same_place_itself}
 use Rattle.tally.specs.Marks.{Marks, is_marked, is_mark_of, mark_at, lives_by, carried_marks}
 use Rattle.tally.proofs.MarkedPlaces.{carried_at, is_target_of, mark_found, knows_carried, sources_within, targets_within}
 use Rattle.index.specs.Keys.{KeysOf, key_at}
+use Rattle.index.specs.Layouts.{IsLayoutOf}
 use Rattle.index.specs.Table.{Table, IsSameSize}
 use Rattle.index.specs.Following.{IsFollowed, CanFollow, HoldsLive, AreInTurn, keys_behind}
 use Rattle.index.proofs.FollowedPlans.{StandsLive, starts_live, plan_followed}
@@ -152,9 +154,11 @@ mark_was true b x e h = absurd (false≢true (sym e))
 mark_was false true x e h = absurd (false≢true h)
 mark_was false false x e h = (refl, h)
 
+-- two places that are equal as options are equal
 one_place : {a b : Place} → Some a ≡ Some b → a ≡ b
 one_place e = cc
 
+-- two items that are equal as options are equal
 one_item : {a b : Item} → Some a ≡ Some b → a ≡ b
 one_item e = cc
 
@@ -196,9 +200,9 @@ target_current p plan after index found marks w r i e h =
     let m = get_or moves a.0 a.1 in
     let x = target_place m.target r.segment (r.offset / 32) (ap (λ (y : Move). is_target_of y r.segment (r.offset / 32)) a.3 ∙ a.4) in
     let start = starts_live (lives_by marks) p plan w.is_plan a.0 a.1 a.2 in
-    let moved : (item_in after x.0 ≡ option_map halved (item_in p m.source)) × (deadline_at after x.0 ≡ deadline_at p m.source) =
+    let moved : (item_in after x.0 ≡ option_map halved (item_in p m.source)) × (place_deadline after x.0 ≡ place_deadline p m.source) =
     subst (λ (o : Option Place). IfSome o
-    (λ place. (item_in after place ≡ option_map halved (item_in p m.source)) × (deadline_at after place ≡ deadline_at p m.source))) x.1
+    (λ place. (item_in after place ≡ option_map halved (item_in p m.source)) × (place_deadline after place ≡ place_deadline p m.source))) x.1
     (w.out.moved a.0 a.1 a.2) in
     let there : item_in after x.0 ≡ Some (halved start.item) = moved.0 ∙ ap (option_map halved) start.stands in
     let same = same_mark after x.0 r (halved start.item) i w.pool there e x.2 in
@@ -259,6 +263,7 @@ tied_merged p plan after index found marks w =
           ]);
       roomy = subst (λ (n : ℕ). 2 * (after.sizes.segments * (after.sizes.segment_size / 32)) ≤ n) (sym w.size.count)
           (subst (λ (s : Sizes). 2 * (s.segments * (s.segment_size / 32)) ≤ length index.slots) (sym w.out.sizes) w.tied.roomy);
+      layout = subst (IsLayoutOf after.sizes) (sym w.size.layout) (subst (λ (s : Sizes). IsLayoutOf s index.layout) (sym w.out.sizes) w.tied.layout);
     }
 
 -- ---- the calls of a merge
@@ -280,7 +285,7 @@ can_follow p index marks tied h behind =
     let is = has_planned p h.plan h.planned in
     let pool : IsPool (carried_out p h.plan) = subst (λ (o : Option Plan). IfSome o (λ plan. IsPool (carried_out p plan))) h.planned behind in
     subst (λ (r : PoolState). CanFollow (key_at r) (keys_behind r) index (planned_moves r.plan)) (sym is)
-    (plan_followed (lives_by marks) p h.plan index tied.known.pool h.is_plan (subst (λ (r : PoolState). IsPool (carried_out r h.plan)) is pool) tied.indexed
+    (plan_followed (lives_by marks) p h.plan index tied.known.pool h.is_plan (subst (λ (r : PoolState). IsPool (carried_out r h.plan)) is pool) tied.layout tied.indexed
     (holds_marked p index marks tied))
 
 -- what is known behind all calls

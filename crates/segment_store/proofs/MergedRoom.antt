@@ -1,5 +1,6 @@
 -- What a merge forgets, and that it makes room.
-use Rattle.std.proofs.Common.{◌≡◌, ℕ, ◌+◌, ◌*◌, ◌≤◌, Bool, true, false, List, [], ◌∷◌, length, map, Option, Some, None, refl, sym, ap, subst, ◌∙◌, inl, inr, arith}
+use Rattle.std.proofs.Common.{◌≡◌, ℕ, ◌+◌, ◌*◌, ◌≤◌, Bool, true, false, List, [], ◌∷◌, length, map, Option, Some, None, refl, sym, ap, subst, ◌∙◌, inl, inr}
+use Rattle.std.proofs.Common.{arith}
 use Rattle.std.specs.Prelude.{IsTrue, IfSome, All, ◌||◌, not, is_some, filter, sum_by, option_map, option_and_then, ◌==◌, if◌then◌else◌}
 use Rattle.std.specs.List.{list_any}
 use Rattle.std.specs.FinMap as finite
@@ -13,7 +14,8 @@ use Rattle.segments.specs.declared.place.Place.{Place}
 use Rattle.segments.specs.declared.place.Move.{Move}
 use Rattle.segments.specs.Items.{Item, halved}
 use Rattle.segments.specs.Changes.{with_items}
-use Rattle.segments.specs.Pools.{PoolState, Plan, IsPool, Used, Standing, segment_at, item_in, deadline_at, standing, live_standing, times}
+use Rattle.proto.specs.Counts.{times}
+use Rattle.segments.specs.Pools.{PoolState, Plan, IsPool, Used, Standing, segment_at, item_in, place_deadline, standing, live_standing}
 use Rattle.segments.specs.Places.{same_place, moved_by}
 use Rattle.segments.specs.Merges.{qualifies, front, merged_segments, merged_into, live_items, contains_number, carried_out, carried_items}
 use Rattle.segments.proofs.MovedPlaces.{moved_other, moved_live, live_source, sources_live, same_place_is, merged_front, merged_in_chain, merged_segment}
@@ -38,6 +40,7 @@ filled_opened : (items : List Item) (o : Option Used) (u : Used) → option_map 
 filled_opened items None u e = absurd (none-some u e)
 filled_opened items (Some s) u e = (s, refl, (let f : with_items items s ≡ u = cc in sym (ap (λ (x : Used). x.opened) f)))
 
+-- a segment that stays, or becomes another one with other items, unless it is freed, was opened by a moment by which both were
 opened_by : (c e : Bool) (items : List Item) (f o : Option Used) (t : ℕ) (u : Used)
     → (if c then None else (if e then option_map (with_items items) f else o)) ≡ Some u
     → ((s : Used) → f ≡ Some s → s.opened ≤ t) → ((s : Used) → o ≡ Some s → s.opened ≤ t) → u.opened ≤ t
@@ -74,6 +77,7 @@ past_merged p plan after t qualifying is past =
 abbrev pub lost : List Move → List Standing → List Standing
 lost moves ss = filter (λ (s : Standing). not (is_some (moved_by moves s.place))) ss
 
+-- an option that has no place is empty
 none_of : (o : Option Place) → is_some o ≡ false → o ≡ None
 none_of None h = refl
 none_of (Some r) h = absurd (false≢true (sym h))
@@ -110,6 +114,7 @@ is_lost moves (s ∷ ss) r h e =
 
 -- ---- the live items of merged segments
 
+-- a place is among the places of some things exactly where one of them has that place
 any_at : {X : Type 0} (f : X → Place) (r : Place) (xs : List X)
     → list_any (λ (x : Place). same_place x r) (map f xs) ≡ list_any (λ (x : X). same_place (f x) r) xs
 any_at f r [] = refl
@@ -178,8 +183,8 @@ moved_entry p plan after index found marks w q r s e m =
     let x = current_item p index q r e in
     elim (cases_Bool (contains_number (merged_segments p plan.bucket) r.segment)) [
       | inl y ↦
-          let there : (item_in after s ≡ Some (halved x.0)) × (deadline_at after s ≡ deadline_at p r) =
-          subst (λ (o : Option Place). IfSome o (λ place. (item_in after place ≡ Some (halved x.0)) × (deadline_at after place ≡ deadline_at p r))) m
+          let there : (item_in after s ≡ Some (halved x.0)) × (place_deadline after s ≡ place_deadline p r) =
+          subst (λ (o : Option Place). IfSome o (λ place. (item_in after place ≡ Some (halved x.0)) × (place_deadline after place ≡ place_deadline p r))) m
           (moved_live (lives_by marks) p plan after r x.0 w.is_plan w.out x.1 (w.tied.held q r e) y) in
           entry_is after s (halved x.0) there.0 ∙ ap (λ (d : Option ℕ). kept_entry d x.0) there.1 ∙ sym (entry_is p r x.0 x.1)
       | inr n ↦

@@ -1,5 +1,6 @@
 -- How many places of items a pool has, and that the index has a slot for one more item where one was appended.
-use Rattle.std.proofs.Common.{◌≡◌, ℕ, zero, suc, ◌+◌, ◌*◌, ◌/◌, ◌<◌, ◌≤◌, List, [], ◌∷◌, ◌++◌, length, get_or, map, Some, sym, ap, subst, ◌∙◌, inl, inr, arith, length-append}
+use Rattle.std.proofs.Common.{◌≡◌, ℕ, zero, suc, ◌+◌, ◌*◌, ◌/◌, ◌<◌, ◌≤◌, List, [], ◌∷◌, ◌++◌, length, get_or, map, Some, sym, ap, subst, ◌∙◌, inl, inr}
+use Rattle.std.proofs.Common.{arith, length-append}
 use Rattle.std.specs.Prelude.{Contains}
 use Rattle.std.specs.List.{remove}
 use Rattle.std.proofs.lemmas.Bool.{cases_eq}
@@ -14,9 +15,10 @@ use Rattle.segments.proofs.Places.{standing_by, pool_items_few, mark_within}
 use Rattle.segments.proofs.MergeLemmas.{length_standing}
 use Rattle.index.specs.Keys.{key_at}
 use Rattle.index.specs.Slots.{used_in}
-use Rattle.index.specs.Table.{Table, IsIndex, Holds}
+use Rattle.index.specs.Table.{Table, IsIndex, HasPlace}
 use Rattle.index.proofs.Counting.{few_used}
 
+-- the place at which an item stands
 abbrev place_in : Standing → Place
 place_in s = s.place
 
@@ -25,6 +27,7 @@ pub places_below : PoolState → ℕ → List Place
 places_below p zero = []
 places_below p (suc n) = map place_in (standing p n) ++ places_below p n
 
+-- in the segments below a number there are at most as many places of items as these segments have whole 32 bytes
 pub few_places : (p : PoolState) (n : ℕ) → IsPool p → length (places_below p n) ≤ n * (p.sizes.segment_size / 32)
 unfolding places_below
 few_places p zero k = omega arith
@@ -45,6 +48,7 @@ mapped (x ∷ xs) (suc k) r d lt e =
     let l = rest.1 in
     (suc rest.0, omega (arith, l), rest.2)
 
+-- the place of an item in a segment below a number is one of the places of items there
 pub in_places : (p : PoolState) (n : ℕ) (r : Place) (i : Item) → item_in p r ≡ Some i → r.segment < n → Contains (places_below p n) r
 unfolding places_below
 in_places p zero r i e lt = absurd (omega (arith, lt))
@@ -61,12 +65,13 @@ in_places p (suc n) r i e lt =
       | inr other ↦ Contains-append_right (map place_in (standing p n)) (places_below p n) r (in_places p n r i e (omega (arith, lt, other)))
     ]
 
+-- two places that a list has at the same number are equal
 at_same : (all : List Place) (i j : ℕ) (a b : Place) → i ≡ j → j < length all → get_or all j b ≡ b → get_or all i a ≡ a → a ≡ b
 at_same all i j a b same lt e f = sym f ∙ ap (λ (k : ℕ). get_or all k a) same ∙ get_or_default all j a b lt ∙ e
 
 -- One more item stands than the index has: it has a slot to spare.
 pub slot_to_spare : (p : PoolState) (index : Table) (place : Place) (i : Item) → IsPool p → IsIndex (key_at p) index → item_in p place ≡ Some i
-    → ((r : Place) → Holds index r → (j : Item) × (item_in p r ≡ Some j)) → (Holds index place → ⊥)
+    → ((r : Place) → HasPlace index r → (j : Item) × (item_in p r ≡ Some j)) → (HasPlace index place → ⊥)
     → 2 * (p.sizes.segments * (p.sizes.segment_size / 32)) ≤ length index.slots → 2 * (used_in index.slots + 1) ≤ length index.slots
 slot_to_spare p index place i pool indexed here held fresh roomy =
     let all = places_below p p.sizes.segments in
@@ -78,6 +83,6 @@ slot_to_spare p index place i pool indexed here held fresh roomy =
     few_used (key_at p) index rest indexed (λ r h.
     let j = held r h in
     let k = in_places p p.sizes.segments r j.0 j.1 (mark_within p r j.0 pool j.1).0 in
-    (in_remove all at.0 k.0 r at.1 k.1 (sym k.2) (λ same. fresh (subst (Holds index) (at_same all k.0 at.0 r place same at.1 at.2 k.2) h))).1) in
+    (in_remove all at.0 k.0 r at.1 k.1 (sym k.2) (λ same. fresh (subst (HasPlace index) (at_same all k.0 at.0 r place same at.1 at.2 k.2) h))).1) in
     let some = at.1 in
     omega (arith, used, shorter, few, some, roomy)

@@ -13,18 +13,20 @@ use Rattle.proto.specs.Buckets.{MayLive, bucket_of, time_to_live, shared_deadlin
 use Rattle.proto.proofs.DeadlineLemmas.{may_be_shared}
 use Rattle.segments.specs.declared.place.Place.{Place}
 use Rattle.segments.specs.Items.{Item, item_size}
-use Rattle.segments.specs.Pools.{PoolState, IsPool, Used, Liveness, item_in, deadline_at, deadline_in, deadline_of, segment_at, tail, is_closed, lasting}
+use Rattle.segments.specs.Pools.{PoolState, IsPool, Used, Liveness, item_in, place_deadline, deadline_in, deadline_of, segment_at, tail, is_closed, lasting}
 use Rattle.segments.specs.Changes.{IsAddedToTail, IsAddedToFree, open_tail, if_takes, takes, with_item}
 use Rattle.segments.proofs.Places.{appended, set_at, just_open}
 use Rattle.segments.proofs.LinkLemmas.{some_within, last_passes, in_chain}
 use Rattle.segments.proofs.InTimeLemmas.{in_time_appended}
 use Rattle.tally.specs.Marks.{Marks}
 use Rattle.index.specs.Table.{Table, Places}
-use Rattle.segment_store.specs.Shown.{current, shown, live_in, entry_at, kept_entry}
+use Rattle.segment_store.specs.Shown.{current, shown_entries, live_entries, entry_at, kept_entry}
 use Rattle.segment_store.specs.Kept.{IsTied, IsPast}
-use Rattle.segment_store.specs.Room.{IsPut, AreKept}
+use Rattle.proto.proofs.CacheLemmas.{without-nil}
+use Rattle.segment_store.specs.Room.{IsPut, IsPutOver, AreKept}
+use Rattle.segment_store.proofs.Writing.{insert_removed}
 use Rattle.segment_store.proofs.Opening.{in_time_past}
-use Rattle.segment_store.specs.Forgetting.{HasMadeRoom, IsPlaced}
+use Rattle.segment_store.specs.Forgetting.{HasMadeRoom, PlacesItem}
 use Rattle.index.proofs.Mapping.{get-insert}
 use Rattle.segment_store.proofs.Showing.{shown_insert, entry_is}
 use Rattle.segment_store.proofs.Tying.{current_item}
@@ -39,6 +41,7 @@ pub record IsIn (p : PoolState) (bucket t : ℕ) (after : PoolState) (place : Pl
   pub takes : is_closed bucket used.opened t ≡ false
   pub others : (n : ℕ) → (n == place.segment) ≡ false → segment_at after n ≡ segment_at p n
 
+-- the open tail for an item of a size is the last segment of the bucket's chain, and takes an item of that size
 tail_number : (p : PoolState) (bucket t size n : ℕ) → open_tail p bucket t size ≡ Some n → (tail p bucket ≡ Some n)
     × (option_map_or (takes p.sizes t size) (segment_at p n) false ≡ true)
 tail_number p bucket t size n e =
@@ -47,6 +50,7 @@ tail_number p bucket t size n e =
     let c = cond_some (option_map_or (takes p.sizes t size) (segment_at p m) false) m n passes in
     (is_tail ∙ ap Some c.1, subst (λ k. option_map_or (takes p.sizes t size) (segment_at p k) false ≡ true) c.1 c.0))
 
+-- a segment that takes an item isn't closed
 takes_open : (p : PoolState) (t size : ℕ) (o : Option Used) (u : Used) → o ≡ Some u
     → option_map_or (takes p.sizes t size) o false ≡ true → is_closed u.bucket u.opened t ≡ false
 takes_open p t size None u e h = absurd (false≢true h)
@@ -55,6 +59,7 @@ takes_open p t size (Some v) u e h =
     subst (λ (w : Used). is_closed w.bucket w.opened t ≡ false) same
     (not-true (is_closed v.bucket v.opened t) (and_parts (not (is_closed v.bucket v.opened t)) _ h).0)
 
+-- an appended item is in a segment of its bucket that takes items at the moment and was opened by then; the others stay
 pub in_segment : (p : PoolState) (bucket t : ℕ) (i : Item) (after : PoolState) (place : Place) → IsPool p → IsPast p t
     → IsAddedToTail p bucket t i after place ⊎ IsAddedToFree p bucket t i after place → IsIn p bucket t after place
 in_segment p bucket t i after place pool past (inl a) =
@@ -89,6 +94,7 @@ in_segment p bucket t i after place pool past (inr a) =
       others = λ n e. at n ∙ rw e refl;
     }
 
+-- where an item is appended, segments still stand in order, and none was opened after the moment
 past_put : (p : PoolState) (bucket t : ℕ) (i : Item) (after : PoolState) (place : Place) → IsPool p → IsPast p t
     → IsAddedToTail p bucket t i after place ⊎ IsAddedToFree p bucket t i after place
     → IsIn p bucket t after place → IsPast after t
@@ -141,6 +147,7 @@ deadline_may t bucket opened (Some asked) waits is was unclosed =
     let e : deadline_of bucket opened ≡ Some (shared_deadline bucket opened) = rw f refl in
     subst (MayLive t (Some asked)) (sym e) (may_be_shared t asked opened bucket later is was b a)
 
+-- a deadline that an entry may get at a moment hasn't come at that moment
 may_wait : (t : ℕ) (asked given : Option ℕ) → MayLive t asked given → has_arrived given t ≡ false
 may_wait t None None h = refl
 may_wait t None (Some d) h = absurd h
@@ -150,10 +157,10 @@ may_wait t (Some a) (Some d) h = lt-leb d t h.later
 -- an appended item is shown with the entry of its place, and the others as they were
 pub put_shown : (p after : PoolState) (index found : Table) (marks : Marks) (bucket t : ℕ) (i : Item) (place : Place) → IsTied p index marks
     → IsAddedToTail p bucket t i after place ⊎ IsAddedToFree p bucket t i after place → current after found ≡ finite.insert (current p index) i.key place
-    → has_arrived (entry_at after place).deadline t ≡ false → shown after found t ≡ finite.insert (shown p index t) i.key (entry_at after place)
+    → has_arrived (entry_at after place).deadline t ≡ false → shown_entries after found t ≡ finite.insert (shown_entries p index t) i.key (entry_at after place)
 put_shown p after index found marks bucket t i place tied added is waits =
     let a = appended p bucket t i after place tied.known.pool added in
-    ap (λ (m : Places). live_in after m t) is
+    ap (λ (m : Places). live_entries after m t) is
     ∙ shown_insert p after (current p index) t i.key place (entry_at after place) refl (ap not waits)
     (λ q r e. (let y = current_item p index q r e in
     let some : IsSome (item_in p r) = subst IsSome (sym y.1) refl in
@@ -170,7 +177,7 @@ put_deadline p after marks index bucket t i asked place past tied added waits of
     let a = appended p bucket t i after place tied.known.pool added in
     let x = in_segment p bucket t i after place tied.known.pool past added in
     let may = deadline_may t bucket x.used.opened asked waits of_bucket x.was x.takes in
-    let deadline : deadline_at after place ≡ deadline_of bucket x.used.opened = ap deadline_in x.is_at ∙ ap (λ b. deadline_of b x.used.opened) x.of_bucket in (
+    let deadline : place_deadline after place ≡ deadline_of bucket x.used.opened = ap deadline_in x.is_at ∙ ap (λ b. deadline_of b x.used.opened) x.of_bucket in (
       deadline_of bucket x.used.opened,
       may,
       entry_is after place i (appended_here p after bucket t i place a) ∙ ap (λ (d : Option ℕ). kept_entry d i) deadline,
@@ -180,7 +187,7 @@ put_deadline p after marks index bucket t i asked place past tied added waits of
 -- An item was appended to a pool that kept what it had to.
 pub put_made : (p : PoolState) (index : Table) (mid : PoolState) (between : Table) (marks : Marks) (bucket t : ℕ) (i : Item)
     (asked : Option ℕ) (after : PoolState) (found : Table) (place : Place)
-    → mid.sizes ≡ p.sizes → AreKept p.sizes (shown p index t) (shown mid between t) → IsPast mid t → IsTied mid between marks
+    → mid.sizes ≡ p.sizes → AreKept p.sizes (shown_entries p index t) (shown_entries mid between t) → IsPast mid t → IsTied mid between marks
     → IsAddedToTail mid bucket t i after place ⊎ IsAddedToFree mid bucket t i after place
     → current after found ≡ finite.insert (current mid between) i.key place
     → has_arrived asked t ≡ false → bucket ≡ bucket_of (time_to_live asked t) → IsPut p index t i asked after found
@@ -193,10 +200,10 @@ put_made p index mid between marks bucket t i asked after found place sizes kept
       past = d.3;
       deadline = d.0;
       may_live = d.1;
-      kept = shown mid between t;
+      kept = shown_entries mid between t;
       are_kept = kept;
       entries = put_shown mid after between found marks bucket t i place tied added is waiting
-          ∙ ap (finite.insert (shown mid between t) i.key) d.2;
+          ∙ ap (finite.insert (shown_entries mid between t) i.key) d.2;
     }
 
 -- Room was made for an item, and it was appended there.
@@ -206,7 +213,7 @@ pub put_placed : (lives : Liveness) (p : PoolState) (index : Table) (mid : PoolS
     → HasMadeRoom lives p index bucket t i mid between → IsPast mid t → IsTied mid between marks
     → IsAddedToTail mid bucket t i after place ⊎ IsAddedToFree mid bucket t i after place
     → current after found ≡ finite.insert (current mid between) i.key place
-    → has_arrived asked t ≡ false → bucket ≡ bucket_of (time_to_live asked t) → IsPlaced lives p index bucket t i after found
+    → has_arrived asked t ≡ false → bucket ≡ bucket_of (time_to_live asked t) → PlacesItem lives p index bucket t i after found
 put_placed lives p index mid between marks bucket t i asked after found place made past tied added is waits of_bucket =
     let d = put_deadline mid after marks between bucket t i asked place past tied added waits of_bucket in
     let waiting : has_arrived (entry_at after place).deadline t ≡ false = ap (λ (e : Entry). has_arrived e.deadline t) d.2 ∙ may_wait t asked d.0 d.1 in
@@ -219,15 +226,39 @@ put_placed lives p index mid between marks bucket t i asked after found place ma
           ∙ ap (λ (e : Entries). finite.insert e i.key (entry_at after place)) made.entries;
     }
 
+-- An item was appended in place of its key's.
+pub put_over : (p : PoolState) (index : Table) (marks : Marks) (bucket t : ℕ) (i : Item) (asked : Option ℕ) (after : PoolState) (found : Table) (place : Place)
+    → IsPast p t → IsTied p index marks
+    → IsAddedToTail p bucket t i after place ⊎ IsAddedToFree p bucket t i after place
+    → current after found ≡ finite.insert (current p index) i.key place
+    → has_arrived asked t ≡ false → bucket ≡ bucket_of (time_to_live asked t) → IsPutOver p index t i asked after found
+put_over p index marks bucket t i asked after found place past tied added is waits of_bucket =
+    let a = appended p bucket t i after place tied.known.pool added in
+    let d = put_deadline p after marks index bucket t i asked place past tied added waits of_bucket in
+    let waiting : has_arrived (entry_at after place).deadline t ≡ false = ap (λ (e : Entry). has_arrived e.deadline t) d.2 ∙ may_wait t asked d.0 d.1 in
+    let others : Entries = finite.remove (shown_entries p index t) i.key in
+    record {
+      sizes = a.sizes;
+      past = d.3;
+      deadline = d.0;
+      may_live = d.1;
+      kept = others;
+      are_kept = record { forgotten = []; evicted = inl refl; entries = sym (without-nil others) };
+      entries = put_shown p after index found marks bucket t i place tied added is waiting
+          ∙ ap (finite.insert (shown_entries p index t) i.key) d.2 ∙ sym (insert_removed (shown_entries p index t) i.key (kept_entry d.0 i));
+    }
+
 -- what an append says of its result, where that is known to be one or the other
 pub was_refused : {A B : Type 0} (r : Result A B) (P : A → Type 0) (Q : Type 0) → MatchResult r P (λ _. Q) → is_err r ≡ true → Q
 was_refused (Ok x) P Q h e = absurd (false≢true e)
 was_refused (Err x) P Q h e = h
 
+-- a result that isn't an error is a value, of which holds what is said of values
 pub was_done : {A B : Type 0} (r : Result A B) (P : A → Type 0) (Q : Type 0) → MatchResult r P (λ _. Q) → is_err r ≡ false → (x : A) × P x
 was_done (Ok x) P Q h e = (x, h)
 was_done (Err x) P Q h e = absurd (false≢true (sym e))
 
+-- a result that can't be an error is a value, of which holds what is said of values
 pub never_refused : {A B : Type 0} (r : Result A B) (P : A → Type 0) (Q : Type 0) → MatchResult r P (λ _. Q) → (Q → ⊥) → (x : A) × P x
 never_refused (Ok x) P Q h n = (x, h)
 never_refused (Err x) P Q h n = absurd (n h)

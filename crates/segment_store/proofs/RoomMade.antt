@@ -7,14 +7,15 @@ use Rattle.proto.specs.Cache.{Entries, has_arrived}
 use Rattle.proto.proofs.CacheLemmas.{without-nil}
 use Rattle.segments.specs.declared.place.Place.{Place}
 use Rattle.segments.specs.Items.{Item}
-use Rattle.segments.specs.Pools.{PoolState, IsPool, Liveness, Used, Standing, item_in, items_of, deadline_in, deadline_at, segment_at, has_live, standing_from}
+use Rattle.segments.specs.Pools.{PoolState, IsPool, Liveness, Used, Standing, item_in, items_of, deadline_in, place_deadline, segment_at, has_live}
+use Rattle.segments.specs.Pools.{standing_from}
 use Rattle.std.specs.List.{list_any}
-use Rattle.segments.specs.Changes.{IsFull, IsGivenBack, dead_segments}
+use Rattle.segments.specs.Changes.{IsPoolFull, IsGivenBack, dead_segments}
 use Rattle.segments.specs.Places.{HasFree}
 use Rattle.segments.proofs.Places.{live_given}
 use Rattle.tally.specs.Marks.{Marks, lives_by}
 use Rattle.index.specs.Table.{Table, Places}
-use Rattle.segment_store.specs.Shown.{current, shown, live_in, kept_entry}
+use Rattle.segment_store.specs.Shown.{current, shown_entries, live_entries, kept_entry}
 use Rattle.segment_store.specs.Kept.{IsTied, IsPast}
 use Rattle.segment_store.specs.Leaving.{HaveExpiredLeft}
 use Rattle.segment_store.specs.Room.{AllWait, IsCrowded, IsRoomMade, AreKept}
@@ -24,6 +25,7 @@ use Rattle.segment_store.proofs.Opening.{past_given}
 use Rattle.segment_store.proofs.Giving.{all_alive}
 use Rattle.segment_store.proofs.Evicting.{many_shown}
 
+-- a key that can't have a place has none
 none_still : (m : Places) (q : List ℕ) → ((r : Place) → finite.get m q ≡ Some r → ⊥) → finite.get m q ≡ None
 none_still m q h = by (finite.get m q) refl
   where
@@ -38,15 +40,16 @@ pub record IsSwept (p : PoolState) (index : Table) (t : ℕ) (after : PoolState)
   pub tied : IsTied after found marks
   pub absent : (key : List ℕ) → finite.get (current p index) key ≡ None → finite.get (current after found) key ≡ None
   pub waiting : AllWait after (current after found) t
-  pub entries : shown after found t ≡ shown p index t
+  pub entries : shown_entries after found t ≡ shown_entries p index t
 
+-- where the expired keys have left and segments without a current item were given back, the same is shown, and no key came
 pub swept : (p after : PoolState) (index found : Table) (marks : Marks) (t : ℕ) → IsPast p t → IsTied p found marks → IsPool after
     → IsGivenBack (lives_by marks) p after
     → HaveExpiredLeft p t (current p index) (current p found) → IsSwept p index t after found marks
 swept p after index found marks t past tied pool g left =
     let same = tied_given p after found marks tied pool g in
     let stays : (q : List ℕ) (r : Place) → finite.get (current p found) q ≡ Some r → (i : Item) × (item_in p r ≡ Some i)
-    × (item_in after r ≡ Some i) × (deadline_at after r ≡ deadline_at p r) =
+    × (item_in after r ≡ Some i) × (place_deadline after r ≡ place_deadline p r) =
     λ q r e. let x = current_item p found q r e in let l = live_given (lives_by marks) p after r x.0 g x.1 (tied.held q r e) in (x.0, x.1, l.0, l.1) in
     record {
       sizes = g.sizes;
@@ -56,7 +59,7 @@ swept p after index found marks t past tied pool g left =
       waiting = λ q r e.
           (let e1 : finite.get (current p found) q ≡ Some r = ap (λ (m : Places). finite.get m q) (sym same.1) ∙ e in
           ap (λ (d : Option ℕ). has_arrived d t) (stays q r e1).3 ∙ left.waiting q r e1);
-      entries = ap (λ (m : Places). live_in after m t) same.1
+      entries = ap (λ (m : Places). live_entries after m t) same.1
           ∙ shown_same p after (current p found) t (λ q r e. (let x = stays q r e in
           entry_is after r x.0 x.2 ∙ ap (λ (d : Option ℕ). kept_entry d x.0) x.3 ∙ sym (entry_is p r x.0 x.1)))
           ∙ shown_left p t (current p index) (current p found) left;
@@ -71,7 +74,7 @@ swept_made p index t after found marks s free =
       past = s.past;
       free = free;
       absent = s.absent;
-      kept = record { forgotten = []; evicted = inl refl; entries = s.entries ∙ sym (without-nil (shown p index t)) };
+      kept = record { forgotten = []; evicted = inl refl; entries = s.entries ∙ sym (without-nil (shown_entries p index t)) };
     }
 
 -- or, where nothing was, something was evicted
@@ -80,9 +83,11 @@ pub swept_crowded : (p : PoolState) (index : Table) (t : ℕ) (after : PoolState
 swept_crowded p index t after found marks s live =
     record { past = s.past; waiting = s.waiting; many = many_shown after found marks t s.tied s.waiting live }
 
+-- what was kept of some entries was kept of equal ones, in a pool of equal sizes
 kept_after : (one other : Sizes) (old mid new : Entries) → other ≡ one → mid ≡ old → AreKept other mid new → AreKept one old new
 kept_after one other old mid new same is k = subst (λ (s : Sizes). AreKept s old new) same (subst (λ (e : Entries). AreKept other e new) is k)
 
+-- room that is made once expired keys have left and segments were given back is room made of what was before that
 pub swept_evicted : (p : PoolState) (index : Table) (t : ℕ) (mid : PoolState) (between : Table) (marks : Marks) (after : PoolState)
     (found : Table) → IsSwept p index t mid between marks
     → IsRoomMade mid between t after found → IsRoomMade p index t after found
@@ -92,11 +97,11 @@ swept_evicted p index t mid between marks after found s r =
       past = r.past;
       free = r.free;
       absent = λ q none. r.absent q (s.absent q none);
-      kept = kept_after p.sizes mid.sizes (shown p index t) (shown mid between t) (shown after found t) s.sizes s.entries r.kept;
+      kept = kept_after p.sizes mid.sizes (shown_entries p index t) (shown_entries mid between t) (shown_entries after found t) s.sizes s.entries r.kept;
     }
 
 -- where none was given back, each segment still has a live item
-pub alive_given : (marks : Marks) (p after : PoolState) → IsPool p → IsPool after → IsFull p → IsGivenBack (lives_by marks) p after
+pub alive_given : (marks : Marks) (p after : PoolState) → IsPool p → IsPool after → IsPoolFull p → IsGivenBack (lives_by marks) p after
     → dead_segments (lives_by marks) p ≡ 0
     → (n : ℕ) → n < after.sizes.segments → has_live (lives_by marks) after n ≡ true
 alive_given marks p after pool other full g none n lt =

@@ -12,15 +12,16 @@ use Rattle.proto.specs.Steps.{contains_bytes, without}
 use Rattle.proto.proofs.CacheLemmas.{same_entries, get-insert, get-remove, get-no_entries, get-without, if_live, get-live, live-live}
 use Rattle.segments.specs.declared.place.Place.{Place}
 use Rattle.segments.specs.Items.{Item, read_again}
-use Rattle.segments.specs.Pools.{PoolState, item_in, deadline_at}
+use Rattle.segments.specs.Pools.{PoolState, item_in, place_deadline}
 use Rattle.segments.specs.Changes.{touched}
 use Rattle.segments.specs.Places.{same_place}
 use Rattle.segments.proofs.Places.{touched_item, touched_deadline}
 use Rattle.index.specs.Table.{Places}
 use Rattle.index.proofs.Mapping as mapping
-use Rattle.segment_store.specs.Shown.{kept_entry, gone, entry_at, entries_at, live_in}
+use Rattle.segment_store.specs.Shown.{kept_entry, gone, entry_at, entries_at, live_entries}
 use Rattle.segment_store.specs.Leaving.{HaveExpiredLeft}
 
+-- to look up a key among the entries at places is to look up its place and take the entry there
 find-map : (p : PoolState) (es : List (List ℕ × Place)) (q : List ℕ)
     → finite.find (slice_cmp nat_cmp) q (map (λ (e : List ℕ × Place). (e.0, entry_at p e.1)) es) ≡ option_map (entry_at p)
     (finite.find (slice_cmp nat_cmp) q es)
@@ -31,6 +32,7 @@ find-map p (e ∷ es) q =
       | inr n ↦ rw n (find-map p es q)
     ]
 
+-- a map of places has at a key the entry at the key's place, and none where the key has no place
 get-entries_at : (p : PoolState) (m : Places) (q : List ℕ) → finite.get (entries_at p m) q ≡ option_map (entry_at p) (finite.get m q)
 unfolding entries_at
 get-entries_at p m q =
@@ -38,9 +40,10 @@ get-entries_at p m q =
     ∙ find-map p (finite.entries m) q ∙ ap (option_map (entry_at p)) (sym (finite.get-entries m q))
 
 -- what is shown at a key
-pub get-live_in : (p : PoolState) (m : Places) (t : ℕ) (q : List ℕ) → finite.get (live_in p m t) q ≡ if_live t (option_map (entry_at p) (finite.get m q))
+pub get-live_in : (p : PoolState) (m : Places) (t : ℕ) (q : List ℕ) → finite.get (live_entries p m t) q ≡ if_live t (option_map (entry_at p) (finite.get m q))
 get-live_in p m t q = get-live (entries_at p m) t q ∙ ap (if_live t) (get-entries_at p m q)
 
+-- a place that shows the same in two pools gives the same entry, and no place gives none
 same_maps : (p after : PoolState) (o : Option Place) → ((r : Place) → o ≡ Some r → entry_at after r ≡ entry_at p r)
     → option_map (entry_at after) o ≡ option_map (entry_at p) o
 same_maps p after None h = refl
@@ -48,13 +51,15 @@ same_maps p after (Some r) h = ap Some (h r refl)
 
 -- where each place of the map shows what it did, nothing changes
 pub shown_same : (p after : PoolState) (m : Places) (t : ℕ) → ((q : List ℕ) (r : Place) → finite.get m q ≡ Some r → entry_at after r ≡ entry_at p r)
-    → live_in after m t ≡ live_in p m t
+    → live_entries after m t ≡ live_entries p m t
 shown_same p after m t h =
     same_entries _ _ (λ q. get-live_in after m t q ∙ ap (if_live t) (same_maps p after (finite.get m q) (h q)) ∙ sym (get-live_in p m t q))
 
+-- an entry that is live is shown
 live_entry : (t : ℕ) (e : Entry) → is_live e t ≡ true → if_live t (Some e) ≡ Some e
 live_entry t e waits = rw waits refl
 
+-- a key that is put in at a place with a live entry shows this entry, another key what it showed
 if_live-insert : (t : ℕ) (after : PoolState) (b : Bool) (place : Place) (e : Entry) (o : Option Place) (w : Option Entry)
     → entry_at after place ≡ e → is_live e t ≡ true
     → if_live t (option_map (entry_at after) o) ≡ w → if_live t (option_map (entry_at after) (cond b (Some place) o)) ≡ cond b (Some e) w
@@ -64,40 +69,41 @@ if_live-insert t after false place e o w is waits h = h
 -- a key is put into the map, whose other places show what they did
 pub shown_insert : (p after : PoolState) (m : Places) (t : ℕ) (key : List ℕ) (place : Place) (e : Entry) → entry_at after place ≡ e → is_live e t ≡ true
     → ((q : List ℕ) (r : Place) → finite.get m q ≡ Some r → entry_at after r ≡ entry_at p r)
-    → live_in after (finite.insert m key place) t ≡ finite.insert (live_in p m t) key e
+    → live_entries after (finite.insert m key place) t ≡ finite.insert (live_entries p m t) key e
 shown_insert p after m t key place e is waits h =
     same_entries _ _ (λ q. get-live_in after (finite.insert m key place) t q
     ∙ ap (λ (o : Option Place). if_live t (option_map (entry_at after) o)) (mapping.get-insert m key place q)
-    ∙ if_live-insert t after (bytes_eq q key) place e (finite.get m q) (finite.get (live_in p m t) q) is waits
+    ∙ if_live-insert t after (bytes_eq q key) place e (finite.get m q) (finite.get (live_entries p m t) q) is waits
     (ap (if_live t) (same_maps p after (finite.get m q) (h q)) ∙ sym (get-live_in p m t q))
-    ∙ sym (get-insert (live_in p m t) key e q))
+    ∙ sym (get-insert (live_entries p m t) key e q))
 
+-- a key that is taken out shows nothing, another key what it showed
 if_live-remove : (t : ℕ) (p : PoolState) (b : Bool) (o : Option Place)
     → if_live t (option_map (entry_at p) (cond b None o)) ≡ cond b None (if_live t (option_map (entry_at p) o))
 if_live-remove t p true o = refl
 if_live-remove t p false o = refl
 
 -- a key is taken out of the map
-pub shown_remove : (p : PoolState) (m : Places) (t : ℕ) (key : List ℕ) → live_in p (finite.remove m key) t ≡ finite.remove (live_in p m t) key
+pub shown_remove : (p : PoolState) (m : Places) (t : ℕ) (key : List ℕ) → live_entries p (finite.remove m key) t ≡ finite.remove (live_entries p m t) key
 shown_remove p m t key =
     same_entries _ _ (λ q. get-live_in p (finite.remove m key) t q
     ∙ ap (λ (o : Option Place). if_live t (option_map (entry_at p) o)) (mapping.get-remove m key q)
     ∙ if_live-remove t p (bytes_eq q key) (finite.get m q)
     ∙ ap (cond (bytes_eq q key) None) (sym (get-live_in p m t q))
-    ∙ sym (get-remove (live_in p m t) key q))
+    ∙ sym (get-remove (live_entries p m t) key q))
 
 -- an empty map shows nothing
-pub shown_empty : (p : PoolState) (t : ℕ) → live_in p finite.empty t ≡ no_entries
+pub shown_empty : (p : PoolState) (t : ℕ) → live_entries p finite.empty t ≡ no_entries
 shown_empty p t =
     same_entries _ _ (λ q. get-live_in p finite.empty t q
     ∙ ap (λ (o : Option Place). if_live t (option_map (entry_at p) o)) (finite.get-empty (slice_cmp nat_cmp) q) ∙ sym (get-no_entries q))
 
 -- time goes on
-pub shown_later : (p : PoolState) (m : Places) (t u : ℕ) → t ≤ u → live_in p m u ≡ live (live_in p m t) u
+pub shown_later : (p : PoolState) (m : Places) (t u : ℕ) → t ≤ u → live_entries p m u ≡ live (live_entries p m t) u
 shown_later p m t u le = sym (live-live (entries_at p m) t u le)
 
 -- what a place shows where an item stands there
-pub entry_is : (p : PoolState) (place : Place) (i : Item) → item_in p place ≡ Some i → entry_at p place ≡ kept_entry (deadline_at p place) i
+pub entry_is : (p : PoolState) (place : Place) (i : Item) → item_in p place ≡ Some i → entry_at p place ≡ kept_entry (place_deadline p place) i
 unfolding entry_at
 entry_is p place i e = rw e refl
 
@@ -106,27 +112,29 @@ gone_by : (d : Option ℕ) (o : Option Item) (t : ℕ) → has_arrived d t ≡ t
 gone_by d None t h = le-leb 0 t (omega arith)
 gone_by d (Some i) t h = h
 
-pub not_live : (p : PoolState) (place : Place) (t : ℕ) → has_arrived (deadline_at p place) t ≡ true → if_live t (Some (entry_at p place)) ≡ None
+-- nothing is shown of a place whose deadline has come
+pub not_live : (p : PoolState) (place : Place) (t : ℕ) → has_arrived (place_deadline p place) t ≡ true → if_live t (Some (entry_at p place)) ≡ None
 unfolding entry_at
 not_live p place t h =
-    let arrived = gone_by (deadline_at p place) (item_in p place) t h in
+    let arrived = gone_by (place_deadline p place) (item_in p place) t h in
     rw arrived refl
 
 -- where exactly the keys leave whose deadline has come, all that is live is still shown
 left_by : (p : PoolState) (t : ℕ) (o n : Option Place) → ((r : Place) → n ≡ Some r → o ≡ Some r)
-    → ((r : Place) → n ≡ Some r → has_arrived (deadline_at p r) t ≡ false)
-    → ((r : Place) → o ≡ Some r → has_arrived (deadline_at p r) t ≡ false → n ≡ Some r)
+    → ((r : Place) → n ≡ Some r → has_arrived (place_deadline p r) t ≡ false)
+    → ((r : Place) → o ≡ Some r → has_arrived (place_deadline p r) t ≡ false → n ≡ Some r)
     → if_live t (option_map (entry_at p) n) ≡ if_live t (option_map (entry_at p) o)
 left_by p t None None a b c = refl
 left_by p t None (Some r) a b c = absurd (none-some r (a r refl))
 left_by p t (Some s) (Some r) a b c = ap (λ (o : Option Place). if_live t (option_map (entry_at p) o)) (sym (a r refl))
 left_by p t (Some s) None a b c =
-    elim (cases_Bool (has_arrived (deadline_at p s) t)) [
+    elim (cases_Bool (has_arrived (place_deadline p s) t)) [
       | inl y ↦ sym (not_live p s t y)
       | inr n ↦ absurd (none-some s (c s refl n))
     ]
 
-pub shown_left : (p : PoolState) (t : ℕ) (old new : Places) → HaveExpiredLeft p t old new → live_in p new t ≡ live_in p old t
+-- where exactly those keys leave a map whose deadline has come, it shows at that moment what it showed with them
+pub shown_left : (p : PoolState) (t : ℕ) (old new : Places) → HaveExpiredLeft p t old new → live_entries p new t ≡ live_entries p old t
 shown_left p t old new h =
     same_entries _ _
     (λ q. get-live_in p new t q ∙ left_by p t (finite.get old q) (finite.get new q) (h.before q) (h.waiting q) (h.others q)
@@ -134,17 +142,18 @@ shown_left p t old new h =
 
 -- what isn't shown any more was forgotten
 pub shown_without : (p after : PoolState) (old new : Places) (t : ℕ) (forgotten : List (List ℕ))
-    → ((q : List ℕ) → finite.get (live_in after new t) q ≡ cond (contains_bytes forgotten q) None (finite.get (live_in p old t) q))
-    → live_in after new t ≡ without (live_in p old t) forgotten
-shown_without p after old new t forgotten h = same_entries _ _ (λ q. h q ∙ sym (get-without (live_in p old t) forgotten q))
+    → ((q : List ℕ) → finite.get (live_entries after new t) q ≡ cond (contains_bytes forgotten q) None (finite.get (live_entries p old t) q))
+    → live_entries after new t ≡ without (live_entries p old t) forgotten
+shown_without p after old new t forgotten h = same_entries _ _ (λ q. h q ∙ sym (get-without (live_entries p old t) forgotten q))
 
 -- an item whose deadline hasn't come is shown
 pub entry_live : (p : PoolState) (place : Place) (t : ℕ) (i : Item) → item_in p place ≡ Some i
-    → has_arrived (deadline_at p place) t ≡ false → if_live t (Some (entry_at p place)) ≡ Some (entry_at p place)
+    → has_arrived (place_deadline p place) t ≡ false → if_live t (Some (entry_at p place)) ≡ Some (entry_at p place)
 entry_live p place t i e h =
     let is = entry_is p place i e in
     live_entry t (entry_at p place) (ap (λ (x : Entry). is_live x t) is ∙ rw h refl)
 
+-- an item that was read once more keeps the same entry
 read_entry : (d : Option ℕ) (o : Option Item) → option_map_or (kept_entry d) (option_map read_again o) gone ≡ option_map_or (kept_entry d) o gone
 read_entry d None = refl
 read_entry d (Some i) = refl
@@ -157,8 +166,8 @@ touched_entry p place r h =
     ∙ elim (cases_Bool (same_place r place)) [
       | inl y ↦
           let e : item_in (touched p place) r ≡ option_map read_again (item_in p r) = touched_item p place r h ∙ rw y refl in
-          ap (λ (o : Option Item). option_map_or (kept_entry (deadline_at p r)) o gone) e ∙ read_entry (deadline_at p r) (item_in p r)
+          ap (λ (o : Option Item). option_map_or (kept_entry (place_deadline p r)) o gone) e ∙ read_entry (place_deadline p r) (item_in p r)
       | inr n ↦
           let e : item_in (touched p place) r ≡ item_in p r = touched_item p place r h ∙ rw n refl in
-          ap (λ (o : Option Item). option_map_or (kept_entry (deadline_at p r)) o gone) e
+          ap (λ (o : Option Item). option_map_or (kept_entry (place_deadline p r)) o gone) e
     ]

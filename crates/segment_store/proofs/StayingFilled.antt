@@ -8,10 +8,10 @@ use Rattle.proto.specs.declared.message.Reply.{Reply}
 use Rattle.proto.specs.declared.message.Reply.TheVariants.{NoMemory}
 use Rattle.proto.specs.Sizes.{item_limit}
 use Rattle.proto.specs.Buckets.{bucket_of, time_to_live}
-use Rattle.proto.specs.Cache.{Entry, Entries, Cache, entry_size, found_at}
+use Rattle.proto.specs.Cache.{Entry, Entries, entry_size, found_at}
 use Rattle.proto.specs.Commands.{Outcome}
 use Rattle.proto.specs.Steps.{Step, IsDated, MayForget, without}
-use Rattle.proto.specs.Stored.{StoredItem, item_of, item_stored, is_no_memory, written}
+use Rattle.proto.specs.Stored.{StoredItem, stored_item_of, item_stored, is_no_memory, written}
 use Rattle.proto.proofs.CacheLemmas.{without-nil}
 use Rattle.proto.proofs.StepLemmas.{get-stored, dated-insert}
 use Rattle.engine.specs.declared.commands.Engine.{Engine}
@@ -25,8 +25,8 @@ use Rattle.segments.specs.Changes.{touched}
 use Rattle.segments.specs.Filling.{IsFilled, HoldsLittle, held_size}
 use Rattle.segments.proofs.FilledLemmas.{filled_touched}
 use Rattle.segment_store.specs.declared.segment_map.SegmentMap.{SegmentMap}
-use Rattle.segment_store.specs.Shown.{shown, entry_at}
-use Rattle.segment_store.specs.State.{MapState, IsKept}
+use Rattle.segment_store.specs.Shown.{shown_entries}
+use Rattle.segment_store.specs.State.{MapState, IsSegmentedMap}
 use Rattle.segment_store.specs.StoreState.{sizes_in, segmented_cache}
 use Rattle.segment_store.specs.Living.{live_others}
 use Rattle.segment_store.specs.Writes.{WritesToSegments, IsReadAgain, unread}
@@ -51,7 +51,7 @@ counted_filled (key ∷ keys) old new h filled =
 
 -- What is left where nothing was forgotten for a stored item, and segments stayed filled.
 record IsLeftFilled (t : ℕ) (found : MapState) (done : Outcome) (reply : Reply) (after : MapState) (items : List StoredItem) : Type 0 where
-  dated : (done.stored ≡ None) ⊎ ((reply ≡ NoMemory) ⊎ IsDated t done.entries done.stored (shown after.pool after.index t))
+  dated : (done.stored ≡ None) ⊎ ((reply ≡ NoMemory) ⊎ IsDated t done.entries done.stored (shown_entries after.pool after.index t))
   filled : IsFilled after.pool
   held : held_size after.pool ≤ held_size found.pool + written items
 
@@ -59,37 +59,39 @@ record IsLeftFilled (t : ℕ) (found : MapState) (done : Outcome) (reply : Reply
 abbrev items_by : ℕ → Outcome → Reply → List StoredItem
 items_by t done reply = if is_no_memory reply then [] else item_stored t done done.stored
 
+-- where segments are filled, and so little is held that a stored item has room, nothing is forgotten, and segments stay filled
 abbrev LeavesFilled : ℕ → MapState → Outcome → Reply → MapState → Type 0
 LeavesFilled t found done reply after =
     IsFilled found.pool → AllByRecursion (λ (i : StoredItem). HoldsLittle found.pool i.bucket t) (items_by t done reply)
     → IsLeftFilled t found done reply after (items_by t done reply)
 
 -- an item that was written where little is held
-written_filled : (found after : MapState) (done : Outcome) (key : List ℕ) (e : Entry) → IsKept found → (done.reply ≡ NoMemory → ⊥) → done.stored ≡ Some key
-    → done.entries ≡ finite.insert (shown found.pool found.index found.moment) key e → WritesToSegments found key e after
+written_filled : (found after : MapState) (done : Outcome) (key : List ℕ) (e : Entry) → IsSegmentedMap found → (done.reply ≡ NoMemory → ⊥)
+    → done.stored ≡ Some key
+    → done.entries ≡ finite.insert (shown_entries found.pool found.index found.moment) key e → WritesToSegments found key e after
     → LeavesFilled found.moment found done done.reply after
 written_filled found after done key e kept other stored asked w filled little =
     let p = found.pool in
     let t = found.moment in
     let one : StoredItem = record { size = entry_size key e; bucket = bucket_of (time_to_live e.deadline t) } in
-    let there : finite.get done.entries key ≡ Some e = ap (λ (m : Entries). finite.get m key) asked ∙ get-stored (shown p found.index t) key e in
+    let there : finite.get done.entries key ≡ Some e = ap (λ (m : Entries). finite.get m key) asked ∙ get-stored (shown_entries p found.index t) key e in
     let items : items_by t done done.reply ≡ one ∷ [] = answered_item done.reply (item_stored t done done.stored) other
-    ∙ ap (λ (o : Option (List ℕ)). item_stored t done o) stored ∙ ap (item_of t key) there in
+    ∙ ap (λ (o : Option (List ℕ)). item_stored t done o) stored ∙ ap (stored_item_of t key) there in
     let few : HoldsLittle p one.bucket t = (subst
     (λ (xs : List StoredItem). AllByRecursion (λ (i : StoredItem). HoldsLittle p i.bucket t) xs) items little).0 in
     let k = kept_with (live_others key found.tally t) p found.index one.bucket t
     (unread key e) after.pool after.index kept.tied.known.pool kept.past w.storable filled few w.placed in
-    let now : shown after.pool after.index t ≡ finite.insert (shown p found.index t) key (record e { deadline = w.deadline }) =
-    k.entries ∙ ap (finite.insert (shown p found.index t) key) w.stands in
-    let exact : IsDated t (finite.insert (shown p found.index t) key e) (Some key)
-    (finite.insert (shown p found.index t) key (record e { deadline = w.deadline })) =
-    dated-insert t (shown p found.index t) key e w.deadline w.may_live in
+    let now : shown_entries after.pool after.index t ≡ finite.insert (shown_entries p found.index t) key (record e { deadline = w.deadline }) =
+    k.entries ∙ ap (finite.insert (shown_entries p found.index t) key) w.stands in
+    let exact : IsDated t (finite.insert (shown_entries p found.index t) key e) (Some key)
+    (finite.insert (shown_entries p found.index t) key (record e { deadline = w.deadline })) =
+    dated-insert t (shown_entries p found.index t) key e w.deadline w.may_live in
     let held = k.held in
     let size : written (items_by t done done.reply) ≡ entry_size key e + 0 = ap written items ∙ omega arith in
     record {
-      dated = inr (inr (subst (λ (o : Option (List ℕ)). IsDated t done.entries o (shown after.pool after.index t)) (sym stored)
-          (subst (λ (m : Entries). IsDated t m (Some key) (shown after.pool after.index t)) (sym asked)
-          (subst (λ (m : Entries). IsDated t (finite.insert (shown p found.index t) key e) (Some key) m) (sym now) exact))));
+      dated = inr (inr (subst (λ (o : Option (List ℕ)). IsDated t done.entries o (shown_entries after.pool after.index t)) (sym stored)
+          (subst (λ (m : Entries). IsDated t m (Some key) (shown_entries after.pool after.index t)) (sym asked)
+          (subst (λ (m : Entries). IsDated t (finite.insert (shown_entries p found.index t) key e) (Some key) m) (sym now) exact))));
       filled = k.filled;
       held = omega arith;
     }
@@ -100,7 +102,10 @@ same_filled : (t : ℕ) (found after : MapState) (done : Outcome) (reply : Reply
 same_filled t found after done reply items (inl none) filled held = record { dated = inl none; filled = filled; held = omega arith }
 same_filled t found after done reply items (inr refused) filled held = record { dated = inr (inl refused); filled = filled; held = omega arith }
 
-leaves_filled : (found after : MapState) (done : Outcome) (reply : Reply) → IsKept found → (done.reply ≡ NoMemory → ⊥) → LeavesSegments found done after reply
+-- each outcome leaves segments filled where little is held, be it that an item is written, reads are counted, the pool stays,
+-- or memory is refused
+leaves_filled : (found after : MapState) (done : Outcome) (reply : Reply) → IsSegmentedMap found → (done.reply ≡ NoMemory → ⊥)
+    → LeavesSegments found done after reply
     → LeavesFilled found.moment found done reply after
 leaves_filled found after done _ kept other (writes key e stored asked w) = written_filled found after done key e kept other stored asked w
 leaves_filled found after done _ kept other (reads hits none is counts) =
@@ -148,7 +153,7 @@ stays_filled before t q reply after step moment h filled little =
         | inl none ↦ unstored before after t q reply step none
         | inr dated ↦ elim dated [
           | inl refused ↦ inl refused
-          | inr is ↦ inr (subst (λ (u : ℕ). IsDated t done.entries done.stored (shown after.map.pool after.map.index u)) (sym moment) is)
+          | inr is ↦ inr (subst (λ (u : ℕ). IsDated t done.entries done.stored (shown_entries after.map.pool after.map.index u)) (sym moment) is)
         ]
       ],
       left.filled,

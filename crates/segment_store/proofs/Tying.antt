@@ -1,6 +1,6 @@
 -- What ties pool, index and tally together, and what changes of them leave of that.
 use Rattle.std.proofs.Common.{◌≡◌, ℕ, ◌/◌, Bool, true, false, cond, List, length, Option, Some, None, refl, sym, ap, subst, ◌∙◌, inl, inr}
-use Rattle.std.specs.Prelude.{bytes_eq, option_map, IsSome, ◌⊎◌, ◌*◌, ◌≤◌, ◌==◌, if◌then◌else◌}
+use Rattle.std.specs.Prelude.{bytes_eq, option_map, IsSome, IfSome, ◌⊎◌, ◌*◌, ◌≤◌, ◌==◌, if◌then◌else◌}
 use Rattle.std.specs.FinMap as finite
 use Rattle.std.specs.FinMap.{slice_cmp-IsAntisymmetric, nat_cmp-IsAntisymmetric}
 use Rattle.std.specs.Cmp.Lexicographic.{nat_list_cmp_total}
@@ -15,21 +15,25 @@ use Rattle.segments.specs.Changes.{touched, IsGivenBack}
 use Rattle.segments.specs.Places.{same_place, IsAppended}
 use Rattle.segments.proofs.Places.{own_marks, touched_item, given_item, live_given}
 use Rattle.segments.proofs.MovedPlaces.{same_place_is, same_place_itself}
-use Rattle.tally.specs.Marks.{Marks, KnowsPool, is_marked, is_mark_of, with_mark, lives_by}
+use Rattle.tally.specs.Marks.{Marks, IsWithin, KnowsPool, is_marked, is_mark_of, with_mark, lives_by}
 use Rattle.tally.proofs.MarkedPlaces.{mark_after, item_within, knows_unmark, knows_longer, knows_appended, knows_touched, knows_given}
 use Rattle.index.specs.Keys.{KeysOf, key_at}
-use Rattle.index.specs.Table.{Table, Places, IsIndex, IsMap, IsSameSize, Holds, place_at}
+use Rattle.index.specs.Layouts.{IsLayoutOf}
+use Rattle.index.specs.Table.{Table, Places, IsIndex, IsMap, IsSameSize, HasPlace, place_at}
 use Rattle.index.proofs.Mapping.{stands_from_get, get_from_stands, stands_once, get-insert, get-remove, Stands}
 use Rattle.index.proofs.Agreeing.{keys_agree, held_key}
 use Rattle.segment_store.specs.Shown.{current}
 use Rattle.segment_store.specs.Kept.{IsTied}
+use Rattle.segment_store.specs.Leaving.{marked_instead}
 
 -- ---- items of current places
 
+-- an option that isn't empty has a value
 some_of : {A : Type 0} (o : Option A) → IsSome o → (x : A) × (o ≡ Some x)
 some_of None h = absurd (false≢true h)
 some_of (Some x) h = (x, refl)
 
+-- where there is a key of what may be an item, there is an item, and it has that key
 key_from : (o : Option Item) (q : List ℕ) → option_map (λ (i : Item). i.key) o ≡ Some q → (i : Item) × (o ≡ Some i) × (i.key ≡ q)
 key_from None q h = absurd (none-some q h)
 key_from (Some i) q h = (i, refl, cc)
@@ -39,6 +43,7 @@ pub keyed_item : (p : PoolState) (r : Place) (q : List ℕ) → key_at p r ≡ S
 unfolding key_at
 keyed_item p r q h = key_from (item_in p r) q h
 
+-- the key at a place is that of the item there
 pub key_of : (p : PoolState) (r : Place) (i : Item) → item_in p r ≡ Some i → key_at p r ≡ Some i.key
 unfolding key_at
 key_of p r i h = rw h refl
@@ -47,15 +52,17 @@ key_of p r i h = rw h refl
 pub current_key : (p : PoolState) (index : Table) (q : List ℕ) (r : Place) → finite.get (current p index) q ≡ Some r → key_at p r ≡ Some q
 current_key p index q r h = (stands_from_get (key_at p) index.slots q r h).key_is
 
+-- an item stands at the current place of a key, and has this key
 pub current_item : (p : PoolState) (index : Table) (q : List ℕ) (r : Place) → finite.get (current p index) q ≡ Some r → (i : Item)
     × (item_in p r ≡ Some i) × (i.key ≡ q)
 current_item p index q r h = keyed_item p r q (current_key p index q r h)
 
+-- a place where an item stands isn't empty
 pub some_item : (p : PoolState) (r : Place) (i : Item) → item_in p r ≡ Some i → IsSome (item_in p r)
 some_item p r i h = subst IsSome (sym h) refl
 
 -- the place of a slot is current
-pub held_place : (keys : KeysOf) (t : Table) (r : Place) → IsIndex keys t → Holds t r → (q : List ℕ) × (place_at keys t q ≡ Some r)
+pub held_place : (keys : KeysOf) (t : Table) (r : Place) → IsIndex keys t → HasPlace t r → (q : List ℕ) × (place_at keys t q ≡ Some r)
 held_place keys t r index h =
     let k = some_of (keys r) (held_key keys t index r h) in
     let st : Stands keys t.slots k.0 r = record { at = h.at; in_range = h.in_range; used = h.used; place_is = h.place_is; key_is = k.1 } in
@@ -69,14 +76,17 @@ same_current p after index indexed same =
 
 -- ---- marks of items
 
+-- true isn't false
 true_false : true ≡ false → ⊥
 true_false e = cc
 
+-- a mark of a place is of the place's segment and has the number of the 32 bytes in which the place begins
 is_of_place : (place : Place) (n k : ℕ) → is_mark_of place n k ≡ true → (place.segment ≡ n) × (place.offset / 32 ≡ k)
 is_of_place place n k h =
     let parts = and_parts (n == place.segment) (k == place.offset / 32) h in
     (sym (eqb-true n place.segment parts.0), sym (eqb-true k (place.offset / 32) parts.1))
 
+-- a place has the mark of its segment with the number of the 32 bytes in which it begins
 mark_itself : (x : Place) → is_mark_of x x.segment (x.offset / 32) ≡ true
 mark_itself x = same_place_itself (record { segment = x.segment; offset = x.offset / 32 })
 
@@ -88,6 +98,7 @@ same_mark p a b i j k e f h =
     let offset = own_marks p a b i j k e f parts.0 parts.1 in
     ap (λ n. record { segment = n; offset = a.offset }) parts.0 ∙ ap (λ n. record { segment = b.segment; offset = n }) offset
 
+-- where a choice is true and its first side false, the second side was taken, and is true
 mark_if : (b m x : Bool) → (if m then b else x) ≡ true → b ≡ false → (m ≡ false) × (x ≡ true)
 mark_if b true x h e = absurd (true_false (sym h ∙ e))
 mark_if b false x h e = (refl, h)
@@ -114,6 +125,7 @@ left_mark t p place r i known e h =
 
 -- ---- a current item leaves
 
+-- a key that has a place once a key was taken out is another one, and had this place before
 pub removed_at : (m : Places) (key q : List ℕ) (r : Place) → finite.get (finite.remove m key) q ≡ Some r → (q ≡ key → ⊥) × (finite.get m q ≡ Some r)
 removed_at m key q r h = by (cases_Bool (bytes_eq q key)) (sym (get-remove m key q) ∙ h)
   where
@@ -121,6 +133,7 @@ removed_at m key q r h = by (cases_Bool (bytes_eq q key)) (sym (get-remove m key
     by (inl same) e = (let f : None ≡ Some r = rw same at e in absurd (none-some r f))
     by (inr apart) e = (λ same. true_false (sym ((bytes_eq-Decides q key).1 same) ∙ apart), rw apart at e)
 
+-- where a key is taken out, another key keeps its place
 pub removed_other : (m : Places) (key q : List ℕ) (r : Place) → (q ≡ key → ⊥) → finite.get m q ≡ Some r → finite.get (finite.remove m key) q ≡ Some r
 removed_other m key q r differ h =
     elim (cases_Bool (bytes_eq q key)) [
@@ -128,6 +141,7 @@ removed_other m key q r differ h =
       | inr apart ↦ get-remove m key q ∙ rw apart h
     ]
 
+-- a key that has a place once a key was put in is that key with its new place, or another one with the place that it had
 pub inserted_at : (m : Places) (key q : List ℕ) (place r : Place) → finite.get (finite.insert m key place) q ≡ Some r
     → ((q ≡ key) × (place ≡ r)) ⊎ ((q ≡ key → ⊥) × (finite.get m q ≡ Some r))
 inserted_at m key q place r h = by (cases_Bool (bytes_eq q key)) (sym (get-insert m key place q) ∙ h)
@@ -137,6 +151,7 @@ inserted_at m key q place r h = by (cases_Bool (bytes_eq q key)) (sym (get-inser
     by (inl same) e = (let f : Some place ≡ Some r = rw same at e in inl ((bytes_eq-Decides q key).0 same, cc))
     by (inr apart) e = inr (λ same. true_false (sym ((bytes_eq-Decides q key).1 same) ∙ apart), rw apart at e)
 
+-- where a key is put in, another key keeps its place
 pub inserted_other : (m : Places) (key q : List ℕ) (place r : Place) → (q ≡ key → ⊥) → finite.get m q ≡ Some r
     → finite.get (finite.insert m key place) q ≡ Some r
 inserted_other m key q place r differ h =
@@ -145,6 +160,15 @@ inserted_other m key q place r differ h =
       | inr apart ↦ get-insert m key place q ∙ rw apart h
     ]
 
+-- items at the same place have the same key
+keys_same : (p : PoolState) (a b : Place) (i j : Item) → item_in p a ≡ Some i → item_in p b ≡ Some j → a ≡ b → j.key ≡ i.key
+keys_same p a b i j e f same = (let g : Some j ≡ Some i = sym f ∙ ap (item_in p) (sym same) ∙ e in cc)
+
+-- two places that are equal as options are equal
+one_place : {a b : Place} → Some a ≡ Some b → a ≡ b
+one_place e = cc
+
+-- where a key is taken out of the index and the mark of its place out of the tally, all stays tied
 pub tied_left : (p : PoolState) (index after : Table) (t : Marks) (key : List ℕ) (place : Place) → IsTied p index t
     → finite.get (current p index) key ≡ Some place
     → IsMap (key_at p) after (finite.remove (current p index) key) → IsSameSize index after → IsTied p after (with_mark false t place)
@@ -157,20 +181,15 @@ tied_left p index after t key place tied there m size =
       held = λ q r h.
           (let was = removed_at (current p index) key q r (ap (λ (n : Places). finite.get n q) (sym m.places_are) ∙ h) in
           let y = current_item p index q r was.1 in
-          other_mark t p place r x.0 y.0 known x.1 y.1 (λ same. was.0 (sym y.2 ∙ keys_same place r x.0 y.0 x.1 y.1 same ∙ x.2)) (tied.held q r was.1));
+          other_mark t p place r x.0 y.0 known x.1 y.1 (λ same. was.0 (sym y.2 ∙ keys_same p place r x.0 y.0 x.1 y.1 same ∙ x.2)) (tied.held q r was.1));
       marked = λ r j e h.
           (let left = left_mark t p place r x.0 known x.1 h in
           let was = tied.marked r j e left.0 in
           ap (λ (n : Places). finite.get n j.key) m.places_are
           ∙ removed_other (current p index) key j.key r (λ same. left.1 (one_place (sym there ∙ ap (finite.get (current p index)) (sym same) ∙ was))) was);
       roomy = subst (λ (n : ℕ). 2 * (p.sizes.segments * (p.sizes.segment_size / 32)) ≤ n) (sym size.count) tied.roomy;
+      layout = subst (IsLayoutOf p.sizes) (sym size.layout) tied.layout;
     }
-  where
-    keys_same : (a b : Place) (i j : Item) → item_in p a ≡ Some i → item_in p b ≡ Some j → a ≡ b → j.key ≡ i.key
-    keys_same a b i j e f same = (let g : Some j ≡ Some i = sym f ∙ ap (item_in p) (sym same) ∙ e in cc)
-
-    one_place : {a b : Place} → Some a ≡ Some b → a ≡ b
-    one_place e = cc
 
 -- ---- the pool changes
 
@@ -187,10 +206,12 @@ tied_same p after index t tied known sizes same =
             (let x = keyed_item p r i.key (sym (same r h) ∙ key_of after r i e) in
             ap (λ (n : Places). finite.get n i.key) m.places_are ∙ ap (finite.get (current p index)) (sym x.2) ∙ tied.marked r x.0 x.1 h);
         roomy = subst (λ (s : Sizes). 2 * (s.segments * (s.segment_size / 32)) ≤ length index.slots) (sym sizes) tied.roomy;
+        layout = subst (λ (s : Sizes). IsLayoutOf s index.layout) (sym sizes) tied.layout;
       },
       m.places_are,
     )
 
+-- an item that was read once more keeps its key, and what is no item has none
 read_key : (o : Option Item) → option_map (λ (i : Item). i.key) (option_map read_again o) ≡ option_map (λ (i : Item). i.key) o
 read_key None = refl
 read_key (Some i) = refl
@@ -204,6 +225,7 @@ touched_key p place r h =
       | inr n ↦ ap (option_map (λ (i : Item). i.key)) (touched_item p place r h ∙ rw n refl)
     ]
 
+-- where an item is read, all stays tied, and the current places stay
 pub tied_touched : (p after : PoolState) (index : Table) (t : Marks) (place : Place) → IsTied p index t → IsSome (item_in p place)
     → IsPool after → after ≡ touched p place
     → IsTied after index t × (current after index ≡ current p index)
@@ -211,6 +233,7 @@ tied_touched p after index t place tied some pool is =
     subst (λ (a : PoolState). IsTied a index t × (current a index ≡ current p index)) (sym is)
     (tied_same p (touched p place) index t tied (knows_touched t p place tied.known (subst IsPool is pool) some) refl (λ r h. touched_key p place r some))
 
+-- where segments without a marked item are given back, a marked place keeps its key, or still has none
 given_key : (t : Marks) (p after : PoolState) (r : Place) (o : Option Item) → IsGivenBack (lives_by t) p after → item_in p r ≡ o → is_marked t r ≡ true
     → option_map (λ (i : Item). i.key) (item_in after r) ≡ option_map (λ (i : Item). i.key) o
 given_key t p after r None g e h = ap (option_map (λ (i : Item). i.key))
@@ -230,14 +253,26 @@ tied_given p after index t tied pool g =
 
 -- ---- an item is appended
 
+-- once a place was marked, a place that shares its mark is marked, and another one is if it was
 marked_after : (t : Marks) (p : PoolState) (place r : Place) → KnowsPool t p → IsSome (item_in p place)
     → is_marked (with_mark true t place) r ≡ (if is_mark_of place r.segment (r.offset / 32) then true else is_marked t r)
 marked_after t p place r known some = mark_after true t place r.segment (r.offset / 32) known.sized (item_within t p place known some)
 
+-- a choice between true and what is true is true
 true_or : (b x : Bool) → x ≡ true → (if b then true else x) ≡ true
 true_or true x h = refl
 true_or false x h = h
 
+-- two items at different places don't share a mark
+no_mark : (p : PoolState) (a b : Place) (i j : Item) → IsPool p → item_in p a ≡ Some i → item_in p b ≡ Some j
+    → same_place b a ≡ false → is_mark_of a b.segment (b.offset / 32) ≡ false
+no_mark p a b i j k e f n =
+    elim (cases_Bool (is_mark_of a b.segment (b.offset / 32))) [
+      | inl y ↦ absurd (false≢true (sym n ∙ ap (same_place b) (same_mark p a b i j k e f y) ∙ same_place_itself b))
+      | inr z ↦ z
+    ]
+
+-- where an item of a key without a place is appended, its key put into the index and its place marked, all stays tied
 pub tied_appended : (p after : PoolState) (bucket moment : ℕ) (i : Item) (place : Place) (index found : Table) (t : Marks) → IsTied p index t → IsPool after
     → IsAppended p bucket moment i after place → finite.get (current p index) i.key ≡ None
     → IsMap (key_at after) found (finite.insert (current p index) i.key place) → IsSameSize index found → IsTied after found (with_mark true t place)
@@ -274,15 +309,76 @@ tied_appended p after bucket moment i place index found t tied pool a absent m s
           ];
       roomy = subst (λ (n : ℕ). 2 * (after.sizes.segments * (after.sizes.segment_size / 32)) ≤ n) (sym size.count)
           (subst (λ (s : Sizes). 2 * (s.segments * (s.segment_size / 32)) ≤ length index.slots) (sym a.sizes) tied.roomy);
+      layout = subst (IsLayoutOf after.sizes) (sym size.layout) (subst (λ (s : Sizes). IsLayoutOf s index.layout) (sym a.sizes) tied.layout);
     }
-  where
-    no_mark : (p : PoolState) (a b : Place) (i j : Item) → IsPool p → item_in p a ≡ Some i → item_in p b ≡ Some j
-        → same_place b a ≡ false → is_mark_of a b.segment (b.offset / 32) ≡ false
-    no_mark p a b i j k e f n =
-        elim (cases_Bool (is_mark_of a b.segment (b.offset / 32))) [
-          | inl y ↦ absurd (false≢true (sym n ∙ ap (same_place b) (same_mark p a b i j k e f y) ∙ same_place_itself b))
-          | inr z ↦ z
-        ]
+
+-- an item is appended in place of the current one of its key
+tied_replaced : (p after : PoolState) (bucket moment : ℕ) (i : Item) (place : Place) (index found : Table) (t : Marks) (source : Place) → IsTied p index t
+    → IsPool after → IsAppended p bucket moment i after place → finite.get (current p index) i.key ≡ Some source
+    → IsMap (key_at after) found (finite.insert (current p index) i.key place) → IsSameSize index found
+    → IsTied after found (with_mark true (with_mark false t source) place)
+tied_replaced p after bucket moment i place index found t source tied pool a there m size =
+    let x = current_item p index i.key source there in
+    let u : Marks = with_mark false t source in
+    let known_left = knows_unmark t p source tied.known (item_within t p source tied.known (some_item p source x.0 x.1)) in
+    let known = knows_longer u p bucket moment i after place known_left pool a in
+    let here : item_in after place ≡ Some i = a.items place ∙ (let s = same_place_itself place in rw s refl) in
+    let some = some_item after place i here in
+    record {
+      known = knows_appended u p bucket moment i after place known_left pool a;
+      indexed = m.index;
+      held = λ q r h.
+          (let was = inserted_at (current p index) i.key q place r (ap (λ (n : Places). finite.get n q) (sym m.places_are) ∙ h) in
+          marked_after u after place r known some ∙
+          elim was [
+            | inl new ↦ ap (λ (x : Place). if is_mark_of place x.segment (x.offset / 32) then true else is_marked u x) (sym new.1)
+                ∙ (let y = mark_itself place in rw y refl)
+            | inr old ↦
+                let y = current_item p index q r old.1 in
+                true_or (is_mark_of place r.segment (r.offset / 32)) (is_marked u r)
+                (other_mark t p source r x.0 y.0 tied.known x.1 y.1 (λ same. old.0 (sym y.2 ∙ keys_same p source r x.0 y.0 x.1 y.1 same ∙ x.2))
+                (tied.held q r old.1))
+          ]);
+      marked = λ r j e h.
+          ap (λ (n : Places). finite.get n j.key) m.places_are ∙
+          elim (cases_Bool (same_place r place)) [
+            | inl y ↦
+                let same = same_place_is r place y in
+                let is : Some j ≡ Some i = sym e ∙ ap (item_in after) same ∙ here in
+                let key : j.key ≡ i.key = cc in
+                ap (finite.get (finite.insert (current p index) i.key place)) key ∙ get-insert (current p index) i.key place i.key
+                ∙ (let z = (bytes_eq-Decides i.key i.key).1 refl in rw z refl) ∙ ap Some (sym same)
+            | inr n ↦
+                let was : item_in p r ≡ Some j = sym (a.items r ∙ rw n refl) ∙ e in
+                let apart : is_mark_of place r.segment (r.offset / 32) ≡ false = no_mark after place r i j pool here e n in
+                let mark : is_marked u r ≡ true = sym (marked_after u after place r known some ∙ rw apart refl) ∙ h in
+                let left = left_mark t p source r x.0 tied.known x.1 mark in
+                let old = tied.marked r j was left.0 in
+                inserted_other (current p index) i.key j.key place r
+                (λ same. left.1 (one_place (sym there ∙ ap (finite.get (current p index)) (sym same) ∙ old))) old
+          ];
+      roomy = subst (λ (n : ℕ). 2 * (after.sizes.segments * (after.sizes.segment_size / 32)) ≤ n) (sym size.count)
+          (subst (λ (s : Sizes). 2 * (s.segments * (s.segment_size / 32)) ≤ length index.slots) (sym a.sizes) tied.roomy);
+      layout = subst (IsLayoutOf after.sizes) (sym size.layout) (subst (λ (s : Sizes). IsLayoutOf s index.layout) (sym a.sizes) tied.layout);
+    }
+
+-- an item is appended, whether its key has one or not
+pub tied_put : (p after : PoolState) (bucket moment : ℕ) (i : Item) (place : Place) (index found : Table) (t : Marks) (source : Option Place) → IsTied p index t
+    → IsPool after → IsAppended p bucket moment i after place → source ≡ finite.get (current p index) i.key
+    → IsMap (key_at after) found (finite.insert (current p index) i.key place) → IsSameSize index found
+    → IsTied after found (marked_instead t source place)
+tied_put p after bucket moment i place index found t None tied pool a is m size =
+    tied_appended p after bucket moment i place index found t tied pool a (sym is) m size
+tied_put p after bucket moment i place index found t (Some source) tied pool a is m size =
+    tied_replaced p after bucket moment i place index found t source tied pool a (sym is) m size
+
+-- a current place has a mark of its own
+pub source_within : (p : PoolState) (index : Table) (t : Marks) (key : List ℕ) (source : Option Place) → IsTied p index t
+    → source ≡ finite.get (current p index) key → IfSome source (IsWithin t.sizes)
+source_within p index t key None tied is = tt
+source_within p index t key (Some source) tied is =
+    let x = current_item p index key source (sym is) in
+    item_within t p source tied.known (some_item p source x.0 x.1)
 
 -- to take out a key that isn't there changes nothing
 pub removed_none : (m : Places) (key : List ℕ) → finite.get m key ≡ None → m ≡ finite.remove m key

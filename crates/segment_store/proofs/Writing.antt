@@ -1,5 +1,6 @@
 -- A write by what the parts of it leave.
-use Rattle.std.proofs.Common.{◌≡◌, ℕ, ◌+◌, ◌-◌, ◌*◌, ◌/◌, ◌<◌, ◌≤◌, ◌^◌, true, false, cond, List, [], ◌∷◌, length, Option, Some, None, refl, sym, ap, ◌∙◌, inl, inr, arith}
+use Rattle.std.proofs.Common.{◌≡◌, ℕ, ◌+◌, ◌-◌, ◌*◌, ◌/◌, ◌<◌, ◌≤◌, ◌^◌, Bool, true, false, cond, List, [], ◌∷◌, length, Option, Some, None, refl, sym, ap}
+use Rattle.std.proofs.Common.{◌∙◌, inl, inr, arith}
 use Rattle.std.specs.Prelude.{bytes_eq, ◌⊎◌, sum_by, is_some, option_map}
 use Rattle.std.specs.List.{list_all}
 use Rattle.std.specs.Option.{option_map_or}
@@ -11,7 +12,7 @@ use Rattle.std.proofs.lemmas.List.Sums.{sum_by-cons}
 use Rattle.proto.specs.Sizes.{Sizes, item_limit}
 use Rattle.proto.specs.Cache.{Entry, Entries, entry_size}
 use Rattle.proto.specs.Buckets.{MayLive}
-use Rattle.proto.specs.Steps.{without, contains_bytes, size_at, Evicts}
+use Rattle.proto.specs.Steps.{without, contains_bytes, size_at, MayEvict}
 use Rattle.proto.proofs.CacheLemmas.{same_entries, get-insert, get-remove, get-without}
 use Rattle.segments.specs.declared.place.Place.{Place}
 use Rattle.segments.specs.Items.{Item, IsStorable}
@@ -19,7 +20,7 @@ use Rattle.segments.specs.Pools.{PoolState}
 use Rattle.segments.proofs.Places.{item_storable}
 use Rattle.index.specs.Table.{Table}
 use Rattle.engine.specs.Written.{IsWritten, MayBeWritten}
-use Rattle.segment_store.specs.Shown.{current, shown, entry_at}
+use Rattle.segment_store.specs.Shown.{current, shown_entries, entry_at}
 use Rattle.segment_store.specs.Kept.{IsTied}
 use Rattle.segment_store.specs.Room.{AreKept, AreEvicted}
 use Rattle.tally.specs.Marks.{Marks}
@@ -53,6 +54,7 @@ kept_at e key w f h =
       | inr n ↦ get-insert e key w f ∙ rw n (sym (get-remove e key f ∙ rw n refl))
     ]
 
+-- keys that a map without some key has it also has with another entry at that key
 kept_all : (e : Entries) (key : List ℕ) (w : Entry) (fs : List (List ℕ))
     → list_all (finite.contains_key (finite.remove e key)) fs ≡ true → list_all (finite.contains_key (finite.insert e key w)) fs ≡ true
 kept_all e key w [] h = refl
@@ -61,6 +63,7 @@ kept_all e key w (f ∷ fs) h =
     let here : finite.contains_key (finite.insert e key w) f ≡ true = ap is_some (kept_at e key w f parts.0) ∙ parts.0 in
     rw here (kept_all e key w fs parts.1)
 
+-- the entries of such keys have the same sizes in sum, whether that key is taken out or has another entry
 kept_sizes : (e : Entries) (key : List ℕ) (w : Entry) (fs : List (List ℕ)) → list_all (finite.contains_key (finite.remove e key)) fs ≡ true
     → sum_by (size_at (finite.insert e key w)) fs ≡ sum_by (size_at (finite.remove e key)) fs
 kept_sizes e key w [] h = refl
@@ -73,6 +76,7 @@ kept_sizes e key w (f ∷ fs) h =
     let other = sum_by-cons (size_at (finite.remove e key)) f fs in
     omega (arith, here, rest, one, other)
 
+-- a map without a key has no more entries than with it
 fewer : (e : Entries) (key : List ℕ) → finite.len (finite.remove e key) ≤ finite.len e
 fewer e key =
     let l = finite.len-remove nat_list_cmp_total e key in
@@ -81,8 +85,9 @@ fewer e key =
       | inr n ↦ (let is : finite.len (finite.remove e key) ≡ finite.len e = l ∙ rw n refl in omega (arith, is))
     ]
 
+-- what may be forgotten of the other entries to make room may be forgotten where a key is written, which isn't forgotten itself
 forgets : (sizes : Sizes) (e : Entries) (key : List ℕ) (w : Entry) (fs : List (List ℕ)) → (fs ≡ []) ⊎ AreEvicted sizes (finite.remove e key) fs
-    → ((fs ≡ []) ⊎ Evicts sizes e (finite.insert e key w) key fs) × (contains_bytes fs key ≡ false)
+    → ((fs ≡ []) ⊎ MayEvict sizes e (finite.insert e key w) key fs) × (contains_bytes fs key ≡ false)
 forgets sizes e key w fs (inl none) = (inl none, ap (λ (xs : List (List ℕ)). contains_bytes xs key) none)
 forgets sizes e key w fs (inr h) =
     let other = other_keys e key fs h.present in
@@ -122,13 +127,26 @@ written_by sizes t e kept new key asked deadline k may is =
       entries = is ∙ ap (λ (m : Entries). finite.insert m key w) k.entries ∙ inserted_kept e key w k.forgotten f.1;
     }
 
+-- a key put where it was taken out is put
+pub insert_removed : (m : Entries) (key : List ℕ) (e : Entry) → finite.insert (finite.remove m key) key e ≡ finite.insert m key e
+insert_removed m key e =
+    same_entries _ _ (λ q. get-insert (finite.remove m key) key e q ∙ ap (cond (bytes_eq q key) (Some e)) (get-remove m key q)
+    ∙ twice (bytes_eq q key) (finite.get m q) ∙ sym (get-insert m key e q))
+  where
+    twice : (b : Bool) (o : Option Entry) → cond b (Some e) (cond b None o) ≡ cond b (Some e) o
+    twice true o = refl
+    twice false o = refl
+
 -- ---- what may be written can be stored
 
+-- where something is shown of what may be a place, there is a place
 some_of : (o : Option Place) (p : PoolState) (t : ℕ) → is_some (if_live t (option_map (entry_at p) o)) ≡ true → (r : Place) × (o ≡ Some r)
 some_of None p t h = absurd (false≢true h)
 some_of (Some r) p t h = (r, refl)
 
-pub may_store : (p : PoolState) (index : Table) (marks : Marks) (t : ℕ) (i : Item) → IsTied p index marks → MayBeWritten p.sizes (shown p index t) i.key i.value
+-- a segment can hold an item that may be written, whose cas number and flags are in range, and which nobody has read
+pub may_store : (p : PoolState) (index : Table) (marks : Marks) (t : ℕ) (i : Item) → IsTied p index marks
+    → MayBeWritten p.sizes (shown_entries p index t) i.key i.value
     → i.cas < 2 ^ 64 → i.flags < 2 ^ 32 → i.reads ≡ 0 → IsStorable (item_limit p.sizes) i
 may_store p index marks t i tied (inl f) cas flags reads =
     record { cas = cas; flags = flags; some_key = f.some_key; short_key = f.short_key; reads = omega (arith, reads); small = f.small }

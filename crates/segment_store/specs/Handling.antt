@@ -12,22 +12,22 @@ use Rattle.engine.specs.declared.commands.Engine.{Engine}
 use Rattle.engine.specs.Outcomes.{outcome_at}
 use Rattle.engine.specs.Counting.{CountsEach, keys_of}
 use Rattle.segment_store.specs.declared.segment_map.SegmentMap.{SegmentMap}
-use Rattle.segment_store.specs.Shown.{shown}
-use Rattle.segment_store.specs.State.{MapState, IsKept}
+use Rattle.segment_store.specs.Shown.{shown_entries}
+use Rattle.segment_store.specs.State.{MapState, IsSegmentedMap}
 use Rattle.segment_store.specs.StoreState.{sizes_in, segmented_cache}
 use Rattle.segment_store.specs.Writes.{WritesToSegments, IsReadAgain}
 
 -- What a request finds at the moment t: the pool as it was, and an index and a tally of what is live then.
-pub record IsFound (before : Engine SegmentMap) (t : ℕ) (found : MapState) : Type 0 where
+pub record FindsLive (before : Engine SegmentMap) (t : ℕ) (found : MapState) : Type 0 where
   pub pool : found.pool ≡ before.map.pool
-  pub kept : IsKept found
+  pub kept : IsSegmentedMap found
   pub moment : found.moment ≡ t
-  pub entries : shown found.pool found.index t ≡ (found_at (segmented_cache before) t).entries
+  pub entries : shown_entries found.pool found.index t ≡ (found_at (segmented_cache before) t).entries
 
 -- What an outcome leaves of what was found: where an item is stored, it is written, and room made for it; of each hit that
 -- is shown one read is counted; else, and where memory is refused, the pool stays.
 pub data LeavesSegments (found : MapState) (done : Outcome) (after : MapState) : Reply → Type 0 where
-  writes : (key : List ℕ) (entry : Entry) → done.stored ≡ Some key → done.entries ≡ finite.insert (shown found.pool found.index found.moment) key entry
+  writes : (key : List ℕ) (entry : Entry) → done.stored ≡ Some key → done.entries ≡ finite.insert (shown_entries found.pool found.index found.moment) key entry
       → WritesToSegments found key entry after → LeavesSegments found done after done.reply
   reads : (hits : List Hit) → done.stored ≡ None → done.reply ≡ Values hits → CountsEach IsReadAgain found (keys_of hits) after
       → LeavesSegments found done after done.reply
@@ -37,5 +37,5 @@ pub data LeavesSegments (found : MapState) (done : Outcome) (after : MapState) :
 -- the request's outcome is left of what it finds at the moment
 pub record HandlesSegments (before : Engine SegmentMap) (t : ℕ) (q : Request) (reply : Reply) (after : Engine SegmentMap) : Type 0 where
   pub found : MapState
-  pub is_found : IsFound before t found
+  pub is_found : FindsLive before t found
   pub leaves : LeavesSegments found (outcome_at (sizes_in before) (segmented_cache before) t q) after.map reply

@@ -6,18 +6,20 @@ use Rattle.segments.specs.Items.{Item}
 use Rattle.segments.specs.Pools.{PoolState, Used, segment_at, item_in}
 use Rattle.segments.specs.Filling.{IsInOrder}
 use Rattle.tally.specs.Marks.{Marks, KnowsPool, is_marked}
+use Rattle.index.specs.Layouts.{IsLayoutOf}
 use Rattle.index.specs.Table.{Table, IsIndex}
 use Rattle.index.specs.Keys.{key_at}
 use Rattle.segment_store.specs.Shown.{current}
 
 -- The tally marks exactly the current places, those that the index has, each of which holds an item of its key; and
--- the index has a slot to spare for each item that fits into the pool.
+-- the index has a slot to spare for each item that fits into the pool, and its slots can say each place of the pool.
 pub record IsTied (p : PoolState) (index : Table) (tally : Marks) : Type 0 where
   pub known : KnowsPool tally p
   pub indexed : IsIndex (key_at p) index
   pub held : (key : List ℕ) (place : Place) → finite.get (current p index) key ≡ Some place → is_marked tally place ≡ true
   pub marked : (place : Place) (i : Item) → item_in p place ≡ Some i → is_marked tally place ≡ true → finite.get (current p index) i.key ≡ Some place
   pub roomy : 2 * (p.sizes.segments * (p.sizes.segment_size / 32)) ≤ length index.slots
+  pub layout : IsLayoutOf p.sizes index.layout
 
 -- no segment was opened after the moment t, which is within its limit, and those of chains stand in the order of their
 -- opening moments

@@ -12,6 +12,6 @@ pub record MapState : Type 0 where
   pub tally : Marks
   pub moment : ℕ
 
-pub record IsKept (s : MapState) : Type 0 where
+pub record IsSegmentedMap (s : MapState) : Type 0 where
   pub tied : IsTied s.pool s.index s.tally
   pub past : IsPast s.pool s.moment

@@ -6,7 +6,7 @@ use Rattle.engine.specs.declared.commands.Engine.{Engine}
 use Rattle.engine.specs.Engines.{cache_in}
 use Rattle.segment_store.specs.declared.segment_map.SegmentMap.{SegmentMap}
 use Rattle.proto.specs.Stored.{StoredItem}
-use Rattle.segment_store.specs.Shown.{shown}
+use Rattle.segment_store.specs.Shown.{shown_entries}
 use Rattle.segment_store.specs.Keeping.{KeepsStored}
 
 -- the sizes that it was made for
@@ -15,7 +15,7 @@ sizes_in engine = engine.map.pool.sizes
 
 -- the entries that were live at the last moment, the last cas number and the pending flush
 abbrev pub segmented_cache : Engine SegmentMap → Cache
-segmented_cache engine = cache_in (λ (m : SegmentMap). shown m.pool m.index m.moment) engine
+segmented_cache engine = cache_in (λ (m : SegmentMap). shown_entries m.pool m.index m.moment) engine
 
 -- the moment of the last request
 abbrev pub last_moment : Engine SegmentMap → ℕ

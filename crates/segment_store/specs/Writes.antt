@@ -7,10 +7,10 @@ use Rattle.proto.specs.Buckets.{bucket_of, time_to_live, MayLive}
 use Rattle.segments.specs.declared.place.Place.{Place}
 use Rattle.segments.specs.Items.{Item, IsStorable}
 use Rattle.segments.specs.Changes.{touched}
-use Rattle.segment_store.specs.State.{MapState, IsKept}
+use Rattle.segment_store.specs.State.{MapState, IsSegmentedMap}
 use Rattle.segment_store.specs.Shown.{current, entry_at}
 use Rattle.segment_store.specs.Living.{live_others}
-use Rattle.segment_store.specs.Forgetting.{IsPlaced}
+use Rattle.segment_store.specs.Forgetting.{PlacesItem}
 
 -- the place is the current one of the key
 abbrev pub StandsAt : MapState → List ℕ → Place → Type 0
@@ -24,7 +24,7 @@ unread key e = record { cas = e.cas; flags = e.flags; key = key; value = e.value
 -- key's old item is no longer live; the entry stands there with a deadline that it may get.
 pub record WritesToSegments (old : MapState) (key : List ℕ) (entry : Entry) (new : MapState) : Type 0 where
   pub storable : IsStorable (item_limit old.pool.sizes) (unread key entry)
-  pub placed : IsPlaced (live_others key old.tally old.moment) old.pool old.index (bucket_of (time_to_live entry.deadline old.moment)) old.moment
+  pub placed : PlacesItem (live_others key old.tally old.moment) old.pool old.index (bucket_of (time_to_live entry.deadline old.moment)) old.moment
       (unread key entry) new.pool new.index
   pub deadline : Option ℕ
   pub may_live : MayLive old.moment entry.deadline deadline
@@ -39,4 +39,4 @@ pub record IsReadAgain (old : MapState) (key : List ℕ) (new : MapState) : Type
 -- no item came or went, nor was one read: the pool is the same, and index and tally are those of it
 pub record HasSamePool (old new : MapState) : Type 0 where
   pub pool : new.pool ≡ old.pool
-  pub kept : IsKept new
+  pub kept : IsSegmentedMap new

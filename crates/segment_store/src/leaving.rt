@@ -8,9 +8,8 @@ ghost use Rattle.segment_store.specs.Leaving.{HasLeft, HaveExpiredLeft};
 
 use engine::deadline::has_arrived;
 use index::index::Index;
-use segments::place::Place;
-use segments::pool::Pool;
-use tally::tally::Tally;
+use segments::{Place, Pool};
+use tally::Tally;
 
 /// The current item of a key, at a place, leaves.
 pub fn leave(pool: &Pool, index: &mut Index, tally: &mut Tally, key: &[u8], place: Place)

@@ -8,8 +8,8 @@ ghost use Rattle.segment_store.specs.Merging.{HasPlan};
 ghost use Rattle.segment_store.specs.Room.{IsCrowded, IsRoomMade};
 
 use index::index::Index;
-use segments::pool::Pool;
-use tally::tally::Tally;
+use segments::Pool;
+use tally::Tally;
 
 /// Carries out the merge that was planned.
 pub fn merge(pool: &mut Pool, index: &mut Index, tally: &mut Tally)

@@ -1,6 +1,6 @@
 //! How room is made for an item, and how the item is put there.
 
-ghost use Rattle.std.specs.Prelude.{◌≡◌, ◌⊎◌, ◌<◌, ◌≤◌, ◌^◌, ℕ, None, false, MatchResult};
+ghost use Rattle.std.specs.Prelude.{◌≡◌, ◌⊎◌, ◌<◌, ◌≤◌, ◌^◌, ℕ, None, false, IfSome, MatchResult};
 ghost use Rattle.std.specs.FinMap as map;
 ghost use Rattle.proto.specs.Sizes.{item_limit};
 ghost use Rattle.proto.specs.Cache.{has_arrived};
@@ -8,27 +8,26 @@ ghost use Rattle.proto.specs.Buckets.{bucket_of, time_to_live};
 ghost use Rattle.segments.specs.Items.{Item, IsStorable};
 ghost use Rattle.segments.specs.Shown.{item_of};
 ghost use Rattle.segments.specs.Pools.{PoolState, bucket_count};
-ghost use Rattle.segments.specs.Changes.{HasNoRoom, IsFull, IsAddedToTail, IsAddedToFree};
+ghost use Rattle.segments.specs.Changes.{HasNoRoom, IsPoolFull, IsAddedToTail, IsAddedToFree};
 ghost use Rattle.segments.specs.Merges.{NoneQualifies};
-ghost use Rattle.tally.specs.Marks.{lives_by};
+ghost use Rattle.tally.specs.Marks.{IsWithin, lives_by};
 ghost use Rattle.segment_store.specs.Kept.{IsTied, IsPast};
 ghost use Rattle.segment_store.specs.Shown.{current};
-ghost use Rattle.segment_store.specs.Room.{IsCrowded, IsRoomMade, IsPut};
-ghost use Rattle.segment_store.specs.Living.{live_marks};
-ghost use Rattle.segment_store.specs.Forgetting.{IsEvicted, HasMadeRoom, IsPlaced};
+ghost use Rattle.segment_store.specs.Room.{IsCrowded, IsRoomMade, IsPut, IsPutOver};
+ghost use Rattle.segment_store.specs.Leaving.{marked_instead};
+ghost use Rattle.segment_store.specs.Living.{live_marks, live_others};
+ghost use Rattle.segment_store.specs.Forgetting.{IsEvicted, HasMadeRoom, PlacesItem};
 
-use crate::leaving::{leave_expired, leave_segment};
+use crate::leaving::{leave_expired, leave_key, leave_segment};
 use crate::merging::merge;
 use index::index::Index;
-use segments::item::ItemRef;
-use segments::place::Place;
-use segments::pool::{NoRoom, Pool};
-use tally::tally::Tally;
+use segments::{ItemRef, NoRoom, Place, Pool};
+use tally::Tally;
 
 /// Forgets the items of the segment that was opened first.
 fn clear_oldest(pool: &mut Pool, index: &mut Index, tally: &mut Tally)
     requires tied { IsTied pool.old index.old tally.old }
-    requires full { IsFull pool.old }
+    requires full { IsPoolFull pool.old }
     ensures tied { IsTied pool.new index.new tally.new }
     ensures made { (t : ℕ) → IsCrowded pool.old index.old t → IsRoomMade pool.old index.old t pool.new index.new }
     ensures evicted { NoneQualifies pool.old → IsEvicted (lives_by tally.old) pool.old index.old pool.new index.new }
@@ -43,7 +42,7 @@ fn clear_oldest(pool: &mut Pool, index: &mut Index, tally: &mut Tally)
 /// be merged the segment that was opened first.
 fn evict(pool: &mut Pool, index: &mut Index, tally: &mut Tally)
     requires tied { IsTied pool.old index.old tally.old }
-    requires full { IsFull pool.old }
+    requires full { IsPoolFull pool.old }
     ensures tied { IsTied pool.new index.new tally.new }
     ensures made { (t : ℕ) → IsCrowded pool.old index.old t → IsRoomMade pool.old index.old t pool.new index.new }
     ensures evicted { IsEvicted (lives_by tally.old) pool.old index.old pool.new index.new }
@@ -60,7 +59,7 @@ fn evict(pool: &mut Pool, index: &mut Index, tally: &mut Tally)
 fn make_room(pool: &mut Pool, index: &mut Index, tally: &mut Tally, now: u64)
     requires tied { IsTied pool.old index.old tally.old }
     requires past { IsPast pool.old now }
-    requires full { IsFull pool.old }
+    requires full { IsPoolFull pool.old }
     ensures tied { IsTied pool.new index.new tally.new }
     ensures made { IsRoomMade pool.old index.old now pool.new index.new }
     ensures room { (bucket : ℕ) → (i : Item) → HasNoRoom pool.old bucket now i → HasMadeRoom (live_marks tally.old now) pool.old index.old bucket now i pool.new index.new }
@@ -71,7 +70,22 @@ fn make_room(pool: &mut Pool, index: &mut Index, tally: &mut Tally, now: u64)
     }
 }
 
-/// Puts an item, of a key that has none, into its bucket's tail or a free segment.
+/// Marks the place of an item in place of the one that its key had.
+fn mark_instead(tally: &mut Tally, source: Option<Place>, place: Place)
+    requires source { IfSome source (IsWithin tally.old.sizes) }
+    requires place { IsWithin tally.old.sizes place }
+    ensures { tally.new ≡ marked_instead tally.old source place }
+{
+    match source {
+        None => tally.mark(place),
+        Some(source) => {
+            tally.unmark(source);
+            tally.mark(place);
+        }
+    }
+}
+
+/// Puts an item, in place of the one that its key has, into its bucket's tail or a free segment.
 fn append(
     pool: &mut Pool,
     index: &mut Index,
@@ -84,7 +98,6 @@ fn append(
     requires bucket { bucket < bucket_count }
     requires moment { now ≤ 2 ^ 62 }
     requires storable { IsStorable (item_limit pool.old.sizes) (item_of item) }
-    requires absent { map.get (current pool.old index.old) item.key.now ≡ None }
     ensures tied { IsTied pool.new index.new tally.new }
     ensures appended { MatchResult result
         (λ place. (IsAddedToTail pool.old bucket now (item_of item.entry) pool.new place ⊎ IsAddedToFree pool.old bucket now (item_of item.entry) pool.new place)
@@ -92,13 +105,13 @@ fn append(
         (λ _. HasNoRoom pool.old bucket now (item_of item.entry) × (pool.new ≡ pool.old) × (index.new ≡ index.old) × (tally.new ≡ tally.old)) }
 {
     let place = pool.append(bucket, now, item)?;
-    index.insert(item.key, place);
-    tally.mark(place);
+    let source = index.put(pool, item.key, place);
+    mark_instead(tally, source, place);
     Ok(place)
 }
 
 /// Puts an item, of a key that has none, into the pool, and makes room for it where there is none.
-pub fn put(
+fn put(
     pool: &mut Pool,
     index: &mut Index,
     tally: &mut Tally,
@@ -115,10 +128,36 @@ pub fn put(
     requires of_bucket { bucket ≡ bucket_of (time_to_live item.deadline now) }
     ensures tied { IsTied pool.new index.new tally.new }
     ensures put { IsPut pool.old index.old now (item_of item.entry) item.entry.deadline pool.new index.new }
-    ensures placed { IsPlaced (live_marks tally.old now) pool.old index.old bucket now (item_of item.entry) pool.new index.new }
+    ensures placed { PlacesItem (live_marks tally.old now) pool.old index.old bucket now (item_of item.entry) pool.new index.new }
 {
     if append(pool, index, tally, bucket, now, item).is_err() {
         make_room(pool, index, tally, now);
         let _ = append(pool, index, tally, bucket, now, item);
+    }
+}
+
+/// Puts an item into the pool in place of the one that its key has: over it by one search of the index where that needs no
+/// room, and else behind it, when it has left and room is made.
+pub fn write(
+    pool: &mut Pool,
+    index: &mut Index,
+    tally: &mut Tally,
+    bucket: usize,
+    now: u64,
+    item: ItemRef,
+)
+    requires tied { IsTied pool.old index.old tally.old }
+    requires past { IsPast pool.old now }
+    requires bucket { bucket < bucket_count }
+    requires storable { IsStorable (item_limit pool.old.sizes) (item_of item) }
+    requires waits { has_arrived item.deadline now ≡ false }
+    requires of_bucket { bucket ≡ bucket_of (time_to_live item.deadline now) }
+    ensures tied { IsTied pool.new index.new tally.new }
+    ensures put { IsPutOver pool.old index.old now (item_of item.entry) item.entry.deadline pool.new index.new }
+    ensures placed { PlacesItem (live_others item.entry.key.now tally.old now) pool.old index.old bucket now (item_of item.entry) pool.new index.new }
+{
+    if append(pool, index, tally, bucket, now, item).is_err() {
+        leave_key(pool, index, tally, item.key);
+        put(pool, index, tally, bucket, now, item);
     }
 }

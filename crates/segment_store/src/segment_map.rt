@@ -4,24 +4,22 @@ ghost use Rattle.std.specs.Prelude.{◌≡◌, ◌≤◌, ◌<◌, [], false, If
 ghost use Rattle.proto.specs.Cache.{no_entries};
 ghost use Rattle.proto.specs.Buckets.{time_to_live};
 ghost use Rattle.segment_store.specs.Kept.{IsTied};
-ghost use Rattle.segment_store.specs.Shown.{shown};
+ghost use Rattle.segment_store.specs.Shown.{shown_entries};
 ghost use Rattle.segment_store.specs.Keeping.{KeepsStored};
 
 use crate::finding::find;
 use crate::leaving::{leave_all, leave_key};
-use crate::room::put;
+use crate::room::write;
 use engine::{EntryRef, LiveMap};
 use index::index::Index;
+use index::layout::layout_for;
 use index::sizing::slots_for;
 use proto::geometry::Geometry;
 use proto::no_memory::NoMemory;
-use segments::bucket::bucket_of;
-use segments::item::ItemRef;
-use segments::place::Place;
-use segments::pool::Pool;
+use segments::{ItemRef, Place, Pool, bucket_of};
 use std::alloc::Global;
 use std::marker::Model;
-use tally::tally::Tally;
+use tally::Tally;
 
 /// Entries in the segments of a pool, found by an index. All memory is taken when the map is made.
 #[derive(Drop)]
@@ -34,13 +32,13 @@ pub struct SegmentMap {
 }
 
 impl Model for SegmentMap {
-    ghost use Rattle.segment_store.specs.State.{MapState, IsKept};
+    ghost use Rattle.segment_store.specs.State.{MapState, IsSegmentedMap};
 
     ghost Value = { MapState };
 
     ghost view = { λ a. record { pool = a.pool; index = a.index; tally = a.tally; moment = a.moment } };
 
-    ghost invariant = { λ a. IsKept (record { pool = a.pool; index = a.index; tally = a.tally; moment = a.moment }) };
+    ghost invariant = { λ a. IsSegmentedMap (record { pool = a.pool; index = a.index; tally = a.tally; moment = a.moment }) };
 }
 
 /// The time to live in seconds of an entry that is written at the moment.
@@ -55,13 +53,13 @@ impl SegmentMap {
     /// No entry, at the moment 0. Keys are hashed with the seed.
     pub fn new(alloc: Global, geometry: Geometry, seed: u64) -> Result<SegmentMap, NoMemory>
         ensures sizes { IfOk result (λ m. m.pool.sizes ≡ geometry) }
-        ensures entries { IfOk result (λ m. shown m.pool m.index m.moment ≡ no_entries) }
+        ensures entries { IfOk result (λ m. shown_entries m.pool m.index m.moment ≡ no_entries) }
         ensures moment { IfOk result (λ m. m.moment ≡ 0) }
         ensures keeps { IfOk result (λ m. KeepsStored m []) }
     {
         Ok(SegmentMap {
             pool: Pool::new(alloc, geometry)?,
-            index: Index::new(alloc, slots_for(geometry), seed)?,
+            index: Index::new(alloc, slots_for(geometry), layout_for(geometry), seed)?,
             tally: Tally::new(alloc, geometry)?,
             moment: 0,
         })
@@ -70,7 +68,7 @@ impl SegmentMap {
 
 impl LiveMap for SegmentMap {
     ghost use Rattle.std.specs.Prelude.{false};
-    ghost use Rattle.segment_store.specs.Shown.{shown};
+    ghost use Rattle.segment_store.specs.Shown.{shown_entries};
     ghost use Rattle.segment_store.specs.Writes.{StandsAt, WritesToSegments, IsReadAgain, HasSamePool};
     ghost use Rattle.segment_store.specs.Keeping.{KeepsStored};
 
@@ -78,7 +76,7 @@ impl LiveMap for SegmentMap {
 
     ghost sizes = { λ m. m.pool.sizes };
 
-    ghost entries = { λ m. shown m.pool m.index m.moment };
+    ghost entries = { λ m. shown_entries m.pool m.index m.moment };
 
     ghost moment = { λ m. m.moment };
 
@@ -127,7 +125,6 @@ impl LiveMap for SegmentMap {
     }
 
     fn write(&mut self, key: &[u8], entry: EntryRef) -> Result<(), NoMemory> {
-        leave_key(&self.pool, &mut self.index, &mut self.tally, key);
         let item = ItemRef {
             key,
             value: entry.value,
@@ -137,7 +134,7 @@ impl LiveMap for SegmentMap {
             reads: 0,
         };
         let bucket = bucket_of(time_to_live(entry.deadline, self.moment));
-        put(
+        write(
             &mut self.pool,
             &mut self.index,
             &mut self.tally,

@@ -60,7 +60,7 @@ impl Store {
     {
         let map = SegmentMap::new(alloc, geometry, seed)?;
         Ok(Store {
-            engine: Engine::over(alloc, map, last_cas),
+            engine: Engine::over(map, last_cas),
         })
     }
 
@@ -79,22 +79,23 @@ impl Store {
     }
 
     /// Executes the request at this moment, in seconds.
-    pub fn handle(&mut self, now: u64, request: &Request) -> Reply
+    pub fn handle(&mut self, now: u64, request: &mut Request) -> Reply
         requires not_before { last_moment self.old.engine ≤ now }
         requires in_range { now ≤ max_moment }
-        ensures step { Step (sizes_in self.old.engine) (segmented_cache self.old.engine) now request.now result (segmented_cache self.new.engine) }
+        ensures request { request.new ≡ request.old }
+        ensures step { Step (sizes_in self.old.engine) (segmented_cache self.old.engine) now request.old result (segmented_cache self.new.engine) }
         ensures sizes { sizes_in self.new.engine ≡ sizes_in self.old.engine }
         ensures moment { last_moment self.new.engine ≡ now }
 
         // how room is made and what is forgotten, in which bucket an item stands, and which reads are counted
-        ensures segments { HandlesSegments self.old.engine now request.now result self.new.engine }
+        ensures segments { HandlesSegments self.old.engine now request.old result self.new.engine }
 
         // nothing is forgotten where segments hold little
-        ensures bounded { StaysFilled self.old.engine now request.now result self.new.engine }
+        ensures bounded { StaysFilled self.old.engine now request.old result self.new.engine }
 
         // where memory was refused, what was found stays; and only what shows a hit needs any
         ensures refused { result ≡ Reply.NoMemory → segmented_cache self.new.engine ≡ found_at (segmented_cache self.old.engine) now }
-        ensures succeeds { needs_memory false (outcome_at (sizes_in self.old.engine) (segmented_cache self.old.engine) now request.now) ≡ false → result ≢ Reply.NoMemory }
+        ensures succeeds { needs_memory false (outcome_at (sizes_in self.old.engine) (segmented_cache self.old.engine) now request.old) ≡ false → result ≢ Reply.NoMemory }
     {
         self.engine.execute_at(now, request)
     }
@@ -115,7 +116,7 @@ impl StorageEngine for Store {
         Store::last_moment(self)
     }
 
-    fn handle(&mut self, now: u64, request: &Request) -> Reply {
+    fn handle(&mut self, now: u64, request: &mut Request) -> Reply {
         self.engine.execute_at(now, request)
     }
 }

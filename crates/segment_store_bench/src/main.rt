@@ -1,16 +1,21 @@
 //! How long requests take on the segmented store, of 64 segments of 64 KiB, beside the plain store: gets that find their
 //! key, gets that find none, sets of keys that are there, and sets of so many keys that segments are merged.
-//! `segment_store_bench N` sends N of each, and writes the times to the standard error.
+//! `segment_store_bench N` sends N of each, and writes the times to the standard error. `segment_store_bench N B S V` sets N keys
+//! with values of V bytes in a segmented store of S segments of B bytes, then N more, and flushes it; and so in the plain one,
+//! which keeps them all.
 #![tactic(auto)]
 
 mod requests;
+mod steady;
 
-use crate::requests::{gets, sets};
+use crate::requests::{SMALL, gets, sets};
+use crate::steady::run_steady;
 use anyhow::Result;
 use engine::StorageEngine;
 use plain_store::Store as PlainStore;
 use proto::geometry::Geometry;
 use proto::message::{Reply, Request};
+use proto::room::Room;
 use segment_store::Store;
 use std::alloc::Global;
 use std::env;
@@ -23,26 +28,48 @@ const FEW: u64 = 10_000;
 
 const MANY: u64 = 120_000;
 
-fn number<R: Env + AllocGlobal>(rt: &R) -> Option<u64> {
-    env::args(rt).ok()?.nth(1)?.as_str().parse::<u64>().ok()
+fn number<R: Env + AllocGlobal>(rt: &R, at: usize) -> Option<u64> {
+    env::args(rt).ok()?.nth(at)?.as_str().parse::<u64>().ok()
 }
 
-/// Sends so many of the requests, over and over, and counts those that stored or showed an item.
-fn send<E: StorageEngine>(store: &mut E, requests: &[Request], rounds: u64) -> u64 {
+/// The sizes of a segmented store and the bytes of a value, where they are arguments.
+fn sizes_asked<R: Env + AllocGlobal>(rt: &R) -> Option<(Geometry, usize)> {
+    let size = u32::try_from(number(rt, 2)?).ok()?;
+    let count = u32::try_from(number(rt, 3)?).ok()?;
+    let value = usize::try_from(number(rt, 4)?).ok()?;
+    Some((Geometry::new(size, count).ok()?, value))
+}
+
+/// Whether an item was stored or shown.
+fn did_something(reply: &Reply) -> bool {
+    match reply {
+        Reply::Stored => true,
+        Reply::Values(hits) => !hits.is_empty(),
+        _ => false,
+    }
+}
+
+/// Sends so many of the requests, over and over, and counts those that stored or showed an item. The memory of the hits
+/// goes round, as between a worker and the storage thread.
+fn send<E: StorageEngine>(store: &mut E, requests: &mut [Request], rounds: u64) -> u64 {
     let mut done: u64 = 0;
+    let mut room: Option<Room> = None;
     let count = (requests.len() as u64).max(1);
     for sent in 0..rounds {
-        let Some(request) = requests.get((sent % count) as usize) else {
+        let Some(request) = requests.get_mut((sent % count) as usize) else {
             return done;
         };
         if store.last_moment() > 0 {
             return done;
         }
-        match store.handle(0, request) {
-            Reply::Stored => done = done.wrapping_add(1),
-            Reply::Values(hits) if !hits.is_empty() => done = done.wrapping_add(1),
-            _ => {}
+        if let Some(lent) = room.take() {
+            let _ = request.lend_room(lent);
         }
+        let reply = store.handle(0, request);
+        if did_something(&reply) {
+            done = done.wrapping_add(1);
+        }
+        room = reply.into_room();
     }
     done
 }
@@ -56,7 +83,7 @@ fn measure<E: StorageEngine, R: Print + Eprint + Clock>(
     rt: &R,
     name: &str,
     store: &mut E,
-    requests: &[Request],
+    requests: &mut [Request],
     rounds: u64,
 ) -> Result<()> {
     let start = Instant::now(rt)?;
@@ -74,20 +101,26 @@ fn run<E: StorageEngine, R: Print + Eprint + Clock>(
     store: &mut E,
     rounds: u64,
 ) -> Result<()> {
-    let few = sets(alloc, FEW)?;
-    let found = gets(alloc, 0, FEW)?;
-    let missing = gets(alloc, MANY, FEW)?;
-    let many = sets(alloc, MANY)?;
-    println!(rt; "{name}: {} filled", send(store, few.as_slice(), FEW))?;
-    measure(rt, "get, found", store, found.as_slice(), rounds)?;
-    measure(rt, "get, missing", store, missing.as_slice(), rounds)?;
-    measure(rt, "set, in place", store, few.as_slice(), rounds)?;
-    measure(rt, "set, of many keys", store, many.as_slice(), rounds)
+    let mut few = sets(alloc, 0, FEW, SMALL)?;
+    let mut found = gets(alloc, 0, FEW)?;
+    let mut missing = gets(alloc, MANY, FEW)?;
+    let mut many = sets(alloc, 0, MANY, SMALL)?;
+    println!(rt; "{name}: {} filled", send(store, few.as_mut_slice(), FEW))?;
+    measure(rt, "get, found", store, found.as_mut_slice(), rounds)?;
+    measure(rt, "get, missing", store, missing.as_mut_slice(), rounds)?;
+    measure(rt, "set, in place", store, few.as_mut_slice(), rounds)?;
+    measure(rt, "set, of many keys", store, many.as_mut_slice(), rounds)
 }
 
 fn main(rt: HostRuntime) -> Result<()> {
     let alloc = rt.alloc();
-    let rounds = number(&rt).unwrap_or(1000);
+    let rounds = number(&rt, 1).unwrap_or(1000);
+    if let Some((geometry, value)) = sizes_asked(&rt) {
+        let mut store = Store::new(alloc, geometry)?;
+        run_steady(&rt, alloc, "segmented", &mut store, rounds, value)?;
+        let mut plain = PlainStore::new(alloc, geometry);
+        return run_steady(&rt, alloc, "plain", &mut plain, rounds, value);
+    }
     let geometry = Geometry::new(65_536, 64)?;
     run(
         &rt,

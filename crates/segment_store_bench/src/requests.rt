@@ -7,8 +7,8 @@ use proto::no_memory::NoMemory;
 use proto::words::Words;
 use std::alloc::Global;
 
-/// The bytes of each value.
-const VALUE: [u8; 100] = [b'v'; 100];
+/// How many bytes a small value has.
+pub const SMALL: usize = 100;
 
 /// The key of a number: eight letters that look random.
 fn key_of(n: u64) -> [u8; 8] {
@@ -20,15 +20,16 @@ fn key_of(n: u64) -> [u8; 8] {
     key
 }
 
-/// A set of each key from 0 on.
-pub fn sets(alloc: Global, count: u64) -> Result<Vec<Request>, NoMemory> {
+/// A set of each key from a number on, to a value of so many bytes.
+pub fn sets(alloc: Global, from: u64, count: u64, length: usize) -> Result<Vec<Request>, NoMemory> {
+    let value = vec![in alloc; b'v'; length]?;
     let mut requests = Vec::with_capacity(alloc, count as usize)?;
     for n in 0..count {
         requests.push(Request::Set(Put {
-            key: ByteString::from_vec(Vec::from_slice(alloc, &key_of(n))?),
+            key: ByteString::from_vec(Vec::from_slice(alloc, &key_of(from.wrapping_add(n)))?),
             flags: 0,
             exptime: 0,
-            value: ByteString::from_vec(Vec::from_slice(alloc, &VALUE)?),
+            value: ByteString::from_vec(Vec::from_slice(alloc, &value)?),
         }))?;
     }
     Ok(requests)

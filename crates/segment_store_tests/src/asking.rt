@@ -15,14 +15,14 @@ pub fn answer<E: StorageEngine>(
     text: &str,
 ) -> Result<Vec<u8>, NoMemory> {
     let mut out = Vec::new(alloc);
-    let Next::Found(Message::Ask(request, is_quiet), _) = next_message(alloc, text.as_bytes())?
+    let Next::Found(Message::Ask(mut request, is_quiet), _) = next_message(alloc, text.as_bytes())?
     else {
         return Ok(out);
     };
     if store.last_moment() > now || now > MAX_MOMENT {
         return Ok(out);
     }
-    let reply = store.handle(now, &request);
+    let reply = store.handle(now, &mut request);
     show(&Message::Ask(request, is_quiet), Some(&reply), &mut out)?;
     Ok(out)
 }

@@ -11,8 +11,9 @@ use proto::show::show;
 use std::alloc::Global;
 
 /// Executes the message, if it is a request; the moment is not before the last one.
-fn reply<S: StorageEngine>(store: &mut S, now: u64, message: &Message) -> Option<Reply>
-    ensures { is_some result ≡ is_ask message.now }
+fn reply<S: StorageEngine>(store: &mut S, now: u64, message: &mut Message) -> Option<Reply>
+    ensures asked { is_some result ≡ is_ask message.old }
+    ensures same { message.new ≡ message.old }
 {
     match message {
         Message::Ask(request, _) => {
@@ -36,10 +37,10 @@ pub fn answers<S: StorageEngine>(
     let mut rest = input;
     let mut out = Vec::new(alloc);
     for _ in 0..input.len() {
-        let Next::Found(message, length) = next_message(alloc, rest)? else {
+        let Next::Found(mut message, length) = next_message(alloc, rest)? else {
             break;
         };
-        let reply = reply(store, now, &message);
+        let reply = reply(store, now, &mut message);
         show(&message, reply.as_ref(), &mut out)?;
         rest = rest.get(length..).unwrap_or(&[]);
     }

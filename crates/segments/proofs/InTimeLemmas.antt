@@ -7,14 +7,16 @@ use Rattle.std.proofs.lemmas.Option.{none-some}
 use Rattle.std.proofs.lemmas.List.Elements.{All-nil, All-cons, All-head, All-tail, All-append}
 use Rattle.segments.specs.declared.place.Place.{Place}
 use Rattle.segments.specs.Items.{Item}
-use Rattle.segments.specs.Pools.{PoolState, IsPool, Used, Liveness, segment_at, has_live, oldest, times, item_in}
+use Rattle.proto.specs.Counts.{times}
+use Rattle.segments.specs.Pools.{PoolState, IsPool, Used, Liveness, segment_at, has_live, oldest}
 use Rattle.segments.specs.Changes.{IsGivenBack, IsAddedToTail, IsAddedToFree, cleared, with_items, touched}
 use Rattle.segments.specs.Merges.{Evicts, qualifies, merged_segments, merged_into, contains_number, kept_items, opened_at}
 use Rattle.segments.specs.Filling.{AreInTime, IsInOrder, IsInTime}
 use Rattle.segments.proofs.LinkLemmas.{used_if}
 use Rattle.segments.proofs.Places.{cleared_segment}
 use Rattle.segments.proofs.MovedPlaces.{merged_front, merged_in_chain, merged_segment}
-use Rattle.segments.proofs.FilledLemmas.{opened_new, not_free, same_all, alike_same, alike_all, in_time_alike, past_alike, in_time_push, in_time_tail, read_alike}
+use Rattle.segments.proofs.FilledLemmas.{opened_new, not_free, same_all, alike_same, alike_all}
+use Rattle.segments.proofs.FilledLemmas.{in_time_alike, past_alike, in_time_push, in_time_tail, read_alike}
 
 -- The segments of chains are some of those that were, with the opening moments that they had.
 pub record IsPart (p q : PoolState) : Type 0 where
@@ -102,11 +104,13 @@ part_cleared p n some =
           ap (λ o. option_map_or (λ (s : Used). s.opened) o 0) same);
     }
 
+-- other items leave the moment at which a segment was opened
 filled_opened : (items : List Item) (o : Option Used)
     → option_map_or (λ (s : Used). s.opened) (option_map (with_items items) o) 0 ≡ option_map_or (λ (s : Used). s.opened) o 0
 filled_opened items None = refl
 filled_opened items (Some u) = refl
 
+-- a merge leaves the moments of the segments that stay
 merged_opened : (items : List Item) (p : PoolState) (first n : ℕ) (b : Bool) → (n == first) ≡ b
     → option_map_or (λ (s : Used). s.opened) (if b then option_map (with_items items) (segment_at p first) else segment_at p n) 0 ≡ opened_at p n
 merged_opened items p first n true e = filled_opened items (segment_at p first) ∙ ap (opened_at p) (sym (eqb-true n first e))
@@ -138,6 +142,7 @@ part_merged p b items qualifying =
 
 -- ---- what an eviction leaves
 
+-- the segment that was opened first stands in the order
 oldest_stands : (order : List ℕ) (n : ℕ) → oldest order ≡ Some n → 1 ≤ times n order
 oldest_stands [] n e = absurd (none-some n e)
 oldest_stands (m ∷ order) n e =

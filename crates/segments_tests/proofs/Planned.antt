@@ -6,6 +6,7 @@ use Rattle.segments.specs.Merges.{IsPlan, NoneQualifies, planned, unplanned}
 use Rattle.tally.specs.Marks.{Marks, KnowsPool, lives_by}
 use Rattle.tally.proofs.MarkedPlaces.{knows_planned, knows_unplanned}
 
+-- marks that know a pool still know it once a merge was planned or none could be, and the pool's sizes stay
 pub planned_known : (t : Marks) (p q : PoolState) (b : Bool)
     → MatchBool b ((plan : Plan) × IsPlan (lives_by t) p plan × (q ≡ planned p plan)) (NoneQualifies p × (q ≡ unplanned p))
     → KnowsPool t p → IsPool q → KnowsPool t q × (q.sizes ≡ p.sizes)

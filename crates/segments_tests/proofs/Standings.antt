@@ -7,6 +7,7 @@ use Rattle.segments.specs.Items.{Item, item_size, size_of_all, item_at}
 use Rattle.segments.specs.Pools.{PoolState, Standing, segment_at, item_in, items_of, standing_from, standing}
 use Rattle.segments.proofs.WalkLemmas.{item_behind}
 
+-- each item of a segment behind the first few is found at its place, counted from the end of those few
 found_from : (p : PoolState) (n : ℕ) (before behind : List Item) → items_of (segment_at p n) ≡ before ++ behind
     → All (λ s. item_in p s.place ≡ Some s.item) (standing_from n (size_of_all before) behind)
 found_from p n before [] e = All-nil (λ s. item_in p s.place ≡ Some s.item)
@@ -24,6 +25,7 @@ pub found : (p : PoolState) (n : ℕ) (left : List Standing) → left ≡ standi
 found p n left e =
     subst (All (λ s. item_in p s.place ≡ Some s.item)) (sym e) (found_from p n [] (items_of (segment_at p n)) refl)
 
+-- where each item that is left of a walk is found at its place, each one behind the first of them is, too
 pub found_behind : (p : PoolState) (s : Standing) (left rest : List Standing) → left ≡ s ∷ rest
     → All (λ s. item_in p s.place ≡ Some s.item) left → All (λ s. item_in p s.place ≡ Some s.item) rest
 found_behind p s left rest e all =

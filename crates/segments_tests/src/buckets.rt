@@ -1,6 +1,6 @@
 //! The table of buckets.
 
-use segments::bucket::bucket_of;
+use segments::bucket_of;
 use std::process::Abort;
 
 /// The first and the last time to live of each part of the table, and those beside them.

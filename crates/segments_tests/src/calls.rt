@@ -2,8 +2,7 @@
 
 use crate::run::{key_of, value_of};
 use crate::stock::Stock;
-use segments::bucket::LASTING;
-use segments::place::{Move, Place};
+use segments::{LASTING, Move, Place};
 use std::alloc::Global;
 use std::process::Abort;
 use std::test::Fail;

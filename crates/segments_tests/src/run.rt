@@ -6,9 +6,7 @@
 
 use crate::stock::Stock;
 use crate::writes::Writes;
-use segments::bucket::bucket_of;
-use segments::item::{ItemRef, size_of};
-use segments::place::Place;
+use segments::{ItemRef, Place, bucket_of, size_of};
 use std::alloc::Global;
 use std::process::Abort;
 use std::test::Fail;

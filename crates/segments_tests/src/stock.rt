@@ -6,13 +6,10 @@ ghost use Rattle.tally.specs.Marks.{KnowsPool};
 use crate::walks::has_item;
 use crate::writes::Writes;
 use proto::geometry::Geometry;
-use segments::bucket::BUCKETS;
-use segments::item::{ItemRef, size_of};
-use segments::place::{Move, Place};
-use segments::pool::Pool;
+use segments::{BUCKETS, ItemRef, Move, Place, Pool, size_of};
 use std::alloc::Global;
 use std::test::Fail;
-use tally::tally::Tally;
+use tally::Tally;
 
 #[derive(Drop)]
 pub struct Stock {

@@ -4,8 +4,7 @@ ghost use Rattle.std.specs.Prelude.{◌≡◌, IsTrue, IsSome};
 ghost use Rattle.segments.specs.Pools.{item_in};
 
 use proto::geometry::Geometry;
-use segments::place::Place;
-use segments::pool::Pool;
+use segments::{Place, Pool};
 
 /// Whether an item stands at the place.
 pub fn has_item(pool: &Pool, geometry: Geometry, place: Place) -> bool

@@ -1,6 +1,6 @@
 //! Where the writes of a run stand.
 
-use segments::place::{Move, Place};
+use segments::{Move, Place};
 use std::alloc::{AllocError, Global};
 
 /// The place of each write by its cas number, none where it was forgotten. The first write has the number 1.

@@ -1,5 +1,6 @@
 -- What a caller carries over a whole run.
-use Rattle.std.proofs.Common.{◌≡◌, ℕ, ◌+◌, ◌≤◌, true, false, List, [], ◌∷◌, ◌++◌, length, Option, Some, None, is_some, refl, sym, ap, ◌∙◌, arith, inl, inr, append_assoc, length-append}
+use Rattle.std.proofs.Common.{◌≡◌, ℕ, ◌+◌, ◌≤◌, true, false, List, [], ◌∷◌, ◌++◌, length, Option, Some, None, is_some, refl, sym, ap, ◌∙◌, arith, inl, inr}
+use Rattle.std.proofs.Common.{append_assoc, length-append}
 use Rattle.std.specs.Prelude.{◌⊎◌}
 use Rattle.std.specs.List.{concat}
 use Rattle.std.proofs.lemmas.List.{append-nil}
@@ -8,7 +9,7 @@ use Rattle.std.proofs.lemmas.Bool.{both_ways}
 use Rattle.proto.specs.declared.message.Message.{Message}
 use Rattle.proto.specs.declared.message.Reply.{Reply}
 use Rattle.proto.specs.Grammar.{SpellsNone}
-use Rattle.proto.specs.Reading.{EndsAtLast, has_ended, Reads, asks}
+use Rattle.proto.specs.Reading.{EndsAtLast, last_ends, Reads, asks}
 use Rattle.proto.specs.Answers.{said}
 use Rattle.proto.proofs.GrammarLaws.{has_reading, has_one_reading}
 use Rattle.session_book.specs.declared.causes.EndCause.{EndCause}
@@ -17,6 +18,7 @@ use Rattle.session_book.specs.Accounts.{HasRead, HasSaid, ReadKeeps, SettleKeeps
 use Rattle.session_book.proofs.Answering.{asks-append, said-append, left-append, said_more, left_more, asks-left}
 use Rattle.session_book.proofs.Reading.{SpellEach-append, ended_by-append, not_ended_before, EndsAtLast-append, has_ended_by}
 
+-- something has ended a session, or nothing has
 some_or_none : (o : Option EndCause) → (is_some o ≡ true) ⊎ (o ≡ None)
 some_or_none None = inr refl
 some_or_none (Some c) = inl refl
@@ -34,6 +36,7 @@ joined_ends ms more ended is stops h k =
 regroup : (p q u d : List ℕ) → p ++ (q ++ u) ++ d ≡ (p ++ q) ++ u ++ d
 regroup p q u d = simp append_assoc
 
+-- once more messages are read, the bytes fed were read as all of the messages, the new ones last
 read_more : (bytes : List ℕ) (ms more : List Message) (s after : SessionState) → ReadsOn s more after → HasRead bytes ms s → HasRead bytes (ms ++ more) after
 read_more bytes ms more s after r h = record {
   pieces = h.pieces ++ r.pieces;
@@ -46,9 +49,11 @@ read_more bytes ms more s after r h = record {
   nothing_dropped = λ e. h.nothing_dropped (not_ended_before s.ended more (sym r.ended ∙ e));
 }
 
+-- no more replies were settled than requests were read
 few : (ms : List Message) (rs : List Reply) (given : List ℕ) (s : SessionState) → HasSaid ms rs given s → length rs ≤ length (asks ms)
 few ms rs given s h = omega (arith, h.replied)
 
+-- once more messages are read, the bytes given and the output are what was said to all of them
 say_more : (given : List ℕ) (ms more : List Message) (rs : List Reply) (s after : SessionState) → ReadsOn s more after
     → HasSaid ms rs given s → HasSaid (ms ++ more) rs given after
 say_more given ms more rs s after r h =
@@ -64,9 +69,11 @@ say_more given ms more rs s after r h =
       replied = rw queue (asks-left (ms ++ more) rs le_all);
     }
 
+-- reading keeps what is known of the bytes read and of the answers said
 pub read_keeps : ReadKeeps
 read_keeps bytes given ms more rs s after r h k = (read_more bytes ms more s after r h, say_more given ms more rs s after r k)
 
+-- settling a reply keeps both
 pub settle_keeps : SettleKeeps
 settle_keeps bytes given ms rs r s asked h k =
     let queue : left s.queue (r ∷ []) ≡ left ms (rs ++ r ∷ []) = ap (λ (q : List Message). left q (r ∷ [])) k.queue ∙ sym (left_more ms rs (r ∷ [])) in
@@ -93,13 +100,13 @@ settle_keeps bytes given ms rs r s asked h k =
 -- a session that has ended has read all
 whole_ended : (bytes rest : List ℕ) (ms all : List Message) (s : SessionState) → is_some s.ended ≡ true → HasRead bytes ms s → Reads bytes all rest → all ≡ ms
 whole_ended bytes rest ms all s ended h r =
-    let has : has_ended ms ≡ true = sym (has_ended_by ms h.ends_at_last) ∙ ap (λ (o : Option EndCause). is_some o) (sym h.ended) ∙ ended in
+    let has : last_ends ms ≡ true = sym (has_ended_by ms h.ends_at_last) ∙ ap (λ (o : Option EndCause). is_some o) (sym h.ended) ∙ ended in
     let mine : Reads bytes ms (s.unread ++ h.dropped) = record {
       pieces = h.pieces;
       whole = h.whole ∙ append_assoc (concat h.pieces) s.unread h.dropped;
       spelled = h.spelled;
       ends_at_last = h.ends_at_last;
-      no_more = λ e. absurd (both_ways (has_ended ms) e has);
+      no_more = λ e. absurd (both_ways (last_ends ms) e has);
     } in
     (has_one_reading bytes rest (s.unread ++ h.dropped) all ms r mine).0
 
@@ -119,12 +126,13 @@ reads_behind bytes rest ms more s none h r =
     }
   where
     goes_on_behind : (ms more : List Message) → ended_by None ms ≡ None → EndsAtLast more → EndsAtLast (ms ++ more)
-        → has_ended (ms ++ more) ≡ false → has_ended more ≡ false
+        → last_ends (ms ++ more) ≡ false → last_ends more ≡ false
     goes_on_behind ms more open_yet k both e =
         sym (has_ended_by more k) ∙ ap (λ (o : Option EndCause). is_some (ended_by o more)) (sym open_yet)
         ∙ ap (λ (o : Option EndCause). is_some o) (sym (ended_by-append None ms more))
         ∙ has_ended_by (ms ++ more) both ∙ e
 
+-- the messages read are the first of those that the bytes spell
 pub read_begins : ReadBegins
 read_begins bytes rest ms all s h r =
     elim (some_or_none s.ended) [
@@ -134,9 +142,11 @@ read_begins bytes rest ms all s h r =
           (more, (has_one_reading bytes rest left_over all (ms ++ more) r (reads_behind bytes left_over ms more s none h below)).0)
     ]
 
+-- bytes of which no beginning spells a message are read as no messages
 nothing_read : (b : List ℕ) → SpellsNone b → Reads b [] b
 nothing_read b none = record { pieces = []; whole = refl; spelled = tt; ends_at_last = tt; no_more = λ e. none }
 
+-- the messages read are all that the bytes spell, once the session has ended or no message is left
 pub read_is_whole : ReadIsWhole
 read_is_whole bytes rest ms all s (inl ended) h r = whole_ended bytes rest ms all s ended h r
 read_is_whole bytes rest ms all s (inr none_spelled) h r =
@@ -147,6 +157,7 @@ read_is_whole bytes rest ms all s (inr none_spelled) h r =
           (reads_behind bytes s.unread ms [] s none h (nothing_read s.unread none_spelled))).0 ∙ append-nil ms
     ]
 
+-- the bytes given are the first of what is said to more messages with more replies
 pub said_begins : SaidBegins
 said_begins given ms more rs others s h = (
   s.out ++ said (left ms rs ++ more) [] ++ said (left (ms ++ more) rs) others,

@@ -16,6 +16,7 @@ asks-append (Wrong kind ∷ ms) ns = asks-append ms ns
 asks-append (Quit ∷ ms) ns = asks-append ms ns
 asks-append (Fatal kind ∷ ms) ns = asks-append ms ns
 
+-- bytes in front of two parts go to the first part
 behind : (a b c d : List ℕ) → b ≡ c ++ d → a ++ b ≡ (a ++ c) ++ d
 behind a b c d e = ap (λ (x : List ℕ). a ++ x) e ∙ sym (append_assoc a c d)
 
@@ -29,6 +30,7 @@ said-append (Wrong kind ∷ ms) ns rs le = behind _ _ _ _ (said-append ms ns rs 
 said-append (Quit ∷ ms) ns rs le = said-append ms ns rs le
 said-append (Fatal kind ∷ ms) ns rs le = behind _ _ _ _ (said-append ms ns rs le)
 
+-- of joined messages that is left which is left of the later ones put behind what was left of the first, where no reply was too many
 pub left-append : (ms ns : List Message) (rs : List Reply) → length rs ≤ length (asks ms) → left (ms ++ ns) rs ≡ left (left ms rs ++ ns) []
 left-append [] ns [] le = refl
 left-append [] ns (r ∷ rs) le = absurd (omega arith)
@@ -47,6 +49,7 @@ said_more (Wrong kind ∷ ms) rs ss = behind _ _ _ _ (said_more ms rs ss)
 said_more (Quit ∷ ms) rs ss = said_more ms rs ss
 said_more (Fatal kind ∷ ms) rs ss = behind _ _ _ _ (said_more ms rs ss)
 
+-- what more replies leave is what they leave of that which was left
 pub left_more : (ms : List Message) (rs ss : List Reply) → left ms (rs ++ ss) ≡ left (left ms rs) ss
 left_more [] rs ss = refl
 left_more (Ask q quiet ∷ ms) [] ss = refl
@@ -81,6 +84,7 @@ left_waits (Wrong kind) ms e = absurd cc
 left_waits Quit ms e = absurd cc
 left_waits (Fatal kind) ms e = absurd cc
 
+-- as long as a request has no reply, nothing is said to it nor to what follows
 pub said_waits : (m : Message) (ms : List Message) → is_ask m ≡ true → said (m ∷ ms) [] ≡ []
 said_waits (Ask q quiet) ms e = refl
 said_waits (Wrong kind) ms e = absurd cc
@@ -94,6 +98,7 @@ left_local (Wrong kind) ms e = refl
 left_local Quit ms e = refl
 left_local (Fatal kind) ms e = refl
 
+-- a message that is no request is answered at once, and then what follows
 pub said_local : (m : Message) (ms : List Message) → is_ask m ≡ false → said (m ∷ ms) [] ≡ answer m None ++ said ms []
 said_local (Ask q quiet) ms e = absurd cc
 said_local (Wrong kind) ms e = refl
@@ -107,11 +112,13 @@ left_reply (Wrong kind) ms r e = absurd cc
 left_reply Quit ms r e = absurd cc
 left_reply (Fatal kind) ms r e = absurd cc
 
+-- a request that has its reply is answered with it, and then what follows, up to the next request
 pub said_reply : (m : Message) (ms : List Message) (r : Reply) → is_ask m ≡ true → said (m ∷ ms) (r ∷ []) ≡ answer m (Some r) ++ said ms []
 said_reply (Ask q quiet) ms r e = refl
 said_reply (Wrong kind) ms r e = absurd cc
 said_reply Quit ms r e = absurd cc
 said_reply (Fatal kind) ms r e = absurd cc
 
+-- a queue that is what some messages and replies leave is empty or begins with a request
 pub begins_asked_by : (queue ms : List Message) (rs : List Reply) → queue ≡ left ms rs → begins_asked queue ≡ true
 begins_asked_by queue ms rs e = rw e (begins_asked-left ms rs)

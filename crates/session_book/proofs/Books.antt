@@ -1,8 +1,9 @@
 -- A book stays a book when one session changes.
-use Rattle.std.proofs.Common.{◌≡◌, ℕ, ◌+◌, ◌<◌, ◌≤◌, Bool, true, false, cond, List, [], ◌∷◌, ◌++◌, length, drop, Option, Some, None, Result, Ok, Err, is_some, refl, sym, ap, subst, ◌∙◌, arith, inl, inr, add-zero, zero-add, length-append}
+use Rattle.std.proofs.Common.{◌≡◌, ℕ, ◌+◌, ◌<◌, ◌≤◌, Bool, true, false, cond, List, [], ◌∷◌, ◌++◌, length, drop, Option, Some, None, Result, Ok, Err, is_some}
+use Rattle.std.proofs.Common.{refl, sym, ap, subst, ◌∙◌, arith, inl, inr, add-zero, zero-add, length-append}
 use Rattle.std.proofs.lemmas.List.{append-nil}
 use Rattle.session_book.proofs.Steps.{reads_nothing}
-use Rattle.std.specs.Prelude.{◌==◌, slice_get}
+use Rattle.std.specs.Prelude.{◌==◌, ◌⊎◌, slice_get}
 use Rattle.std.proofs.lemmas.Bool.{cases_Bool, cases_eq, cases_lt, eq-eqb, ne_eqb}
 use Rattle.std.specs.Prelude.{IsSome}
 use Rattle.std.specs.Bool.{nat_eq}
@@ -18,8 +19,12 @@ use Rattle.proto.specs.declared.no_memory.NoMemory.{NoMemory}
 use Rattle.proto.specs.Reading.{asks}
 use Rattle.session_book.specs.declared.causes.Unsettled.{Unsettled}
 use Rattle.session_book.specs.declared.causes.FeedFault.{FeedFault}
-use Rattle.session_book.specs.Session.{SessionState, new_session, begins_asked, left, settled, fed, ReadsOn, ReadsAsk, request_in}
-use Rattle.session_book.specs.Book.{BookState, session_of, unsettled_in, OnlyAt, IsBook, GivesNone, NextAsk, given_in, IsOldest, SettlesReply}
+use Rattle.session_book.specs.declared.causes.Received.{Received}
+use Rattle.session_book.specs.declared.causes.Received.TheVariants as receptions
+use Rattle.session_book.specs.Session.{SessionState, new_session, begins_asked, left, settled, once_fed, IsInputFull, held_fed, TakesPiece, FeedsHeld}
+use Rattle.session_book.specs.Session.{ReadsOn, ReadsAsk, given_request}
+use Rattle.session_book.specs.Book.{BookState, session_of, unsettled_in, OnlyAt, ChangesOpen, Receives, FeedsHeldOf, IsBook, GivesNone, NextAsk, given_in}
+use Rattle.session_book.specs.Book.{IsOldest, SettlesReply}
 use Rattle.session_book.proofs.Answering.{asks-append, asks-left, begins_asked_by}
 
 -- an open session's number is not above the greatest one
@@ -30,9 +35,11 @@ open_within book session s is open_now =
       | inr within ↦ within
     ]
 
+-- where only one session is another one, that is what stands at its number
 pub at_session : (before after : BookState) (session : ℕ) (o : Option SessionState) → OnlyAt before after session o → session_of after session ≡ o
 at_session before after session o only = only session ∙ rw (eq-eqb session session refl) refl
 
+-- and each other session is as it was
 pub at_other : (before after : BookState) (session other : ℕ) (o : Option SessionState) → OnlyAt before after session o
     → (other ≡ session → ⊥) → session_of after other ≡ session_of before other
 at_other before after session other o only apart = only other ∙ rw (ne_eqb other session apart) refl
@@ -83,14 +90,16 @@ stays_unsettled before after session s t is open_now only greatest unsettled fit
 pub same_queue : (s t : SessionState) → t.queue ≡ s.queue → begins_asked s.queue ≡ true → FitsBook t (length (asks s.queue))
 same_queue s t same asked = record { asked = rw same asked; queued = rw same refl }
 
-fed_queue : (s : SessionState) (piece : List ℕ) → (fed s piece).queue ≡ s.queue
+-- feeding a piece leaves the queue as it is
+pub fed_queue : (s : SessionState) (piece : List ℕ) → (once_fed s piece).queue ≡ s.queue
 fed_queue s piece =
     elim (cases_Bool (is_some s.ended)) [
       | inl ended ↦ rw ended refl
       | inr open_yet ↦ rw open_yet refl
     ]
 
-pub feed_queue : (r : Result (Unit {0}) FeedFault) (s t : SessionState) (piece : List ℕ) → OnOk r (t ≡ fed s piece) → OnErr r (t ≡ s) → t.queue ≡ s.queue
+-- and so does a piece that was refused
+pub feed_queue : (r : Result (Unit {0}) FeedFault) (s t : SessionState) (piece : List ℕ) → OnOk r (t ≡ once_fed s piece) → OnErr r (t ≡ s) → t.queue ≡ s.queue
 feed_queue (Ok u) s t piece ok err = ap (λ (x : SessionState). x.queue) ok ∙ fed_queue s piece
 feed_queue (Err e) s t piece ok err = ap (λ (x : SessionState). x.queue) err
 
@@ -110,12 +119,13 @@ asks_read : (s t : SessionState) (ms : List Message) → ReadsOn s ms t → leng
 asks_read s t ms h = rw h.queue
     (sym (zero-add _) ∙ asks-left (s.queue ++ ms) [] (omega arith) ∙ ap length (asks-append s.queue ms) ∙ length-append (asks s.queue) (asks ms))
 
+-- the queue after reading is empty or begins with a request
 begins_read : (s t : SessionState) (ms : List Message) → ReadsOn s ms t → begins_asked t.queue ≡ true
 begins_read s t ms h = begins_asked_by t.queue (s.queue ++ ms) [] h.queue
 
 -- a session that has read no request fits as before
 pub fits_unasked : (s t : SessionState) (looks looks_after : ℕ) (r : Result (Option Request) NoMemory)
-    → ReadsAsk s looks r t looks_after → request_in r ≡ [] → FitsBook t (length (asks s.queue))
+    → ReadsAsk s looks r t looks_after → given_request r ≡ [] → FitsBook t (length (asks s.queue))
 fits_unasked s t looks looks_after r h none = record {
   asked = begins_read s t h.messages h.reading.reads;
   queued = omega (arith, asks_read s t h.messages h.reading.reads, ap length (h.reading.requests_are ∙ none));
@@ -143,7 +153,7 @@ asks_book before after session number s t q r looks looks_after is open_now only
     let mine : unsettled_in after.unsettled session ≡ unsettled_in before.unsettled session + 1 =
     rw unsettled (count_more before.unsettled number session session true (eq-eqb session session refl)) in
     let queued : length (asks t.queue) ≡ unsettled_in after.unsettled session =
-    omega (arith, asks_read s t h.messages h.reading.reads, ap length (h.reading.requests_are ∙ ap request_in r_is), is.queued session s open_now, mine) in
+    omega (arith, asks_read s t h.messages h.reading.reads, ap length (h.reading.requests_are ∙ ap given_request r_is), is.queued session s open_now, mine) in
     stays_book before after session (Some t) is only (omega (arith, greatest, within)) (omega (arith, greatest))
     (λ u e. of_one t u _ (record { asked = begins_read s t h.messages h.reading.reads; queued = queued }) e)
     (λ other apart. rw unsettled (count_more before.unsettled number session other false (ne_eqb session other (λ e. apart (sym e))) ∙ add-zero _))
@@ -203,6 +213,7 @@ settles_kept before after session number s t reply is open_now only greatest old
 
 -- ---- the map of the sessions
 
+-- the two tests of equal numbers agree, in either order
 same_number : (a b : ℕ) → nat_eq a b ≡ (b == a)
 same_number a b =
     elim (cases_eq a b) [
@@ -214,6 +225,7 @@ same_number a b =
 abbrev pub OnlySession : List (ℕ × SessionState) → List (ℕ × SessionState) → ℕ → Option SessionState → Type 0
 OnlySession before after session o = (q : ℕ) → lookup (nat_eq q) after ≡ cond (q == session) o (lookup (nat_eq q) before)
 
+-- a map that was updated by a session's number has the new value there, or none, and the old ones elsewhere
 pub updated_only : {S : Type 0} (m n : HashMap ℕ SessionState S) (session : ℕ) (o : Option SessionState)
     → UpdatesBy nat_eq (nat_eq session) m n o → OnlySession m.entries n.entries session o
 updated_only m n session o h q = h.0 q ∙ ap (λ (b : Bool). cond b o (lookup (nat_eq q) m.entries)) (same_number session q)
@@ -293,12 +305,67 @@ settles_reply before now after answered s t same is open_now only oldest rest t_
       settles = record { oldest = oldest; only_at = subst (λ (x : SessionState). OnlyAt before after answered.session (Some x)) t_is only; rest = rest };
     })
 
+-- only an open session has changed
+changed : (before after now : BookState) → before ≡ now → (session : ℕ) (s t u : SessionState) (Changes : SessionState → SessionState → Type 0)
+    → session_of before session ≡ Some s → OnlyAt before after session (Some u) → after ≡ record before { sessions = after.sessions }
+    → Changes s t → u ≡ t → ChangesOpen now after session Changes
+changed before after now same session s t u Changes open_now only rest changes u_is =
+    subst (λ (b : BookState). ChangesOpen b after session Changes) same (record {
+      s = s;
+      t = t;
+      was_open = open_now;
+      changes = changes;
+      only = record { only_at = subst (λ (x : SessionState). OnlyAt before after session (Some x)) u_is only; rest = rest };
+    })
+
+-- a session that is open in a book is open in the book that this is
+still_open : (before now : BookState) → before ≡ now → (session : ℕ) (s : SessionState) → session_of before session ≡ Some s → IsSome (session_of now session)
+still_open before now same session s open_now =
+    subst (λ (b : BookState). IsSome (session_of b session)) same (subst (λ (o : Option SessionState). IsSome o) (sym open_now) refl)
+
+-- where the sessions stay the book does
+pub unchanged : (before after now : BookState) → before ≡ now → after ≡ record before { sessions = after.sessions }
+    → after.sessions ≡ before.sessions → after ≡ now
+unchanged before after now same rest back = rest ∙ ap (λ (es : List (ℕ × SessionState)). record before { sessions = es }) back ∙ same
+
 -- a piece that was refused changes nothing
 pub unfed : (r : Result (Unit {0}) FeedFault) (before after now : BookState) → before ≡ now → (s t : SessionState)
     → OnErr r (t ≡ s) → (t ≡ s → after.sessions ≡ before.sessions)
     → after ≡ record before { sessions = after.sessions } → OnErr r (after ≡ now)
 unfed (Ok u) before after now same s t err back rest = tt
 unfed (Err e) before after now same s t err back rest = rest ∙ ap (λ (es : List (ℕ × SessionState)). record before { sessions = es }) (back err) ∙ same
+
+-- a piece came of an open session
+pub received : (r : Received) (before after now : BookState) → before ≡ now → (session : ℕ) (piece : List ℕ) (s t u : SessionState)
+    → session_of before session ≡ Some s → OnlyAt before after session (Some u) → after ≡ record before { sessions = after.sessions }
+    → TakesPiece s piece r t → u ≡ t → (u ≡ s → after.sessions ≡ before.sessions) → Receives now session piece r after
+received receptions.Fed before after now same session piece s t u open_now only rest takes u_is back =
+    changed before after now same session s t u (λ x y. TakesPiece x piece receptions.Fed y) open_now only rest takes u_is
+received receptions.Held before after now same session piece s t u open_now only rest takes u_is back =
+    changed before after now same session s t u (λ x y. TakesPiece x piece receptions.Held y) open_now only rest takes u_is
+received receptions.Refused before after now same session piece s t u open_now only rest takes u_is back = (
+  still_open before now same session s open_now,
+  unchanged before after now same rest (back (u_is ∙ takes)),
+)
+received receptions.Unknown before after now same session piece s t u open_now only rest takes u_is back = absurd takes
+
+-- the held piece of an open session was tried
+pub fed_again : (r : Result Bool NoMemory) (before after now : BookState) → before ≡ now → (session : ℕ) (s t u : SessionState)
+    → session_of before session ≡ Some s → OnlyAt before after session (Some u) → after ≡ record before { sessions = after.sessions }
+    → FeedsHeld s r t → u ≡ t → (u ≡ s → after.sessions ≡ before.sessions) → FeedsHeldOf now session r after
+fed_again (Ok true) before after now same session s t u open_now only rest feeds u_is back =
+    changed before after now same session s t u (λ x y. y ≡ held_fed x) open_now only rest feeds u_is
+fed_again (Ok false) before after now same session s t u open_now only rest feeds u_is back = (
+  λ x x_open.
+      let x_is : Some s ≡ Some x = sym open_now ∙ ap (λ (b : BookState). session_of b session) same ∙ x_open in
+      let s_is : s ≡ x = cc in
+      subst (λ (y : SessionState). (y.held ≡ []) ⊎ IsInputFull y y.held) s_is feeds.0,
+  unchanged before after now same rest (back (u_is ∙ feeds.1)),
+)
+fed_again (Err e) before after now same session s t u open_now only rest feeds u_is back = (
+  still_open before now same session s open_now,
+  unchanged before after now same rest (back (u_is ∙ feeds)),
+)
 
 -- no growth was made before the session was read
 pub refused_ask : (before after now : BookState) (session : ℕ) (s : SessionState) (result : Result (Option (Request × ℕ)) NoMemory)

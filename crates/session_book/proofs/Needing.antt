@@ -1,5 +1,6 @@
 -- How many bytes there have to be before a message can be found.
-use Rattle.std.proofs.Common.{◌≡◌, ℕ, ◌+◌, ◌<◌, ◌≤◌, List, [], ◌++◌, length, take, drop, refl, sym, ap, ◌∙◌, arith, inl, inr, append_assoc, length-append, take_at, take-append-drop}
+use Rattle.std.proofs.Common.{◌≡◌, ℕ, ◌+◌, ◌<◌, ◌≤◌, List, [], ◌++◌, length, take, drop, refl, sym, ap, ◌∙◌, arith, inl, inr, append_assoc, length-append}
+use Rattle.std.proofs.Common.{take_at, take-append-drop}
 use Rattle.std.specs.Prelude.{nat_le}
 use Rattle.std.specs.Bool.{OnFalse}
 use Rattle.std.proofs.lemmas.Bool.{cases_Bool, cases_lt, leb-false}
@@ -26,6 +27,7 @@ spells_none b need h fewer =
     let none : SpellsNone (b ++ []) = h [] (rw append-nil fewer) in
     rw append-nil at none
 
+-- a session that has fewer bytes than it needs reads no further
 pub stops_short : (s : SessionState) → NeedsMore s.unread s.need → OnFalse (nat_le s.need (length s.unread)) (Stops s)
 stops_short s h =
     elim (cases_Bool (nat_le s.need (length s.unread))) [

@@ -3,16 +3,18 @@ use Rattle.std.proofs.Common.{◌≡◌, ℕ, true, false, List, [], ◌∷◌, 
 use Rattle.std.proofs.lemmas.Bool.{both_ways}
 use Rattle.proto.specs.declared.message.Message.{Message}
 use Rattle.proto.specs.declared.message.Message.TheVariants.{Ask, Wrong, Quit, Fatal}
-use Rattle.proto.specs.Reading.{ends_session, SpellEach, EndsAtLast, has_ended}
+use Rattle.proto.specs.Reading.{ends_session, SpellEach, EndsAtLast, last_ends}
 use Rattle.session_book.specs.declared.causes.EndCause.{EndCause}
 use Rattle.session_book.specs.Session.{ended_by}
 
+-- where pieces spell messages, and further pieces further messages, all of the pieces spell all of the messages
 pub SpellEach-append : (ps qs : List (List ℕ)) (ms ns : List Message) → SpellEach ps ms → SpellEach qs ns → SpellEach (ps ++ qs) (ms ++ ns)
 SpellEach-append [] qs [] ns h k = k
 SpellEach-append [] qs (m ∷ ms) ns h k = absurd h
 SpellEach-append (p ∷ ps) qs [] ns h k = absurd h
 SpellEach-append (p ∷ ps) qs (m ∷ ms) ns h k = (h.0, SpellEach-append ps qs ms ns h.1 k)
 
+-- what has ended a session behind two lists of messages is found by reading one list and then the other
 pub ended_by-append : (ended : Option EndCause) (ms ns : List Message) → ended_by ended (ms ++ ns) ≡ ended_by (ended_by ended ms) ns
 ended_by-append ended [] ns = refl
 ended_by-append ended (Ask q quiet ∷ ms) ns = ended_by-append ended ms ns
@@ -43,12 +45,14 @@ goes_on (Wrong kind) ms e = refl
 goes_on Quit ms e = absurd (let n = not_ended_before _ ms e in cc)
 goes_on (Fatal kind) ms e = absurd (let n = not_ended_before _ ms e in cc)
 
+-- where messages don't end a session, those behind the first don't either
 rest_goes_on : (m : Message) (ms : List Message) → ended_by None (m ∷ ms) ≡ None → ended_by None ms ≡ None
 rest_goes_on (Ask q quiet) ms e = e
 rest_goes_on (Wrong kind) ms e = e
 rest_goes_on Quit ms e = absurd (let n = not_ended_before _ ms e in cc)
 rest_goes_on (Fatal kind) ms e = absurd (let n = not_ended_before _ ms e in cc)
 
+-- in front of messages of which only the last may end the session, one may stand that doesn't
 ends_behind : (m : Message) (ms : List Message) → ends_session m ≡ false → EndsAtLast ms → EndsAtLast (m ∷ ms)
 ends_behind m [] e h = tt
 ends_behind m (n ∷ ms) e h = (e, h)
@@ -58,12 +62,14 @@ pub EndsAtLast-append : (ms ns : List Message) → ended_by None ms ≡ None →
 EndsAtLast-append [] ns none k = k
 EndsAtLast-append (m ∷ ms) ns none k = ends_behind m (ms ++ ns) (goes_on m ms none) (EndsAtLast-append ms ns (rest_goes_on m ms none) k)
 
+-- a first message that doesn't end the session leaves to the others what ends it
 step_ended : (m n : Message) (ms : List Message) → ends_session m ≡ false → ended_by None (m ∷ n ∷ ms) ≡ ended_by None (n ∷ ms)
 step_ended (Ask q quiet) n ms e = refl
 step_ended (Wrong kind) n ms e = refl
 step_ended Quit n ms e = absurd cc
 step_ended (Fatal kind) n ms e = absurd cc
 
+-- a single message has ended a session exactly where it is one that does
 last_ended : (m : Message) → is_some (ended_by None (m ∷ [])) ≡ ends_session m
 last_ended (Ask q quiet) = refl
 last_ended (Wrong kind) = refl
@@ -71,7 +77,7 @@ last_ended Quit = refl
 last_ended (Fatal kind) = refl
 
 -- the last message ends the session exactly where something has
-pub has_ended_by : (ms : List Message) → EndsAtLast ms → is_some (ended_by None ms) ≡ has_ended ms
+pub has_ended_by : (ms : List Message) → EndsAtLast ms → is_some (ended_by None ms) ≡ last_ends ms
 has_ended_by [] h = refl
 has_ended_by (m ∷ []) h = last_ended m
 has_ended_by (m ∷ n ∷ ms) h = ap (λ (o : Option EndCause). is_some o) (step_ended m n ms h.0) ∙ has_ended_by (n ∷ ms) h.1

@@ -1,5 +1,6 @@
 -- A session's reading, message by message.
-use Rattle.std.proofs.Common.{◌≡◌, ℕ, ◌+◌, ◌<◌, ◌≤◌, true, false, List, [], ◌∷◌, ◌++◌, length, take, drop, Option, Some, None, Ok, Err, is_some, refl, sym, ap, subst, ◌∙◌, arith, inl, inr, append_assoc, length-append, take-append-drop}
+use Rattle.std.proofs.Common.{◌≡◌, ℕ, ◌+◌, ◌<◌, ◌≤◌, true, false, List, [], ◌∷◌, ◌++◌, length, take, drop, Option, Some, None, Ok, Err, is_some, refl, sym}
+use Rattle.std.proofs.Common.{ap, subst, ◌∙◌, arith, inl, inr, append_assoc, length-append, take-append-drop}
 use Rattle.std.specs.List.{concat}
 use Rattle.std.proofs.lemmas.List.{append-nil}
 use Rattle.std.proofs.lemmas.List.Folds.{concat-append}
@@ -14,21 +15,22 @@ use Rattle.proto.proofs.MessageReader.{spelling_nonempty}
 use Rattle.session_book.specs.declared.causes.EndCause.{EndCause}
 use Rattle.session_book.specs.declared.limits.TheConstants.{MAX_WAITING}
 use Rattle.session_book.specs.declared.session.Read.{Read}
-use Rattle.session_book.specs.Session.{SessionState, left, ended_by, need_after, begins_asked, ReadsOn, AskAtLast, Stops, no_message, IsReady, ReadsAsk, Takes, TakesLocal, TakesAsk, TakesNothing, ReadsOne, read_of}
+use Rattle.session_book.specs.Session.{SessionState, left, ended_by, need_after, begins_asked, ReadsOn, AskAtLast, Stops, no_message, IsReady, ReadsAsk}
+use Rattle.session_book.specs.Session.{ReadsMessage, TakesLocal, TakesAsk, TakesNothing, ReadsOne, read_of}
 use Rattle.proto.specs.declared.no_memory.NoMemory.{NoMemory}
 use Rattle.session_book.proofs.Needing.{unfinished_short}
 use Rattle.session_book.proofs.Answering.{asks-append, said-append, left-append, left_waits, said_waits}
 use Rattle.session_book.proofs.Reading.{SpellEach-append, ended_by-append, not_ended_before, EndsAtLast-append}
 
 -- a message that was taken is what was read
-takes_one : (before after : SessionState) (m : Message) → Takes before m after → ReadsOne before (Ok (read_of m)) after
+takes_one : (before after : SessionState) (m : Message) → ReadsMessage before m after → ReadsOne before (Ok (read_of m)) after
 takes_one before after (Ask q quiet) h = record { quiet = quiet; takes = h }
 takes_one before after (Wrong kind) h = record { message = Wrong kind; no_ask = refl; takes = h }
 takes_one before after Quit h = record { message = Quit; no_ask = refl; takes = h }
 takes_one before after (Fatal kind) h = record { message = Fatal kind; no_ask = refl; takes = h }
 
 -- each message takes a byte at least
-pub takes_less : (before after : SessionState) (m : Message) → Takes before m after → length after.unread < length before.unread
+pub takes_less : (before after : SessionState) (m : Message) → ReadsMessage before m after → length after.unread < length before.unread
 takes_less before after m h = rw h.unread (omega (arith, length-append h.piece after.unread, spelling_nonempty h.piece m h.spells))
 
 -- a queue that begins with a request, or is empty, stays as it is
@@ -36,6 +38,7 @@ pub left_stays : (queue : List Message) → begins_asked queue ≡ true → left
 left_stays [] e = refl
 left_stays (m ∷ ms) e = left_waits m ms e
 
+-- and nothing is said to it
 pub said_stays : (queue : List Message) → begins_asked queue ≡ true → said queue [] ≡ []
 said_stays [] e = refl
 said_stays (m ∷ ms) e = said_waits m ms e
@@ -52,8 +55,10 @@ reads_nothing s asked = record {
   queue = rw append-nil (sym (left_stays s.queue asked));
   out = rw (append-nil, said_stays s.queue asked, append-nil) refl;
   need = inl refl;
+  held = refl;
 }
 
+-- once a message was read, one byte is needed
 need_one : (need : ℕ) (ms : List Message) (m : Message) → need_after need (ms ++ m ∷ []) ≡ 1
 need_one need [] m = refl
 need_one need (n ∷ ms) m = refl
@@ -62,12 +67,13 @@ need_one need (n ∷ ms) m = refl
 never : (ended : Option EndCause) (ms : List Message) → ended_by ended ms ≡ None → is_some ended ≡ true → ⊥
 never ended ms none some = both_ways (is_some ended) (ap (λ (o : Option EndCause). is_some o) (not_ended_before ended ms none)) some
 
+-- where nothing has ended a session behind these messages, none of them ends one
 none_left : (ended : Option EndCause) (ms : List Message) → ended_by ended ms ≡ None → ended_by None ms ≡ None
 none_left ended ms e = ap (λ (o : Option EndCause). ended_by o ms) (sym (not_ended_before ended ms e)) ∙ e
 
 -- one more message is read
 pub reads_more : (before now after : SessionState) (ms : List Message) (m : Message) → ReadsOn before ms now → now.ended ≡ None
-    → Takes now m after → ReadsOn before (ms ++ m ∷ []) after
+    → ReadsMessage now m after → ReadsOn before (ms ++ m ∷ []) after
 reads_more before now after ms m h none t =
     let open_yet : ended_by before.ended ms ≡ None = sym h.ended ∙ none in
     let grouped : (before.queue ++ ms) ++ m ∷ [] ≡ before.queue ++ (ms ++ m ∷ []) = append_assoc before.queue ms (m ∷ []) in
@@ -88,6 +94,7 @@ reads_more before now after ms m h none t =
           ∙ ap (λ (x : List ℕ). before.out ++ x)
           (sym (said-append (before.queue ++ ms) (m ∷ []) [] (omega arith)) ∙ ap (λ (q : List Message). said q []) grouped);
       need = inl (t.need ∙ sym (need_one before.need ms m));
+      held = t.held ∙ h.held;
     }
 
 -- the parser has found no further message
@@ -102,8 +109,10 @@ reads_no_more before now after ms h t = record {
   queue = ap (λ (s : SessionState). s.queue) t.rest ∙ h.queue;
   out = ap (λ (s : SessionState). s.out) t.rest ∙ h.out;
   need = inr t.unfinished;
+  held = ap (λ (s : SessionState). s.held) t.rest ∙ h.held;
 }
 
+-- in front of messages of which only the last may be a request, one may stand that is none
 no_ask_first : (n : Message) (ns : List Message) → is_ask n ≡ false → AskAtLast ns → AskAtLast (n ∷ ns)
 no_ask_first n [] other h = tt
 no_ask_first n (o ∷ ns) other h = (other, h)
@@ -116,6 +125,7 @@ asks_at_last (Wrong kind ∷ ms) m e = no_ask_first (Wrong kind) (ms ++ m ∷ []
 asks_at_last (Quit ∷ ms) m e = no_ask_first Quit (ms ++ m ∷ []) refl (asks_at_last ms m e)
 asks_at_last (Fatal kind ∷ ms) m e = no_ask_first (Fatal kind) (ms ++ m ∷ []) refl (asks_at_last ms m e)
 
+-- of messages that have no request none before the last is one
 pub no_asks : (ms : List Message) → asks ms ≡ [] → AskAtLast ms
 no_asks [] e = tt
 no_asks (Ask q quiet ∷ ms) e = absurd cc
@@ -138,8 +148,8 @@ taken : (before : SessionState) (b : List ℕ) (n : ℕ) (m seen : Message) (aft
     → Spells (take n b) seen → m ≡ seen → before.ended ≡ None
     → after.unread ≡ drop n before.unread → after.ended ≡ ended_by None (m ∷ []) → after.queue ≡ left (before.queue ++ m ∷ []) []
     → after.out ≡ before.out ++ said (before.queue ++ m ∷ []) []
-    → after.need ≡ 1 → Takes before m after
-taken before b n m seen after b_is spelled m_is open_yet unread ended queue out need = record {
+    → after.need ≡ 1 → after.held ≡ before.held → ReadsMessage before m after
+taken before b n m seen after b_is spelled m_is open_yet unread ended queue out need held = record {
   piece = take n b;
   spells = rw m_is spelled;
   unread = sym (take-append-drop n before.unread) ∙ ap (λ (x : List ℕ). take n x ++ drop n before.unread) (sym b_is)
@@ -148,8 +158,10 @@ taken before b n m seen after b_is spelled m_is open_yet unread ended queue out 
   queue = queue;
   out = out;
   need = need;
+  held = held;
 }
 
+-- a single message that is no request asks nothing
 none_asked : (m : Message) → is_ask m ≡ false → asks (m ∷ []) ≡ []
 none_asked (Ask q quiet) e = absurd cc
 none_asked (Wrong kind) e = refl
@@ -182,6 +194,7 @@ reads_local before now after looks looks_now looks_after h ready one t = record 
   nothing = λ short. absurd (too_short before now looks looks_now h ready short);
 }
 
+-- at the beginning no messages were read, and the parser wasn't called
 pub starts_locals : (s : SessionState) (looks : ℕ) → begins_asked s.queue ≡ true → HasReadLocals s looks s looks
 starts_locals s looks asked = record {
   messages = [];
@@ -262,8 +275,8 @@ reads_refused before now after looks looks_now looks_after no_memory h ready one
 pub read_found : (now view : SessionState) (b : List ℕ) (n : ℕ) (m seen : Message) (r : Read) (after : SessionState) → view ≡ now
     → r ≡ read_of m → b ≡ view.unread → Spells (take n b) seen
     → m ≡ seen → now.ended ≡ None → after.unread ≡ drop n view.unread → after.ended ≡ ended_by None (m ∷ []) → after.queue ≡ left (view.queue ++ m ∷ []) []
-    → after.out ≡ view.out ++ said (view.queue ++ m ∷ []) [] → after.need ≡ 1 → ReadsOne now (Ok r) after
-read_found now view b n m seen r after same r_is b_is spelled m_is open_yet unread ended queue out need =
+    → after.out ≡ view.out ++ said (view.queue ++ m ∷ []) [] → after.need ≡ 1 → after.held ≡ view.held → ReadsOne now (Ok r) after
+read_found now view b n m seen r after same r_is b_is spelled m_is open_yet unread ended queue out need held =
     let takes : ReadsOne view (Ok (read_of m)) after = takes_one view after m
-    (taken view b n m seen after b_is spelled m_is (ap (λ (s : SessionState). s.ended) same ∙ open_yet) unread ended queue out need) in
+    (taken view b n m seen after b_is spelled m_is (ap (λ (s : SessionState). s.ended) same ∙ open_yet) unread ended queue out need held) in
     subst (λ (s : SessionState). ReadsOne s (Ok r) after) same (subst (λ (x : Read). ReadsOne view (Ok x) after) (sym r_is) takes)

@@ -6,7 +6,7 @@ use Rattle.proto.specs.declared.message.Message.{Message}
 use Rattle.proto.specs.Grammar.{SpellsNone}
 use Rattle.proto.specs.Reading.{SpellEach, EndsAtLast, Reads, asks}
 use Rattle.proto.specs.Answers.{said}
-use Rattle.session_book.specs.Session.{SessionState, new_session, left, ended_by, fed, ReadsOn, settled, gave}
+use Rattle.session_book.specs.Session.{SessionState, new_session, left, ended_by, once_fed, ReadsOn, settled, gave}
 
 -- Of a session the bytes fed were read as the messages ms; once Quit or a fatal message was read, further bytes
 -- were dropped.
@@ -35,7 +35,7 @@ abbrev pub FeedKeeps : Type 0
 FeedKeeps =
     (bytes piece given : List ℕ) (ms : List Message) (replies : List Reply) (s : SessionState)
     → HasRead bytes ms s → HasSaid ms replies given s
-    → HasRead (bytes ++ piece) ms (fed s piece) × HasSaid ms replies given (fed s piece)
+    → HasRead (bytes ++ piece) ms (once_fed s piece) × HasSaid ms replies given (once_fed s piece)
 
 abbrev pub ReadKeeps : Type 0
 ReadKeeps =

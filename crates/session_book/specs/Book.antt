@@ -1,5 +1,6 @@
 -- The sessions of one worker.
-use Rattle.std.specs.Prelude.{◌≡◌, ℕ, ◌+◌, ◌<◌, ◌≤◌, ◌⊎◌, true, List, [], ◌∷◌, ◌++◌, map, length, Option, Some, None, Result, Ok, Err, IsSome, slice_get, drop, max, filter, ◌==◌, if◌then◌else◌}
+use Rattle.std.specs.Prelude.{◌≡◌, ℕ, ◌+◌, ◌<◌, ◌≤◌, ◌⊎◌, Bool, true, false, List, [], ◌∷◌, ◌++◌, map, length, Option, Some, None, Result, Ok, Err, IsSome}
+use Rattle.std.specs.Prelude.{slice_get, drop, max, filter, ◌==◌, if◌then◌else◌}
 use Rattle.std.specs.Map.{lookup}
 use Rattle.std.specs.Bool.{nat_eq}
 use Rattle.proto.specs.declared.message.Request.{Request}
@@ -8,10 +9,12 @@ use Rattle.proto.specs.declared.history.Answered.{Answered}
 use Rattle.proto.specs.declared.no_memory.NoMemory.{NoMemory}
 use Rattle.proto.specs.Reading.{asks}
 use Rattle.session_book.specs.declared.causes.Unsettled.{Unsettled}
+use Rattle.session_book.specs.declared.causes.Received.{Received}
+use Rattle.session_book.specs.declared.causes.Received.TheVariants as received
 use Rattle.session_book.specs.declared.causes.Settled.{Settled}
 use Rattle.session_book.specs.declared.causes.Settled.TheVariants as outcomes
 use Rattle.session_book.specs.declared.limits.TheConstants.{MAX_UNSETTLED, MAX_SESSIONS, MAX_POSTS}
-use Rattle.session_book.specs.Session.{SessionState, begins_asked, ReadsUpTo, Stops, settled}
+use Rattle.session_book.specs.Session.{SessionState, begins_asked, TakesPiece, IsInputFull, held_fed, ReadsUpTo, Stops, settled}
 
 -- A worker's book: the worker's number; the open sessions by their numbers; how many requests got a number;
 -- the unsettled requests in the order of their numbers; the greatest number of a session opened, and how many
@@ -46,15 +49,42 @@ abbrev pub out_of : Option SessionState → List ℕ
 out_of None = []
 out_of (Some s) = s.out
 
+-- the piece that is held, none of a session that isn't open
+abbrev pub held_of : Option SessionState → List ℕ
+held_of None = []
+held_of (Some s) = s.held
+
 -- only this session is another one: it is so afterwards, or not open
 abbrev pub OnlyAt : BookState → BookState → ℕ → Option SessionState → Type 0
 OnlyAt before after session s =
     (other : ℕ) → session_of after other ≡ (if other == session then s else session_of before other)
 
 -- and nothing else of the book changes
-pub record Changes (before after : BookState) (session : ℕ) (s : Option SessionState) : Type 0 where
+pub record ChangesSession (before after : BookState) (session : ℕ) (s : Option SessionState) : Type 0 where
   pub only_at : OnlyAt before after session s
   pub rest : after ≡ record before { sessions = after.sessions }
+
+-- only the session changes, which is open, from one of these states to one of those
+pub record ChangesOpen (before after : BookState) (session : ℕ) (Changes : SessionState → SessionState → Type 0) : Type 0 where
+  pub s : SessionState
+  pub t : SessionState
+  pub was_open : session_of before session ≡ Some s
+  pub changes : Changes s t
+  pub only : ChangesSession before after session (Some t)
+
+-- What becomes of a piece that came.
+abbrev pub Receives : BookState → ℕ → List ℕ → Received → BookState → Type 0
+Receives before session piece received.Fed after = ChangesOpen before after session (λ s t. TakesPiece s piece received.Fed t)
+Receives before session piece received.Held after = ChangesOpen before after session (λ s t. TakesPiece s piece received.Held t)
+Receives before session piece received.Refused after = IsSome (session_of before session) × (after ≡ before)
+Receives before session piece received.Unknown after = (session_of before session ≡ None) × (after ≡ before)
+
+-- What becomes of the held piece: it is fed, or there is none, or it doesn't fit yet; want of memory changes nothing.
+abbrev pub FeedsHeldOf : BookState → ℕ → Result Bool NoMemory → BookState → Type 0
+FeedsHeldOf before session (Ok true) after = ChangesOpen before after session (λ s t. t ≡ held_fed s)
+FeedsHeldOf before session (Ok false) after =
+    ((s : SessionState) → session_of before session ≡ Some s → (s.held ≡ []) ⊎ IsInputFull s s.held) × (after ≡ before)
+FeedsHeldOf before session (Err e) after = IsSome (session_of before session) × (after ≡ before)
 
 -- a session can't be opened with this number, or none can
 abbrev pub IsKnown : BookState → ℕ → Type 0

@@ -1,5 +1,6 @@
 -- One session: what of its bytes was read, what was asked, and what is to be given.
-use Rattle.std.specs.Prelude.{◌≡◌, ℕ, ◌+◌, ◌<◌, ◌≤◌, ◌⊎◌, ⊤, Bool, true, false, List, [], ◌∷◌, ◌++◌, length, drop, Option, Some, None, Result, Ok, Err, is_some, ◌==◌, ◌&&◌, if◌then◌else◌}
+use Rattle.std.specs.Prelude.{◌≡◌, ℕ, ◌+◌, ◌<◌, ◌≤◌, ◌⊎◌, ⊤, Bool, true, false, List, [], ◌∷◌, ◌++◌, length, drop, Option, Some, None, Result, Ok, Err}
+use Rattle.std.specs.Prelude.{is_some, ◌==◌, ◌&&◌, if◌then◌else◌}
 use Rattle.std.specs.List.{concat}
 use Rattle.proto.specs.declared.message.Request.{Request}
 use Rattle.proto.specs.declared.message.Reply.{Reply}
@@ -12,23 +13,26 @@ use Rattle.proto.specs.Needs.{IsUnfinished}
 use Rattle.proto.specs.Answers.{said, is_ask}
 use Rattle.session_book.specs.declared.causes.EndCause.{EndCause}
 use Rattle.session_book.specs.declared.causes.EndCause.TheVariants as causes
+use Rattle.session_book.specs.declared.causes.Received.{Received}
+use Rattle.session_book.specs.declared.causes.Received.TheVariants as received
 use Rattle.session_book.specs.declared.session.Read.{Read}
 use Rattle.session_book.specs.declared.session.Read.TheVariants as reads
 use Rattle.session_book.specs.declared.limits.TheConstants.{MAX_UNREAD, MAX_WAITING}
 
 -- An open session: its unread bytes; the messages read, from its oldest unsettled request on; its output that
--- wasn't given yet; whether it has read Quit or a fatal message; and how many unread bytes there have to be
--- before the parser is asked again.
+-- wasn't given yet; whether it has read Quit or a fatal message; how many unread bytes there have to be
+-- before the parser is asked again; and the piece of input that is held until it fits, empty where none is.
 pub record SessionState : Type 0 where
   pub unread : List ℕ
   pub queue : List Message
   pub out : List ℕ
   pub ended : Option EndCause
   pub need : ℕ
+  pub held : List ℕ
 
 -- a session that was just opened
 abbrev pub new_session : SessionState
-new_session = record { unread = []; queue = []; out = []; ended = None; need = 1 }
+new_session = record { unread = []; queue = []; out = []; ended = None; need = 1; held = [] }
 
 -- the messages from the first request on for which no reply is left, where the requests use up the replies
 -- one after the other: those that `said` stops before
@@ -54,8 +58,8 @@ need_after need [] = need
 need_after need (m ∷ ms) = 1
 
 -- A piece of input goes behind the unread bytes; once Quit or a fatal message was read it is dropped.
-abbrev pub fed : SessionState → List ℕ → SessionState
-fed s piece = if is_some s.ended then s else record s { unread = s.unread ++ piece }
+abbrev pub once_fed : SessionState → List ℕ → SessionState
+once_fed s piece = if is_some s.ended then s else record s { unread = s.unread ++ piece }
 
 -- the queue is empty, or its first message is a request
 abbrev pub begins_asked : List Message → Bool
@@ -75,6 +79,7 @@ pub record ReadsOn (before : SessionState) (ms : List Message) (after : SessionS
   pub queue : after.queue ≡ left (before.queue ++ ms) []
   pub out : after.out ≡ before.out ++ said (before.queue ++ ms) []
   pub need : (after.need ≡ need_after before.need ms) ⊎ IsUnfinished after.unread after.need
+  pub held : after.held ≡ before.held
 
 -- The queue's first request gets its reply; then the messages before the next request leave the queue, and
 -- the answers go behind the output.
@@ -103,8 +108,30 @@ pub data Stops (s : SessionState) : Type 0 where
   no_message : length s.unread < s.need → SpellsNone s.unread → Stops s
 
 -- the piece doesn't fit behind the unread bytes; it always does once the session drops its input
-abbrev pub IsFull : SessionState → List ℕ → Type 0
-IsFull s piece = (s.ended ≡ None) × (MAX_UNREAD < length s.unread + length piece)
+abbrev pub IsInputFull : SessionState → List ℕ → Type 0
+IsInputFull s piece = (s.ended ≡ None) × (MAX_UNREAD < length s.unread + length piece)
+
+-- the piece is held
+abbrev pub holding : SessionState → List ℕ → SessionState
+holding s piece = record s { held = piece }
+
+-- the held piece is fed
+abbrev pub held_fed : SessionState → SessionState
+held_fed s = record (once_fed s s.held) { held = [] }
+
+-- What becomes of a piece that came: it is fed, or held where it doesn't fit. None is fed or held over a held one; one
+-- for which there is no memory, or that isn't the only one, changes nothing.
+abbrev pub TakesPiece : SessionState → List ℕ → Received → SessionState → Type 0
+TakesPiece s piece received.Fed after = (s.held ≡ []) × (after ≡ once_fed s piece)
+TakesPiece s piece received.Held after = (s.held ≡ []) × IsInputFull s piece × (after ≡ holding s piece)
+TakesPiece s piece received.Refused after = after ≡ s
+TakesPiece s piece received.Unknown after = ⊥
+
+-- What becomes of the held piece: it is fed, or there is none, or it doesn't fit yet; want of memory changes nothing.
+abbrev pub FeedsHeld : SessionState → Result Bool NoMemory → SessionState → Type 0
+FeedsHeld s (Ok true) after = after ≡ held_fed s
+FeedsHeld s (Ok false) after = ((s.held ≡ []) ⊎ IsInputFull s s.held) × (after ≡ s)
+FeedsHeld s (Err e) after = after ≡ s
 
 -- the parser is asked for the next message
 pub record IsReady (s : SessionState) : Type 0 where
@@ -123,19 +150,19 @@ pub record ReadsUpTo (before : SessionState) (looks : ℕ) (messages : List Mess
   pub most_looks : looks_after ≤ looks + length messages + 1
   pub no_look : length before.unread < before.need → looks_after ≡ looks
 
-abbrev pub request_in : Result (Option Request) NoMemory → List Request
-request_in (Ok (Some q)) = q ∷ []
-request_in (Ok None) = []
-request_in (Err e) = []
+abbrev pub given_request : Result (Option Request) NoMemory → List Request
+given_request (Ok (Some q)) = q ∷ []
+given_request (Ok None) = []
+given_request (Err e) = []
 
 -- A session is read up to its next request; there is none only where it stops.
 pub record ReadsAsk (before : SessionState) (looks : ℕ) (result : Result (Option Request) NoMemory) (after : SessionState) (looks_after : ℕ) : Type 0 where
   pub messages : List Message
-  pub reading : ReadsUpTo before looks messages (request_in result) after looks_after
+  pub reading : ReadsUpTo before looks messages (given_request result) after looks_after
   pub none : result ≡ Ok None → Stops after
 
 -- A message is read: its spelling leaves the unread bytes, and it goes behind the queue.
-pub record Takes (before : SessionState) (m : Message) (after : SessionState) : Type 0 where
+pub record ReadsMessage (before : SessionState) (m : Message) (after : SessionState) : Type 0 where
   pub piece : List ℕ
   pub spells : Spells piece m
   pub unread : before.unread ≡ piece ++ after.unread
@@ -143,17 +170,18 @@ pub record Takes (before : SessionState) (m : Message) (after : SessionState) : 
   pub queue : after.queue ≡ left (before.queue ++ m ∷ []) []
   pub out : after.out ≡ before.out ++ said (before.queue ++ m ∷ []) []
   pub need : after.need ≡ 1
+  pub held : after.held ≡ before.held
 
 -- a message that is no request is read
 pub record TakesLocal (before after : SessionState) : Type 0 where
   pub message : Message
   pub no_ask : is_ask message ≡ false
-  pub takes : Takes before message after
+  pub takes : ReadsMessage before message after
 
 -- a request is read
 pub record TakesAsk (before : SessionState) (q : Request) (after : SessionState) : Type 0 where
   pub quiet : Bool
-  pub takes : Takes before (Ask q quiet) after
+  pub takes : ReadsMessage before (Ask q quiet) after
 
 -- the parser finds no message, and the session keeps what it needs
 pub record TakesNothing (before after : SessionState) : Type 0 where

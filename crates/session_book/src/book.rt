@@ -1,13 +1,15 @@
 //! The sessions of one worker: reading what they were fed, and answering in the order of their messages.
 
-ghost use Rattle.std.specs.Prelude.{◌≡◌, ◌+◌, ◌≤◌, ◌<◌, ◌↔◌, [], length, not, false, ◌==◌, is_some, option_map, IsSomeAnd, OnOk, OnErr};
-ghost use Rattle.session_book.specs.Session.{SessionState, new_session, IsFull, fed, gave, finished_by};
+ghost use Rattle.std.specs.Prelude.{◌≡◌, ◌⊎◌, ◌+◌, ◌≤◌, ◌<◌, ◌↔◌, [], length, not, false, ◌==◌, is_some, option_map, IsSomeAnd, OnOk, OnErr};
+ghost use Rattle.session_book.specs.Session.{SessionState, new_session, IsInputFull, once_fed, gave, finished_by};
 ghost use Rattle.std.specs.Option.{option_and_then, option_map_or};
 
-use crate::causes::{EndCause, FeedFault, OpenFault, Settled, Unsettled};
+use crate::causes::{EndCause, FeedFault, OpenFault, Received, Settled, Unsettled};
 use crate::limits::{MAX_POSTS, MAX_SESSIONS, MAX_UNSETTLED};
 use crate::load::Load;
+use crate::ready::Ready;
 use crate::session::Session;
+use bytes::Bytes;
 use proto::history::Answered;
 use proto::message::Request;
 use proto::no_memory::NoMemory;
@@ -15,7 +17,19 @@ use std::alloc::Global;
 use std::collections::{HashMap, VecDeque};
 use std::marker::Model;
 
+/// What is to be done with a session's output now.
+#[derive(Clone, Copy)]
+pub struct Offer<'a> {
+    /// The output, empty where it is none or where more is about to stand behind it.
+    pub out: &'a [u8],
+    /// Quit or Fatal, once all before it was answered and given.
+    pub finished: Option<EndCause>,
+}
+
 /// The sessions of a worker. Contracts see it as a `BookState`.
+///
+/// It keeps which sessions have something to do, in four lines. Calls put a session into a line, and its owner takes it out
+/// and does it; no clause says that a session stands in one.
 #[derive(Drop)]
 pub struct Book {
     alloc: Global,
@@ -27,6 +41,8 @@ pub struct Book {
     opened: u64,
     looks: u64,
     load: Load,
+    ready: Ready,
+    reads_on: bool,
 }
 
 impl Model for Book {
@@ -40,7 +56,7 @@ impl Model for Book {
 }
 
 impl Book {
-    ghost use Rattle.session_book.specs.Book.{session_of, out_of, Changes, OnlyAt, IsKnown, NextAsk, Settles};
+    ghost use Rattle.session_book.specs.Book.{session_of, out_of, held_of, ChangesSession, Receives, FeedsHeldOf, OnlyAt, IsKnown, NextAsk, Settles};
 
     /// No session is open yet. The worker's number is kept for its owner.
     pub fn new(alloc: Global, worker: usize) -> Self
@@ -56,6 +72,8 @@ impl Book {
             opened: 0,
             looks: 0,
             load: Load::new(),
+            ready: Ready::new(alloc),
+            reads_on: false,
         }
     }
 
@@ -75,6 +93,9 @@ impl Book {
         if session <= self.greatest || self.opened >= MAX_SESSIONS {
             return Err(OpenFault::Known);
         }
+        if self.ready.take_room(self.sessions.len() + 1).is_err() {
+            return Err(OpenFault::NoMemory);
+        }
         match self.sessions.insert(session, Session::new(self.alloc)) {
             Ok(_) => {}
             Err(_) => return Err(OpenFault::NoMemory),
@@ -87,14 +108,54 @@ impl Book {
     /// Puts a piece of input behind the unread bytes. A session that has read Quit or a fatal message drops it.
     pub fn feed(&mut self, session: u64, piece: &[u8]) -> Result<(), FeedFault>
         ensures unknown { (result ≡ Err FeedFault.Unknown) ↔ (session_of self.old session ≡ None) }
-        ensures full { (result ≡ Err FeedFault.Full) ↔ IsSomeAnd (session_of self.old session) (λ s. IsFull s piece.now) }
-        ensures ok { OnOk result (Changes self.old self.new session (option_map (λ s. fed s piece.now) (session_of self.old session))) }
+        ensures full { (result ≡ Err FeedFault.Full) ↔ IsSomeAnd (session_of self.old session) (λ s. IsInputFull s piece.now) }
+        ensures ok { OnOk result (ChangesSession self.old self.new session (option_map (λ s. once_fed s piece.now) (session_of self.old session))) }
         ensures err { OnErr result (self.new ≡ self.old) }
     {
         let Some(open) = self.sessions.get_mut(&session) else {
             return Err(FeedFault::Unknown);
         };
-        open.feed(piece)
+        open.feed(piece)?;
+        open.ask_later(session, &mut self.ready);
+        Ok(())
+    }
+
+    /// Feeds a piece that came, or holds it until it fits.
+    pub fn receive(&mut self, session: u64, piece: Bytes) -> Received
+        ensures { Receives self.old session piece result self.new }
+    {
+        let Some(open) = self.sessions.get_mut(&session) else {
+            return Received::Unknown;
+        };
+        let received = open.receive(piece);
+        if received == Received::Fed {
+            open.ask_later(session, &mut self.ready);
+        }
+        received
+    }
+
+    /// Feeds the held piece of a session, if it fits by now.
+    pub fn feed_held(&mut self, session: u64) -> Result<bool, NoMemory>
+        ensures { FeedsHeldOf self.old session result self.new }
+    {
+        let Some(open) = self.sessions.get_mut(&session) else {
+            return Ok(false);
+        };
+        let fed = open.feed_held()?;
+        if fed {
+            open.ask_later(session, &mut self.ready);
+        }
+        Ok(fed)
+    }
+
+    /// The piece that is held of a session.
+    pub fn held(&self, session: u64) -> &[u8]
+        ensures { result.now ≡ held_of (session_of self.now session) }
+    {
+        match self.sessions.get(&session) {
+            Some(open) => open.held(),
+            None => &[],
+        }
     }
 
     /// The next request of a session with its number, which the caller posts. Messages that the book answers
@@ -114,6 +175,7 @@ impl Book {
         let before = open.out().len();
         let read = open.next_ask(&mut self.looks);
         self.load.output_changed(before, open.out().len());
+        self.reads_on = open.was_asked(session, &mut self.ready);
         let Some(request) = read? else {
             return Ok(None);
         };
@@ -126,13 +188,7 @@ impl Book {
 
     /// Puts the answer to the oldest unsettled request behind the output of its session, and behind it the answers
     /// that waited for it.
-    pub fn settle(&mut self, answered: Answered) -> Settled
-        ensures { Settles self.old answered result self.new }
-    {
-        self.settle_by(&answered)
-    }
-
-    fn settle_by(&mut self, answered: &Answered) -> Settled
+    pub fn settle(&mut self, answered: &Answered) -> Settled
         ensures { Settles self.old answered.now result self.new }
     {
         let asked = Unsettled {
@@ -151,6 +207,7 @@ impl Book {
         match open.settle(&answered.reply) {
             Ok(()) => {
                 self.load.output_changed(before, open.out().len());
+                open.give_later(answered.session, &mut self.ready);
                 Settled::Kept
             }
             Err(NoMemory) => {
@@ -187,16 +244,41 @@ impl Book {
         }
     }
 
-    /// So many bytes of the output were given.
-    pub fn gave(&mut self, session: u64, n: usize)
+    /// The output of a session that is to be given now, and whether the session has finished.
+    pub fn offer(&self, session: u64) -> Offer<'_>
+        ensures out { (result.out.now ≡ []) ⊎ (result.out.now ≡ out_of (session_of self.now session)) }
+        ensures finished { result.finished ≡ option_and_then finished_by (session_of self.now session) }
+    {
+        let Some(open) = self.sessions.get(&session) else {
+            return Offer {
+                out: &[],
+                finished: None,
+            };
+        };
+        let out = if open.is_worth_giving(&self.ready) {
+            open.out()
+        } else {
+            &[]
+        };
+        Offer {
+            out,
+            finished: open.finished(),
+        }
+    }
+
+    /// So many bytes of the output were given. It answers whether the session has finished by now.
+    pub fn gave(&mut self, session: u64, n: usize) -> Option<EndCause>
         requires { n ≤ length (out_of (session_of self.old session)) }
-        ensures { Changes self.old self.new session (option_map (λ s. gave s n) (session_of self.old session)) }
+        ensures gave { ChangesSession self.old self.new session (option_map (λ s. gave s n) (session_of self.old session)) }
+        ensures finished { result ≡ option_and_then finished_by (session_of self.new session) }
     {
         let Some(open) = self.sessions.get_mut(&session) else {
-            return;
+            return None;
         };
         open.gave(n);
+        open.was_given(session, n, &mut self.ready);
         self.load.output_changed(n, 0);
+        open.finished()
     }
 
     /// Quit or Fatal, once all before it was answered and given.
@@ -208,11 +290,77 @@ impl Book {
 
     /// Drops a session with its input and output. The answers to its unsettled requests are dropped when they come.
     pub fn close(&mut self, session: u64)
-        ensures { Changes self.old self.new session None }
+        ensures { ChangesSession self.old self.new session None }
     {
         if let Some(open) = self.sessions.remove(&session) {
             self.load.output_changed(open.out().len(), 0);
         }
+    }
+
+    /// The session is asked again.
+    pub fn ask_later(&mut self, session: u64)
+        ensures { self.new ≡ self.old }
+    {
+        if let Some(open) = self.sessions.get_mut(&session) {
+            open.ask_later(session, &mut self.ready);
+        }
+    }
+
+    /// Whether the session that was asked last can be read further.
+    pub fn reads_on(&self) -> bool {
+        self.reads_on
+    }
+
+    /// Takes out the next session whose held piece may fit.
+    pub fn next_to_feed(&mut self) -> Option<u64>
+        ensures { self.new ≡ self.old }
+    {
+        self.ready.next_to_feed()
+    }
+
+    /// Takes out the next session that has input.
+    pub fn next_to_ask(&mut self) -> Option<u64>
+        ensures { self.new ≡ self.old }
+    {
+        self.ready.next_to_ask()
+    }
+
+    /// Takes out the next session that may have output or have finished.
+    pub fn next_to_give(&mut self) -> Option<u64>
+        ensures { self.new ≡ self.old }
+    {
+        self.ready.next_to_give()
+    }
+
+    /// Takes out the next session whose peer accepted nothing when it was last offered some.
+    pub fn next_to_give_slowly(&mut self) -> Option<u64>
+        ensures { self.new ≡ self.old }
+    {
+        self.ready.next_to_give_slowly()
+    }
+
+    pub fn to_feed(&self) -> usize {
+        self.ready.to_feed()
+    }
+
+    pub fn to_ask(&self) -> usize {
+        self.ready.to_ask()
+    }
+
+    pub fn to_give(&self) -> usize {
+        self.ready.to_give()
+    }
+
+    pub fn to_give_slowly(&self) -> usize {
+        self.ready.to_give_slowly()
+    }
+
+    /// No session has anything to do.
+    pub fn is_idle(&self) -> bool {
+        self.to_feed() == 0
+            && self.to_ask() == 0
+            && self.to_give() == 0
+            && self.to_give_slowly() == 0
     }
 
     /// Whether more than 1,024 keys stand in unsettled requests, or more than 67,108,864 bytes of output wait, over all

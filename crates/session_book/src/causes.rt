@@ -24,6 +24,19 @@ pub enum FeedFault {
     NoMemory,
 }
 
+/// What became of a piece of input that came.
+#[derive(Clone, Copy, Debug, PartialEq, Eq)]
+pub enum Received {
+    /// It stands behind the unread bytes, or was dropped where the session has ended itself.
+    Fed,
+    /// It doesn't fit, and is held until it does.
+    Held,
+    /// There was no memory for it, or one is held already.
+    Refused,
+    /// The session isn't open.
+    Unknown,
+}
+
 /// What became of an answer.
 #[derive(Clone, Copy, Debug, PartialEq, Eq)]
 pub enum Settled {

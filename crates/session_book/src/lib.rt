@@ -1,5 +1,5 @@
-//! The sessions of one worker: their unread bytes, the places of answers that are still missing, and their
-//! output.
+//! The sessions of one worker: their unread bytes and a piece that is held until it fits, the places of answers that are
+//! still missing, their output, and which of them have something to do.
 #![tactic(auto)]
 
 pub mod book;
@@ -9,4 +9,5 @@ pub mod laws;
 pub mod limits;
 mod load;
 mod place;
+mod ready;
 mod session;

@@ -36,12 +36,12 @@ fn kind_of(message: &Message) -> Kind
 
 /// The place of the answer to a message. Clauses see the message; of its bytes nothing is kept but its kind.
 #[derive(Drop)]
-pub struct Place {
+pub struct AnswerPlace {
     kind: Kind,
     message: Snapshot<Message>,
 }
 
-impl Model for Place {
+impl Model for AnswerPlace {
     ghost use Rattle.proto.specs.declared.message.Message.{Message};
 
     ghost Value = { Message };
@@ -54,11 +54,11 @@ impl Model for Place {
     ghost invariant = { λ a. a.kind ≡ kind_of a.message.value };
 }
 
-impl Place {
+impl AnswerPlace {
     pub fn of(message: &Message) -> Self
         ensures { result ≡ message.now }
     {
-        Place {
+        AnswerPlace {
             kind: kind_of(message),
             message: Snapshot::of(message),
         }

@@ -7,36 +7,43 @@ ghost use Rattle.session_book.specs.Session.{begins_asked, left, ended_by, read_
 ghost use Rattle.proto.specs.Reading.{asks};
 
 use crate::buffer::Buffer;
-use crate::causes::{EndCause, FeedFault};
+use crate::causes::{EndCause, FeedFault, Received};
 use crate::limits::{MAX_UNREAD, MAX_WAITING};
-use crate::place::Place;
+use crate::place::AnswerPlace;
+use crate::ready::{Places, Ready};
+use bytes::Bytes;
 use proto::message::{Message, Reply, Request};
 use proto::next::to_message;
 use proto::no_memory::NoMemory;
-use proto::view::{View, next_view};
+use proto::view::{NextView, next_view};
 use std::alloc::Global;
 use std::collections::VecDeque;
 use std::marker::Model;
 
-/// An open session. Contracts see it as a `SessionState`.
+/// So many bytes of output are given though more will stand behind them.
+const WORTH_GIVING: usize = 16_384;
+
+/// An open session, with its places in the lines of its book. Contracts see it as a `SessionState`, without the places.
 #[derive(Drop)]
 pub struct Session {
     alloc: Global,
     input: Buffer,
-    queue: VecDeque<Place>,
+    queue: VecDeque<AnswerPlace>,
     output: Buffer,
     ended: Option<EndCause>,
     need: usize,
+    held: Option<Bytes>,
+    places: Places,
 }
 
 impl Model for Session {
-    ghost use Rattle.std.specs.Prelude.{◌≡◌, true};
+    ghost use Rattle.std.specs.Prelude.{◌≡◌, true, [], unwrap_or};
     ghost use Rattle.proto.specs.Needs.{NeedsMore};
     ghost use Rattle.session_book.specs.Session.{SessionState, begins_asked};
 
     ghost Value = { SessionState };
 
-    ghost view = { λ a. record { unread = a.input; queue = a.queue.items; out = a.output; ended = a.ended; need = a.need } };
+    ghost view = { λ a. record { unread = a.input; queue = a.queue.items; out = a.output; ended = a.ended; need = a.need; held = unwrap_or a.held [] } };
 
     ghost invariant = { λ a. (begins_asked a.queue.items ≡ true) × NeedsMore a.input a.need };
 }
@@ -50,7 +57,7 @@ pub enum Read {
 }
 
 impl Session {
-    ghost use Rattle.session_book.specs.Session.{new_session, fed, IsFull, gave, settled, finished_by, IsReady, Stops, ReadsOne, ReadsAsk};
+    ghost use Rattle.session_book.specs.Session.{new_session, once_fed, IsInputFull, TakesPiece, FeedsHeld, gave, settled, finished_by, IsReady, Stops, ReadsOne, ReadsAsk};
 
     pub fn new(alloc: Global) -> Self
         ensures { result ≡ new_session }
@@ -62,13 +69,15 @@ impl Session {
             output: Buffer::new(alloc),
             ended: None,
             need: 1,
+            held: None,
+            places: Places::none(),
         }
     }
 
     pub fn feed(&mut self, piece: &[u8]) -> Result<(), FeedFault>
         ensures not_unknown { (result ≡ Err FeedFault.Unknown) → ⊥ }
-        ensures full { (result ≡ Err FeedFault.Full) ↔ IsFull self.old piece.now }
-        ensures ok { OnOk result (self.new ≡ fed self.old piece.now) }
+        ensures full { (result ≡ Err FeedFault.Full) ↔ IsInputFull self.old piece.now }
+        ensures ok { OnOk result (self.new ≡ once_fed self.old piece.now) }
         ensures err { OnErr result (self.new ≡ self.old) }
     {
         if self.ended.is_some() {
@@ -80,6 +89,50 @@ impl Session {
         match self.input.append(piece) {
             Ok(()) => Ok(()),
             Err(NoMemory) => Err(FeedFault::NoMemory),
+        }
+    }
+
+    /// Feeds a piece, or holds it until it fits.
+    pub fn receive(&mut self, piece: Bytes) -> Received
+        ensures { TakesPiece self.old piece result self.new }
+    {
+        if self.held.is_some() {
+            return Received::Refused;
+        }
+        match self.feed(&piece) {
+            Ok(()) => Received::Fed,
+            Err(FeedFault::Full) => {
+                self.held = Some(piece);
+                Received::Held
+            }
+            Err(_) => Received::Refused,
+        }
+    }
+
+    /// Feeds the held piece, if it fits by now.
+    pub fn feed_held(&mut self) -> Result<bool, NoMemory>
+        ensures { FeedsHeld self.old result self.new }
+    {
+        let Some(piece) = self.held.take() else {
+            return Ok(false);
+        };
+        let fault = match self.feed(&piece) {
+            Ok(()) => return Ok(true),
+            Err(fault) => fault,
+        };
+        self.held = Some(piece);
+        match fault {
+            FeedFault::NoMemory => Err(NoMemory),
+            FeedFault::Full | FeedFault::Unknown => Ok(false),
+        }
+    }
+
+    pub fn held(&self) -> &[u8]
+        ensures { result.now ≡ self.now.held }
+    {
+        match &self.held {
+            Some(piece) => piece,
+            None => &[],
         }
     }
 
@@ -116,11 +169,11 @@ impl Session {
         ensures { ReadsOne self.old result self.new }
     {
         match next_view(self.input.as_slice()) {
-            View::More(need) => {
+            NextView::More(need) => {
                 self.need = need;
                 Ok(Read::Nothing)
             }
-            View::Found(view, length) => {
+            NextView::Found(view, length) => {
                 let message = to_message(alloc, view)?;
                 put_behind(&mut self.queue, &mut self.output, &message)?;
                 self.input.discard(length);
@@ -176,6 +229,54 @@ impl Session {
     }
 }
 
+/// What a session has to do next. No clause speaks of its places in the lines.
+impl Session {
+    pub fn ask_later(&mut self, session: u64, ready: &mut Ready)
+        ensures { self.new ≡ self.old }
+    {
+        ready.ask_later(session, &mut self.places);
+    }
+
+    pub fn give_later(&mut self, session: u64, ready: &mut Ready)
+        ensures { self.new ≡ self.old }
+    {
+        ready.give_later(session, &mut self.places);
+    }
+
+    /// The session was asked: there may be room for its held piece, and it may have output. Whether it can be read further.
+    pub fn was_asked(&mut self, session: u64, ready: &mut Ready) -> bool
+        ensures { self.new ≡ self.old }
+    {
+        if self.held.is_some() {
+            ready.feed_later(session, &mut self.places);
+        }
+        if self.output.len() > 0 || self.ended.is_some() {
+            ready.give_later(session, &mut self.places);
+        }
+        self.is_ready()
+    }
+
+    /// Of the bytes offered so many were accepted. A session that had too much output is asked again.
+    pub fn was_given(&mut self, session: u64, accepted: usize, ready: &mut Ready)
+        ensures { self.new ≡ self.old }
+    {
+        if self.output.len().saturating_add(accepted) > MAX_WAITING {
+            ready.ask_later(session, &mut self.places);
+        }
+        if accepted == 0 {
+            ready.give_slowly(session, &mut self.places);
+        } else if self.output.len() > 0 {
+            ready.give_later(session, &mut self.places);
+        }
+    }
+
+    /// Whether the output is to be given now: little output waits for the answers that are outstanding, and for the
+    /// input that is left to be read.
+    pub fn is_worth_giving(&self, ready: &Ready) -> bool {
+        self.output.len() >= WORTH_GIVING || !(self.awaits() || ready.is_asking(&self.places))
+    }
+}
+
 /// How a message ends its session.
 fn cause_of(message: &Message) -> Option<EndCause>
     ensures { result ≡ ended_by None (message.now ∷ []) }
@@ -199,7 +300,7 @@ fn read_of(message: Message) -> Read
 
 /// Puts a message behind the queue, or answers it at once where nothing is before it.
 fn put_behind(
-    queue: &mut VecDeque<Place>,
+    queue: &mut VecDeque<AnswerPlace>,
     out: &mut Buffer,
     message: &Message,
 ) -> Result<(), NoMemory>
@@ -209,7 +310,7 @@ fn put_behind(
     ensures err_queue { OnErr result (queue.new.items ≡ queue.old.items) }
     ensures err_out { OnErr result (out.new ≡ out.old) }
 {
-    let place = Place::of(message);
+    let place = AnswerPlace::of(message);
     if queue.is_empty() && !place.is_ask() {
         return place.show(None, out);
     }
@@ -219,7 +320,7 @@ fn put_behind(
 
 /// Answers the first request of the queue, and the messages up to the next one.
 fn answer_first(
-    queue: &mut VecDeque<Place>,
+    queue: &mut VecDeque<AnswerPlace>,
     reply: &Reply,
     out: &mut Buffer,
 ) -> Result<(), NoMemory>
@@ -235,7 +336,7 @@ fn answer_first(
 }
 
 /// Answers the messages before the first request of the queue.
-fn answer_locals(queue: &mut VecDeque<Place>, out: &mut Buffer) -> Result<(), NoMemory>
+fn answer_locals(queue: &mut VecDeque<AnswerPlace>, out: &mut Buffer) -> Result<(), NoMemory>
     ensures queue { OnOk result (queue.new.items ≡ left queue.old.items []) }
     ensures out { OnOk result (out.new ≡ out.old ++ said queue.old.items []) }
 {

@@ -1,5 +1,6 @@
 -- What one turn of the storage thread keeps.
-use Rattle.std.proofs.Common.{◌≡◌, ◌≢◌, ℕ, zero, suc, ◌+◌, ◌<◌, ◌≤◌, List, [], ◌∷◌, ◌++◌, map, length, Option, Some, None, Bool, cond, refl, sym, ap, ◌∙◌, subst, arith, length-append, append_assoc, append-nil, eq-eqb, ne_eqb}
+use Rattle.std.proofs.Common.{◌≡◌, ◌≢◌, ℕ, zero, suc, ◌+◌, ◌<◌, ◌≤◌, List, [], ◌∷◌, ◌++◌, map, length, Option, Some, None, Bool, cond, refl, sym, ap, ◌∙◌}
+use Rattle.std.proofs.Common.{subst, arith, length-append, append_assoc, append-nil, eq-eqb, ne_eqb}
 use Rattle.std.specs.List.{All}
 use Rattle.std.specs.Option.{option_map}
 use Rattle.std.proofs.lemmas.List.Elements.{All-nil, All-cons, All-head, All-tail, All-append}
@@ -11,14 +12,15 @@ use Rattle.proto.specs.declared.history.Answered.{Answered}
 use Rattle.proto.specs.Cache.{Cache, empty_cache}
 use Rattle.proto.specs.History.{worker_share}
 use Rattle.exchange.specs.declared.messages.Taken.TheVariants.{Asked, Bye}
-use Rattle.exchange.specs.Beginnings.{times}
-use Rattle.exchange.specs.Ends.{StorageView, FindsNone, FindsOne}
+use Rattle.proto.specs.Counts.{times}
+use Rattle.exchange.specs.Ends.{StorageView}
 use Rattle.engine.specs.Reaching.{moments, moment_after, moments_after, last_or, Reaches}
 use Rattle.engine.proofs.ReachingLemmas.{moments_more, times_more}
-use Rattle.storage_thread.specs.Serving.{AddsAnswers, AsksClock, IsTimed, taken_as, SaidBye, IsUnused, IsAnswered, IsServing}
+use Rattle.storage_thread.specs.Serving.{AddsAnswers, AsksClock, IsTimed, taken_as, SaidBye, IsUnused, GetsNone, GetsMessage, AnswersOpenRequest}
+use Rattle.storage_thread.specs.Serving.{IsStorageServing}
 
 -- before the first request
-pub serving_first : (v : StorageView) (c : Cache) (m : ℕ) → IsUnused v → c ≡ empty_cache 0 → m ≡ 0 → IsServing v v c m
+pub serving_first : (v : StorageView) (c : Cache) (m : ℕ) → IsUnused v → c ≡ empty_cache 0 → m ≡ 0 → IsStorageServing v v c m
 serving_first v c m u c_is m_is = record {
   same = (refl, refl, refl);
   shut = u.1;
@@ -47,9 +49,9 @@ pub timed_first : (told : Option (List ℕ)) (h : List Answered) → h ≡ [] �
 timed_first told h none = ([], no_answers told, ap moments none)
 
 -- a turn in which nothing came
-module _ (old now new : StorageView) (c : Cache) (m : ℕ) (r : IsServing old now c m) where
-  pub serving_none : FindsNone now new → IsServing old new c m
-  serving_none f = let whole : new ≡ record now { looks = now.looks ++ f.0 } = f.3 in record {
+module _ (old now new : StorageView) (c : Cache) (m : ℕ) (r : IsStorageServing old now c m) where
+  pub serving_none : GetsNone now new → IsStorageServing old new c m
+  serving_none f = let whole : new ≡ record now { looks = f.0 } = f.1 in record {
     same = (
       ap (λ (z : StorageView). z.exchange) whole ∙ r.same.0,
       ap (λ (z : StorageView). z.workers) whole
@@ -65,7 +67,7 @@ module _ (old now new : StorageView) (c : Cache) (m : ℕ) (r : IsServing old no
   }
 
   -- a bye was taken
-  pub serving_bye : (w : ℕ) → FindsOne now new (Bye w) → IsServing old new c m
+  pub serving_bye : (w : ℕ) → GetsMessage now new (Bye w) → IsStorageServing old new c m
   serving_bye w f = let whole = f.after in record {
     same = (
       ap (λ (z : StorageView). z.exchange) whole ∙ r.same.0,
@@ -87,11 +89,11 @@ module _ (old now new : StorageView) (c : Cache) (m : ℕ) (r : IsServing old no
           let n : times v byes ≡ 0 = ap (λ (z : ℕ). times z byes) (sym same) ∙ none in omega (arith, e, n))
           (λ other. let e = ap (λ (b : Bool). cond b 1 0 + times v byes) (ne_eqb w v other) in omega (arith, e, few))
 
-  pub one_bye : (w : ℕ) → FindsOne now new (Bye w) → length new.byes ≡ length now.byes + 1
+  pub one_bye : (w : ℕ) → GetsMessage now new (Bye w) → length new.byes ≡ length now.byes + 1
   one_bye w f = ap (λ (z : StorageView). length z.byes) f.after ∙ (omega arith)
 
 -- a request was taken
-module _ (now mid : StorageView) (w : ℕ) (p : Posted) (f : FindsOne now mid (Asked w p)) where
+module _ (now mid : StorageView) (w : ℕ) (p : Posted) (f : GetsMessage now mid (Asked w p)) where
   pub asked_reaches : (c : Cache) (m : ℕ) → Reaches now.geometry now.history c m → Reaches mid.geometry mid.history c m
   asked_reaches c m r = subst (λ (z : StorageView). Reaches z.geometry z.history c m) (sym f.after) r
 
@@ -105,17 +107,17 @@ module _ (now mid : StorageView) (w : ℕ) (p : Posted) (f : FindsOne now mid (A
   asked_next = f.is_next.2 ∙ ap (λ (z : ℕ × StorageView). length (worker_share z.1.history z.0) + 1) (λ i. (sym f.is_next.0 i, sym f.after i))
 
   -- and answered
-  module _ (new : StorageView) (m : ℕ) (a : IsAnswered mid new w p m) where
+  module _ (new : StorageView) (m : ℕ) (a : AnswersOpenRequest mid new w p m) where
     pub whole : new ≡ record now {
       taken = now.taken ++ (f.lane, p) ∷ [];
       open_request = None;
       history = now.history ++ a.0 ∷ [];
-      looks = now.looks ++ (f.before ++ (f.lane, f.posted) ∷ []);
+      looks = f.looks;
       last = f.lane;
     }
     whole = a.4 ∙ (λ i. let z : StorageView = f.after i in record z { history = z.history ++ a.0 ∷ []; open_request = None })
 
-    pub serving_asked : (old : StorageView) (c₀ c : Cache) (m₀ : ℕ) → IsServing old now c₀ m₀ → Reaches new.geometry new.history c m → IsServing old new c m
+    pub serving_asked : (old : StorageView) (c₀ c : Cache) (m₀ : ℕ) → IsStorageServing old now c₀ m₀ → Reaches new.geometry new.history c m → IsStorageServing old new c m
     serving_asked old c₀ c m₀ r reaches = record {
       same = (
         ap (λ (z : StorageView). z.exchange) whole ∙ r.same.0,
@@ -211,7 +213,7 @@ among_fewer (suc n) w xs few lt none = let lt' : w < suc n = lt in dite (ℕ_dis
     (λ ne. let ne' : w ≢ n = ne in let a = among_fewer n w xs few (omega arith) none in let b = few n in omega (arith, a, b))
 
 -- where as many byes were taken as there are workers, each worker said one
-pub all_said : (old new : StorageView) (c : Cache) (m : ℕ) → IsServing old new c m → length new.byes ≡ new.workers → SaidBye new
+pub all_said : (old new : StorageView) (c : Cache) (m : ℕ) → IsStorageServing old new c m → length new.byes ≡ new.workers → SaidBye new
 all_said old new c m r all w lt = let few : times w new.byes ≤ 1 = r.once w in dite (ℕ_discrete (times w new.byes) 0)
     (λ none. let a = among_fewer new.workers w new.byes r.once lt none in let b = among_all new.workers new.byes r.inside in omega (arith, a, b, all))
     (λ some. let some' : times w new.byes ≢ 0 = some in omega arith)

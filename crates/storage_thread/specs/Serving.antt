@@ -4,8 +4,10 @@ use Rattle.proto.specs.declared.history.Posted.{Posted}
 use Rattle.proto.specs.declared.history.Answered.{Answered}
 use Rattle.proto.specs.Cache.{Cache}
 use Rattle.engine.specs.Reaching.{moments, moment_after, moments_after, Reaches}
-use Rattle.exchange.specs.Beginnings.{posted_of, times}
-use Rattle.exchange.specs.Ends.{StorageView}
+use Rattle.proto.specs.Counts.{times}
+use Rattle.exchange.specs.Beginnings.{posted_of}
+use Rattle.exchange.specs.declared.messages.Taken.{Taken}
+use Rattle.exchange.specs.Ends.{StorageView, IsNextMessage, with_taken}
 
 -- these answers were given, where the clock tells its answers
 abbrev pub AddsAnswers : Option (List ℕ) → List ℕ → Option (List ℕ) → Type 0
@@ -35,13 +37,25 @@ IsUnused v = (v.taken ≡ []) × (v.open_request ≡ None) × (v.history ≡ [])
 abbrev pub IsSameExchange : StorageView → StorageView → Type 0
 IsSameExchange old new = (new.exchange ≡ old.exchange) × (new.workers ≡ old.workers) × (new.geometry ≡ old.geometry)
 
+-- nothing was taken, and nothing but the looks at the lanes has changed
+abbrev pub GetsNone : StorageView → StorageView → Type 0
+GetsNone old new = (looks : List (ℕ × ℕ)) × (new ≡ record old { looks = looks })
+
+-- The next message of a lane was taken, and nothing else but the looks at the lanes has changed.
+pub record GetsMessage (old new : StorageView) (t : Taken) : Type 0 where
+  pub lane : ℕ
+  pub inside : lane < old.workers
+  pub is_next : IsNextMessage old lane t
+  pub looks : List (ℕ × ℕ)
+  pub after : new ≡ record (with_taken old lane t) { looks = looks }
+
 -- the open request is the worker's next one, and was answered with an entry at this moment
-abbrev pub IsAnswered : StorageView → StorageView → ℕ → Posted → ℕ → Type 0
-IsAnswered old new worker posted moment = (e : Answered) × (e.worker ≡ worker) × (posted_of e ≡ posted) × (e.moment ≡ moment)
+abbrev pub AnswersOpenRequest : StorageView → StorageView → ℕ → Posted → ℕ → Type 0
+AnswersOpenRequest old new worker posted moment = (e : Answered) × (e.worker ≡ worker) × (posted_of e ≡ posted) × (e.moment ≡ moment)
     × (new ≡ record old { history = old.history ++ e ∷ []; open_request = None })
 
 -- What holds between two requests: all that was taken was executed, once each and in order.
-pub record IsServing (old new : StorageView) (cache : Cache) (moment : ℕ) : Type 0 where
+pub record IsStorageServing (old new : StorageView) (cache : Cache) (moment : ℕ) : Type 0 where
   pub same : IsSameExchange old new
   pub shut : new.open_request ≡ None
   pub taken : new.taken ≡ map taken_as new.history

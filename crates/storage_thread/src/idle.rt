@@ -1,6 +1,6 @@
 //! What a thread does in a turn in which nothing came.
 
-use parking::ParkingWord;
+use parking::{Hope, ParkingWord};
 use std::hint;
 use std::sync::Wait;
 use std::time::Duration;
@@ -12,16 +12,6 @@ const SPINS_A_TURN: u32 = 4;
 const SHORT_ROW: u32 = 10;
 
 const LONG_ROW: u32 = 128;
-
-/// Each so many rows one is long, to see whether messages have begun to come soon.
-const ROWS_A_PROBE: u32 = 32;
-
-/// A row that ended before the thread parked counts one, a park takes so many back; rows are long from `HOPEFUL` on.
-const COST_OF_A_PARK: u32 = 3;
-
-const HOPEFUL: u32 = 8;
-
-const MOST_HOPE: u32 = 16;
 
 /// A thread that was forgotten looks for messages again after so long.
 const LONGEST_PARK_MILLIS: u64 = 100;
@@ -35,8 +25,7 @@ pub struct IdleTurns {
     turns: u32,
     announced: bool,
     parked: bool,
-    hope: u32,
-    rows: u32,
+    hope: Hope,
 }
 
 impl IdleTurns {
@@ -45,8 +34,7 @@ impl IdleTurns {
             turns: 0,
             announced: false,
             parked: false,
-            hope: 0,
-            rows: 0,
+            hope: Hope::new(),
         }
     }
 
@@ -59,19 +47,14 @@ impl IdleTurns {
             parking.cancel();
             self.announced = false;
         }
-        self.hope = if self.parked {
-            self.hope.saturating_sub(COST_OF_A_PARK)
-        } else {
-            self.hope.saturating_add(1).min(MOST_HOPE)
-        };
-        self.rows = self.rows.wrapping_add(1);
+        self.hope.note(self.parked);
         self.parked = false;
         self.turns = 0;
     }
 
     // How many turns this row has before the thread parks.
     fn limit(&self) -> u32 {
-        if self.hope >= HOPEFUL || self.rows % ROWS_A_PROBE == 0 {
+        if self.hope.is_long() {
             LONG_ROW
         } else {
             SHORT_ROW

@@ -1,18 +1,22 @@
 //! The loop of the storage thread.
 
-ghost use Rattle.std.specs.Prelude.{◌≡◌, ℕ, ◌+◌, ◌-◌, ◌^◌, ◌<◌, ◌≤◌, map, min, length, All, Some, None, []};
+ghost use Rattle.std.specs.Prelude.{◌≡◌, ℕ, ◌+◌, ◌-◌, ◌^◌, ◌<◌, ◌≤◌, map, min, length, All, Some, None, MatchOption, []};
+ghost use Rattle.std.specs.Option.{IfNone};
 ghost use Rattle.proto.specs.Cache.{empty_cache};
 ghost use Rattle.proto.specs.History.{max_moment, worker_share, Legal};
 ghost use Rattle.engine.specs.Reaching.{Reaches};
-ghost use Rattle.storage_thread.specs.Serving.{AsksClock, IsTimed, taken_as, SaidBye, IsUnused, IsSameExchange, IsAnswered};
+ghost use Rattle.storage_thread.specs.Serving.{AsksClock, IsTimed, taken_as, SaidBye, IsUnused, IsSameExchange, GetsNone, GetsMessage, AnswersOpenRequest};
 ghost use Rattle.storage_thread.specs.Keeping.{LeadsKeeping, MayForgetNothing};
 
 use crate::clock::Clock;
 use crate::idle::IdleTurns;
 use engine::{MAX_MOMENT, StorageEngine};
-use exchange::{Answered, Posted, StorageEnd, Taken};
+use exchange::{Answered, Posted, StorageBatch, StorageEnd, Taken};
 use parking::ParkingWord;
 use std::sync::Wait;
+
+/// The workers are told of their answers at least at each so many.
+const ANSWERS_A_FLUSH: u64 = 8;
 
 /// What the storage thread leaves.
 #[derive(Drop)]
@@ -23,33 +27,33 @@ pub struct StorageReport<C: Clock> {
     pub executed: u64,
 }
 
-// Executes the open request, and answers it.
+// Executes the open request, and answers it. Its worker is told at the next flush, or before.
 pub(crate) fn execute<S: StorageEngine, C: Clock>(
     store: &mut S,
     clock: &mut C,
-    end: &mut StorageEnd,
+    end: &mut StorageBatch,
     worker: usize,
     posted: Posted,
 )
-    requires reaches { Reaches end.old.geometry end.old.history (S.cache store.old) (S.moment store.old) }
-    requires sizes { S.sizes store.old ≡ end.old.geometry }
-    requires open_request { end.old.open_request ≡ Some (worker, posted) }
-    requires next { posted.number ≡ length (worker_share end.old.history worker) + 1 }
-    ensures reaches { Reaches end.new.geometry end.new.history (S.cache store.new) (S.moment store.new) }
-    ensures kept { LeadsKeeping end.old.geometry end.old.history (S.cache store.old) (S.keeps store.old) → LeadsKeeping end.new.geometry end.new.history (S.cache store.new) (S.keeps store.new) }
+    requires reaches { Reaches end.old.end.geometry end.old.end.history (S.cache store.old) (S.moment store.old) }
+    requires sizes { S.sizes store.old ≡ end.old.end.geometry }
+    requires open_request { end.old.end.open_request ≡ Some (worker, posted) }
+    requires next { posted.number ≡ length (worker_share end.old.end.history worker) + 1 }
+    ensures reaches { Reaches end.new.end.geometry end.new.end.history (S.cache store.new) (S.moment store.new) }
+    ensures kept { LeadsKeeping end.old.end.geometry end.old.end.history (S.cache store.old) (S.keeps store.old) → LeadsKeeping end.new.end.geometry end.new.end.history (S.cache store.new) (S.keeps store.new) }
     ensures sizes { S.sizes store.new ≡ S.sizes store.old }
-    ensures answered { IsAnswered end.old end.new worker posted (S.moment store.new) }
+    ensures answered { AnswersOpenRequest end.old.end end.new.end worker posted (S.moment store.new) }
     ensures leads { C.leads_to clock.old clock.new }
     ensures moment { AsksClock (C.told clock.old) (S.moment store.old) (C.told clock.new) (S.moment store.new) }
 {
     let now = clock.now().min(MAX_MOMENT);
     let moment = now.max(store.last_moment());
-    let reply = store.handle(moment, &posted.request);
     let Posted {
         session,
         number,
-        request,
+        mut request,
     } = posted;
+    let reply = store.handle(moment, &mut request);
     let answered = Answered {
         worker,
         session,
@@ -58,14 +62,44 @@ pub(crate) fn execute<S: StorageEngine, C: Clock>(
         moment,
         reply,
     };
-    if end.answer(answered).is_err() {
-        unreachable!()
+    end.answer_later(answered);
+}
+
+// Tells the workers of all answers, where the last one was an eighth.
+fn tell_eighth(end: &mut StorageBatch, executed: u64)
+    ensures { end.new.end ≡ end.old.end }
+{
+    if executed % ANSWERS_A_FLUSH == 0 {
+        end.flush_answers();
     }
 }
 
+// The next message among those that the last look at the lanes named. Where none is left, the workers are told of all
+// answers, and then the lanes are looked at.
+fn take_next(end: &mut StorageBatch, executed: u64) -> Option<Taken>
+    requires { end.old.end.open_request ≡ None }
+    ensures taken { MatchOption result (GetsNone end.old.end end.new.end) (GetsMessage end.old.end end.new.end) }
+    ensures told { IfNone result (end.new.told ≡ end.new.end.history) }
+{
+    tell_eighth(end, executed);
+    if let Some(taken) = end.next_seen() {
+        return Some(taken);
+    }
+    end.flush_answers();
+    end.next()
+}
+
+// An idle turn, in which the thread may park. No worker waits for an answer that was given.
+fn pass_turn<R: Wait>(rt: &R, _end: &StorageBatch, idle: &mut IdleTurns, parking: &ParkingWord)
+    requires told { _end.now.told ≡ _end.now.end.history }
+{
+    idle.turn(rt, parking);
+}
+
 /// Executes requests until each worker has said bye. The store is empty, for the geometry that the exchange was
-/// made for, and nothing was taken from the end. The clock is asked once for each request. While nothing comes, the
-/// thread parks on the word: who has posted or said bye unparks it.
+/// made for, and nothing was taken from the end. The clock is asked once for each request. The messages that a look named
+/// are served before it looks again; the workers are told of each eighth answer, and of all before it looks. While
+/// nothing comes, the thread parks on the word: who has posted or said bye unparks it.
 pub fn run_storage<R: Wait, S: StorageEngine + Drop, C: Clock>(
     rt: &R,
     store: S,
@@ -90,19 +124,20 @@ pub fn run_storage<R: Wait, S: StorageEngine + Drop, C: Clock>(
 {
     let mut store = store;
     let mut clock = clock;
-    let mut end = storage_end;
+    let mut end = storage_end.batched();
     let mut executed = 0u64;
     let mut left = end.workers();
     let mut idle = IdleTurns::new();
     for _ in rt.forever() {
         if left == 0 {
+            end.flush_answers();
             return StorageReport {
                 clock,
-                storage_end: end,
+                storage_end: end.into_end(),
                 executed,
             };
         }
-        match end.next() {
+        match take_next(&mut end, executed) {
             Some(Taken::Asked { worker, posted }) => {
                 execute(&mut store, &mut clock, &mut end, worker, posted);
                 executed = executed.saturating_add(1);
@@ -112,7 +147,7 @@ pub fn run_storage<R: Wait, S: StorageEngine + Drop, C: Clock>(
                 left -= 1;
                 idle.reset(parking);
             }
-            None => idle.turn(rt, parking),
+            None => pass_turn(rt, &end, &mut idle, parking),
         }
     }
     unreachable!()

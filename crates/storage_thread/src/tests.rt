@@ -7,7 +7,7 @@ ghost use Rattle.storage_thread.specs.Serving.{IsUnused, IsSameExchange};
 
 use crate::clock::Clock;
 use crate::serving::{StorageReport, execute, run_storage};
-use exchange::{MakeFault, Posted, StorageEnd, Taken, WorkerEnd, gather, make};
+use exchange::{MakeFault, Posted, StorageBatch, StorageEnd, Taken, WorkerEnd, gather, make};
 use parking::ParkingWord;
 use plain_store::Store;
 use proto::byte_string::ByteString;
@@ -112,9 +112,9 @@ fn made(alloc: Global, workers: usize) -> Result<(Vec<WorkerEnd>, StorageEnd, St
     Ok((ends, storage, Store::new(alloc, geometry)))
 }
 
-/// Executes and answers one request, and says whether there was one.
-fn serve_one(store: &mut Store, clock: &mut Count, end: &mut StorageEnd) -> bool
-    requires ready { Reaches end.old.geometry end.old.history store.old.cache store.old.moment × (store.old.sizes ≡ end.old.geometry) × (end.old.open_request ≡ None) }
+/// Executes and answers one request, and says whether there was one. Its worker isn't told yet.
+fn serve_one(store: &mut Store, clock: &mut Count, end: &mut StorageBatch) -> bool
+    requires ready { Reaches end.old.end.geometry end.old.end.history store.old.cache store.old.moment × (store.old.sizes ≡ end.old.end.geometry) × (end.old.end.open_request ≡ None) }
 {
     match end.next() {
         Some(Taken::Asked { worker, posted }) => {
@@ -127,7 +127,7 @@ fn serve_one(store: &mut Store, clock: &mut Count, end: &mut StorageEnd) -> bool
 
 #[test]
 fn an_answer_makes_room(rt: HostRuntime) -> Result<(), Fail> {
-    let (mut ends, mut storage, mut store) = made(rt.alloc(), 1)?;
+    let (mut ends, storage, mut store) = made(rt.alloc(), 1)?;
     let Some(mut end) = ends.pop() else {
         panic!(rt; "no end")
     };
@@ -137,7 +137,10 @@ fn an_answer_makes_room(rt: HostRuntime) -> Result<(), Fail> {
     }
     assert_eq!(rt; ask(rt.alloc(), &mut end), Some(false));
     assert!(rt; end.take().is_none());
+    let mut storage = storage.batched();
     assert!(rt; serve_one(&mut store, &mut clock, &mut storage));
+    assert!(rt; end.take().is_none());
+    storage.flush_answers();
     match end.take() {
         Some(answered) => {
             assert_eq!(rt; answered.worker, 0);

@@ -1,5 +1,6 @@
 -- One more entry of a history.
-use Rattle.std.proofs.Common.{◌≡◌, ℕ, suc, ◌+◌, ◌≤◌, min, max, Bool, true, false, cond, eqb, ◌&&◌, List, [], ◌∷◌, ◌++◌, length, refl, sym, ap, subst, ◌∙◌, arith, append_assoc, length-append}
+use Rattle.std.proofs.Common.{◌≡◌, ℕ, suc, ◌+◌, ◌≤◌, min, max, Bool, true, false, cond, eqb, ◌&&◌, List, [], ◌∷◌, ◌++◌, length, refl, sym, ap, subst, ◌∙◌}
+use Rattle.std.proofs.Common.{arith, append_assoc, length-append}
 use Rattle.std.specs.List.{AllByRecursion}
 use Rattle.std.proofs.lemmas.Bool.{eq-eqb, ne_eqb}
 use Rattle.std.proofs.lemmas.List.{append-nil}
@@ -12,16 +13,16 @@ use Rattle.proto.specs.Steps.{Step}
 use Rattle.proto.specs.History.{max_moment, worker_share, session_share}
 use Rattle.engine.specs.Reaching.{moments, moment_after, moments_after, last_or, Reaches}
 use Rattle.engine.proofs.ReachingLemmas.{moments_more, times_more, reaches_more}
-use Rattle.script.specs.Clocks.{Clock, answer_of, first_answers}
+use Rattle.script.specs.Clocks.{ClockState, answer_of, first_answers}
 use Rattle.straight.specs.Execution.{Execution, Executes}
-use Rattle.straight.specs.Sessions.{Setup, AreTimed, LedTo, IsOf, GoesOn}
+use Rattle.straight.specs.Sessions.{Setup, AreTimed, LedTo, IsOf, HistoryGoesOn}
 
 -- the next entry of a session
 abbrev pub entry_of : List Answered → ℕ → ℕ → Request → Reply → Answered
 entry_of h session t q reply = record { worker = 0; session = session; number = length (worker_share h 0) + 1; request = q; moment = t; reply = reply }
 
 -- the moments with one request more, at the moment of the clock's next answer
-timed_more : (clock : Clock) (h : List Answered) (e : Answered) → AreTimed clock h
+timed_more : (clock : ClockState) (h : List Answered) (e : Answered) → AreTimed clock h
     → e.moment ≡ moment_after (last_or 0 (moments h)) (answer_of clock (length h)) → AreTimed clock (h ++ e ∷ [])
 timed_more clock h e timed is =
     let told = first_answers clock (length h) in
@@ -81,11 +82,11 @@ share_other (e ∷ entries) session other (first, of) apart =
 -- ---- a history that goes on
 
 -- a history goes on with no entry
-pub goes_on_same : (session : ℕ) (h : List Answered) → GoesOn session h h
+pub goes_on_same : (session : ℕ) (h : List Answered) → HistoryGoesOn session h h
 goes_on_same session h = record { entries = []; longer = sym (append-nil h); of_session = tt }
 
 -- and with one of the session
-pub goes_on_one : (session t : ℕ) (h : List Answered) (q : Request) (reply : Reply) → GoesOn session h (h ++ entry_of h session t q reply ∷ [])
+pub goes_on_one : (session t : ℕ) (h : List Answered) (q : Request) (reply : Reply) → HistoryGoesOn session h (h ++ entry_of h session t q reply ∷ [])
 goes_on_one session t h q reply = record {
   entries = entry_of h session t q reply ∷ [];
   longer = refl;
@@ -98,7 +99,7 @@ of-append session [] b first second = second
 of-append session (e ∷ a) b first second = (first.0, of-append session a b first.1 second)
 
 -- a history goes on, and then on
-pub goes_on_on : (session : ℕ) (a b c : List Answered) → GoesOn session a b → GoesOn session b c → GoesOn session a c
+pub goes_on_on : (session : ℕ) (a b c : List Answered) → HistoryGoesOn session a b → HistoryGoesOn session b c → HistoryGoesOn session a c
 goes_on_on session a b c first second = record {
   entries = first.entries ++ second.entries;
   longer = second.longer ∙ ap (λ (x : List Answered). x ++ second.entries) first.longer ∙ append_assoc a first.entries second.entries;
@@ -106,7 +107,8 @@ goes_on_on session a b c first second = record {
 }
 
 -- where a history goes on with one session, the share of another one stays
-pub share_goes_on : (session other : ℕ) (a b : List Answered) → GoesOn session a b → (session ≡ other → ⊥) → session_share b 0 other ≡ session_share a 0 other
+pub share_goes_on : (session other : ℕ) (a b : List Answered) → HistoryGoesOn session a b → (session ≡ other → ⊥)
+    → session_share b 0 other ≡ session_share a 0 other
 share_goes_on session other a b on apart =
     ap (λ (h : List Answered). session_share h 0 other) on.longer
     ∙ share-append a on.entries other

@@ -7,7 +7,7 @@ use Rattle.proto.specs.declared.message.Reply.{Reply}
 use Rattle.proto.specs.declared.message.Message.{Message}
 use Rattle.proto.specs.declared.message.Message.TheVariants.{Ask, Wrong, Quit, Fatal}
 use Rattle.proto.specs.Grammar.{Spells}
-use Rattle.proto.specs.Reading.{ends_session, SpellEach, EndsAtLast, has_ended, asks}
+use Rattle.proto.specs.Reading.{ends_session, SpellEach, EndsAtLast, last_ends, asks}
 use Rattle.proto.specs.Answers.{answer, is_ask, said}
 
 -- one piece more, joined
@@ -24,13 +24,13 @@ spell_more (p ∷ pieces) [] piece m h one = absurd h
 spell_more (p ∷ pieces) (n ∷ ms) piece m h one = (h.0, spell_more pieces ms piece m h.1 one)
 
 -- behind messages of which none ends the session, one more that may
-pub ends_more : (ms : List Message) (m : Message) → EndsAtLast ms → has_ended ms ≡ false → EndsAtLast (ms ++ m ∷ [])
+pub ends_more : (ms : List Message) (m : Message) → EndsAtLast ms → last_ends ms ≡ false → EndsAtLast (ms ++ m ∷ [])
 ends_more [] m h e = tt
 ends_more (a ∷ []) m h e = (e, tt)
 ends_more (a ∷ b ∷ ms) m h e = (h.0, ends_more (b ∷ ms) m h.1 e)
 
 -- whether messages end a session is said by the last one
-pub ended_more : (ms : List Message) (m : Message) → has_ended (ms ++ m ∷ []) ≡ ends_session m
+pub ended_more : (ms : List Message) (m : Message) → last_ends (ms ++ m ∷ []) ≡ ends_session m
 ended_more [] m = refl
 ended_more (a ∷ []) m = refl
 ended_more (a ∷ b ∷ ms) m = ended_more (b ∷ ms) m

@@ -8,11 +8,12 @@ use Rattle.std.specs.declared.cmp.Ordering.TheVariants.{Less, Equal, Greater}
 use Rattle.std.proofs.lemmas.Bool.{cases_lt}
 use Rattle.std.proofs.lemmas.Cmp.{ranked}
 use Rattle.std.proofs.lemmas.List.{get_or-map, length-map}
-use Rattle.straight.specs.declared.session.Session.{Session}
+use Rattle.straight.specs.declared.session.StraightSession.{StraightSession}
 use Rattle.straight.specs.Replays.{numbers_of, IsRising}
 
 -- where the search finds the number, it stands there
-pub place_found : (xs : List Session) (n i : ℕ) → i < length xs → HoldsAt (λ (s : Session). nat_cmp s.number n ≡ Equal) xs i → get_or (numbers_of xs) i 0 ≡ n
+pub place_found : (xs : List StraightSession) (n i : ℕ) → i < length xs → HoldsAt (λ (s : StraightSession). nat_cmp s.number n ≡ Equal) xs i
+    → get_or (numbers_of xs) i 0 ≡ n
 place_found [] n i lt h = absurd (omega arith)
 place_found (x ∷ xs) n zero lt h = ranked x.number n Equal (sym (h x))
 place_found (x ∷ xs) n (suc i) lt h = place_found xs n i (omega arith) h
@@ -38,17 +39,19 @@ not_below numbers rising i j le lt =
     ]
 
 -- numbers that rise can be searched
-searchable : (xs : List Session) (n : ℕ) → IsRising (numbers_of xs) → IsNonDecreasingBy (λ (s : Session). ordering_index (nat_cmp s.number n)) xs
+searchable : (xs : List StraightSession) (n : ℕ) → IsRising (numbers_of xs)
+    → IsNonDecreasingBy (λ (s : StraightSession). ordering_index (nat_cmp s.number n)) xs
 searchable xs n rising i j d le lt =
-    let len : length (numbers_of xs) ≡ length xs = length-map xs (λ (s : Session). s.number) in
-    let a = get_or-map (λ (s : Session). s.number) xs i d 0 (omega arith) in
-    let b = get_or-map (λ (s : Session). s.number) xs j d 0 lt in
+    let len : length (numbers_of xs) ≡ length xs = length-map xs (λ (s : StraightSession). s.number) in
+    let a = get_or-map (λ (s : StraightSession). s.number) xs i d 0 (omega arith) in
+    let b = get_or-map (λ (s : StraightSession). s.number) xs j d 0 lt in
     higher (get_or xs i d).number (get_or xs j d).number n _ _ refl refl
     (omega (arith, a, b, not_below (numbers_of xs) rising i j le (omega arith)))
 
 -- where the search finds none, no session has the number
-pub place_none : (xs : List Session) (n i : ℕ) → IsRising (numbers_of xs) → IsBinarySearchResult (λ (s : Session). nat_cmp s.number n) xs (Err i)
-    → (k : ℕ) (d : Session) → k < length xs → (get_or xs k d).number ≡ n → ⊥
+pub place_none : (xs : List StraightSession) (n i : ℕ) → IsRising (numbers_of xs)
+    → IsBinarySearchResult (λ (s : StraightSession). nat_cmp s.number n) xs (Err i)
+    → (k : ℕ) (d : StraightSession) → k < length xs → (get_or xs k d).number ≡ n → ⊥
 place_none xs n i rising h k d lt is =
     let parted = h (searchable xs n rising) in
     elim (cases_lt k i) [

@@ -1,12 +1,14 @@
 -- One more event of a run.
-use Rattle.std.proofs.Common.{◌≡◌, ℕ, zero, suc, ◌<◌, ◌≤◌, Bool, true, false, cond, eqb, List, [], ◌∷◌, ◌++◌, length, take, get_or, set, map, refl, sym, ap, subst, ◌∙◌, arith, inl, inr, length-append}
+use Rattle.std.proofs.Common.{◌≡◌, ℕ, zero, suc, ◌<◌, ◌≤◌, Bool, true, false, cond, eqb, List, [], ◌∷◌, ◌++◌, length, take, get_or, set, map, refl, sym, ap}
+use Rattle.std.proofs.Common.{subst, ◌∙◌, arith, inl, inr, length-append}
 use Rattle.std.specs.Prelude.{All, Contains, filter_map, ◌≢◌}
 use Rattle.std.specs.List.{AllByRecursion}
 use Rattle.std.proofs.lemmas.Bool.{cases_lt, cases_eq, eq-eqb, ne_eqb, both_ways}
 use Rattle.std.proofs.lemmas.Grind.{flat_map-append}
 use Rattle.std.proofs.lemmas.List.{append-nil, map-append, length-map, length-take, get_or-map, get_or_append_left, get_or-set_same, get_or-set_other}
 use Rattle.std.proofs.Math.ListN.{length-set}
-use Rattle.std.proofs.lemmas.List.Elements.{filter_map-append, All-push, All-weaker, All-contains, Contains-append_left, Contains-get_or, All-from_recursion, recursion_from_All}
+use Rattle.std.proofs.lemmas.List.Elements.{filter_map-append, All-push, All-weaker, All-contains, Contains-append_left, Contains-get_or, All-from_recursion}
+use Rattle.std.proofs.lemmas.List.Elements.{recursion_from_All}
 use Rattle.std.proofs.Math.Seq.{get_or-append_seam}
 use Rattle.proto.proofs.MessageReader.{spelling_nonempty}
 use Rattle.proto.specs.declared.history.Answered.{Answered}
@@ -16,11 +18,11 @@ use Rattle.engine.proofs.ReachingLemmas.{legal_of}
 use Rattle.script.specs.Clocks.{answer_of}
 use Rattle.script.specs.declared.event.ScriptEvent.{ScriptEvent}
 use Rattle.script.specs.declared.event.ScriptEvent.TheVariants.{Open, Send, Gone}
-use Rattle.script.specs.Events.{newest_after, newest_of, open_after, is_open, MayCome, opened_by, opened, sent_by, sent}
+use Rattle.script.specs.Events.{newest_after, newest_of, open_after, is_open, MayFollow, session_opened_by, sessions_opened, sent_by, sent}
 use Rattle.script.proofs.TrackLemmas.{newest_more, open_more}
-use Rattle.straight.specs.declared.session.Session.{Session}
+use Rattle.straight.specs.declared.session.StraightSession.{StraightSession}
 use Rattle.straight.specs.Execution.{Execution}
-use Rattle.straight.specs.Sessions.{Setup, IsOf, GoesOn, IsServed, IsNew}
+use Rattle.straight.specs.Sessions.{Setup, IsOf, HistoryGoesOn, AreBytesServed, IsNew}
 use Rattle.straight.specs.declared.replay.SessionOutput.{SessionOutput}
 use Rattle.straight.specs.Replays.{IsAnsweredIn, IsAmong, IsReplay, numbers_of, IsRising, IsFresh, HasRun, FeedsAt, output_of}
 use Rattle.straight.proofs.Histories.{share_goes_on}
@@ -32,12 +34,13 @@ pub sent_more : (events : List ScriptEvent) (e : ScriptEvent) (s : ℕ) → sent
 sent_more events e s = flat_map-append (sent_by s) events (e ∷ []) ∙ ap (λ (x : List ℕ). sent events s ++ x) (append-nil (sent_by s e))
 
 -- an event that opens none leaves the sessions that were opened
-opened_same : (events : List ScriptEvent) (e : ScriptEvent) → filter_map opened_by (e ∷ []) ≡ [] → opened (events ++ e ∷ []) ≡ opened events
-opened_same events e none = filter_map-append opened_by events (e ∷ []) ∙ ap (λ (x : List ℕ). opened events ++ x) none ∙ append-nil (opened events)
+opened_same : (events : List ScriptEvent) (e : ScriptEvent) → filter_map session_opened_by (e ∷ []) ≡ []
+    → sessions_opened (events ++ e ∷ []) ≡ sessions_opened events
+opened_same events e none = filter_map-append session_opened_by events (e ∷ []) ∙ ap (λ (x : List ℕ). sessions_opened events ++ x) none ∙ append-nil (sessions_opened events)
 
 -- a session that begins is the last of those that were opened
-opened_open : (events : List ScriptEvent) (s : ℕ) → opened (events ++ Open s ∷ []) ≡ opened events ++ s ∷ []
-opened_open events s = filter_map-append opened_by events (Open s ∷ [])
+opened_open : (events : List ScriptEvent) (s : ℕ) → sessions_opened (events ++ Open s ∷ []) ≡ sessions_opened events ++ s ∷ []
+opened_open events s = filter_map-append session_opened_by events (Open s ∷ [])
 
 -- the bytes of another session stay
 sent_other : (events : List ScriptEvent) (s t : ℕ) (bytes : List ℕ) → (s ≡ t → ⊥) → sent (events ++ Send s bytes ∷ []) t ≡ sent events t
@@ -56,7 +59,7 @@ fresh_from : (events : List ScriptEvent) (e : ScriptEvent) (s : ℕ) → sent ev
 fresh_from events e s none by closed = (sent_more events e s ∙ ap (λ (x : List ℕ). x ++ sent_by s e) none ∙ by, open_more events e s ∙ closed)
 
 -- numbers above the newest one stay unused, whatever event comes
-pub fresh_more : (events : List ScriptEvent) (e : ScriptEvent) → IsFresh events → MayCome events e → IsFresh (events ++ e ∷ [])
+pub fresh_more : (events : List ScriptEvent) (e : ScriptEvent) → IsFresh events → MayFollow events e → IsFresh (events ++ e ∷ [])
 fresh_more events (Open t) fresh may s above =
     let higher : t < s = rw (newest_more events (Open t)) at above in
     let was = fresh s (omega arith) in
@@ -78,10 +81,10 @@ fresh_more events (Gone t) fresh may s above =
 -- ---- an event that changes no session
 
 -- an event that opens none and sends nothing to a session that is there
-run_still : (setup : Setup) (events : List ScriptEvent) (e : ScriptEvent) (now : Execution) (sessions : List Session)
-    → HasRun setup events now sessions → MayCome events e
-    → filter_map opened_by (e ∷ []) ≡ [] → newest_after (newest_of events) e ≡ newest_of events
-    → ((k : ℕ) (d : Session) → k < length sessions → sent (events ++ e ∷ []) (get_or sessions k d).number ≡ sent events (get_or sessions k d).number)
+run_still : (setup : Setup) (events : List ScriptEvent) (e : ScriptEvent) (now : Execution) (sessions : List StraightSession)
+    → HasRun setup events now sessions → MayFollow events e
+    → filter_map session_opened_by (e ∷ []) ≡ [] → newest_after (newest_of events) e ≡ newest_of events
+    → ((k : ℕ) (d : StraightSession) → k < length sessions → sent (events ++ e ∷ []) (get_or sessions k d).number ≡ sent events (get_or sessions k d).number)
     → HasRun setup (events ++ e ∷ []) now sessions
 run_still setup events e now sessions run may no_open no_newer bytes =
     let same = opened_same events e no_open in
@@ -93,16 +96,16 @@ run_still setup events e now sessions run may no_open no_newer bytes =
       numbers = run.numbers ∙ sym same;
       rising = subst IsRising (sym same) run.rising;
       highest = subst (λ (os : List ℕ). All (λ (n : ℕ). n ≤ newest_of (events ++ e ∷ [])) os) (sym same)
-          (subst (λ (m : ℕ). All (λ (n : ℕ). n ≤ m) (opened events)) (sym newest) run.highest);
+          (subst (λ (m : ℕ). All (λ (n : ℕ). n ≤ m) (sessions_opened events)) (sym newest) run.highest);
       fresh = fresh_more events e run.fresh may;
       each = λ k d lt.
           let s = get_or sessions k d in
-          subst (λ (b : List ℕ). IsServed b (session_share run.history 0 s.number) s) (sym (bytes k d lt)) (run.each k d lt);
+          subst (λ (b : List ℕ). AreBytesServed b (session_share run.history 0 s.number) s) (sym (bytes k d lt)) (run.each k d lt);
     }
 
 -- a peer that goes changes no session
-pub run_gone : (setup : Setup) (events : List ScriptEvent) (session : ℕ) (now : Execution) (sessions : List Session)
-    → HasRun setup events now sessions → MayCome events (Gone session)
+pub run_gone : (setup : Setup) (events : List ScriptEvent) (session : ℕ) (now : Execution) (sessions : List StraightSession)
+    → HasRun setup events now sessions → MayFollow events (Gone session)
     → HasRun setup (events ++ Gone session ∷ []) now sessions
 run_gone setup events session now sessions run may =
     run_still setup events (Gone session) now sessions run may refl refl
@@ -110,8 +113,9 @@ run_gone setup events session now sessions run may =
 
 -- a send to a session that isn't there changes none
 pub run_skipped : (setup : Setup) (events : List ScriptEvent) (session : ℕ) (bytes : List ℕ) (now : Execution)
-    (sessions : List Session) → HasRun setup events now sessions
-    → MayCome events (Send session bytes) → All (λ (s : Session). s.number ≢ session) sessions → HasRun setup (events ++ Send session bytes ∷ []) now sessions
+    (sessions : List StraightSession) → HasRun setup events now sessions
+    → MayFollow events (Send session bytes) → All (λ (s : StraightSession). s.number ≢ session) sessions
+    → HasRun setup (events ++ Send session bytes ∷ []) now sessions
 run_skipped setup events session bytes now sessions run may none =
     run_still setup events (Send session bytes) now sessions run may refl refl
     (λ k d lt. sent_other events session (get_or sessions k d).number bytes (λ is. none k d lt (sym is)))
@@ -148,7 +152,7 @@ rising_more numbers newest n rising highest above i j lt within =
     ]
 
 -- a new session is served, with no bytes
-served_new : (s : Session) (n : ℕ) → IsNew n s → IsServed [] [] s
+served_new : (s : StraightSession) (n : ℕ) → IsNew n s → AreBytesServed [] [] s
 served_new s n new = record {
   read = [];
   rest = [];
@@ -171,32 +175,32 @@ served_new s n new = record {
     nil A = []
 
 -- a session begins
-pub run_opened : (setup : Setup) (events : List ScriptEvent) (n : ℕ) (now : Execution) (sessions : List Session) (s : Session)
-    → HasRun setup events now sessions → MayCome events (Open n)
+pub run_opened : (setup : Setup) (events : List ScriptEvent) (n : ℕ) (now : Execution) (sessions : List StraightSession) (s : StraightSession)
+    → HasRun setup events now sessions → MayFollow events (Open n)
     → IsNew n s → HasRun setup (events ++ Open n ∷ []) now (sessions ++ s ∷ [])
 run_opened setup events n now sessions s run may new =
     let more = opened_open events n in
     let newest : newest_of (events ++ Open n ∷ []) ≡ n = newest_more events (Open n) in
     let same : (t : ℕ) → sent (events ++ Open n ∷ []) t ≡ sent events t = λ t. sent_more events (Open n) t ∙ append-nil (sent events t) in
-    let none : session_share run.history 0 n ≡ [] = share_none run.history (opened events) (newest_of events) n run.among run.highest may in
+    let none : session_share run.history 0 n ≡ [] = share_none run.history (sessions_opened events) (newest_of events) n run.among run.highest may in
     let no_bytes : sent (events ++ Open n ∷ []) n ≡ [] = same n ∙ (run.fresh n may).0 in
-    let served : IsServed (sent (events ++ Open n ∷ []) n) (session_share run.history 0 n) s = rw (no_bytes, none) (served_new s n new) in
+    let served : AreBytesServed (sent (events ++ Open n ∷ []) n) (session_share run.history 0 n) s = rw (no_bytes, none) (served_new s n new) in
     record {
       history = run.history;
       led = run.led;
-      among = subst (λ (os : List ℕ). AllByRecursion (IsAmong os) run.history) (sym more) (among_more (opened events) n run.history run.among);
-      numbers = map-append (λ (x : Session). x.number) sessions (s ∷ []) ∙ ap (λ (x : List ℕ). x ++ s.number ∷ []) run.numbers
-          ∙ ap (λ (x : ℕ). opened events ++ x ∷ []) new.number_is ∙ sym more;
-      rising = subst IsRising (sym more) (rising_more (opened events) (newest_of events) n run.rising run.highest may);
+      among = subst (λ (os : List ℕ). AllByRecursion (IsAmong os) run.history) (sym more) (among_more (sessions_opened events) n run.history run.among);
+      numbers = map-append (λ (x : StraightSession). x.number) sessions (s ∷ []) ∙ ap (λ (x : List ℕ). x ++ s.number ∷ []) run.numbers
+          ∙ ap (λ (x : ℕ). sessions_opened events ++ x ∷ []) new.number_is ∙ sym more;
+      rising = subst IsRising (sym more) (rising_more (sessions_opened events) (newest_of events) n run.rising run.highest may);
       highest = subst (λ (os : List ℕ). All (λ (m : ℕ). m ≤ newest_of (events ++ Open n ∷ [])) os) (sym more)
-          (subst (λ (top : ℕ). All (λ (m : ℕ). m ≤ top) (opened events ++ n ∷ [])) (sym newest)
-          (All-push (λ (m : ℕ). m ≤ n) (opened events) n
-          (All-weaker (λ (m : ℕ). m ≤ newest_of events) (λ (m : ℕ). m ≤ n) (λ m le. omega arith) (opened events) run.highest) (omega arith)));
+          (subst (λ (top : ℕ). All (λ (m : ℕ). m ≤ top) (sessions_opened events ++ n ∷ [])) (sym newest)
+          (All-push (λ (m : ℕ). m ≤ n) (sessions_opened events) n
+          (All-weaker (λ (m : ℕ). m ≤ newest_of events) (λ (m : ℕ). m ≤ n) (λ m le. omega arith) (sessions_opened events) run.highest) (omega arith)));
       fresh = fresh_more events (Open n) run.fresh may;
-      each = All-push (λ (x : Session). IsServed (sent (events ++ Open n ∷ []) x.number) (session_share run.history 0 x.number) x) sessions s
+      each = All-push (λ (x : StraightSession). AreBytesServed (sent (events ++ Open n ∷ []) x.number) (session_share run.history 0 x.number) x) sessions s
           (λ k d lt. let x = get_or sessions k d in
-          subst (λ (b : List ℕ). IsServed b (session_share run.history 0 x.number) x) (sym (same x.number)) (run.each k d lt))
-          (subst (λ (k : ℕ). IsServed (sent (events ++ Open n ∷ []) k) (session_share run.history 0 k) s) (sym new.number_is) served);
+          subst (λ (b : List ℕ). AreBytesServed b (session_share run.history 0 x.number) x) (sym (same x.number)) (run.each k d lt))
+          (subst (λ (k : ℕ). AreBytesServed (sent (events ++ Open n ∷ []) k) (session_share run.history 0 k) s) (sym new.number_is) served);
     }
 
 -- ---- a session that is fed
@@ -223,16 +227,16 @@ apart_at numbers i j rising within inside apart is =
     ]
 
 -- a session in the place of one with its number leaves the numbers
-numbers_set : (sessions : List Session) (at : ℕ) (old new : Session) → old ≡ get_or sessions at old → new.number ≡ old.number
+numbers_set : (sessions : List StraightSession) (at : ℕ) (old new : StraightSession) → old ≡ get_or sessions at old → new.number ≡ old.number
     → numbers_of (set sessions at new) ≡ numbers_of sessions
 numbers_set [] at old new old_is number_is = refl
-numbers_set (x ∷ sessions) zero old new old_is number_is = ap (λ (n : ℕ). n ∷ numbers_of sessions) (number_is ∙ ap (λ (s : Session). s.number) old_is)
+numbers_set (x ∷ sessions) zero old new old_is number_is = ap (λ (n : ℕ). n ∷ numbers_of sessions) (number_is ∙ ap (λ (s : StraightSession). s.number) old_is)
 numbers_set (x ∷ sessions) (suc at) old new old_is number_is = ap (λ (ns : List ℕ). x.number ∷ ns) (numbers_set sessions at old new old_is number_is)
 
 -- a session is fed
 pub run_fed : (setup : Setup) (events : List ScriptEvent) (session : ℕ) (bytes : List ℕ) (now : Execution)
-    (sessions : List Session) (at : ℕ) (after : Execution) (fed : List Session)
-    → HasRun setup events now sessions → MayCome events (Send session bytes) → at < length sessions → get_or (numbers_of sessions) at 0 ≡ session
+    (sessions : List StraightSession) (at : ℕ) (after : Execution) (fed : List StraightSession)
+    → HasRun setup events now sessions → MayFollow events (Send session bytes) → at < length sessions → get_or (numbers_of sessions) at 0 ≡ session
     → FeedsAt sessions at now bytes fed after → HasRun setup (events ++ Send session bytes ∷ []) after fed
 run_fed setup events session bytes now sessions at after fed run may within at_is feeding =
     let e = Send session bytes in
@@ -240,24 +244,24 @@ run_fed setup events session bytes now sessions at after fed run may within at_i
     let new = feeding.new in
     let same = opened_same events e refl in
     let newest : newest_of (events ++ e ∷ []) ≡ newest_of events = newest_more events e in
-    let len : length (numbers_of sessions) ≡ length sessions = length-map sessions (λ (s : Session). s.number) in
-    let old_number : old.number ≡ session = ap (λ (s : Session). s.number) feeding.old_is
-    ∙ sym (get_or-map (λ (s : Session). s.number) sessions at old 0 within) ∙ at_is in
+    let len : length (numbers_of sessions) ≡ length sessions = length-map sessions (λ (s : StraightSession). s.number) in
+    let old_number : old.number ≡ session = ap (λ (s : StraightSession). s.number) feeding.old_is
+    ∙ sym (get_or-map (λ (s : StraightSession). s.number) sessions at old 0 within) ∙ at_is in
     let new_number : new.number ≡ session = feeding.feeds.number_stays ∙ old_number in
-    let was : IsServed (sent events old.number) (session_share run.history 0 old.number) old =
-    subst (λ (s : Session). IsServed (sent events s.number) (session_share run.history 0 s.number) s) (sym feeding.old_is) (run.each at old within) in
+    let was : AreBytesServed (sent events old.number) (session_share run.history 0 old.number) old =
+    subst (λ (s : StraightSession). AreBytesServed (sent events s.number) (session_share run.history 0 s.number) s) (sym feeding.old_is) (run.each at old within) in
     let by = feeding.feeds.serves setup run.history (sent events old.number) run.led was in
-    let on : GoesOn session run.history by.history = subst (λ (n : ℕ). GoesOn n run.history by.history) new_number by.goes_on in
-    let there : Contains (opened events) session =
+    let on : HistoryGoesOn session run.history by.history = subst (λ (n : ℕ). HistoryGoesOn n run.history by.history) new_number by.goes_on in
+    let there : Contains (sessions_opened events) session =
     subst (λ (ns : List ℕ). Contains ns session) run.numbers
     (subst (λ (n : ℕ). Contains (numbers_of sessions) n) at_is (Contains-get_or (numbers_of sessions) at 0 (omega (arith, len)))) in
-    let among : AllByRecursion (IsAmong (opened events)) by.history =
-    subst (λ (h : List Answered). AllByRecursion (IsAmong (opened events)) h) (sym on.longer)
-    (among-append (opened events) run.history on.entries run.among (of_among session (opened events) on.entries there on.of_session)) in
+    let among : AllByRecursion (IsAmong (sessions_opened events)) by.history =
+    subst (λ (h : List Answered). AllByRecursion (IsAmong (sessions_opened events)) h) (sym on.longer)
+    (among-append (sessions_opened events) run.history on.entries run.among (of_among session (sessions_opened events) on.entries there on.of_session)) in
     let bytes_are : sent events old.number ++ bytes ≡ sent (events ++ e ∷ []) new.number =
     ap (λ (n : ℕ). sent events n ++ bytes) old_number ∙ sym (sent_same events session bytes) ∙ ap (sent (events ++ e ∷ [])) (sym new_number) in
-    let here : IsServed (sent (events ++ e ∷ []) new.number) (session_share by.history 0 new.number) new =
-    subst (λ (b : List ℕ). IsServed b (session_share by.history 0 new.number) new) bytes_are by.served in
+    let here : AreBytesServed (sent (events ++ e ∷ []) new.number) (session_share by.history 0 new.number) new =
+    subst (λ (b : List ℕ). AreBytesServed b (session_share by.history 0 new.number) new) bytes_are by.served in
     let rising : IsRising (numbers_of sessions) = subst IsRising (sym run.numbers) run.rising in
     record {
       history = by.history;
@@ -266,27 +270,27 @@ run_fed setup events session bytes now sessions at after fed run may within at_i
       numbers = ap numbers_of feeding.after_is ∙ numbers_set sessions at old new feeding.old_is feeding.feeds.number_stays ∙ run.numbers ∙ sym same;
       rising = subst IsRising (sym same) run.rising;
       highest = subst (λ (os : List ℕ). All (λ (n : ℕ). n ≤ newest_of (events ++ e ∷ [])) os) (sym same)
-          (subst (λ (m : ℕ). All (λ (n : ℕ). n ≤ m) (opened events)) (sym newest) run.highest);
+          (subst (λ (m : ℕ). All (λ (n : ℕ). n ≤ m) (sessions_opened events)) (sym newest) run.highest);
       fresh = fresh_more events e run.fresh may;
       each = subst
-          (λ (all : List Session). All
-          (λ (s : Session). IsServed (sent (events ++ e ∷ []) s.number) (session_share by.history 0 s.number) s) all) (sym feeding.after_is)
+          (λ (all : List StraightSession). All
+          (λ (s : StraightSession). AreBytesServed (sent (events ++ e ∷ []) s.number) (session_share by.history 0 s.number) s) all) (sym feeding.after_is)
           (λ k d lt.
           elim (cases_eq k at) [
             | inl is ↦
                 let x-is : get_or (set sessions at new) k d ≡ new = ap (λ (i : ℕ). get_or (set sessions at new) i d) is
                 ∙ get_or-set_same sessions at new d within in
-                subst (λ (s : Session). IsServed (sent (events ++ e ∷ []) s.number) (session_share by.history 0 s.number) s) (sym x-is) here
+                subst (λ (s : StraightSession). AreBytesServed (sent (events ++ e ∷ []) s.number) (session_share by.history 0 s.number) s) (sym x-is) here
             | inr other ↦
                 let k_in : k < length sessions = omega (arith, length-set sessions at new) in
                 let x = get_or sessions k d in
                 let x-is : get_or (set sessions at new) k d ≡ x = get_or-set_other sessions at k new d other in
                 let apart : session ≡ x.number → ⊥ = λ is.
                 apart_at (numbers_of sessions) k at rising (omega (arith, len)) (omega (arith, len)) other
-                (get_or-map (λ (s : Session). s.number) sessions k d 0 k_in ∙ sym is ∙ sym at_is) in
-                subst (λ (s : Session). IsServed (sent (events ++ e ∷ []) s.number) (session_share by.history 0 s.number) s) (sym x-is)
-                (subst (λ (b : List ℕ). IsServed b (session_share by.history 0 x.number) x) (sym (sent_other events session x.number bytes apart))
-                (subst (λ (share : List Answered). IsServed (sent events x.number) share x)
+                (get_or-map (λ (s : StraightSession). s.number) sessions k d 0 k_in ∙ sym is ∙ sym at_is) in
+                subst (λ (s : StraightSession). AreBytesServed (sent (events ++ e ∷ []) s.number) (session_share by.history 0 s.number) s) (sym x-is)
+                (subst (λ (b : List ℕ). AreBytesServed b (session_share by.history 0 x.number) x) (sym (sent_other events session x.number bytes apart))
+                (subst (λ (share : List Answered). AreBytesServed (sent events x.number) share x)
                 (sym (share_goes_on session x.number run.history by.history on apart)) (run.each k d k_in)))
           ]);
     }
@@ -321,7 +325,7 @@ run_none setup now sizes cache moment clock = record {
 }
 
 -- what a session was served is what it is answered in the history
-answered_in : (history : List Answered) (bytes : List ℕ) (s : Session) → IsServed bytes (session_share history 0 s.number) s
+answered_in : (history : List Answered) (bytes : List ℕ) (s : StraightSession) → AreBytesServed bytes (session_share history 0 s.number) s
     → IsAnsweredIn history bytes (output_of s)
 answered_in history bytes s served =
     let a = served.answered in
@@ -340,19 +344,19 @@ answered_in history bytes s served =
     }
 
 -- and so it is for each session
-outputs_are : (history : List Answered) (events : List ScriptEvent) (sessions : List Session)
-    → AllByRecursion (λ (s : Session). IsServed (sent events s.number) (session_share history 0 s.number) s) sessions
+outputs_are : (history : List Answered) (events : List ScriptEvent) (sessions : List StraightSession)
+    → AllByRecursion (λ (s : StraightSession). AreBytesServed (sent events s.number) (session_share history 0 s.number) s) sessions
     → AllByRecursion (λ (g : SessionOutput). IsAnsweredIn history (sent events g.session) g) (map output_of sessions)
 outputs_are history events [] each = tt
 outputs_are history events (s ∷ sessions) each = (answered_in history (sent events s.number) s each.0, outputs_are history events sessions each.1)
 
 -- the outputs stand in the order of the sessions
-sessions_are : (sessions : List Session) → map (λ (g : SessionOutput). g.session) (map output_of sessions) ≡ numbers_of sessions
+sessions_are : (sessions : List StraightSession) → map (λ (g : SessionOutput). g.session) (map output_of sessions) ≡ numbers_of sessions
 sessions_are [] = refl
 sessions_are (s ∷ sessions) = ap (λ (ns : List ℕ). s.number ∷ ns) (sessions_are sessions)
 
 -- what has run is a replay
-pub replay_is : (setup : Setup) (events : List ScriptEvent) (now : Execution) (sessions : List Session)
+pub replay_is : (setup : Setup) (events : List ScriptEvent) (now : Execution) (sessions : List StraightSession)
     → HasRun setup events now sessions → IsReplay setup.sizes setup.clock events (map output_of sessions)
 replay_is setup events now sessions run = record {
   history = run.history;
@@ -362,5 +366,5 @@ replay_is setup events now sessions run = record {
   sessions = sessions_are sessions ∙ run.numbers;
   each = All-from_recursion (λ (g : SessionOutput). IsAnsweredIn run.history (sent events g.session) g) (map output_of sessions)
       (outputs_are run.history events sessions
-      (recursion_from_All (λ (s : Session). IsServed (sent events s.number) (session_share run.history 0 s.number) s) sessions run.each));
+      (recursion_from_All (λ (s : StraightSession). AreBytesServed (sent events s.number) (session_share run.history 0 s.number) s) sessions run.each));
 }

@@ -1,5 +1,6 @@
 -- What a session was served, message by message.
-use Rattle.std.proofs.Common.{◌≡◌, ℕ, ◌+◌, ◌-◌, ◌<◌, ◌≤◌, Bool, true, false, List, [], ◌∷◌, ◌++◌, length, take, drop, Some, None, refl, sym, ap, subst, ◌∙◌, arith, append_assoc}
+use Rattle.std.proofs.Common.{◌≡◌, ℕ, ◌+◌, ◌-◌, ◌<◌, ◌≤◌, Bool, true, false, List, [], ◌∷◌, ◌++◌, length, take, drop, Some, None, refl, sym, ap, subst, ◌∙◌}
+use Rattle.std.proofs.Common.{arith, append_assoc}
 use Rattle.std.proofs.Math.Seq.{take-add}
 use Rattle.std.proofs.lemmas.Bool.{both_ways}
 use Rattle.std.proofs.lemmas.List.{append-nil, map-append, length-map, length-take, length-drop, take_all, take-append-drop}
@@ -12,23 +13,23 @@ use Rattle.proto.specs.Grammar.{Spells, SpellsNone}
 use Rattle.proto.specs.Reading.{ends_session, asks}
 use Rattle.proto.specs.Answers.{answer, is_ask, said}
 use Rattle.proto.specs.History.{session_share, had}
-use Rattle.straight.specs.Execution.{Execution, Answers}
-use Rattle.straight.specs.Sessions.{Setup, LedTo, IsAnswered, GoesOn, LedOnTo, AnswersNext, AnswersAll, Feeds}
-use Rattle.straight.specs.declared.session.Session.{Session}
+use Rattle.straight.specs.Execution.{Execution, AnswersBehind}
+use Rattle.straight.specs.Sessions.{Setup, LedTo, AreBytesAnswered, HistoryGoesOn, LedOnTo, AnswersNext, AnswersAll, Feeds}
+use Rattle.straight.specs.declared.session.StraightSession.{StraightSession}
 use Rattle.proto.proofs.MessageReader.{spelling_nonempty}
 use Rattle.straight.proofs.MessageLists.{concat_more, spell_more, ends_more, ended_more, asks-append, said_ask, said_other, asks_other}
 use Rattle.straight.proofs.Histories.{entry_of, led_more, share_one, goes_on_same, goes_on_one, goes_on_on}
 
 -- as many replies as requests
-replies : (read : List ℕ) (share : List Answered) (output : List ℕ) (ended : Bool) (a : IsAnswered read share output ended)
+replies : (read : List ℕ) (share : List Answered) (output : List ℕ) (ended : Bool) (a : AreBytesAnswered read share output ended)
     → length (had share) ≡ length (asks a.messages)
 replies read share output ended a =
     length-map {A = Answered} {B = Reply} share (λ e. e.reply) ∙ sym (length-map {A = Answered} {B = Request} share (λ e. e.request)) ∙ ap length a.asked_is
 
 -- a request that is answered
 answered_ask : (read : List ℕ) (share : List Answered) (output piece : List ℕ) (q : Request) (quiet : Bool) (e : Answered)
-    → IsAnswered read share output false → Spells piece (Ask q quiet)
-    → e.request ≡ q → IsAnswered (read ++ piece) (share ++ e ∷ []) (output ++ answer (Ask q quiet) (Some e.reply)) false
+    → AreBytesAnswered read share output false → Spells piece (Ask q quiet)
+    → e.request ≡ q → AreBytesAnswered (read ++ piece) (share ++ e ∷ []) (output ++ answer (Ask q quiet) (Some e.reply)) false
 answered_ask read share output piece q quiet e a spells is = record {
   messages = a.messages ++ Ask q quiet ∷ [];
   pieces = a.pieces ++ piece ∷ [];
@@ -45,8 +46,8 @@ answered_ask read share output piece q quiet e a spells is = record {
 
 -- another message that is answered
 answered_other : (read : List ℕ) (share : List Answered) (output piece : List ℕ) (m : Message) → is_ask m ≡ false
-    → IsAnswered read share output false → Spells piece m
-    → IsAnswered (read ++ piece) share (output ++ answer m None) (ends_session m)
+    → AreBytesAnswered read share output false → Spells piece m
+    → AreBytesAnswered (read ++ piece) share (output ++ answer m None) (ends_session m)
 answered_other read share output piece m other a spells = record {
   messages = a.messages ++ m ∷ [];
   pieces = a.pieces ++ piece ∷ [];
@@ -61,19 +62,19 @@ answered_other read share output piece m other a spells = record {
 -- a message that is no request leads to the same history
 led_other : (setup : Setup) (session : ℕ) (h : List Answered) (read output piece after : List ℕ) (old new : Execution)
     (m : Message) → is_ask m ≡ false → LedTo setup h old
-    → IsAnswered read (session_share h 0 session) output false → (new ≡ old) × (after ≡ output ++ answer m None) → Spells piece m
+    → AreBytesAnswered read (session_share h 0 session) output false → (new ≡ old) × (after ≡ output ++ answer m None) → Spells piece m
     → LedOnTo setup session h new (read ++ piece) after (ends_session m)
 led_other setup session h read output piece after old new m other led a is spells = record {
   history = h;
   goes_on = goes_on_same session h;
   led = subst (λ (x : Execution). LedTo setup h x) (sym is.0) led;
-  answered = subst (λ (x : List ℕ). IsAnswered (read ++ piece) (session_share h 0 session) x (ends_session m)) (sym is.1)
+  answered = subst (λ (x : List ℕ). AreBytesAnswered (read ++ piece) (session_share h 0 session) x (ends_session m)) (sym is.1)
       (answered_other read (session_share h 0 session) output piece m other a spells);
 }
 
 -- a message is answered, and the history goes on with it where it is a request
 pub led_message : (setup : Setup) (session : ℕ) (h : List Answered) (read output piece after : List ℕ) (old new : Execution) (m : Message) → LedTo setup h old
-    → IsAnswered read (session_share h 0 session) output false → Answers old m new output after → Spells piece m
+    → AreBytesAnswered read (session_share h 0 session) output false → AnswersBehind old m new output after → Spells piece m
     → LedOnTo setup session h new (read ++ piece) after (ends_session m)
 led_message setup session h read output piece after old new (Ask q quiet) led a (t, reply, x, is) spells =
     let e = entry_of h session t q reply in
@@ -82,8 +83,8 @@ led_message setup session h read output piece after old new (Ask q quiet) led a 
       history = h ++ e ∷ [];
       goes_on = goes_on_one session t h q reply;
       led = led_more setup h session old new t q reply led x;
-      answered = subst (λ (share : List Answered). IsAnswered (read ++ piece) share after false) (sym (share_one h session t q reply))
-          (subst (λ (out : List ℕ). IsAnswered (read ++ piece) (session_share h 0 session ++ e ∷ []) out false) (sym is) shown);
+      answered = subst (λ (share : List Answered). AreBytesAnswered (read ++ piece) share after false) (sym (share_one h session t q reply))
+          (subst (λ (out : List ℕ). AreBytesAnswered (read ++ piece) (session_share h 0 session ++ e ∷ []) out false) (sym is) shown);
     }
 led_message setup session h read output piece after old new (Wrong kind) led a is spells = led_other setup session h read output piece after old new
     (Wrong kind) refl led a is spells
@@ -124,7 +125,7 @@ answers_none old unread output = λ setup session history read led a. record {
   history = history;
   goes_on = goes_on_same session history;
   led = led;
-  answered = subst (λ (bytes : List ℕ). IsAnswered bytes (session_share history 0 session) output false) (sym (append-nil read)) a;
+  answered = subst (λ (bytes : List ℕ). AreBytesAnswered bytes (session_share history 0 session) output false) (sym (append-nil read)) a;
 }
 
 -- what is found has a byte at least
@@ -134,7 +135,7 @@ found_some mid new unread o1 o2 n ended (m, within, spells, ended_is, x) = omega
 -- ---- a session
 
 -- a session that has ended is fed
-pub fed_ended : (s : Session) (before : Execution) (piece : List ℕ) → s.ended ≡ true → Feeds s before piece s before
+pub fed_ended : (s : StraightSession) (before : Execution) (piece : List ℕ) → s.ended ≡ true → Feeds s before piece s before
 fed_ended s before piece ended = record {
   number_stays = refl;
   serves = λ setup history bytes led served. record {
@@ -153,7 +154,7 @@ fed_ended s before piece ended = record {
 }
 
 -- one that goes on is fed, and its messages are answered
-pub fed_going : (old new : Session) (before after : Execution) (piece : List ℕ) (taken : ℕ) → old.ended ≡ false → new.number ≡ old.number
+pub fed_going : (old new : StraightSession) (before after : Execution) (piece : List ℕ) (taken : ℕ) → old.ended ≡ false → new.number ≡ old.number
     → AnswersAll before (old.unread.items ++ piece) taken new.ended after old.output.items new.output.items
     → (new.ended ≡ false → SpellsNone (drop taken (old.unread.items ++ piece)))
     → new.unread.items ≡ drop taken (old.unread.items ++ piece) → Feeds old before piece new after
@@ -162,8 +163,8 @@ fed_going old new before after piece taken going number_is all none left_is = re
   serves = λ setup history bytes led served.
       let all_bytes = old.unread.items ++ piece in
       let share = session_share history 0 old.number in
-      let a : IsAnswered served.read share old.output.items false = subst
-      (λ (b : Bool). IsAnswered served.read share old.output.items b) going served.answered in
+      let a : AreBytesAnswered served.read share old.output.items false = subst
+      (λ (b : Bool). AreBytesAnswered served.read share old.output.items b) going served.answered in
       let on = all setup old.number history served.read led a in
       let bytes_are : bytes ++ piece ≡ (served.read ++ take taken all_bytes) ++ drop taken all_bytes =
       ap (λ (b : List ℕ). b ++ piece) (served.bytes_are ∙ ap (λ (r : List ℕ). served.read ++ r) (served.unread_is going))
@@ -172,14 +173,14 @@ fed_going old new before after piece taken going number_is all none left_is = re
       ∙ sym (append_assoc served.read (take taken all_bytes) (drop taken all_bytes)) in
       record {
         history = on.history;
-        goes_on = subst (λ (n : ℕ). GoesOn n history on.history) (sym number_is) on.goes_on;
+        goes_on = subst (λ (n : ℕ). HistoryGoesOn n history on.history) (sym number_is) on.goes_on;
         led = on.led;
         served = record {
           read = served.read ++ take taken all_bytes;
           rest = drop taken all_bytes;
           bytes_are = bytes_are;
           answered = subst
-              (λ (n : ℕ). IsAnswered (served.read ++ take taken all_bytes)
+              (λ (n : ℕ). AreBytesAnswered (served.read ++ take taken all_bytes)
               (session_share on.history 0 n) new.output.items new.ended) (sym number_is) on.answered;
           unread_is = λ e. sym left_is;
           no_more = none;

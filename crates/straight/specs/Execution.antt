@@ -10,14 +10,14 @@ use Rattle.proto.specs.Cache.{Cache, cache_code}
 use Rattle.proto.specs.Answers.{answer}
 use Rattle.proto.specs.Steps.{Step}
 use Rattle.engine.specs.Reaching.{moment_after}
-use Rattle.script.specs.Clocks.{Clock, answer_of}
+use Rattle.script.specs.Clocks.{ClockState, answer_of}
 
 -- a cache, the moment of its last request, and the clock that tells the next
 pub record Execution : Type 0 where
   pub sizes : Sizes
   pub cache : Cache
   pub moment : ℕ
-  pub clock : Clock
+  pub clock : ClockState
 
 -- how it is stored, where a type is seen as one
 abbrev pub execution_code : Coded Execution
@@ -40,9 +40,9 @@ pub record Executes (old : Execution) (t : ℕ) (q : Request) (reply : Reply) (n
   pub later : (n : ℕ) → answer_of new.clock n ≡ answer_of old.clock (n + 1)
 
 -- the message, where it is a request, is executed, and its answer goes behind the output
-abbrev pub Answers : Execution → Message → Execution → List ℕ → List ℕ → Type 0
-Answers old (Ask q quiet) new output after =
+abbrev pub AnswersBehind : Execution → Message → Execution → List ℕ → List ℕ → Type 0
+AnswersBehind old (Ask q quiet) new output after =
     (t : ℕ) × (reply : Reply) × Executes old t q reply new × (after ≡ output ++ answer (Ask q quiet) (Some reply))
-Answers old (Wrong kind) new output after = (new ≡ old) × (after ≡ output ++ answer (Wrong kind) None)
-Answers old Quit new output after = (new ≡ old) × (after ≡ output ++ answer Quit None)
-Answers old (Fatal kind) new output after = (new ≡ old) × (after ≡ output ++ answer (Fatal kind) None)
+AnswersBehind old (Wrong kind) new output after = (new ≡ old) × (after ≡ output ++ answer (Wrong kind) None)
+AnswersBehind old Quit new output after = (new ≡ old) × (after ≡ output ++ answer Quit None)
+AnswersBehind old (Fatal kind) new output after = (new ≡ old) × (after ≡ output ++ answer (Fatal kind) None)

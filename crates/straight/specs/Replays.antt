@@ -1,5 +1,6 @@
 -- What a run of one worker's events gives.
-use Rattle.std.specs.Prelude.{◌≡◌, ℕ, ◌<◌, ◌≤◌, ◌++◌, ◌≢◌, false, List, [], ◌∷◌, length, map, slice_index, slice_index_or, slice_set, Contains, All, MatchOption, Option}
+use Rattle.std.specs.Prelude.{◌≡◌, ℕ, ◌<◌, ◌≤◌, ◌++◌, ◌≢◌, false, List, [], ◌∷◌, length, map, slice_index, slice_index_or, slice_set, Contains, All}
+use Rattle.std.specs.Prelude.{MatchOption, Option}
 use Rattle.std.specs.List.{AllByRecursion}
 use Rattle.proto.specs.declared.message.Message.{Message}
 use Rattle.proto.specs.declared.history.Answered.{Answered}
@@ -7,13 +8,13 @@ use Rattle.proto.specs.Sizes.{Sizes}
 use Rattle.proto.specs.Reading.{Reads, asks}
 use Rattle.proto.specs.Answers.{said}
 use Rattle.proto.specs.History.{Legal, session_share, had, asked}
-use Rattle.script.specs.Clocks.{Clock}
+use Rattle.script.specs.Clocks.{ClockState}
 use Rattle.script.specs.declared.event.ScriptEvent.{ScriptEvent}
-use Rattle.script.specs.Events.{newest_of, is_open, MayCome, opened, sent}
-use Rattle.straight.specs.declared.session.Session.{Session}
+use Rattle.script.specs.Events.{newest_of, is_open, MayFollow, sessions_opened, sent}
+use Rattle.straight.specs.declared.session.StraightSession.{StraightSession}
 use Rattle.straight.specs.declared.replay.SessionOutput.{SessionOutput}
 use Rattle.straight.specs.Execution.{Execution}
-use Rattle.straight.specs.Sessions.{Setup, LedTo, AreTimed, IsServed, Feeds}
+use Rattle.straight.specs.Sessions.{Setup, LedTo, AreTimed, AreBytesServed, Feeds}
 
 -- ---- the promise
 
@@ -33,18 +34,18 @@ pub record IsAmong (sessions : List ℕ) (e : Answered) : Type 0 where
 
 -- Some legal history has entries of worker 0 and of these sessions alone, and the clock's moments. In it each
 -- session that was opened has exactly the requests that its bytes spell, and was given exactly their answers.
-pub record IsReplay (sizes : Sizes) (clock : Clock) (events : List ScriptEvent) (given : List SessionOutput) : Type 0 where
+pub record IsReplay (sizes : Sizes) (clock : ClockState) (events : List ScriptEvent) (given : List SessionOutput) : Type 0 where
   pub history : List Answered
   pub legal : Legal sizes history
-  pub among : AllByRecursion (IsAmong (opened events)) history
+  pub among : AllByRecursion (IsAmong (sessions_opened events)) history
   pub timed : AreTimed clock history
-  pub sessions : map (λ (g : SessionOutput). g.session) given ≡ opened events
+  pub sessions : map (λ (g : SessionOutput). g.session) given ≡ sessions_opened events
   pub each : All (λ (g : SessionOutput). IsAnsweredIn history (sent events g.session) g) given
 
 -- ---- on the way
 
-abbrev pub numbers_of : List Session → List ℕ
-numbers_of sessions = map (λ (s : Session). s.number) sessions
+abbrev pub numbers_of : List StraightSession → List ℕ
+numbers_of sessions = map (λ (s : StraightSession). s.number) sessions
 
 -- each number is below those behind it
 abbrev pub IsRising : List ℕ → Type 0
@@ -55,35 +56,35 @@ abbrev pub IsFresh : List ScriptEvent → Type 0
 IsFresh events = (session : ℕ) → newest_of events < session → (sent events session ≡ []) × (is_open events session ≡ false)
 
 -- where the events have led: to this cache and clock, and these sessions
-pub record HasRun (setup : Setup) (events : List ScriptEvent) (now : Execution) (sessions : List Session) : Type 0 where
+pub record HasRun (setup : Setup) (events : List ScriptEvent) (now : Execution) (sessions : List StraightSession) : Type 0 where
   pub history : List Answered
   pub led : LedTo setup history now
-  pub among : AllByRecursion (IsAmong (opened events)) history
-  pub numbers : numbers_of sessions ≡ opened events
-  pub rising : IsRising (opened events)
-  pub highest : All (λ (n : ℕ). n ≤ newest_of events) (opened events)
+  pub among : AllByRecursion (IsAmong (sessions_opened events)) history
+  pub numbers : numbers_of sessions ≡ sessions_opened events
+  pub rising : IsRising (sessions_opened events)
+  pub highest : All (λ (n : ℕ). n ≤ newest_of events) (sessions_opened events)
   pub fresh : IsFresh events
-  pub each : All (λ (s : Session). IsServed (sent events s.number) (session_share history 0 s.number) s) sessions
+  pub each : All (λ (s : StraightSession). AreBytesServed (sent events s.number) (session_share history 0 s.number) s) sessions
 
 -- the place of a session, if it is there
-abbrev pub IsPlaceOf : List Session → ℕ → Option ℕ → Type 0
-IsPlaceOf sessions number place =
-    MatchOption place (All (λ (s : Session). s.number ≢ number) sessions)
+abbrev pub IsSessionAt : List StraightSession → ℕ → Option ℕ → Type 0
+IsSessionAt sessions number place =
+    MatchOption place (All (λ (s : StraightSession). s.number ≢ number) sessions)
     (λ at. (at < length sessions) × (slice_index (numbers_of sessions) at ≡ number))
 
 -- the session at a place is fed, and the others stay
-pub record FeedsAt (before : List Session) (at : ℕ) (from : Execution) (piece : List ℕ) (after : List Session) (to : Execution) : Type 0 where
-  pub old : Session
-  pub new : Session
+pub record FeedsAt (before : List StraightSession) (at : ℕ) (from : Execution) (piece : List ℕ) (after : List StraightSession) (to : Execution) : Type 0 where
+  pub old : StraightSession
+  pub new : StraightSession
   pub old_is : old ≡ slice_index_or before at old
   pub feeds : Feeds old from piece new to
   pub after_is : after ≡ slice_set before at new
 
 -- An event comes next: whatever events came before, they and it have run.
-abbrev pub RunsEvent : Execution → List Session → ScriptEvent → Execution → List Session → Type 0
+abbrev pub RunsEvent : Execution → List StraightSession → ScriptEvent → Execution → List StraightSession → Type 0
 RunsEvent before old event after new =
-    (setup : Setup) (events : List ScriptEvent) → HasRun setup events before old → MayCome events event
+    (setup : Setup) (events : List ScriptEvent) → HasRun setup events before old → MayFollow events event
     → HasRun setup (events ++ event ∷ []) after new
 
-abbrev pub output_of : Session → SessionOutput
+abbrev pub output_of : StraightSession → SessionOutput
 output_of session = record { session = session.number; output = session.output.items }

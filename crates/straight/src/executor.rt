@@ -1,7 +1,7 @@
 //! Executes requests at the moments of a clock.
 
 ghost use Rattle.std.specs.Prelude.{◌≡◌, ℕ, ◌++◌, is_some, IsTrue, OnOk};
-ghost use Rattle.straight.specs.Execution.{Execution, Executes, Answers};
+ghost use Rattle.straight.specs.Execution.{Execution, Executes, AnswersBehind};
 
 use engine::{MAX_MOMENT, StorageEngine};
 use proto::message::{Message, Reply, Request};
@@ -43,8 +43,9 @@ impl<E: StorageEngine + Drop> Executor<E> {
     }
 
     /// Executes the request at the clock's next moment.
-    fn execute(&mut self, request: &Request) -> Reply
-        ensures { (t : ℕ) × Executes self.old t request.now result self.new }
+    fn execute(&mut self, request: &mut Request) -> Reply
+        ensures executes { (t : ℕ) × Executes self.old t request.old result self.new }
+        ensures same { request.new ≡ request.old }
     {
         let told = self.clock.now().min(MAX_MOMENT);
         let moment = self.engine.last_moment().max(told);
@@ -52,8 +53,9 @@ impl<E: StorageEngine + Drop> Executor<E> {
     }
 
     /// Executes the message, where it is a request, and appends its answer.
-    pub fn answer(&mut self, message: &Message, output: &mut Vec<u8>) -> Result<(), NoMemory>
-        ensures { OnOk result (Answers self.old message.now self.new output.old.items output.new.items) }
+    pub fn answer(&mut self, message: &mut Message, output: &mut Vec<u8>) -> Result<(), NoMemory>
+        ensures answers { OnOk result (AnswersBehind self.old message.old self.new output.old.items output.new.items) }
+        ensures same { message.new ≡ message.old }
     {
         match message {
             Message::Ask(request, _) => {

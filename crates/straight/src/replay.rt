@@ -3,13 +3,13 @@
 ghost use Rattle.std.specs.Prelude.{◌≡◌, ℕ, ◌<◌, ◌++◌, ◌∷◌, [], List, length, map, IfOk, OnOk, slice_index, slice_set};
 ghost use Rattle.proto.specs.Cache.{empty_cache};
 ghost use Rattle.script.specs.declared.event.ScriptEvent.{ScriptEvent};
-ghost use Rattle.script.specs.Events.{IsPlayable, MayCome};
-ghost use Rattle.straight.specs.declared.session.Session.{Session};
+ghost use Rattle.script.specs.Events.{IsPlayable, MayFollow};
+ghost use Rattle.straight.specs.declared.session.StraightSession.{StraightSession};
 ghost use Rattle.straight.specs.Sessions.{Setup, Feeds};
-ghost use Rattle.straight.specs.Replays.{FeedsAt, IsPlaceOf, IsReplay, IsRising, RunsEvent, numbers_of, output_of};
+ghost use Rattle.straight.specs.Replays.{FeedsAt, IsSessionAt, IsReplay, IsRising, RunsEvent, numbers_of, output_of};
 
 use crate::executor::Executor;
-use crate::session::Session;
+use crate::session::StraightSession;
 use engine::StorageEngine;
 use proto::byte_string::ByteString;
 use proto::no_memory::NoMemory;
@@ -25,9 +25,9 @@ pub struct SessionOutput {
 }
 
 /// The place of the session with this number.
-fn place_of(sessions: &[Session], number: u64) -> Option<usize>
+fn place_of(sessions: &[StraightSession], number: u64) -> Option<usize>
     requires { IsRising (numbers_of sessions.now) }
-    ensures { IsPlaceOf sessions.now number result }
+    ensures { IsSessionAt sessions.now number result }
 {
     match sessions.binary_search_by_key(&number, |session| session.number) {
         Ok(at) => Some(at),
@@ -39,7 +39,7 @@ fn place_of(sessions: &[Session], number: u64) -> Option<usize>
 fn feed_at<E: StorageEngine + Drop>(
     alloc: Global,
     executor: &mut Executor<E>,
-    sessions: &mut Vec<Session>,
+    sessions: &mut Vec<StraightSession>,
     at: usize,
     piece: &[u8],
 ) -> Result<(), NoMemory>
@@ -53,14 +53,14 @@ fn feed_at<E: StorageEngine + Drop>(
 fn play<E: StorageEngine + Drop>(
     alloc: Global,
     executor: &mut Executor<E>,
-    sessions: &mut Vec<Session>,
+    sessions: &mut Vec<StraightSession>,
     event: &ScriptEvent,
 ) -> Result<(), NoMemory>
     requires { IsRising (numbers_of sessions.old.items) }
     ensures { OnOk result (RunsEvent executor.old sessions.old.items event.now executor.new sessions.new.items) }
 {
     match event {
-        ScriptEvent::Open(number) => sessions.push(Session::new(alloc, *number))?,
+        ScriptEvent::Open(number) => sessions.push(StraightSession::new(alloc, *number))?,
         ScriptEvent::Send(number, bytes) => {
             if let Some(at) = place_of(sessions.as_slice(), *number) {
                 feed_at(alloc, executor, sessions, at, bytes.as_slice())?;
@@ -72,7 +72,7 @@ fn play<E: StorageEngine + Drop>(
 }
 
 /// What the sessions were given.
-fn outputs(alloc: Global, sessions: Vec<Session>) -> Result<Vec<SessionOutput>, NoMemory>
+fn outputs(alloc: Global, sessions: Vec<StraightSession>) -> Result<Vec<SessionOutput>, NoMemory>
     ensures { IfOk result (λ given. given.items ≡ map output_of sessions.items) }
 {
     let mut given = Vec::with_capacity(alloc, sessions.len())?;

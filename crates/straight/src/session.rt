@@ -34,8 +34,8 @@ fn answer_next<E: StorageEngine + Drop>(
 {
     match next_message(alloc, unread)? {
         Next::More => Ok(None),
-        Next::Found(message, length) => {
-            let answered = executor.answer(&message, output);
+        Next::Found(mut message, length) => {
+            let answered = executor.answer(&mut message, output);
             let ended = ends(&message);
             drop(message);
             answered?;
@@ -68,7 +68,7 @@ fn answer_all<E: StorageEngine + Drop>(
 
 /// A session: what it sent and wasn't read yet, and what it was answered.
 #[derive(Debug, Drop)]
-pub struct Session {
+pub struct StraightSession {
     pub number: u64,
     pub unread: Vec<u8>,
     pub output: Vec<u8>,
@@ -76,11 +76,11 @@ pub struct Session {
     pub ended: bool,
 }
 
-impl Session {
-    pub fn new(alloc: Global, number: u64) -> Session
+impl StraightSession {
+    pub fn new(alloc: Global, number: u64) -> StraightSession
         ensures { IsNew number result }
     {
-        Session {
+        StraightSession {
             number,
             unread: Vec::new(alloc),
             output: Vec::new(alloc),

@@ -1,11 +1,12 @@
 -- The lines of a run, one after the other.
-use Rattle.std.proofs.Common.{◌≡◌, ◌≢◌, cond, ℕ, zero, suc, ◌+◌, ◌<◌, List, [], ◌∷◌, ◌++◌, length, map, take, Option, Some, None, refl, sym, ap, ◌∙◌, subst, arith, append_assoc, append-nil}
+use Rattle.std.proofs.Common.{◌≡◌, ◌≢◌, cond, ℕ, zero, suc, ◌+◌, ◌<◌, List, [], ◌∷◌, ◌++◌, length, map, take, Option, Some, None, refl, sym, ap, ◌∙◌, subst}
+use Rattle.std.proofs.Common.{arith, append_assoc, append-nil}
 use Rattle.std.specs.Prelude.{flat_map, slice_index_or}
 use Rattle.std.specs.Io.KnownBytes.{Appends, Keeps}
 use Rattle.exchange.proofs.Lists.{at_some}
 use Rattle.script.specs.Scripts.{Workers}
-use Rattle.script_port.specs.Sessions.{SessionState, numbers}
-use Rattle.script_port.specs.States.{PortState, story_of, told_of}
+use Rattle.script_port.specs.Sessions.{ScriptSessionState, numbers}
+use Rattle.script_port.specs.States.{PortState, story_of, story_told}
 use Rattle.script_port.specs.Events.{is_playable}
 use Rattle.script_port.proofs.EventLemmas.{bool_cases}
 use Rattle.worker.specs.Ports.{PortStory}
@@ -17,27 +18,29 @@ use mathlib.Core.Option.{some, some-injective}
 use native.Mathlib.Decide.{ℕ_discrete}
 use lib.ListN.{get_elem?}
 use Rattle.group.proofs.Places.{at_or}
-use Rattle.subcommands.specs.Printed.{lines_of, lines_from, events_of, IsPort, IsPlayedAt}
+use Rattle.subcommands.specs.Printed.{printed_lines, lines_from, events_of, IsPort, IsPlayedAt}
 
-pub over_numbers : (f : ℕ → List ℕ) (xs : List SessionState) → flat_map (λ (x : SessionState). f x.number) xs ≡ flat_map f (numbers xs)
+-- the bytes joined for each session of a table by its number are those joined for the list of its numbers
+pub over_numbers : (f : ℕ → List ℕ) (xs : List ScriptSessionState) → flat_map (λ (x : ScriptSessionState). f x.number) xs ≡ flat_map f (numbers xs)
 over_numbers f [] = refl
 over_numbers f (x ∷ xs) = ap (λ l. f x.number ++ l) (over_numbers f xs)
 
+-- the first 0 elements of a list are none
 take_none : {A : Type 0} (xs : List A) → take 0 xs ≡ []
 take_none [] = refl
 take_none (x ∷ xs) = refl
 
 -- the lines of one worker more
 pub lines_more : (w k : ℕ) (ws : List (GroupWorker PortState)) (d : GroupWorker PortState) → k < length ws
-    → lines_from w (map events_of (take (suc k) ws)) ≡ lines_from w (map events_of (take k ws)) ++ lines_of (w + k) (events_of (slice_index_or ws k d))
+    → lines_from w (map events_of (take (suc k) ws)) ≡ lines_from w (map events_of (take k ws)) ++ printed_lines (w + k) (events_of (slice_index_or ws k d))
 lines_more w k [] d low = absurd (omega arith)
 lines_more w zero (x ∷ ws) d low =
-    ap (λ l. lines_of w (events_of x) ++ lines_from (w + 1) (map events_of l)) (take_none ws)
-    ∙ append-nil (lines_of w (events_of x)) ∙ ap (λ n. lines_of n (events_of x)) (omega arith)
+    ap (λ l. printed_lines w (events_of x) ++ lines_from (w + 1) (map events_of l)) (take_none ws)
+    ∙ append-nil (printed_lines w (events_of x)) ∙ ap (λ n. printed_lines n (events_of x)) (omega arith)
 lines_more w (suc k) (x ∷ ws) d low =
-    ap (λ l. lines_of w (events_of x) ++ l) (lines_more (w + 1) k ws d (omega arith))
-    ∙ sym (append_assoc (lines_of w (events_of x)) (lines_from (w + 1) (map events_of (take k ws))) (lines_of (w + 1 + k) (events_of (slice_index_or ws k d))))
-    ∙ ap (λ n. (lines_of w (events_of x) ++ lines_from (w + 1) (map events_of (take k ws))) ++ lines_of n (events_of (slice_index_or ws k d))) (omega arith)
+    ap (λ l. printed_lines w (events_of x) ++ l) (lines_more (w + 1) k ws d (omega arith))
+    ∙ sym (append_assoc (printed_lines w (events_of x)) (lines_from (w + 1) (map events_of (take k ws))) (printed_lines (w + 1 + k) (events_of (slice_index_or ws k d))))
+    ∙ ap (λ n. (printed_lines w (events_of x) ++ lines_from (w + 1) (map events_of (take k ws))) ++ printed_lines n (events_of (slice_index_or ws k d))) (omega arith)
 
 -- bytes that were written one after the other
 pub appended : (old mid new : Option (List ℕ)) (xs ys : List ℕ) → Appends old mid xs → Appends mid new ys → Appends old new (xs ++ ys)
@@ -74,16 +77,16 @@ one_more f xs k x bytes old mid new low is bytes_are before wrote =
 -- one worker's lines were written behind those of the workers before it
 pub one_worker_more : (ws : List (GroupWorker PortState)) (k : ℕ) (x : GroupWorker PortState) (old mid new : Option (List ℕ))
     → k < length ws → slice_index_or ws k x ≡ x
-    → Appends old mid (lines_from 0 (map events_of (take k ws))) → Appends mid new (lines_of k (events_of x))
+    → Appends old mid (lines_from 0 (map events_of (take k ws))) → Appends mid new (printed_lines k (events_of x))
     → Appends old new (lines_from 0 (map events_of (take (k + 1) ws)))
 one_worker_more ws k x old mid new low is before wrote =
     let plus : suc k ≡ k + 1 = omega arith in let zero_more : 0 + k ≡ k = omega arith in
     subst (λ n. Appends old new (lines_from 0 (map events_of (take n ws)))) plus
     (subst (Appends old new)
     (sym (lines_more 0 k ws x low
-    ∙ ap (λ n. lines_from 0 (map events_of (take k ws)) ++ lines_of n (events_of (slice_index_or ws k x))) zero_more
-    ∙ ap (λ y. lines_from 0 (map events_of (take k ws)) ++ lines_of k (events_of y)) is))
-    (appended old mid new (lines_from 0 (map events_of (take k ws))) (lines_of k (events_of x)) before wrote))
+    ∙ ap (λ n. lines_from 0 (map events_of (take k ws)) ++ printed_lines n (events_of (slice_index_or ws k x))) zero_more
+    ∙ ap (λ y. lines_from 0 (map events_of (take k ws)) ++ printed_lines k (events_of y)) is))
+    (appended old mid new (lines_from 0 (map events_of (take k ws))) (printed_lines k (events_of x)) before wrote))
 
 -- one worker more, at whose port the list is what the script does
 pub one_played_more : (ws : List (GroupWorker PortState)) (n : ℕ) (x : GroupWorker PortState) → n < length ws → slice_index_or ws n x ≡ x
@@ -98,7 +101,7 @@ one_played_more ws n x low is before here k y small at =
 
 -- nothing has happened yet at the ports of a run
 pub silent : (accept fail_give : ℕ) (scripts : Workers) (ports : List PortState) → AreEach (IsPort accept fail_give) scripts ports
-    → All (IsSilent told_of) ports
+    → All (IsSilent story_told) ports
 silent accept fail_give scripts ports each k d low =
     let s = at_some scripts k (subst (λ n. k < n) (sym each.0) low) in
     let is = each.1 k s.0 (slice_index_or ports k d) s.1 (at_or ports k d low) in record {

@@ -1,5 +1,6 @@
 -- From a group's run over the ports of a script to what the script's bytes make it print.
-use Rattle.std.proofs.Common.{◌≡◌, ℕ, zero, suc, ◌+◌, ◌<◌, ◌==◌, Bool, true, false, ◌||◌, cond, List, [], ◌∷◌, ◌++◌, length, map, take, Option, Some, None, All, Contains, IsSome, refl, sym, ap, subst, ◌∙◌, arith}
+use Rattle.std.proofs.Common.{◌≡◌, ℕ, zero, suc, ◌+◌, ◌<◌, nat_lt, inl, inr, ⊎_elim, ◌==◌, Bool, true, false, ◌||◌, cond, List, [], ◌∷◌, ◌++◌, length, map}
+use Rattle.std.proofs.Common.{take, Option, Some, None, All, Contains, IsSome, refl, sym, ap, subst, ◌∙◌, arith}
 use Rattle.std.specs.Prelude.{⊤, flat_map, slice_index_or}
 use Rattle.std.specs.List.{list_any}
 use Rattle.std.proofs.lemmas.List.{length-map}
@@ -18,7 +19,7 @@ use Rattle.engine.specs.Reaching.{moments, moment_after, moments_after}
 use Rattle.storage_thread.specs.Serving.{IsTimed}
 use Rattle.script.specs.declared.event.ScriptEvent.{ScriptEvent}
 use Rattle.script.specs.Events as script
-use Rattle.script.specs.Clocks.{Clock, answer_of, first_answers}
+use Rattle.script.specs.Clocks.{ClockState, answer_of, first_answers}
 use Rattle.script.specs.Scripts.{Workers, AreEventsOf}
 use Rattle.worker.specs.declared.port.PortRecord.{PortRecord}
 use Rattle.worker.specs.declared.port.PortRecord.TheVariants as was
@@ -26,41 +27,48 @@ use Rattle.worker.specs.Ports.{PortStory, fed, given, was_opened, is_opening}
 use Rattle.worker.specs.Sessions.{cause_of}
 use Rattle.worker.specs.Reports.{IsCauseOf}
 use Rattle.clocks.specs.declared.told_clock.ToldClock.{ToldClock}
-use Rattle.clocks.specs.Answers.{listed}
+use Rattle.clocks.specs.Readings.{readings_in_order}
 use Rattle.clocks.specs.Leading.{GivesAnswers}
 use Rattle.script_port.specs.Events.{is_playable}
 use Rattle.script_port.specs.Records.{opened}
 use Rattle.script_port.specs.Following.{IsPlayed}
-use Rattle.script_port.specs.States.{PortState, story_of, told_of, PlaysOn}
+use Rattle.script_port.proofs.EventLemmas.{lt_true}
+use Rattle.script_port.specs.States.{PortState, story_of, story_told, PlaysOn}
 use Rattle.group.specs.declared.report.GroupWorker.{GroupWorker}
 use Rattle.group.specs.declared.report.GroupReport.{GroupReport}
 use Rattle.group.specs.Threads.{AreEach}
 use Rattle.group.specs.Headline.{AreAnsweredIn, IsRun}
 use Rattle.group.proofs.Places.{at_mapped}
-use Rattle.subcommands.specs.Printed.{line_of, lines_of, lines_from, events_of, IsPort, ArePlayed}
+use Rattle.subcommands.specs.Printed.{printed_line, printed_lines, lines_from, events_of, IsPort, ArePlayed}
 use Rattle.subcommands.specs.Replayed.{SessionOutcome, MayEnd, GivesAnswersOf, IsOutcomeOf, AreOutcomesOf, outcome_lines, IsReplayOf}
 
 -- ---- what a worker leaves, session by session
 
+-- what came of a worker's session, by the port's list and the worker's report
 abbrev outcome_of : GroupWorker PortState → ℕ → SessionOutcome
 outcome_of worker s = record { number = s; came = fed s worker.port.records; given = given s worker.port.records; cause = cause_of worker.sessions.items s }
 
+-- what came of each session that a worker's port opened, in order
 abbrev outcomes_of : GroupWorker PortState → List SessionOutcome
 outcomes_of worker = map (outcome_of worker) (opened worker.port.records)
 
+-- the bytes joined for a changed list are those joined for what each element changes to
 flat_map-map : {A B : Type 0} (f : B → List ℕ) (g : A → B) (xs : List A) → flat_map f (map g xs) ≡ flat_map (λ x. f (g x)) xs
 flat_map-map f g [] = refl
 flat_map-map f g (x ∷ xs) = ap (λ (l : List ℕ). f (g x) ++ l) (flat_map-map f g xs)
 
+-- the lines by the lists of the workers' ports are the lines by what came of their sessions
 lines_are : (w : ℕ) (workers : List (GroupWorker PortState)) → lines_from w (map events_of workers) ≡ outcome_lines w (map outcomes_of workers)
 lines_are w [] = refl
 lines_are w (x ∷ workers) =
-    (λ i. sym (flat_map-map (λ (o : SessionOutcome). line_of w o.number o.given) (outcome_of x) (opened x.port.records)) i ++ lines_are (w + 1) workers i)
+    (λ i. sym (flat_map-map (λ (o : SessionOutcome). printed_line w o.number o.given) (outcome_of x) (opened x.port.records)) i ++ lines_are (w + 1) workers i)
 
+-- the outcomes of some sessions have their numbers, in the same order
 numbers_are : (worker : GroupWorker PortState) (xs : List ℕ) → map (λ (o : SessionOutcome). o.number) (map (outcome_of worker) xs) ≡ xs
 numbers_are worker [] = refl
 numbers_are worker (s ∷ xs) = ap (λ (l : List ℕ). s ∷ l) (numbers_are worker xs)
 
+-- what holds of whatever an element changes to holds of all elements of the changed list
 all_mapped : {A B : Type 0} (P : B → Type 0) (f : A → B) (xs : List A) → ((x : A) → P (f x)) → All P (map f xs)
 all_mapped P f [] each k d low = absurd (omega arith)
 all_mapped P f (x ∷ xs) each zero d low = each x
@@ -76,6 +84,7 @@ any_opened s (was.Ended ∷ events) = any_opened s events
 any_opened s (was.Accepted t bytes ∷ events) = any_opened s events
 any_opened s (was.Shut t ∷ events) = any_opened s events
 
+-- a cause that fits the list and the messages of a session fits the messages alone
 may_end : (events : List PortRecord) (s : ℕ) (messages : List Message) (cause : EndCause) → IsCauseOf events s messages cause → MayEnd messages cause
 may_end events s messages causes.Drained caused = caused.2
 may_end events s messages causes.Quit caused = caused.1
@@ -85,8 +94,9 @@ may_end events s messages causes.NoMemory caused = tt
 
 -- one worker
 module _ (history : List Answered) (w : ℕ) (events : List ScriptEvent) (worker : GroupWorker PortState)
-    (answered : AreAnsweredIn worker.port.records history w worker.sessions.items worker.unopened) (played : IsPlayed events worker.port.records) where
-  one_outcome : (s : ℕ) → IsOutcomeOf history w events (outcome_of worker s)
+    (fail_give : ℕ) (can_fail : Bool) (answered : AreAnsweredIn worker.port.records history w worker.sessions.items worker.unopened)
+    (played : IsPlayed events worker.port.records can_fail) (asked_to : can_fail ≡ true → 0 < fail_give) where
+  one_outcome : (s : ℕ) → IsOutcomeOf history w fail_give events (outcome_of worker s)
   one_outcome s =
       let l = worker.port.records in let reading = has_reading (fed s l) in record {
         came_first = played.fed_first s;
@@ -102,12 +112,14 @@ module _ (history : List Answered) (w : ℕ) (events : List ScriptEvent) (worker
           complete = a.complete;
           may_end = may_end l s reading.0 cause a.caused;
         };
+        gone_by = λ found. ⊎_elim (λ line. inl line) (λ could. inr (asked_to could))
+            (played.gone_by s (answered.answered s causes.Gone found reading.0 reading.1 reading.2).caused);
       }
 
-  worker_outcomes : AreOutcomesOf history w events (outcomes_of worker)
+  worker_outcomes : AreOutcomesOf history w fail_give events (outcomes_of worker)
   worker_outcomes = record {
     opened_are = numbers_are worker (opened worker.port.records) ∙ played.opened_all answered.ended;
-    each = all_mapped (IsOutcomeOf history w events) (outcome_of worker) (opened worker.port.records) one_outcome;
+    each = all_mapped (IsOutcomeOf history w fail_give events) (outcome_of worker) (opened worker.port.records) one_outcome;
     no_other = λ e has.
         ap (list_any (λ s. s == e.session)) (sym (played.opened_all answered.ended)) ∙ any_opened e.session worker.port.records
         ∙ answered.opened e.session (answered.placed e has);
@@ -115,22 +127,25 @@ module _ (history : List Answered) (w : ℕ) (events : List ScriptEvent) (worker
 
 -- ---- the clock
 
-length-first : (clock : Clock) (n : ℕ) → length (first_answers clock n) ≡ n
+-- the first so many answers of a clock are so many
+length-first : (clock : ClockState) (n : ℕ) → length (first_answers clock n) ≡ n
 length-first clock zero = refl
 length-first clock (suc n) = let more = length-append (first_answers clock n) (answer_of clock n ∷ []) in
     let before = length-first clock n in omega (arith, more, before)
 
+-- a clock's answers give as many moments as they are
 length-after : (answers : List ℕ) (last : ℕ) → length (moments_after last answers) ≡ length answers
 length-after [] last = refl
 length-after (a ∷ answers) last = ap suc (length-after answers (moment_after last a))
 
-timed : (clock : Clock) (told after : ToldClock) (history : List Answered) → told.clock ≡ clock → listed told.answers ≡ []
-    → GivesAnswers told after → IsTimed (Some (listed told.answers)) (Some (listed after.answers)) history
+-- if a new clock was asked once for each request of a history, the requests' moments are those of its first answers
+timed : (clock : ClockState) (told after : ToldClock) (history : List Answered) → told.clock ≡ clock → readings_in_order told.answers ≡ []
+    → GivesAnswers told after → IsTimed (Some (readings_in_order told.answers)) (Some (readings_in_order after.answers)) history
     → moments history ≡ moments_after 0 (first_answers clock (length history))
 timed clock told after history clock_is none gives is =
-    let told_are : Some (listed after.answers) ≡ Some (listed told.answers ++ is.0) = is.1 in
-    let listed_are : listed after.answers ≡ listed told.answers ++ is.0 = cc in
-    let answers_are : listed after.answers ≡ is.0 = listed_are ∙ ap (λ (l : List ℕ). l ++ is.0) none in
+    let told_are : Some (readings_in_order after.answers) ≡ Some (readings_in_order told.answers ++ is.0) = is.1 in
+    let listed_are : readings_in_order after.answers ≡ readings_in_order told.answers ++ is.0 = cc in
+    let answers_are : readings_in_order after.answers ≡ is.0 = listed_are ∙ ap (λ (l : List ℕ). l ++ is.0) none in
     let first_are : is.0 ≡ first_answers clock gives.count =
     sym answers_are ∙ gives.told ∙ (λ i. none i ++ first_answers (clock_is i) gives.count) in
     let count_is : gives.count ≡ length history =
@@ -160,11 +175,13 @@ keeping_run told leads_to clock_told clock_leads keeps found sizes ports clock r
 
 -- ---- all workers
 
-pub replayed : (sizes : Sizes) (clock : Clock) (workers accept fail_give : ℕ) (text : List ℕ) (scripts : Workers) → AreEventsOf workers text scripts
-    → (ports : List PortState) → AreEach (IsPort accept fail_give) scripts ports → (told : ToldClock) → told.clock ≡ clock → listed told.answers ≡ []
-    → (report : GroupReport PortState ToldClock) → IsRun told_of PlaysOn (λ (c : ToldClock). Some (listed c.answers)) GivesAnswers ⊤ sizes ports told report
+-- the lines of the sessions in a group's run over ports that play a script
+-- are what is printed for the script's bytes
+pub replayed : (sizes : Sizes) (clock : ClockState) (workers accept fail_give : ℕ) (text : List ℕ) (scripts : Workers) → AreEventsOf workers text scripts
+    → (ports : List PortState) → AreEach (IsPort accept fail_give) scripts ports → (told : ToldClock) → told.clock ≡ clock → readings_in_order told.answers ≡ []
+    → (report : GroupReport PortState ToldClock) → IsRun story_told PlaysOn (λ (c : ToldClock). Some (readings_in_order c.answers)) GivesAnswers ⊤ sizes ports told report
     → ArePlayed report.workers.items
-    → IsReplayOf sizes clock workers text (lines_from 0 (map events_of report.workers.items))
+    → IsReplayOf sizes clock workers fail_give text (lines_from 0 (map events_of report.workers.items))
 replayed sizes clock workers accept fail_give text scripts read ports ports_are told clock_is none report run played = record {
   scripts = scripts;
   read = read;
@@ -182,8 +199,11 @@ replayed sizes clock workers accept fail_give text scripts read ports ports_are 
       let script_is : x.0.port.script ≡ events = of.leads.0 ∙ ap (λ (p : PortState). p.script) is.1 in
       let plays : is_playable x.0.port.script ≡ true = ap is_playable script_is ∙ is.0 in
       let answered = of.served (story_of x.0.port) (ap (λ b. cond b (Some (story_of x.0.port)) None) plays) in
-      subst (AreOutcomesOf run.history w events) x.2
-      (worker_outcomes run.history w events x.0 answered (subst (λ (s : List ScriptEvent). IsPlayed s x.0.port.records) script_is (played w x.0 x.1 plays)));
+      let can_fail_is : x.0.port.can_fail ≡ nat_lt 0 fail_give = of.leads.2 ∙ ap (λ (p : PortState). p.can_fail) is.1 in
+      subst (AreOutcomesOf run.history w fail_give events) x.2
+      (worker_outcomes run.history w events x.0 fail_give x.0.port.can_fail answered
+      (subst (λ (s : List ScriptEvent). IsPlayed s x.0.port.records x.0.port.can_fail) script_is (played w x.0 x.1 plays))
+      (λ could. lt_true 0 fail_give (sym can_fail_is ∙ could)));
   bounded = run.bounded tt;
   printed_is = lines_are 0 report.workers.items;
 }

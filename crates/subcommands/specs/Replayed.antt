@@ -1,5 +1,5 @@
 -- What `segcached replay` prints, by the bytes of its script alone.
-use Rattle.std.specs.Prelude.{◌≡◌, ℕ, ◌+◌, ◌<◌, ⊤, true, List, [], ◌∷◌, ◌++◌, ◌==◌, length, map, flat_map, All, Contains, Option, Some, None}
+use Rattle.std.specs.Prelude.{◌≡◌, ℕ, ◌+◌, ◌<◌, ◌⊎◌, ⊤, true, List, [], ◌∷◌, ◌++◌, ◌==◌, length, map, flat_map, All, Contains, Option, Some, None}
 use Rattle.std.specs.List.{list_any}
 use mathlib.Core.Option.{some}
 use lib.ListN.{get_elem?}
@@ -16,11 +16,11 @@ use Rattle.session_book.specs.Session.{ended_by}
 use Rattle.engine.specs.Reaching.{moments, moments_after}
 use Rattle.storage_thread.specs.Keeping.{MayForgetNothing}
 use Rattle.script.specs.declared.event.ScriptEvent.{ScriptEvent}
-use Rattle.script.specs.Events.{opened, sent}
-use Rattle.script.specs.Clocks.{Clock, first_answers}
+use Rattle.script.specs.Events.{sessions_opened, sent, goes_in_script}
+use Rattle.script.specs.Clocks.{ClockState, first_answers}
 use Rattle.script.specs.Scripts.{Workers, AreEventsOf}
 use Rattle.worker.specs.Reports.{is_complete}
-use Rattle.subcommands.specs.Printed.{line_of}
+use Rattle.subcommands.specs.Printed.{printed_line}
 
 -- What came of a session: its bytes that were read, those that it was given, and why it ended; None where it found no
 -- room, and was shut at once.
@@ -52,31 +52,33 @@ pub record GivesAnswersOf (history : List Answered) (worker : ℕ) (outcome : Se
   pub may_end : MayEnd messages cause
 
 -- A beginning of the bytes that the script sends a session came, and all of them where it drained. One that found no
--- room was given nothing; each other one was given its answers.
-pub record IsOutcomeOf (history : List Answered) (worker : ℕ) (script : List ScriptEvent) (outcome : SessionOutcome) : Type 0 where
+-- room was given nothing; each other one was given its answers. It ended as gone only where the script says that its peer
+-- goes, or a `give` was asked to fail.
+pub record IsOutcomeOf (history : List Answered) (worker fail_give : ℕ) (script : List ScriptEvent) (outcome : SessionOutcome) : Type 0 where
   pub came_first : StartsWith (sent script outcome.number) outcome.came
   pub came_all : outcome.cause ≡ Some causes.Drained → outcome.came ≡ sent script outcome.number
   pub no_room : outcome.cause ≡ None → outcome.given ≡ []
   pub answered : (cause : EndCause) → outcome.cause ≡ Some cause → GivesAnswersOf history worker outcome cause
+  pub gone_by : outcome.cause ≡ Some causes.Gone → (goes_in_script script outcome.number ≡ true) ⊎ (0 < fail_give)
 
 -- Each session that the script opens has its outcome, once and in order, and each request of the worker in the history is
 -- of one of them.
-pub record AreOutcomesOf (history : List Answered) (worker : ℕ) (script : List ScriptEvent) (outcomes : List SessionOutcome) : Type 0 where
-  pub opened_are : map (λ (o : SessionOutcome). o.number) outcomes ≡ opened script
-  pub each : All (IsOutcomeOf history worker script) outcomes
-  pub no_other : (e : Answered) → Contains (worker_share history worker) e → list_any (λ s. s == e.session) (opened script) ≡ true
+pub record AreOutcomesOf (history : List Answered) (worker fail_give : ℕ) (script : List ScriptEvent) (outcomes : List SessionOutcome) : Type 0 where
+  pub opened_are : map (λ (o : SessionOutcome). o.number) outcomes ≡ sessions_opened script
+  pub each : All (IsOutcomeOf history worker fail_give script) outcomes
+  pub no_other : (e : Answered) → Contains (worker_share history worker) e → list_any (λ s. s == e.session) (sessions_opened script) ≡ true
 
 -- the lines of the workers from this one on
 abbrev pub outcome_lines : ℕ → List (List SessionOutcome) → List ℕ
 outcome_lines worker [] = []
 outcome_lines worker (outcomes ∷ more) =
-    flat_map (λ (o : SessionOutcome). line_of worker o.number o.given) outcomes ++ outcome_lines (worker + 1) more
+    flat_map (λ (o : SessionOutcome). printed_line worker o.number o.given) outcomes ++ outcome_lines (worker + 1) more
 
--- What is printed for a script with these bytes: some legal history has the moments of the clock's answers; by it each
+-- What is printed for a script with these bytes where this `give` was asked to fail, or none for 0: some legal history has the moments of the clock's answers; by it each
 -- worker's sessions, those that the script opens, have their outcomes; it may be read as one that forgets nothing, where no
 -- request sets a deadline and little is stored; and a line for each session tells what it was given, in order of worker and
 -- session.
-pub record IsReplayOf (sizes : Sizes) (clock : Clock) (workers : ℕ) (text printed : List ℕ) : Type 0 where
+pub record IsReplayOf (sizes : Sizes) (clock : ClockState) (workers fail_give : ℕ) (text printed : List ℕ) : Type 0 where
   pub scripts : Workers
   pub read : AreEventsOf workers text scripts
   pub history : List Answered
@@ -86,6 +88,6 @@ pub record IsReplayOf (sizes : Sizes) (clock : Clock) (workers : ℕ) (text prin
   pub outcomes : List (List SessionOutcome)
   pub one_each : length outcomes ≡ length scripts
   pub each : (w : ℕ) (script : List ScriptEvent) (os : List SessionOutcome) → get_elem? scripts w ≡ some script
-      → get_elem? outcomes w ≡ some os → AreOutcomesOf history w script os
+      → get_elem? outcomes w ≡ some os → AreOutcomesOf history w fail_give script os
   pub bounded : MayForgetNothing sizes history
   pub printed_is : printed ≡ outcome_lines 0 outcomes

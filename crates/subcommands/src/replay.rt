@@ -2,24 +2,24 @@
 
 ghost use Rattle.std.specs.Prelude.{◌≡◌, ℕ, List, IfOk, OnOk, IfSome, MatchResult, map, take};
 ghost use Rattle.proto.specs.Sizes.{IsGeometry, sizes_of};
-ghost use Rattle.subcommands.specs.declared.fault.Fault.TheVariants.{BadGeometry};
-ghost use Rattle.subcommands.specs.Faults.{IsReadFault};
+ghost use Rattle.faults.specs.declared.fault.Fault.TheVariants.{BadGeometry};
+ghost use Rattle.faults.specs.Faults.{IsReadFault};
 ghost use Rattle.std.specs.String.{string_bytes};
 ghost use Rattle.std.specs.Io.KnownBytes.{Appends};
 ghost use Rattle.script.specs.Clocks.{clock_at};
+ghost use Rattle.script.specs.Scripts.{AreEventsOf};
 ghost use Rattle.group.specs.Threads.{AreEach};
-ghost use Rattle.subcommands.specs.Printed.{shown, line_of, lines_of, lines_from, events_of, IsPort, IsPlayedAt, ArePlayed, IsPrinted};
+ghost use Rattle.subcommands.specs.Printed.{in_hexadecimal, printed_line, printed_lines, lines_from, events_of, IsPort, IsPlayedAt, ArePlayed, IsPrinted};
 ghost use Rattle.subcommands.specs.Replayed.{IsReplayOf};
 
-use crate::fault::Fault;
-use crate::words::Options;
-use clocks::told_clock::ToldClock;
-use gates::open::OpenGate;
-use group::report::{Config, GroupWorker};
-use group::run::run_group;
+use clocks::ToldClock;
+use command_line::words::Options;
+use faults::fault::Fault;
+use gates::OpenGate;
+use group::{Config, GroupWorker, run_group};
 use proto::geometry::Geometry;
 use script::clock::ScriptClock;
-use script::reader::read_script;
+use script::reader::{MAX_SCRIPT, read_script};
 use script::worker_script::WorkerScript;
 use script_port::port::ScriptPort;
 use segment_store::Store;
@@ -30,7 +30,7 @@ use std::thread::Threads;
 use std::time;
 
 /// One byte more than a script may have.
-const TOO_MANY: u64 = 16_777_217;
+const TOO_MANY: u64 = MAX_SCRIPT as u64 + 1;
 
 /// The sizes that the options ask for.
 pub fn geometry_of(options: &Options) -> Result<Geometry, Fault>
@@ -90,9 +90,24 @@ fn script_bytes<R: Read + Drop>(
     }
 }
 
+/// The events of the script, by worker.
+fn read_events<R: Read + Drop>(
+    alloc: Global,
+    options: &Options,
+    script: R,
+) -> Result<Vec<WorkerScript>, Fault>
+    ensures { IfOk result (λ scripts. IfSome (R.remaining script) (λ text. AreEventsOf options.entry.now.workers text scripts.items)) }
+{
+    let bytes = script_bytes(alloc, options, script)?;
+    match read_script(alloc, bytes.as_slice(), options.workers as usize) {
+        Ok(scripts) => Ok(scripts),
+        Err(fault) => Err(Fault::Script(fault)),
+    }
+}
+
 /// The bytes in hexadecimal, or `-` where there are none.
-fn shown(alloc: Global, bytes: &[u8]) -> Result<String, AllocError>
-    ensures { IfOk result (λ text. string_bytes text ≡ shown bytes.now) }
+fn in_hexadecimal(alloc: Global, bytes: &[u8]) -> Result<String, AllocError>
+    ensures { IfOk result (λ text. string_bytes text ≡ in_hexadecimal bytes.now) }
 {
     if bytes.is_empty() {
         String::from_str(alloc, "-")
@@ -103,13 +118,13 @@ fn shown(alloc: Global, bytes: &[u8]) -> Result<String, AllocError>
 
 /// The line of a session: its worker, its number and the bytes that it was given.
 fn line(alloc: Global, worker: usize, session: u64, given: &[u8]) -> Result<String, AllocError>
-    ensures { IfOk result (λ text. string_bytes text ≡ line_of worker session given.now) }
+    ensures { IfOk result (λ text. string_bytes text ≡ printed_line worker session given.now) }
 {
     let mut text = worker.to_string(alloc)?;
     text.push_str(" ")?;
     text.push_str(session.to_string(alloc)?.as_str())?;
     text.push_str(" ")?;
-    text.push_str(shown(alloc, given)?.as_str())?;
+    text.push_str(in_hexadecimal(alloc, given)?.as_str())?;
     text.push_str("\n")?;
     Ok(text)
 }
@@ -121,7 +136,7 @@ fn write_worker<W: Write>(
     worker: usize,
     port: &ScriptPort,
 ) -> Result<(), Fault>
-    ensures lines { OnOk result (Appends (W.contents out.old) (W.contents out.new) (lines_of worker port.now.records)) }
+    ensures lines { OnOk result (Appends (W.contents out.old) (W.contents out.new) (printed_lines worker port.now.records)) }
     ensures played { IsPlayedAt port.now }
 {
     for session in port.sessions() {
@@ -178,7 +193,7 @@ pub fn replay<H: Threads + Wait + time::Clock + Sync, R: Read + Drop, W: Write>(
     out: &mut W,
 ) -> Result<(), Fault>
     ensures printed { OnOk result (IfSome (R.remaining script) (λ text. (printed : List ℕ)
-        × IsReplayOf geometry (clock_at options.entry.now.now options.entry.now.tick) options.entry.now.workers text printed
+        × IsReplayOf geometry (clock_at options.entry.now.now options.entry.now.tick) options.entry.now.workers options.entry.now.fail_give text printed
         × Appends (W.contents out.old) (W.contents out.new) printed)) }
 
     // it is a group's run over ports with the faults that the options ask for
@@ -186,11 +201,7 @@ pub fn replay<H: Threads + Wait + time::Clock + Sync, R: Read + Drop, W: Write>(
         × IsPrinted geometry (clock_at options.entry.now.now options.entry.now.tick) options.entry.now.workers options.entry.now.accept options.entry.now.fail_give text printed
         × Appends (W.contents out.old) (W.contents out.new) printed)) }
 {
-    let bytes = script_bytes(alloc, options, script)?;
-    let scripts = match read_script(alloc, bytes.as_slice(), options.workers as usize) {
-        Ok(scripts) => scripts,
-        Err(fault) => return Err(Fault::Script(fault)),
-    };
+    let scripts = read_events(alloc, options, script)?;
     let ports = ports_of(alloc, options, scripts)?;
     let clock = ToldClock::new(ScriptClock::new(options.now, options.tick));
     let store = Store::new(alloc, geometry)?;

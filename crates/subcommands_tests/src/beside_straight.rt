@@ -3,6 +3,7 @@
 ghost use Rattle.std.specs.Prelude.{◌<◌};
 
 use crate::common::{options, printed};
+use command_line::words::Options;
 use script::clock::ScriptClock;
 use script::reader::read_script;
 use segment_store::Store;
@@ -10,7 +11,6 @@ use std::alloc::Global;
 use std::test::Fail;
 use straight::replay::replay_straight;
 use subcommands::replay::geometry_of;
-use subcommands::words::Options;
 
 /// Numbers that look random, by xorshift.
 #[derive(Drop)]

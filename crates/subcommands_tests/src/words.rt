@@ -1,11 +1,11 @@
 //! The words of the program.
 
 use crate::common::options;
+use command_line::words::{Job, WordsFault, parse_words, unreadable_words};
 use std::alloc::Global;
 use std::io::{self, ErrorKind};
 use std::process::Abort;
 use std::test::Fail;
-use subcommands::words::{Job, WordsFault, parse_words, unreadable_words};
 
 /// The job of some words.
 fn job(alloc: Global, words: &str) -> Result<Job, WordsFault> {

@@ -16,6 +16,8 @@ mod player;
 #[cfg(test)]
 mod random;
 #[cfg(test)]
+mod rooms;
+#[cfg(test)]
 mod session;
 #[cfg(test)]
 mod sizes;

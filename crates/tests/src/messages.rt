@@ -8,8 +8,9 @@ use proto::keys::Keys;
 use proto::message::{Message, Next, Reply, Request};
 use proto::next::next_message;
 use proto::no_memory::NoMemory;
+use proto::room::Room;
 use proto::show::show;
-use proto::view::{View, next_view};
+use proto::view::{NextView, next_view};
 use std::alloc::{AllocError, Global};
 use std::process::Abort;
 use std::test::Fail;
@@ -139,7 +140,8 @@ fn hit(alloc: Global) -> Result<Hits, NoMemory> {
         cas: u64::MAX,
     };
     let room = hit.room().ok_or(NoMemory)?;
-    let mut hits = HitWriter::with_room(alloc, room)?;
+    let mut hits = HitWriter::in_room(Room::new(alloc));
+    hits.reserve(room)?;
     hits.push(hit);
     Ok(hits.finish())
 }
@@ -292,8 +294,8 @@ fn lines_end_within_2048_bytes(rt: HostRuntime) -> Result<(), Fail> {
 
 fn check_need(rt: &impl Abort, input: &[u8], most: usize) {
     match next_view(input) {
-        View::Found(..) => assert!(rt; false, "a message at {input:?}"),
-        View::More(need) => assert_eq!(rt; need, most, "at {input:?}"),
+        NextView::Found(..) => assert!(rt; false, "a message at {input:?}"),
+        NextView::More(need) => assert_eq!(rt; need, most, "at {input:?}"),
     }
 }
 

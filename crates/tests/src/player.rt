@@ -1,9 +1,10 @@
 //! A book with the requests that it has given, and a store that knows one value.
 
 use proto::history::{Answered, Posted};
-use proto::hits::{HitRef, Hits};
+use proto::hits::{HitRef, HitWriter};
 use proto::message::{Reply, Request};
 use proto::no_memory::NoMemory;
+use proto::room::Room;
 use session_book::book::Book;
 use session_book::causes::{EndCause, FeedFault, OpenFault, Settled};
 use std::alloc::{AllocError, Global};
@@ -54,7 +55,7 @@ impl Player {
         }
         let posted = self.asked.remove(place);
         let reply = reply_to(self.alloc, &posted.request, self.found)?;
-        Ok(Some(self.book.settle(answered(posted, reply))))
+        Ok(Some(self.book.settle(&answered(posted, reply))))
     }
 
     pub fn has_output(&self, session: u64, output: &str) -> bool {
@@ -99,7 +100,7 @@ fn reply_to(alloc: Global, request: &Request, found: Option<&str>) -> Result<Rep
     if !matches!(request, Request::Get { .. }) {
         return Ok(Reply::Stored);
     }
-    let mut hits = Hits::new(alloc).into_writer();
+    let mut hits = HitWriter::in_room(Room::new(alloc));
     if let Some(value) = found {
         let hit = HitRef {
             key: b"a",

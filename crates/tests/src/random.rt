@@ -144,10 +144,10 @@ fn as_a_list(rt: HostRuntime) -> Result<(), Fail> {
     let mut list = ListCache::new(alloc, 512);
     let mut shown = 0u32;
     for turn in 0..5000 {
-        let request = random_request(alloc, &mut random, now, &list)?;
+        let mut request = random_request(alloc, &mut random, now, &list)?;
         let wanted = list.answer(alloc, now, &request)?;
         assert!(rt; store.last_moment() <= now && now < 3_000_000);
-        let reply = store.handle(now, &request);
+        let reply = store.handle(now, &mut request);
         let mut given = Vec::new(alloc);
         show(&Message::Ask(request, false), Some(&reply), &mut given)?;
         assert_eq!(rt;

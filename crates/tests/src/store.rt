@@ -201,13 +201,13 @@ fn is_stored(alloc: Global, key: usize, value: usize) -> Result<Option<bool>, Fa
     let mut store = Store::new(alloc, Geometry::new(4096, 8)?);
     let key = vec![in alloc; b'k'; key]?;
     let value = vec![in alloc; b'v'; value]?;
-    let request = Request::Set(Put {
+    let mut request = Request::Set(Put {
         key: ByteString::from_vec(key),
         flags: 0,
         exptime: 0,
         value: ByteString::from_vec(value),
     });
-    let reply = store.handle(1, &request);
+    let reply = store.handle(1, &mut request);
     let stored = match &reply {
         Reply::Stored => Some(true),
         Reply::TooLarge => Some(false),

@@ -8,6 +8,7 @@ use Rattle.proto.specs.Reading.{asks}
 use Rattle.proto.specs.Answers.{said, answer}
 use Rattle.exchange.specs.Beginnings.{StartsWith}
 
+-- a list put in front of c ++ d is put in front of c, with d still behind
 behind : (a b c d : List ℕ) → b ≡ c ++ d → a ++ b ≡ (a ++ c) ++ d
 behind a b c d e = ap (λ (x : List ℕ). a ++ x) e ∙ sym (append_assoc a c d)
 
@@ -40,6 +41,7 @@ said_all (Wrong kind ∷ ms) rs more le = ap (λ (x : List ℕ). answer (Wrong k
 said_all (Quit ∷ ms) rs more le = said_all ms rs more le
 said_all (Fatal kind ∷ ms) rs more le = ap (λ (x : List ℕ). answer (Fatal kind) None ++ x) (said_all ms rs more le)
 
+-- the requests in two lists of messages, one behind the other, are those of the first and then those of the second
 pub asks-append : (ms ns : List Message) → asks (ms ++ ns) ≡ asks ms ++ asks ns
 asks-append [] ns = refl
 asks-append (Ask q quiet ∷ ms) ns = ap (λ qs. q ∷ qs) (asks-append ms ns)
@@ -47,5 +49,6 @@ asks-append (Wrong kind ∷ ms) ns = asks-append ms ns
 asks-append (Quit ∷ ms) ns = asks-append ms ns
 asks-append (Fatal kind ∷ ms) ns = asks-append ms ns
 
+-- a beginning of a beginning of a list is a beginning of the list
 pub begins_on : {A : Type 0} (a b c : List A) → StartsWith b a → StartsWith c b → StartsWith c a
 begins_on a b c h k = (h.0 ++ k.0, k.1 ∙ ap (λ x. x ++ k.0) h.1 ∙ append_assoc a h.0 k.0)

@@ -1,5 +1,6 @@
 -- The book's laws that its proofs don't name.
-use Rattle.std.proofs.Common.{◌≡◌, ℕ, true≢false, cond, List, [], ◌++◌, take, drop, refl, sym, ap, ◌∙◌, append_assoc, append-nil, take-append-drop, Option, Some, None, is_some}
+use Rattle.std.proofs.Common.{◌≡◌, ℕ, true≢false, cond, List, [], ◌++◌, take, drop, refl, sym, ap, ◌∙◌, append_assoc, append-nil, take-append-drop, Option}
+use Rattle.std.proofs.Common.{Some, None, is_some}
 use Rattle.std.specs.List.{concat}
 use Rattle.proto.specs.declared.message.Reply.{Reply}
 use Rattle.proto.specs.declared.message.Message.{Message}
@@ -7,6 +8,7 @@ use Rattle.session_book.specs.declared.causes.EndCause.{EndCause}
 use Rattle.session_book.specs.Session.{SessionState}
 use Rattle.session_book.specs.Accounts.{HasRead, HasSaid, StartsAccounts, FeedKeeps, GiveKeeps}
 
+-- of a new session, fed nothing, no message was read and nothing was said
 pub starts_accounts : StartsAccounts
 starts_accounts = (
   record { pieces = []; dropped = []; whole = refl; spelled = tt; ends_at_last = tt; ended = refl; nothing_dropped = λ e. refl },
@@ -43,9 +45,11 @@ fed_by (Some c) bytes piece given ms replies s e h k = (
   k,
 )
 
+-- a session that is fed a piece has read the same messages of the longer input, and said the same
 pub feed_keeps : FeedKeeps
 feed_keeps bytes piece given ms replies s h k = fed_by s.ended bytes piece given ms replies s refl h k
 
+-- a session that gives n bytes of its output has read the same messages, and all it gave and still has to give is what was said
 pub give_keeps : GiveKeeps
 give_keeps bytes given n ms replies s h k = (
   record {

@@ -6,6 +6,7 @@ pub mod SessionSteps
 pub mod PlaceLemmas
 pub mod RunViews
 pub mod StoryLaws
+pub mod PieceLaws
 pub mod WorkerSteps
 pub mod PortSteps
 pub mod OutputSteps

@@ -1,25 +1,30 @@
 -- What a cause written at its place makes of the report.
-use Rattle.std.proofs.Common.{◌≡◌, ◌≢◌, ℕ, zero, suc, ◌+◌, ◌<◌, ◌≤◌, ◌==◌, cond, eq-eqb, ne_eqb, List, [], ◌∷◌, ◌++◌, length, get_or, slice_set, refl, sym, ap, subst, ◌∙◌, arith, Some, None}
+use Rattle.std.proofs.Common.{◌≡◌, ◌≢◌, ℕ, zero, suc, ◌+◌, ◌<◌, ◌≤◌, ◌==◌, cond, eq-eqb, ne_eqb, List, [], ◌∷◌, ◌++◌, length, get_or, slice_set, refl, sym}
+use Rattle.std.proofs.Common.{ap, subst, ◌∙◌, arith, Some, None}
 use mathlib.Core.Logic.{dite}
 use native.Mathlib.Decide.{ℕ_discrete}
 use Rattle.session_book.specs.declared.causes.EndCause.{EndCause}
 use Rattle.worker.specs.Sessions.{cause_of}
-use Rattle.worker.specs.Places.{RisesFrom, Rises, with_cause, IsFirstFrom}
+use Rattle.worker.specs.Places.{ReportRisesFrom, Rises, with_cause, IsFirstFrom}
 
+-- the report: the numbers of sessions, each with its cause
 abbrev Places : Type 0
 Places = List (ℕ × EndCause)
 
+-- what follows from two numbers being equal, and from their being apart, is so
 pub either_way : {A : Type 0} (a b : ℕ) → (a ≡ b → A) → (a ≢ b → A) → A
 either_way {A} a b equal apart = dite (ℕ_discrete a b) equal apart
 
 -- ---- rising numbers
 
-above : (n : ℕ) (xs : Places) (j : ℕ) (d : ℕ × EndCause) → RisesFrom n xs → j < length xs → n < (get_or xs j d).0
+-- where the numbers rise from one above n, each is above n
+above : (n : ℕ) (xs : Places) (j : ℕ) (d : ℕ × EndCause) → ReportRisesFrom n xs → j < length xs → n < (get_or xs j d).0
 above n [] j d h lt = absurd (omega arith)
 above n (x ∷ xs) zero d h lt = h.0
 above n (x ∷ xs) (suc j) d h lt = let k = above x.0 xs j d h.1 (omega arith) in omega (arith, h.0, k)
 
-pub rises_on : (n : ℕ) (xs : Places) (i j : ℕ) (d : ℕ × EndCause) → RisesFrom n xs → i ≤ j → j < length xs → (get_or xs i d).0 ≤ (get_or xs j d).0
+-- where the numbers rise, the one at a later place is no smaller
+pub rises_on : (n : ℕ) (xs : Places) (i j : ℕ) (d : ℕ × EndCause) → ReportRisesFrom n xs → i ≤ j → j < length xs → (get_or xs i d).0 ≤ (get_or xs j d).0
 rises_on n [] i j d h le lt = absurd (omega arith)
 rises_on n (x ∷ xs) zero zero d h le lt = omega arith
 rises_on n (x ∷ xs) zero (suc j) d h le lt = let k = above x.0 xs j d h.1 (omega arith) in omega (arith, k)
@@ -31,25 +36,30 @@ pub below_middle : (xs : Places) (s middle : ℕ) (e : ℕ × EndCause) → Rise
     → ((d : ℕ × EndCause) → (get_or xs middle d).0 < s) → (k : ℕ) (d : ℕ × EndCause) → k < middle + 1 → (get_or xs k d).0 < s
 below_middle xs s middle e h lt at k d k_lt = let r = rises_on 0 xs k middle d h (omega arith) lt in omega (arith, r, at d)
 
+-- the other half: where the number in the middle isn't below the session's, none from there on is
 pub from_middle : (xs : Places) (s middle : ℕ) → Rises xs → ((d : ℕ × EndCause) → s ≤ (get_or xs middle d).0) → (k : ℕ) (d : ℕ × EndCause)
     → middle ≤ k → k < length xs → s ≤ (get_or xs k d).0
 from_middle xs s middle h at k d le lt = let r = rises_on 0 xs middle k d h le lt in omega (arith, r, at d)
 
 -- ---- writing a cause
 
+-- writing a session's cause leaves the place of another session
 kept_apart : (e : ℕ × EndCause) (s : ℕ) (c : EndCause) → e.0 ≢ s → cond (e.0 == s) (s, c) e ≡ e
 kept_apart e s c ne = ap (λ b. cond b (s, c) e) (ne_eqb e.0 s ne)
 
+-- writing a session's cause puts it at the session's own place
 written : (e : ℕ × EndCause) (s : ℕ) (c : EndCause) → e.0 ≡ s → cond (e.0 == s) (s, c) e ≡ (s, c)
 written e s c e_is = ap (λ b. cond b (s, c) e) (eq-eqb e.0 s e_is)
 
-absent_above : (n : ℕ) (xs : Places) (s : ℕ) (c : EndCause) → RisesFrom n xs → s ≤ n → with_cause xs s c ≡ xs
+-- where all numbers are above n, writing the cause of a session up to n changes nothing
+absent_above : (n : ℕ) (xs : Places) (s : ℕ) (c : EndCause) → ReportRisesFrom n xs → s ≤ n → with_cause xs s c ≡ xs
 absent_above n [] s c h le = refl
 absent_above n (x ∷ xs) s c h le =
     let ne : x.0 ≢ s = λ e. omega (arith, e, h.0) in
     let rest = absent_above x.0 xs s c h.1 (omega (arith, h.0)) in λ i. kept_apart x s c ne i ∷ rest i
 
-set_from : (n : ℕ) (xs : Places) (i s : ℕ) (c : EndCause) → RisesFrom n xs → i < length xs → ((d : ℕ × EndCause) → (get_or xs i d).0 ≡ s)
+-- where the numbers rise from one above n, to set the place at which the session's number stands is to write its cause
+set_from : (n : ℕ) (xs : Places) (i s : ℕ) (c : EndCause) → ReportRisesFrom n xs → i < length xs → ((d : ℕ × EndCause) → (get_or xs i d).0 ≡ s)
     → slice_set xs i (s, c) ≡ with_cause xs s c
 set_from n [] i s c h lt at = absurd (omega arith)
 set_from n (x ∷ xs) zero s c h lt at = let here : x.0 ≡ s = at x in let rest = absent_above x.0 xs s c h.1 (omega (arith, here)) in
@@ -59,14 +69,17 @@ set_from n (x ∷ xs) (suc i) s c h lt at =
     let ne : x.0 ≢ s = λ q. omega (arith, q, k, e) in
     let rest = set_from x.0 xs i s c h.1 (omega arith) (λ d. at d) in λ j. sym (kept_apart x s c ne) j ∷ rest j
 
+-- in a report whose numbers rise, to set the place at which the session's number stands is to write its cause
 pub set_found : (xs : Places) (i s : ℕ) (c : EndCause) → Rises xs → i < length xs → ((d : ℕ × EndCause) → (get_or xs i d).0 ≡ s)
     → slice_set xs i (s, c) ≡ with_cause xs s c
 set_found xs i s c h lt at = set_from 0 xs i s c h lt at
 
+-- writing the cause of a session whose number stands nowhere in the report changes nothing
 absent : (xs : Places) (s : ℕ) (c : EndCause) → ((j : ℕ) (d : ℕ × EndCause) → j < length xs → (get_or xs j d).0 ≢ s) → with_cause xs s c ≡ xs
 absent [] s c h = refl
 absent (x ∷ xs) s c h = let rest = absent xs s c (λ j d lt. h (suc j) d (omega arith)) in λ i. kept_apart x s c (h 0 x (omega arith)) i ∷ rest i
 
+-- where no number, or another one, is the first that isn't below the session's, writing the session's cause changes nothing
 pub set_absent : (xs : Places) (i s : ℕ) (c : EndCause) → Rises xs → IsFirstFrom xs s i
     → (i < length xs → (d : ℕ × EndCause) → (get_or xs i d).0 ≢ s) → with_cause xs s c ≡ xs
 set_absent xs i s c h first other =
@@ -79,6 +92,7 @@ set_absent xs i s c h first other =
 
 -- ---- the causes afterwards
 
+-- writing the cause of one session leaves the cause of another
 pub cause_apart : (xs : Places) (s t : ℕ) (c : EndCause) → t ≢ s → cause_of (with_cause xs t c) s ≡ cause_of xs s
 cause_apart [] s t c ne = refl
 cause_apart (x ∷ xs) s t c ne =
@@ -93,6 +107,7 @@ cause_apart (x ∷ xs) s t c ne =
     ap (λ (y : ℕ × EndCause). cond (y.0 == s) (Some y.1) (cause_of (with_cause xs t c) s)) (kept_apart x t c apart)
     ∙ ap (λ k. cond (x.0 == s) (Some x.1) k) below)
 
+-- a session that has a place in the report has the cause that was written for it
 pub cause_here : (xs : Places) (s : ℕ) (c old : EndCause) → cause_of xs s ≡ Some old → cause_of (with_cause xs s c) s ≡ Some c
 cause_here [] s c old e = absurd (cc)
 cause_here (x ∷ xs) s c old e =
@@ -105,18 +120,21 @@ cause_here (x ∷ xs) s c old e =
     ∙ ap (λ b. cond b (Some x.1) (cause_of (with_cause xs s c) s)) (ne_eqb x.0 s ne)
     ∙ cause_here xs s c old (sym (ap (λ b. cond b (Some x.1) (cause_of xs s)) (ne_eqb x.0 s ne)) ∙ e))
 
-with_rises : (n : ℕ) (xs : Places) (s : ℕ) (c : EndCause) → RisesFrom n xs → RisesFrom n (with_cause xs s c)
+-- numbers that rise from one above n do so after a cause is written
+with_rises : (n : ℕ) (xs : Places) (s : ℕ) (c : EndCause) → ReportRisesFrom n xs → ReportRisesFrom n (with_cause xs s c)
 with_rises n [] s c h = tt
 with_rises n (x ∷ xs) s c h =
     let same : (cond (x.0 == s) (s, c) x).0 ≡ x.0 = either_way x.0 s (λ (e : x.0 ≡ s). ap (λ (y : ℕ × EndCause). y.0) (written x s c e) ∙ sym e)
     (λ (ne : x.0 ≢ s). ap (λ (y : ℕ × EndCause). y.0) (kept_apart x s c ne)) in (
       subst (λ k. n < k) (sym same) h.0,
-      subst (λ k. RisesFrom k (with_cause xs s c)) (sym same) (with_rises x.0 xs s c h.1),
+      subst (λ k. ReportRisesFrom k (with_cause xs s c)) (sym same) (with_rises x.0 xs s c h.1),
     )
 
+-- the numbers of a report rise after a cause is written, if they rose before
 pub rises_with : (xs : Places) (s : ℕ) (c : EndCause) → Rises xs → Rises (with_cause xs s c)
 rises_with xs s c h = with_rises 0 xs s c h
 
+-- writing a cause leaves the number of places
 pub length-with : (xs : Places) (s : ℕ) (c : EndCause) → length (with_cause xs s c) ≡ length xs
 length-with [] s c = refl
 length-with (x ∷ xs) s c = let h = length-with xs s c in omega arith
@@ -126,6 +144,7 @@ pub cause_more : (xs : Places) (s t : ℕ) (c : EndCause) → t ≢ s → cause_
 cause_more [] s t c ne = ap (λ b. cond b (Some c) None) (ne_eqb t s ne)
 cause_more (x ∷ xs) s t c ne = ap (λ k. cond (x.0 == s) (Some x.1) k) (cause_more xs s t c ne)
 
+-- a session that had no place has the cause of its new place at the end
 pub cause_new : (xs : Places) (s : ℕ) (c : EndCause) → cause_of xs s ≡ None → cause_of (xs ++ (s, c) ∷ []) s ≡ Some c
 cause_new [] s c e = ap (λ b. cond b (Some c) None) (eq-eqb s s refl)
 cause_new (x ∷ xs) s c e =
@@ -135,8 +154,9 @@ cause_new (x ∷ xs) s c e =
     ap (λ b. cond b (Some x.1) (cause_of (xs ++ (s, c) ∷ []) s)) (ne_eqb x.0 s ne)
     ∙ cause_new xs s c (sym (ap (λ b. cond b (Some x.1) (cause_of xs s)) (ne_eqb x.0 s ne)) ∙ e))
 
-more_from : (n : ℕ) (xs : Places) (t : ℕ) (c : EndCause) → RisesFrom n xs → n < t → ((s : ℕ) (d : EndCause) → cause_of xs s ≡ Some d → s < t)
-    → RisesFrom n (xs ++ (t, c) ∷ [])
+-- numbers that rise from one above n do so with one more at the end that is above n and above them all
+more_from : (n : ℕ) (xs : Places) (t : ℕ) (c : EndCause) → ReportRisesFrom n xs → n < t → ((s : ℕ) (d : EndCause) → cause_of xs s ≡ Some d → s < t)
+    → ReportRisesFrom n (xs ++ (t, c) ∷ [])
 more_from n [] t c h lt below = (lt, tt)
 more_from n (x ∷ xs) t c h lt below = (
   h.0,
@@ -146,5 +166,6 @@ more_from n (x ∷ xs) t c h lt below = (
       (λ (ne : x.0 ≢ s). below s d (ap (λ b. cond b (Some x.1) (cause_of xs s)) (ne_eqb x.0 s ne) ∙ e))),
 )
 
+-- the numbers of a report rise with one more at the end that is above 0 and above them all
 pub rises_more : (xs : Places) (t : ℕ) (c : EndCause) → Rises xs → 0 < t → ((s : ℕ) (d : EndCause) → cause_of xs s ≡ Some d → s < t) → Rises (xs ++ (t, c) ∷ [])
 rises_more xs t c h lt below = more_from 0 xs t c h lt below

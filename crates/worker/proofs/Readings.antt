@@ -4,34 +4,38 @@ use Rattle.std.specs.List.{concat}
 use Rattle.std.proofs.lemmas.Bool.{cases_Bool, both_ways}
 use Rattle.proto.specs.declared.message.Message.{Message}
 use Rattle.proto.specs.Grammar.{SpellsNone}
-use Rattle.proto.specs.Reading.{SpellEach, EndsAtLast, has_ended, Reads}
+use Rattle.proto.specs.Reading.{SpellEach, EndsAtLast, last_ends, Reads}
 use Rattle.proto.proofs.GrammarLaws.{has_reading, has_one_reading}
 use Rattle.worker.specs.Sessions.{BeginsWith}
 
+-- the bytes of two lists of pieces, one behind the other, are those of the first list and then those of the second
 concat-append : (ps qs : List (List ℕ)) → concat (ps ++ qs) ≡ concat ps ++ concat qs
 concat-append [] qs = refl
 concat-append (p ∷ ps) qs = ap (λ (x : List ℕ). p ++ x) (concat-append ps qs) ∙ sym (append_assoc p (concat ps) (concat qs))
 
+-- where pieces spell messages, and further pieces further messages, all of the pieces spell all of the messages
 spelled-append : (ps qs : List (List ℕ)) (ms ns : List Message) → SpellEach ps ms → SpellEach qs ns → SpellEach (ps ++ qs) (ms ++ ns)
 spelled-append [] qs [] ns h k = k
 spelled-append [] qs (m ∷ ms) ns h k = absurd h
 spelled-append (p ∷ ps) qs [] ns h k = absurd h
 spelled-append (p ∷ ps) qs (m ∷ ms) ns h k = (h.0, spelled-append ps qs ms ns h.1 k)
 
-ends-append : (ms ns : List Message) → has_ended ms ≡ false → EndsAtLast ms → EndsAtLast ns → EndsAtLast (ms ++ ns)
+-- two lists in which only the last message may end the session make such a list together, where the first one's last doesn't end it
+ends-append : (ms ns : List Message) → last_ends ms ≡ false → EndsAtLast ms → EndsAtLast ns → EndsAtLast (ms ++ ns)
 ends-append [] ns e h k = k
 ends-append (m ∷ []) [] e h k = tt
 ends-append (m ∷ []) (n ∷ ns) e h k = (e, k)
 ends-append (m ∷ n ∷ ms) ns e h k = (h.0, ends-append (n ∷ ms) ns e h.1 k)
 
-pub ended-append : (ms ns : List Message) → has_ended ms ≡ false → has_ended (ms ++ ns) ≡ has_ended ns
+-- behind messages of which the last doesn't end the session, whether the last of all does is up to those that follow
+pub ended-append : (ms ns : List Message) → last_ends ms ≡ false → last_ends (ms ++ ns) ≡ last_ends ns
 ended-append [] ns e = refl
 ended-append (m ∷ []) [] e = e
 ended-append (m ∷ []) (n ∷ ns) e = refl
 ended-append (m ∷ n ∷ ms) ns e = ended-append (n ∷ ms) ns e
 
 -- read on behind what was read, where it has not ended
-pub read_on : (b middle rest : List ℕ) (ms ns : List Message) → has_ended ms ≡ false → BeginsWith b ms middle → BeginsWith middle ns rest
+pub read_on : (b middle rest : List ℕ) (ms ns : List Message) → last_ends ms ≡ false → BeginsWith b ms middle → BeginsWith middle ns rest
     → BeginsWith b (ms ++ ns) rest
 read_on b middle rest ms ns e h k = record {
   pieces = h.pieces ++ k.pieces;
@@ -50,23 +54,25 @@ fed_on b rest more ms h = record {
   ends_at_last = h.ends_at_last;
 }
 
+-- any bytes begin with the spellings of no messages, and all of them are left
 pub nothing_read : (b : List ℕ) → BeginsWith b [] b
 nothing_read b = record { pieces = []; whole = refl; spelled = tt; ends_at_last = tt }
 
 -- ---- beside a whole reading
 
-pub whole_reading : (b rest : List ℕ) (ms : List Message) → BeginsWith b ms rest → (has_ended ms ≡ false → SpellsNone rest) → Reads b ms rest
+-- a beginning is a whole reading where its last message ends the session, or no beginning of the rest spells a message
+pub whole_reading : (b rest : List ℕ) (ms : List Message) → BeginsWith b ms rest → (last_ends ms ≡ false → SpellsNone rest) → Reads b ms rest
 whole_reading b rest ms h none = record { pieces = h.pieces; whole = h.whole; spelled = h.spelled; ends_at_last = h.ends_at_last; no_more = none }
 
 -- what was read is all of it
-pub same_reading : (b rest left : List ℕ) (ms ns : List Message) → BeginsWith b ms rest → (has_ended ms ≡ false → SpellsNone rest) → Reads b ns left → ns ≡ ms
+pub same_reading : (b rest left : List ℕ) (ms ns : List Message) → BeginsWith b ms rest → (last_ends ms ≡ false → SpellsNone rest) → Reads b ns left → ns ≡ ms
 same_reading b rest left ms ns h none r = sym (has_one_reading b rest left ms ns (whole_reading b rest ms h none) r).0
 
 -- what was read is the beginning of it
 pub first_of_reading : (b rest left : List ℕ) (ms ns : List Message) → BeginsWith b ms rest → Reads b ns left → (more : List Message) × (ns ≡ ms ++ more)
 first_of_reading b rest left ms ns h r =
-    elim (cases_Bool (has_ended ms)) [
-      | inl ended ↦ ([], same_reading b rest left ms ns h (λ e. absurd (both_ways (has_ended ms) e ended)) r ∙ sym (append-nil ms))
+    elim (cases_Bool (last_ends ms)) [
+      | inl ended ↦ ([], same_reading b rest left ms ns h (λ e. absurd (both_ways (last_ends ms) e ended)) r ∙ sym (append-nil ms))
       | inr goes_on ↦
           let on = has_reading rest in
           let further : BeginsWith rest on.0 on.1 = record {

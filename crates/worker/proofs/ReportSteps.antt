@@ -1,5 +1,6 @@
 -- What a worker that has drained reports.
-use Rattle.std.proofs.Common.{◌≡◌, ◌≢◌, ℕ, suc, ◌<◌, ◌==◌, ◌&&◌, Bool, true, false, true≢false, cond, eq-eqb, ne_eqb, List, [], ◌∷◌, ◌++◌, length, map, refl, sym, ap, subst, ◌∙◌, append-nil, arith, Option, Some, None, is_some, get_or}
+use Rattle.std.proofs.Common.{◌≡◌, ◌≢◌, ℕ, suc, ◌<◌, ◌==◌, ◌&&◌, Bool, true, false, true≢false, cond, eq-eqb, ne_eqb, List, [], ◌∷◌, ◌++◌, length, map, refl}
+use Rattle.std.proofs.Common.{sym, ap, subst, ◌∙◌, append-nil, arith, Option, Some, None, is_some, get_or}
 use Rattle.std.specs.Prelude.{IsSome}
 use Rattle.std.specs.List.{filter, concat}
 use Rattle.proto.specs.declared.message.Request.{Request}
@@ -10,17 +11,18 @@ use Rattle.proto.specs.declared.history.Posted.{Posted}
 use Rattle.proto.specs.declared.history.Answered.{Answered}
 use Rattle.proto.specs.History.{worker_share, session_share, asked_posted, asked, had}
 use Rattle.proto.specs.Grammar.{SpellsNone}
-use Rattle.proto.specs.Reading.{Reads, asks, has_ended, EndsAtLast}
+use Rattle.proto.specs.Reading.{Reads, asks, last_ends, EndsAtLast}
 use Rattle.proto.specs.Answers.{said}
 use Rattle.exchange.specs.Beginnings.{StartsWith, posted_of}
 use Rattle.exchange.specs.Ends.{WorkerView}
 use Rattle.session_book.specs.declared.causes.EndCause.{EndCause}
 use Rattle.session_book.specs.declared.causes.EndCause.TheVariants as causes
 use Rattle.session_book.specs.Session.{SessionState, left, ended_by, finished_by, Stops, ended, waiting, no_message}
-use Rattle.session_book.specs.Book.{session_of}
+use Rattle.session_book.specs.Book.{session_of, held_of}
 use Rattle.worker.specs.Ports.{fed, given}
-use Rattle.worker.specs.Sessions.{SessionFacts, RunView, facts, asked_by, had_by, cause_of, IsKnownAs, IsPlaced, IsClosed, IsRunning, IsServed, BeginsWith}
-use Rattle.worker.specs.Workers.{IsEmptied, IsTold}
+use Rattle.worker.specs.Sessions.{SessionFacts, RunView, facts, asked_by, had_by, cause_of, IsKnownAs, IsReportedAs, IsClosed, IsRunning, IsSessionServed}
+use Rattle.worker.specs.Sessions.{BeginsWith}
+use Rattle.worker.specs.Workers.{IsEmptied, IsStoryKnown}
 use Rattle.worker.specs.Reports.{IsReported, IsCauseOf, is_complete}
 use Rattle.worker.proofs.Answering.{said_further, asks-append, begins_on}
 use Rattle.worker.proofs.Readings.{same_reading, first_of_reading}
@@ -29,15 +31,18 @@ use Rattle.worker.proofs.SessionSteps.{not_both, opened_if_placed}
 
 -- ---- the share of a session
 
+-- of one more entry, testing worker and session at once picks what testing the worker first and then the session picks
 by_worker : (b c : Bool) (e : Answered) (ss fs : List Answered) (s : ℕ) (ws : List Answered) → ss ≡ filter (λ (e : Answered). e.session == s) ws
     → cond (b && (e.session == s)) (e ∷ ss) ss ≡ filter (λ (e : Answered). e.session == s) (cond b (e ∷ ws) ws)
 by_worker true c e ss fs s ws h = ap (λ (x : List Answered). cond (e.session == s) (e ∷ x) x) h
 by_worker false c e ss fs s ws h = h
 
+-- a session's share of a history is what its worker's share has of the session
 share_of : (history : List Answered) (w s : ℕ) → session_share history w s ≡ filter (λ (e : Answered). e.session == s) (worker_share history w)
 share_of [] w s = refl
 share_of (e ∷ history) w s = by_worker (e.worker == w) true e (session_share history w s) [] s (worker_share history w) (share_of history w s)
 
+-- one more entry, taken on both sides or on neither, leaves the requests answered the same as those posted
 asked_if : (c : Bool) (e : Answered) (l : List Answered) (m : List Posted) → map (λ (x : Answered). x.request) l ≡ map (λ (p : Posted). p.request) m
     → map (λ (x : Answered). x.request) (cond c (e ∷ l) l) ≡ map (λ (p : Posted). p.request) (cond c (posted_of e ∷ m) m)
 asked_if true e l m h = ap (λ (x : List Request). e.request ∷ x) h
@@ -49,16 +54,19 @@ asked_from [] s = refl
 asked_from (e ∷ l) s = asked_if (e.session == s) e (filter (λ (x : Answered). x.session == s) l)
     (filter (λ (p : Posted). p.session == s) (asked_posted l)) (asked_from l s)
 
+-- answered requests have as many requests as replies
 same_count : (l : List Answered) → length (map (λ (e : Answered). e.request) l) ≡ length (map (λ (e : Answered). e.reply) l)
 same_count [] = refl
 same_count (e ∷ l) = let h = same_count l in omega arith
 
+-- where each posted request came back, a session has as many replies as requests
 pub as_many : (back : List Answered) (posted : List Posted) (s : ℕ) → asked_posted back ≡ posted → length (asked_by posted s) ≡ length (had_by back s)
 as_many back posted s e = ap (λ (p : List Posted). length (asked_by p s)) (sym e) ∙ ap (length {A = Request}) (sym (asked_from back s))
     ∙ same_count (filter (λ (x : Answered). x.session == s) back)
 
 -- ---- the messages
 
+-- where no request is left without its reply, no message is left
 left_none : (ms : List Message) (rs : List Reply) → length (asks (left ms rs)) ≡ 0 → left ms rs ≡ []
 left_none [] rs e = refl
 left_none (Ask q quiet ∷ ms) [] e = absurd (omega arith)
@@ -67,7 +75,8 @@ left_none (Wrong kind ∷ ms) rs e = left_none ms rs e
 left_none (Quit ∷ ms) rs e = left_none ms rs e
 left_none (Fatal kind ∷ ms) rs e = left_none ms rs e
 
-ended_true : (ms : List Message) (c : EndCause) → ended_by None ms ≡ Some c → EndsAtLast ms → has_ended ms ≡ true
+-- where a message has ended the session, and only the last one may, the last one ends it
+ended_true : (ms : List Message) (c : EndCause) → ended_by None ms ≡ Some c → EndsAtLast ms → last_ends ms ≡ true
 ended_true [] c e h = absurd (cc)
 ended_true (Ask q quiet ∷ []) c e h = absurd (cc)
 ended_true (Wrong kind ∷ []) c e h = absurd (cc)
@@ -80,6 +89,8 @@ ended_true (Fatal kind ∷ n ∷ ms) c e h = absurd (true≢false h.0)
 
 -- ---- one session
 
+-- a session's requests are the first of its messages', and the bytes given are a beginning of their answers; both are complete
+-- where it was answered to its end; and the cause is one of it
 record IsFinal (v : RunView) (s : ℕ) (cause : EndCause) (messages : List Message) : Type 0 where
   first : StartsWith (asks messages) (asked_by v.posted s)
   beginning : StartsWith (said messages (had_by v.back s)) (given s v.events)
@@ -112,12 +123,14 @@ final_begun v s cause messages read more split asked_is said_is partial caused =
       caused = caused;
     }
 
+-- a closed session that a message has ended has read all messages that its bytes spell
 whole_read : (v : RunView) (s : ℕ) (c : EndCause) (messages : List Message) (rest : List ℕ) (h : IsClosed (facts v s) c)
     → Reads (fed s v.events) messages rest → ended_by None h.messages ≡ Some c → messages ≡ h.messages
 whole_read v s c messages rest h reads e =
     same_reading (fed s v.events) h.rest rest h.messages messages h.read
     (λ goes_on. absurd (true≢false (sym (ended_true h.messages c e h.read.ends_at_last) ∙ goes_on))) reads
 
+-- a closed session is final with its cause, whatever messages its bytes spell
 final_closed : (v : RunView) (s : ℕ) (c : EndCause) (messages : List Message) (rest : List ℕ) → IsClosed (facts v s) c
     → Reads (fed s v.events) messages rest → IsFinal v s c messages
 final_closed v s causes.Drained messages rest h reads = absurd h.caused
@@ -134,16 +147,20 @@ final_closed v s causes.NoMemory messages rest h reads = let m = first_of_readin
 ended_none : (s : SessionState) → s.queue ≡ [] → s.out ≡ [] → finished_by s ≡ None → s.ended ≡ None
 ended_none s q o e = sym (λ i. cond ((length (q i) == 0) && (length (o i) == 0)) s.ended None) ∙ e
 
+-- once a session that hasn't ended and has no output reads no further, no beginning of its unread bytes spells a message
 no_more : (s : SessionState) → s.out ≡ [] → s.ended ≡ None → Stops s → SpellsNone s.unread
 no_more s o e (ended h) = absurd (true≢false (sym h ∙ ap is_some e))
 no_more s o e (waiting h) = let len : length s.out ≡ 0 = ap (length {A = ℕ}) o in absurd (omega arith)
 no_more s o e (no_message h none) = none
 
-final_drained : (v : RunView) (s : ℕ) (messages : List Message) (rest : List ℕ) → (run : IsRunning (facts v s)) → v.piece s ≡ [] → IsEmptied run.s
+-- a running session that is emptied, and has as many replies as requests, is final with the cause Drained
+final_drained : (v : RunView) (s : ℕ) (messages : List Message) (rest : List ℕ) → (run : IsRunning (facts v s))
+    → v.piece s ≡ held_of (session_of v.book s) → IsEmptied run.s
     → length (asked_by v.posted s) ≡ length (had_by v.back s) → Reads (fed s v.events) messages rest → IsFinal v s causes.Drained messages
-final_drained v s messages rest run none emptied many reads =
+final_drained v s messages rest run held emptied many reads =
     let st = run.s in
-    let r : IsServed [] (facts v s) st = subst (λ q. IsServed q (facts v s) st) none run.served in
+    let none : v.piece s ≡ [] = held ∙ ap held_of run.state ∙ emptied.held in
+    let r : IsSessionServed [] (facts v s) st = subst (λ q. IsSessionServed q (facts v s) st) none run.served in
     let asked_len : length (asked_by v.posted s) ≡ length (asks r.messages) = ap (length {A = Request}) r.asked in
     let no_asks : length (asks st.queue) ≡ 0 = omega (arith, r.has_said.replied, many, asked_len) in
     let queue : st.queue ≡ [] = r.has_said.queue ∙ left_none r.messages (had_by v.back s)
@@ -162,7 +179,10 @@ final_drained v s messages rest run none emptied many reads =
     (sym (append-nil (given s v.events)) ∙ ap (λ (x : List ℕ). given s v.events ++ x) (sym emptied.out) ∙ r.has_said.whole)
     (run.gone, run.shut, sym r.has_read.ended ∙ ends)
 
-final_placed : (v : RunView) (s : ℕ) (c : EndCause) (messages : List Message) (rest : List ℕ) → IsPlaced (facts v s) (Some c) → v.piece s ≡ []
+-- a session with a place in the report is final, where it has as many replies as requests and, if it is still open,
+-- is emptied
+final_placed : (v : RunView) (s : ℕ) (c : EndCause) (messages : List Message) (rest : List ℕ) → IsReportedAs (facts v s) (Some c)
+    → v.piece s ≡ held_of (session_of v.book s)
     → (c ≡ causes.Drained → (st : SessionState) → session_of v.book s ≡ Some st → IsEmptied st)
     → length (asked_by v.posted s) ≡ length (had_by v.back s) → Reads (fed s v.events) messages rest → IsFinal v s c messages
 final_placed v s causes.Drained messages rest h none emptied many reads = final_drained v s messages rest h none (emptied refl h.s h.state) many reads
@@ -171,16 +191,19 @@ final_placed v s causes.Fatal messages rest h none emptied many reads = final_cl
 final_placed v s causes.Gone messages rest h none emptied many reads = final_closed v s causes.Gone messages rest h reads
 final_placed v s causes.NoMemory messages rest h none emptied many reads = final_closed v s causes.NoMemory messages rest h reads
 
-placed_as : (f : SessionFacts) (c : EndCause) (o : Bool) (k : Option EndCause) → IsKnownAs o k f → k ≡ Some c → IsPlaced f (Some c)
+-- a session at whose place in the report a cause stands is running or closed, as that cause says
+placed_as : (f : SessionFacts) (c : EndCause) (o : Bool) (k : Option EndCause) → IsKnownAs o k f → k ≡ Some c → IsReportedAs f (Some c)
 placed_as f c false k h e = absurd (not_both k c h.1 e)
-placed_as f c true k h e = subst (λ x. IsPlaced f x) e h
+placed_as f c true k h e = subst (λ x. IsReportedAs f x) e h
 
 -- ---- sessions that aren't in the report
 
+-- for a session that isn't in the report no bytes were accepted and no request was asked
 unplaced_given : (f : SessionFacts) (o : Bool) (k : Option EndCause) → IsKnownAs o k f → k ≡ None → (f.port.given ≡ []) × (f.asked ≡ [])
 unplaced_given f false k h e = (h.0.given, h.0.asked)
-unplaced_given f true k h e = let u = subst (λ x. IsPlaced f x) e h in (u.given, u.asked)
+unplaced_given f true k h e = let u = subst (λ x. IsReportedAs f x) e h in (u.given, u.asked)
 
+-- something was asked for a session of which a request stands among those posted
 asked_some : (before after : List Posted) (p : Posted) → asked_by (before ++ p ∷ after) p.session ≡ [] → ⊥
 asked_some [] after p e = let bad : p.request ∷ asked_by after p.session ≡ [] = sym
     (ap (λ b. map (λ (x : Posted). x.request) (cond b (p ∷ filter (λ (x : Posted). x.session == p.session) after)
@@ -196,20 +219,24 @@ asked_some (x ∷ before) after p e = asked_some before after p (behind_none (x.
 -- an opened one was shut
 unplaced_shut : (f : SessionFacts) (o : Bool) (k : Option EndCause) → IsKnownAs o k f → o ≡ true → k ≡ None → f.port.shut ≡ true
 unplaced_shut f false k h o e = absurd (true≢false (sym o))
-unplaced_shut f true k h o e = let u = subst (λ x. IsPlaced f x) e h in u.shut
+unplaced_shut f true k h o e = let u = subst (λ x. IsReportedAs f x) e h in u.shut
 
+-- of a cause that is there it can be said which one it is
 there_is : (k : Option EndCause) → IsSome k → (c : EndCause) × (k ≡ Some c)
 there_is None h = absurd (true≢false (sym h))
 there_is (Some c) h = (c, refl)
 
+-- a cause that can't be missing is there
 is_there : (k : Option EndCause) → (k ≡ None → ⊥) → IsSome k
 is_there None h = absurd (h refl)
 is_there (Some c) h = refl
 
 -- ---- the report
 
-pub reported : (v : RunView) (end : WorkerView) (unopened : ℕ) → IsTold v unopened true → v.posted ≡ end.sent → v.back ≡ end.back
-    → asked_posted end.back ≡ end.sent → ((s : ℕ) → v.piece s ≡ [])
+-- the report is right where the port has ended and all is known, each request came back, and each session that is still
+-- open is emptied
+pub reported : (v : RunView) (end : WorkerView) (unopened : ℕ) → IsStoryKnown v unopened true → v.posted ≡ end.sent → v.back ≡ end.back
+    → asked_posted end.back ≡ end.sent → ((s : ℕ) → v.piece s ≡ held_of (session_of v.book s))
     → ((s : ℕ) → cause_of v.sessions s ≡ Some causes.Drained → (st : SessionState) → session_of v.book s ≡ Some st → IsEmptied st)
     → IsReported v.events end v.sessions unopened
 reported v end unopened h posted back all none emptied = record {

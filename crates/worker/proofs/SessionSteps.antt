@@ -1,5 +1,6 @@
 -- What each step leaves of what is known of its session.
-use Rattle.std.proofs.Common.{◌≡◌, ℕ, ◌<◌, ◌⊎◌, inl, inr, Bool, true, false, true≢false, List, [], ◌∷◌, ◌++◌, length, take, refl, sym, ap, subst, ◌∙◌, append_assoc, append-nil, arith, Option, Some, None, is_some}
+use Rattle.std.proofs.Common.{◌≡◌, ℕ, ◌<◌, ◌⊎◌, inl, inr, Bool, true, false, true≢false, List, [], ◌∷◌, ◌++◌, length, take, refl, sym, ap, subst, ◌∙◌}
+use Rattle.std.proofs.Common.{append_assoc, append-nil, arith, Option, Some, None, is_some}
 use Rattle.std.specs.List.{concat}
 use Rattle.std.proofs.lemmas.List.{length-append}
 use Rattle.proto.specs.declared.message.Request.{Request}
@@ -11,23 +12,27 @@ use Rattle.proto.specs.Answers.{said}
 use Rattle.exchange.specs.Beginnings.{StartsWith}
 use Rattle.session_book.specs.declared.causes.EndCause.{EndCause}
 use Rattle.session_book.specs.declared.causes.EndCause.TheVariants as causes
-use Rattle.session_book.specs.Session.{SessionState, ended_by, new_session, fed, ReadsOn, settled, gave}
+use Rattle.session_book.specs.Session.{SessionState, ended_by, new_session, once_fed, holding, ReadsOn, settled, gave}
 use Rattle.session_book.specs.Accounts.{HasRead, HasSaid}
-use Rattle.worker.specs.Sessions.{SessionFacts, IsUntouched, IsUnopened, IsServed, IsRunning, BeginsWith, IsWhole, IsCaused, IsClosed, IsPlaced, IsKnownAs, IsConsistent}
+use Rattle.worker.specs.Sessions.{SessionFacts, IsUntouched, IsUnopened, IsSessionServed, IsRunning, BeginsWith, IsWhole, IsCaused, IsClosed, IsReportedAs}
+use Rattle.worker.specs.Sessions.{IsKnownAs, AreFactsConsistent}
 use Rattle.worker.proofs.Answering.{said_more, said_all, asks-append, begins_on}
 use Rattle.session_book.proofs.AccountLaws.{read_keeps, settle_keeps}
 use Rattle.worker.proofs.BookLaws.{starts_accounts, feed_keeps, give_keeps}
 
+-- nothing is both there and missing
 pub not_both : {A : Type 0} (o : Option A) (x : A) → o ≡ None → o ≡ Some x → ⊥
 not_both o x none some = true≢false (sym (ap is_some some) ∙ ap is_some none)
 
 -- ---- a session that is open in the book is running
 
+-- the session was opened, stands in the report with Drained, and is open at the port and in the book
 pub record Runs (f : SessionFacts) : Type 0 where
   pub opened : f.port.opened ≡ true
   pub cause : f.cause ≡ Some causes.Drained
   pub running : IsRunning f
 
+-- a session with a state in the book was opened, has the cause Drained and is running
 runs_as : (f : SessionFacts) (s : SessionState) (o : Bool) (c : Option EndCause) → IsKnownAs o c f → f.state ≡ Some s
     → (o ≡ true) × (c ≡ Some causes.Drained) × IsRunning f
 runs_as f s false c h e = absurd (not_both f.state s h.0.state e)
@@ -38,7 +43,8 @@ runs_as f s true (Some causes.Fatal) h e = absurd (not_both f.state s h.state e)
 runs_as f s true (Some causes.Gone) h e = absurd (not_both f.state s h.state e)
 runs_as f s true (Some causes.NoMemory) h e = absurd (not_both f.state s h.state e)
 
-pub runs : (f : SessionFacts) (s : SessionState) → IsConsistent f → f.state ≡ Some s → Runs f
+-- a session that is open in the book runs, where its facts are consistent
+pub runs : (f : SessionFacts) (s : SessionState) → AreFactsConsistent f → f.state ≡ Some s → Runs f
 runs f s h e = let r = runs_as f s f.port.opened f.cause h.known e in record { opened = r.0; cause = r.1; running = r.2 }
 
 -- the same of a session that the port's list has open
@@ -52,7 +58,8 @@ runs_from f true (Some causes.Fatal) h o g s = absurd (true≢false (sym h.cause
 runs_from f true (Some causes.Gone) h o g s = absurd (true≢false (sym h.caused ∙ g))
 runs_from f true (Some causes.NoMemory) h o g s = absurd (true≢false (sym h.caused ∙ s))
 
-pub runs_at_port : (f : SessionFacts) → IsConsistent f → f.port.opened ≡ true → f.port.gone ≡ false → f.port.shut ≡ false → Runs f
+-- a session that the port's list has opened, and neither gone nor shut, runs, where its facts are consistent
+pub runs_at_port : (f : SessionFacts) → AreFactsConsistent f → f.port.opened ≡ true → f.port.gone ≡ false → f.port.shut ≡ false → Runs f
 runs_at_port f h o g s = let r = runs_from f f.port.opened f.cause h.known o g s in record { opened = o; cause = r.0; running = r.1 }
 
 -- a session that was never opened
@@ -60,28 +67,34 @@ untouched_as : (f : SessionFacts) (o : Bool) (c : Option EndCause) → IsKnownAs
 untouched_as f false c h e = h
 untouched_as f true c h e = absurd (true≢false e)
 
-pub untouched : (f : SessionFacts) → IsConsistent f → f.port.opened ≡ false → IsUntouched f × (f.cause ≡ None)
+-- of a session that was never opened nothing came, nothing was done for it, and it isn't in the report
+pub untouched : (f : SessionFacts) → AreFactsConsistent f → f.port.opened ≡ false → IsUntouched f × (f.cause ≡ None)
 untouched f h e = untouched_as f f.port.opened f.cause h.known e
 
-pub is_running : (f : SessionFacts) → f.port.opened ≡ true → f.cause ≡ Some causes.Drained → IsRunning f → IsConsistent f
-is_running f o c h = record { known = subst (λ b. IsKnownAs b f.cause f) (sym o) (subst (λ k. IsPlaced f k) (sym c) h) }
+-- the facts of a running session are consistent where it was opened and has the cause Drained
+pub is_running : (f : SessionFacts) → f.port.opened ≡ true → f.cause ≡ Some causes.Drained → IsRunning f → AreFactsConsistent f
+is_running f o c h = record { known = subst (λ b. IsKnownAs b f.cause f) (sym o) (subst (λ k. IsReportedAs f k) (sym c) h) }
 
-placed_closed : (f : SessionFacts) (c : EndCause) → IsClosed f c → IsPlaced f (Some c)
+-- a closed session is as its cause in the report says
+placed_closed : (f : SessionFacts) (c : EndCause) → IsClosed f c → IsReportedAs f (Some c)
 placed_closed f causes.Drained h = absurd h.caused
 placed_closed f causes.Quit h = h
 placed_closed f causes.Fatal h = h
 placed_closed f causes.Gone h = h
 placed_closed f causes.NoMemory h = h
 
-pub is_closed : (f : SessionFacts) (c : EndCause) → f.port.opened ≡ true → f.cause ≡ Some c → IsClosed f c → IsConsistent f
-is_closed f c o e h = record { known = subst (λ b. IsKnownAs b f.cause f) (sym o) (subst (λ k. IsPlaced f k) (sym e) (placed_closed f c h)) }
+-- the facts of a closed session are consistent where it was opened and has its cause in the report
+pub is_closed : (f : SessionFacts) (c : EndCause) → f.port.opened ≡ true → f.cause ≡ Some c → IsClosed f c → AreFactsConsistent f
+is_closed f c o e h = record { known = subst (λ b. IsKnownAs b f.cause f) (sym o) (subst (λ k. IsReportedAs f k) (sym e) (placed_closed f c h)) }
 
-pub is_unopened : (f : SessionFacts) → f.port.opened ≡ true → f.cause ≡ None → IsUnopened f → IsConsistent f
-is_unopened f o e h = record { known = subst (λ b. IsKnownAs b f.cause f) (sym o) (subst (λ k. IsPlaced f k) (sym e) h) }
+-- the facts of a session that was shut at once are consistent where it was opened and isn't in the report
+pub is_unopened : (f : SessionFacts) → f.port.opened ≡ true → f.cause ≡ None → IsUnopened f → AreFactsConsistent f
+is_unopened f o e h = record { known = subst (λ b. IsKnownAs b f.cause f) (sym o) (subst (λ k. IsReportedAs f k) (sym e) h) }
 
 -- ---- the accounts of a session
 
-pub served_new : (f : SessionFacts) → f.port.fed ≡ [] → f.port.given ≡ [] → f.had ≡ [] → f.asked ≡ [] → f.piece ≡ [] → IsServed f.piece f new_session
+-- a session of which nothing came, and for which nothing was asked, had or given, is served in the state of a new one
+pub served_new : (f : SessionFacts) → f.port.fed ≡ [] → f.port.given ≡ [] → f.had ≡ [] → f.asked ≡ [] → f.piece ≡ [] → IsSessionServed f.piece f new_session
 served_new f fed_is given_is had_is asked_is piece_is = record {
   bytes = [];
   messages = [];
@@ -92,8 +105,8 @@ served_new f fed_is given_is had_is asked_is piece_is = record {
 }
 
 -- bytes came, which are held at first
-pub served_came : (f : SessionFacts) (s : SessionState) (held more : List ℕ) → IsServed held f s
-    → IsServed (held ++ more) (record f { port = record f.port { fed = f.port.fed ++ more } }) s
+pub served_came : (f : SessionFacts) (s : SessionState) (held more : List ℕ) → IsSessionServed held f s
+    → IsSessionServed (held ++ more) (record f { port = record f.port { fed = f.port.fed ++ more } }) s
 served_came f s held more h = record {
   bytes = h.bytes;
   messages = h.messages;
@@ -104,7 +117,7 @@ served_came f s held more h = record {
 }
 
 -- held bytes are fed
-pub served_fed : (f : SessionFacts) (s : SessionState) (held : List ℕ) → IsServed held f s → IsServed [] f (fed s held)
+pub served_fed : (f : SessionFacts) (s : SessionState) (held : List ℕ) → IsSessionServed held f s → IsSessionServed [] f (once_fed s held)
 served_fed f s held h =
     let k = feed_keeps h.bytes held f.port.given h.messages f.had s h.has_read h.has_said in record {
       bytes = h.bytes ++ held;
@@ -115,9 +128,28 @@ served_fed f s held h =
       asked = h.asked;
     }
 
+-- a piece is held, or no longer
+pub served_holding : (f : SessionFacts) (s : SessionState) (held piece : List ℕ) → IsSessionServed held f s → IsSessionServed held f (holding s piece)
+served_holding f s held piece h = record {
+  bytes = h.bytes;
+  messages = h.messages;
+  fed = h.fed;
+  has_read = record {
+    pieces = h.has_read.pieces;
+    dropped = h.has_read.dropped;
+    whole = h.has_read.whole;
+    spelled = h.has_read.spelled;
+    ends_at_last = h.has_read.ends_at_last;
+    ended = h.has_read.ended;
+    nothing_dropped = h.has_read.nothing_dropped;
+  };
+  has_said = record { whole = h.has_said.whole; queue = h.has_said.queue; replied = h.has_said.replied };
+  asked = h.asked;
+}
+
 -- messages are read, and their requests asked
-pub served_read : (f : SessionFacts) (s after : SessionState) (held : List ℕ) (more : List Message) → ReadsOn s more after → IsServed held f s
-    → IsServed held (record f { asked = f.asked ++ asks more }) after
+pub served_read : (f : SessionFacts) (s after : SessionState) (held : List ℕ) (more : List Message) → ReadsOn s more after → IsSessionServed held f s
+    → IsSessionServed held (record f { asked = f.asked ++ asks more }) after
 served_read f s after held more r h =
     let k = read_keeps h.bytes f.port.given h.messages more f.had s after r h.has_read h.has_said in record {
       bytes = h.bytes;
@@ -129,8 +161,8 @@ served_read f s after held more r h =
     }
 
 -- a reply is settled
-pub served_settled : (f : SessionFacts) (s : SessionState) (held : List ℕ) (r : Reply) → 0 < length (asks s.queue) → IsServed held f s
-    → IsServed held (record f { had = f.had ++ r ∷ [] }) (settled s r)
+pub served_settled : (f : SessionFacts) (s : SessionState) (held : List ℕ) (r : Reply) → 0 < length (asks s.queue) → IsSessionServed held f s
+    → IsSessionServed held (record f { had = f.had ++ r ∷ [] }) (settled s r)
 served_settled f s held r some h =
     let k = settle_keeps h.bytes f.port.given h.messages f.had r s some h.has_read h.has_said in record {
       bytes = h.bytes;
@@ -142,8 +174,8 @@ served_settled f s held r some h =
     }
 
 -- output is given
-pub served_gave : (f : SessionFacts) (s : SessionState) (held : List ℕ) (n : ℕ) → IsServed held f s
-    → IsServed held (record f { port = record f.port { given = f.port.given ++ take n s.out } }) (gave s n)
+pub served_gave : (f : SessionFacts) (s : SessionState) (held : List ℕ) (n : ℕ) → IsSessionServed held f s
+    → IsSessionServed held (record f { port = record f.port { given = f.port.given ++ take n s.out } }) (gave s n)
 served_gave f s held n h =
     let k = give_keeps h.bytes f.port.given n h.messages f.had s h.has_read h.has_said in record {
       bytes = h.bytes;
@@ -156,6 +188,7 @@ served_gave f s held n h =
 
 -- ---- closing
 
+-- the bytes that came of a session begin with spellings of the messages that it has read
 begins : (bytes held total : List ℕ) (ms : List Message) (s : SessionState) → total ≡ bytes ++ held → HasRead bytes ms s
     → (rest : List ℕ) × BeginsWith total ms rest
 begins bytes held total ms s e h = (
@@ -177,7 +210,8 @@ pub record Stays (f g : SessionFacts) : Type 0 where
   pub had : g.had ≡ f.had
   pub state : g.state ≡ None
 
-closed_as : (f g : SessionFacts) (s : SessionState) (held : List ℕ) (c : EndCause) (h : IsServed held f s) → Stays f g → IsCaused g h.messages c
+-- a served session that is gone or shut is closed with a cause that is one of it, where what came, was given, asked and had stays
+closed_as : (f g : SessionFacts) (s : SessionState) (held : List ℕ) (c : EndCause) (h : IsSessionServed held f s) → Stays f g → IsCaused g h.messages c
     → (g.port.gone ≡ true) ⊎ (g.port.shut ≡ true) → IsClosed g c
 closed_as f g s held c h k caused over =
     let b = begins h.bytes held g.port.fed h.messages s (k.fed ∙ h.fed) h.has_read in record {
@@ -191,14 +225,17 @@ closed_as f g s held c h k caused over =
       state = k.state;
     }
 
-pub closed_gone : (f g : SessionFacts) (s : SessionState) (held : List ℕ) → IsServed held f s → Stays f g → g.port.gone ≡ true → IsClosed g causes.Gone
+-- a served session that has gone is closed with the cause Gone
+pub closed_gone : (f g : SessionFacts) (s : SessionState) (held : List ℕ) → IsSessionServed held f s → Stays f g → g.port.gone ≡ true → IsClosed g causes.Gone
 closed_gone f g s held h k gone = closed_as f g s held causes.Gone h k gone (inl gone)
 
-pub closed_no_memory : (f g : SessionFacts) (s : SessionState) (held : List ℕ) → IsServed held f s → Stays f g → g.port.shut ≡ true → IsClosed g causes.NoMemory
+-- a served session that was shut may be closed with the cause NoMemory
+pub closed_no_memory : (f g : SessionFacts) (s : SessionState) (held : List ℕ) → IsSessionServed held f s → Stays f g → g.port.shut ≡ true
+    → IsClosed g causes.NoMemory
 closed_no_memory f g s held h k shut = closed_as f g s held causes.NoMemory h k shut (inr shut)
 
 -- the same where one more reply came back, which found no memory
-pub closed_starved : (f g : SessionFacts) (s : SessionState) (held : List ℕ) (r : Reply) → IsServed held f s
+pub closed_starved : (f g : SessionFacts) (s : SessionState) (held : List ℕ) (r : Reply) → IsSessionServed held f s
     → Stays (record f { had = f.had ++ r ∷ [] }) g → g.port.shut ≡ true → IsClosed g causes.NoMemory
 closed_starved f g s held r h k shut =
     let b = begins h.bytes held g.port.fed h.messages s (k.fed ∙ h.fed) h.has_read in
@@ -218,12 +255,15 @@ closed_starved f g s held r h k shut =
 abbrev IsEnding : Option EndCause → Type 0
 IsEnding o = (o ≡ None) ⊎ (o ≡ Some causes.Quit) ⊎ (o ≡ Some causes.Fatal)
 
+-- a session may end by Quit
 quits : IsEnding (Some causes.Quit)
 quits = inr (inl refl)
 
+-- a session may end by a fatal message
 fails : IsEnding (Some causes.Fatal)
 fails = inr (inr refl)
 
+-- whatever messages are read, nothing has ended the session, or Quit or a fatal message has
 ending : (o : Option EndCause) (ms : List Message) → IsEnding o → IsEnding (ended_by o ms)
 ending o [] h = h
 ending o (Ask q quiet ∷ ms) h = ending o ms h
@@ -232,7 +272,7 @@ ending o (Quit ∷ ms) h = ending (Some causes.Quit) ms quits
 ending o (Fatal kind ∷ ms) h = ending (Some causes.Fatal) ms fails
 
 -- all was answered and given: it is closed with what has ended it
-whole_as : (f g : SessionFacts) (s : SessionState) (held : List ℕ) (c : EndCause) (h : IsServed held f s) → Stays f g → s.queue ≡ [] → s.out ≡ []
+whole_as : (f g : SessionFacts) (s : SessionState) (held : List ℕ) (c : EndCause) (h : IsSessionServed held f s) → Stays f g → s.queue ≡ [] → s.out ≡ []
     → s.ended ≡ Some c → IsWhole g h.messages c
 whole_as f g s held c h k queue out ended = (
   k.given ∙ sym (append-nil f.port.given) ∙ ap (λ (x : List ℕ). f.port.given ++ x) (sym out) ∙ h.has_said.whole ∙ ap (said h.messages) (sym k.had),
@@ -241,6 +281,7 @@ whole_as f g s held c h k queue out ended = (
   sym h.has_read.ended ∙ ended,
 )
 
+-- Quit or Fatal is the cause of closing a session that it has ended, where that was shut with all answered and given
 caused_by : (g : SessionFacts) (ms : List Message) (c : EndCause) → IsEnding (Some c) → g.port.shut ≡ true → IsWhole g ms c → IsCaused g ms c
 caused_by g ms causes.Quit e shut w = (shut, w)
 caused_by g ms causes.Fatal e shut w = (shut, w)
@@ -254,7 +295,8 @@ caused_by g ms causes.NoMemory (inl e) shut w = cc
 caused_by g ms causes.NoMemory (inr (inl e)) shut w = cc
 caused_by g ms causes.NoMemory (inr (inr e)) shut w = cc
 
-pub closed_finished : (f g : SessionFacts) (s : SessionState) (held : List ℕ) (c : EndCause) → IsServed held f s → Stays f g → s.queue ≡ []
+-- a served session without queue and output that was shut is closed with what has ended it
+pub closed_finished : (f g : SessionFacts) (s : SessionState) (held : List ℕ) (c : EndCause) → IsSessionServed held f s → Stays f g → s.queue ≡ []
     → s.out ≡ [] → s.ended ≡ Some c → g.port.shut ≡ true → IsClosed g c
 closed_finished f g s held c h k queue out ended shut =
     let is : IsEnding (Some c) = subst IsEnding (sym h.has_read.ended ∙ ended) (ending None h.messages (inl refl)) in
@@ -262,6 +304,7 @@ closed_finished f g s held c h k queue out ended shut =
 
 -- ---- an answer to a closed session is dropped
 
+-- one more reply leaves why a session was closed
 caused_more : (f : SessionFacts) (r : Reply) (ms : List Message) (c : EndCause) → IsCaused f ms c → IsCaused (record f { had = f.had ++ r ∷ [] }) ms c
 caused_more f r ms causes.Drained h = h
 caused_more f r ms causes.Quit h = (h.0, (h.1.0 ∙ sym (said_all ms f.had (r ∷ []) h.1.1), omega (arith, h.1.1, length-append f.had (r ∷ [])), h.1.2))
@@ -269,6 +312,7 @@ caused_more f r ms causes.Fatal h = (h.0, (h.1.0 ∙ sym (said_all ms f.had (r �
 caused_more f r ms causes.Gone h = h
 caused_more f r ms causes.NoMemory h = h
 
+-- a closed session is closed still when one more reply came back for it
 pub closed_dropped : (f : SessionFacts) (r : Reply) (c : EndCause) → IsClosed f c → IsClosed (record f { had = f.had ++ r ∷ [] }) c
 closed_dropped f r c h = record {
   messages = h.messages;
@@ -281,6 +325,7 @@ closed_dropped f r c h = record {
   state = h.state;
 }
 
+-- one more reply leaves what is known of a session that isn't open and has asked something
 dropped_as : (f : SessionFacts) (r : Reply) (o : Bool) (c : Option EndCause) → f.state ≡ None → (f.asked ≡ [] → ⊥) → IsKnownAs o c f
     → IsKnownAs o c (record f { had = f.had ++ r ∷ [] })
 dropped_as f r false c none some h = absurd (some h.0.asked)
@@ -291,7 +336,9 @@ dropped_as f r true (Some causes.Fatal) none some h = closed_dropped f r causes.
 dropped_as f r true (Some causes.Gone) none some h = closed_dropped f r causes.Gone h
 dropped_as f r true (Some causes.NoMemory) none some h = closed_dropped f r causes.NoMemory h
 
-pub dropped : (f : SessionFacts) (r : Reply) → f.state ≡ None → (f.asked ≡ [] → ⊥) → IsConsistent f → IsConsistent (record f { had = f.had ++ r ∷ [] })
+-- the facts of a session that isn't open and has asked something stay consistent with one more reply
+pub dropped : (f : SessionFacts) (r : Reply) → f.state ≡ None → (f.asked ≡ [] → ⊥) → AreFactsConsistent f
+    → AreFactsConsistent (record f { had = f.had ++ r ∷ [] })
 dropped f r none some h = record { known = dropped_as f r f.port.opened f.cause none some h.known }
 
 -- a session with a place was opened
@@ -299,5 +346,6 @@ placed_opened : (f : SessionFacts) (d : EndCause) (o : Bool) (c : Option EndCaus
 placed_opened f d false c h e = absurd (not_both c d h.1 e)
 placed_opened f d true c h e = refl
 
-pub opened_if_placed : (f : SessionFacts) (d : EndCause) → IsConsistent f → f.cause ≡ Some d → f.port.opened ≡ true
+-- a session that has a cause in the report was opened, where its facts are consistent
+pub opened_if_placed : (f : SessionFacts) (d : EndCause) → AreFactsConsistent f → f.cause ≡ Some d → f.port.opened ≡ true
 opened_if_placed f d h e = placed_opened f d f.port.opened f.cause h.known e

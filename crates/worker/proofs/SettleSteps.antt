@@ -1,5 +1,6 @@
 -- What taking an answer and settling it leaves true of a worker.
-use Rattle.std.proofs.Common.{◌≡◌, ◌≢◌, ℕ, zero, suc, ◌-◌, ◌^◌, ◌<◌, ◌≤◌, ◌==◌, Bool, true, false, cond, eq-eqb, ne_eqb, List, [], ◌∷◌, ◌++◌, length, take, drop, min, map, refl, sym, ap, subst, ◌∙◌, arith, Option, Some, None, length-append}
+use Rattle.std.proofs.Common.{◌≡◌, ◌≢◌, ℕ, zero, suc, ◌-◌, ◌^◌, ◌<◌, ◌≤◌, ◌==◌, Bool, true, false, cond, eq-eqb, ne_eqb, List, [], ◌∷◌, ◌++◌, length, take}
+use Rattle.std.proofs.Common.{drop, min, map, refl, sym, ap, subst, ◌∙◌, arith, Option, Some, None, length-append}
 use Rattle.std.specs.Prelude.{slice_get}
 use mathlib.Core.Option.{some}
 use lib.ListN.{get_elem?}
@@ -17,37 +18,43 @@ use Rattle.session_book.specs.declared.causes.EndCause.{EndCause}
 use Rattle.session_book.specs.declared.causes.EndCause.TheVariants as causes
 use Rattle.session_book.specs.declared.causes.Unsettled.{Unsettled}
 use Rattle.session_book.specs.Session.{SessionState, settled}
-use Rattle.session_book.specs.Book.{BookState, session_of, IsOldest, SettlesOldest, SettlesReply}
+use Rattle.session_book.specs.Book.{BookState, session_of, held_of, IsOldest, SettlesOldest, SettlesReply}
 use Rattle.worker.specs.declared.port.PortRecord.{PortRecord}
 use Rattle.worker.specs.declared.port.PortRecord.TheVariants as was
 use Rattle.worker.specs.declared.worker.Worker.{Worker}
-use Rattle.worker.specs.Sessions.{PortFacts, port_facts, RunView, facts, asked_by, had_by, cause_of, IsConsistent, IsServed}
+use Rattle.worker.specs.Sessions.{PortFacts, port_facts, RunView, facts, asked_by, had_by, cause_of, AreFactsConsistent, IsSessionServed}
 use Rattle.worker.specs.Ports.{PortStory, then_told, has_ended, AcceptsOnlyOpen}
 use Rattle.worker.specs.Places.{Rises, piece_of}
-use Rattle.worker.specs.Workers.{posted_by, unsettled_of, IsNumbered, IsSteady, IsCounted, IsTold, run_view, IsServing, IsSameEnd, GoesOn, Shuts}
+use Rattle.worker.specs.Workers.{posted_by, unsettled_post, IsNumbered, IsSteady, AreSessionsCounted, IsStoryKnown, run_view, IsWorkerServing, TakesNone}
+use Rattle.worker.specs.Workers.{TakesBack, WorkerGoesOn, Shuts}
 use Rattle.worker.proofs.Facts.{had_here, had_elsewhere}
 use Rattle.worker.proofs.SessionSteps.{runs, is_running, Stays, served_settled, closed_starved, dropped}
 use Rattle.worker.proofs.PlaceLemmas.{rises_with, length-with}
 use Rattle.worker.proofs.RunViews.{facts_equal, change_at, at_other, at_same, ended_same, count_same, accepts_more, ClosesIn, close_all, shuts_here, apart_shut}
 use Rattle.worker.proofs.StoryLaws.{same_story, paused_kept, paused_but, paused_elsewhere}
+use Rattle.worker.proofs.PieceLaws.{pieces_kept, pieces_gone}
 use Rattle.worker.proofs.WorkerSteps.{steps_on, steady_closed, same_end, closes_in}
 use Rattle.worker.proofs.OutputSteps.{told_within}
 
 -- ---- lists
 
+-- two values that are the same as optional ones are the same
 some_same : {A : Type 0} (x y : A) → some x ≡ some y → x ≡ y
 some_same x y e = cc
 
+-- a list without a request of a session has none behind its first element either
 none_behind : (b : Bool) (x : Posted) (l : List Posted) (t : ℕ)
     → map (λ (y : Posted). y.request) (cond b (x ∷ filter (λ (y : Posted). y.session == t) l) (filter (λ (y : Posted). y.session == t) l)) ≡ []
     → asked_by l t ≡ []
 none_behind true x l t e = absurd (cc)
 none_behind false x l t e = e
 
+-- a held request has the next number still where the end has sent as many requests as before
 numbered_as : (end end' : WorkerView) (request : Option Posted) → length end'.sent ≡ length end.sent → IsNumbered end request → IsNumbered end' request
 numbered_as end end' None e h = h
 numbered_as end end' (Some p) e h = omega (arith, e, h)
 
+-- one more answer adds its request, as it was posted, to those that came back
 asked_more : (l : List Answered) (a : Answered) → asked_posted (l ++ a ∷ []) ≡ asked_posted l ++ posted_of a ∷ []
 asked_more [] a = refl
 asked_more (x ∷ l) a = ap (λ (y : List Posted). posted_of x ∷ y) (asked_more l a)
@@ -58,6 +65,7 @@ rest_at [] n x e = absurd (cc)
 rest_at (y ∷ l) zero x e = let same : y ≡ x = some_same y x e in ap (λ z. z ∷ l) same
 rest_at (y ∷ l) (suc n) x e = rest_at l n x e
 
+-- something was asked for a session of which a request stands in the list
 some_asked : (l : List Posted) (n t : ℕ) (p : Posted) → get_elem? l n ≡ some p → p.session ≡ t → asked_by l t ≡ [] → ⊥
 some_asked [] n t p e q none = absurd (cc)
 some_asked (x ∷ l) zero t p e q none =
@@ -68,34 +76,30 @@ some_asked (x ∷ l) (suc n) t p e q none = some_asked l n t p e q (none_behind 
 
 -- ---- what was taken
 
--- the end has taken back the answer a
-pub record TakesBack (end end' : WorkerView) (a : Answered) : Type 0 where
-  pub own : get_elem? end.sent (length end.back) ≡ some (posted_of a)
-  pub sent : end'.sent ≡ end.sent
-  pub running : end'.said_bye ≡ end.said_bye
-  pub back : end'.back ≡ end.back ++ a ∷ []
-  pub same : IsSameEnd end end'
-
-at_append : {A : Type 0} (l m : List A) (n : ℕ) (x : A) → get_elem? l n ≡ some x → get_elem? (l ++ m) n ≡ some x
+-- a list behind it moves no element
+pub at_append : {A : Type 0} (l m : List A) (n : ℕ) (x : A) → get_elem? l n ≡ some x → get_elem? (l ++ m) n ≡ some x
 at_append [] m n x e = absurd (cc)
 at_append (y ∷ l) m zero x e = e
 at_append (y ∷ l) m (suc n) x e = at_append l m n x e
 
+-- a request has its place among those sent also where the held one is counted with them
 pub at_posted : (end : WorkerView) (request : Option Posted) (a : Answered) → get_elem? end.sent (length end.back) ≡ some (posted_of a)
     → get_elem? (posted_by end request) (length end.back) ≡ some (posted_of a)
 at_posted end request a e = at_append end.sent (option_to_list request) (length end.back) (posted_of a) e
 
 -- the answer is that of the book's oldest unsettled request
 pub oldest_first : (end : WorkerView) (request : Option Posted) (book : BookState) (a : Answered) → IsSteady end request book
-    → get_elem? end.sent (length end.back) ≡ some (posted_of a) → book.unsettled ≡ unsettled_of (posted_of a) ∷ map unsettled_of
+    → get_elem? end.sent (length end.back) ≡ some (posted_of a) → book.unsettled ≡ unsettled_post (posted_of a) ∷ map unsettled_post
     (drop (suc (length end.back)) (posted_by end request))
-oldest_first end request book a h e = h.unsettled ∙ ap (map unsettled_of)
+oldest_first end request book a h e = h.unsettled ∙ ap (map unsettled_post)
     (rest_at (posted_by end request) (length end.back) (posted_of a) (at_posted end request a e))
 
+-- an answer to the first request that hadn't come back is that of the book's oldest unsettled request
 pub is_oldest : (end : WorkerView) (request : Option Posted) (book : BookState) (a : Answered) → IsSteady end request book
     → get_elem? end.sent (length end.back) ≡ some (posted_of a) → IsOldest book a
 is_oldest end request book a h e = ap (λ (l : List Unsettled). slice_get l 0) (oldest_first end request book a h e)
 
+-- the end and the book agree still once the end took back an answer and the book's oldest request is no longer unsettled
 pub steady_taken : (end end' : WorkerView) (request : Option Posted) (book book' : BookState) (a : Answered) → IsSteady end request book
     → TakesBack end end' a → book'.posted ≡ book.posted → book'.unsettled ≡ drop 1 book.unsettled → IsSteady end' request book'
 steady_taken end end' request book book' a h k p u =
@@ -104,13 +108,14 @@ steady_taken end end' request book book' a h k p u =
       running = k.running ∙ h.running;
       posted = p ∙ h.posted ∙ ap (length {A = Posted}) (sym posted);
       numbered = numbered_as end end' request (ap (length {A = Posted}) k.sent) h.numbered;
-      unsettled = u ∙ ap (drop 1) (oldest_first end request book a h k.own) ∙ (λ i. map unsettled_of (drop (sym len i) (sym posted i)));
+      unsettled = u ∙ ap (drop 1) (oldest_first end request book a h k.own) ∙ (λ i. map unsettled_post (drop (sym len i) (sym posted i)));
       back = ap asked_posted k.back ∙ asked_more end.back a ∙ ap (λ (l : List Posted). l ++ posted_of a ∷ []) h.back
           ∙ sym (take_more end.sent (length end.back) (posted_of a) k.own) ∙ (λ i. take (sym len i) (sym k.sent i));
     }
 
 -- ---- what is told
 
+-- one more answer came back, its session has this state, or none, and nothing else changes
 record TakesIn (v v' : RunView) (a : Answered) (st : Option SessionState) : Type 0 where
   events : v'.events ≡ v.events
   posted : v'.posted ≡ v.posted
@@ -119,12 +124,14 @@ record TakesIn (v v' : RunView) (a : Answered) (st : Option SessionState) : Type
   book : (k : ℕ) → session_of v'.book k ≡ cond (k == a.session) st (session_of v.book k)
   piece : v'.piece ≡ v.piece
 
+-- an answer that came back leaves what is known of the other sessions
 taken_elsewhere : (v v' : RunView) (a : Answered) (st : Option SessionState) → TakesIn v v' a st → (k : ℕ) → a.session ≢ k → facts v' k ≡ facts v k
 taken_elsewhere v v' a st h k ne =
     facts_equal (facts v' k) (facts v k) (ap (λ l. port_facts l k) h.events) (λ i. (facts (record v { posted = h.posted i }) k).asked)
     (ap (λ l. had_by l k) h.back ∙ had_elsewhere v.back a k ne) (λ i. (facts (record v { sessions = h.sessions i }) k).cause)
     (h.book k ∙ at_other a.session k st (session_of v.book k) ne) (λ i. h.piece i k)
 
+-- of its own session it changes the replies and the state alone
 taken_here : (v v' : RunView) (a : Answered) (st : Option SessionState) → TakesIn v v' a st
     → facts v' a.session ≡ record (facts v a.session) { had = had_by v.back a.session ++ a.reply ∷ []; state = st }
 taken_here v v' a st h =
@@ -133,16 +140,17 @@ taken_here v v' a st h =
     (λ i. (facts (record v { posted = h.posted i }) t).asked) (ap (λ l. had_by l t) h.back ∙ had_here v.back a t refl)
     (λ i. (facts (record v { sessions = h.sessions i }) t).cause) (h.book t ∙ at_same t st (session_of v.book t)) (λ i. h.piece i t)
 
-told_kept : (v v' : RunView) (unopened : ℕ) (ended : Bool) (a : Answered) (s : SessionState) → IsTold v unopened ended
-    → session_of v.book a.session ≡ Some s → 0 < length (asks s.queue) → TakesIn v v' a (Some (settled s a.reply)) → IsTold v' unopened ended
+-- all is known still once an open session with an unsettled request got the reply that came back
+told_kept : (v v' : RunView) (unopened : ℕ) (ended : Bool) (a : Answered) (s : SessionState) → IsStoryKnown v unopened ended
+    → session_of v.book a.session ≡ Some s → 0 < length (asks s.queue) → TakesIn v v' a (Some (settled s a.reply)) → IsStoryKnown v' unopened ended
 told_kept v v' unopened ended a s h open_is has k =
     let t = a.session in
     let run = runs (facts v t) s (h.each t) open_is in
     let same : s ≡ run.running.s = some_is s run.running.s (sym open_is ∙ run.running.state) in
-    let was_served : IsServed (v.piece t) (facts v t) s = subst (λ (x : SessionState). IsServed (v.piece t) (facts v t) x) (sym same) run.running.served in
+    let was_served : IsSessionServed (v.piece t) (facts v t) s = subst (λ (x : SessionState). IsSessionServed (v.piece t) (facts v t) x) (sym same) run.running.served in
     let served = served_settled (facts v t) s (v.piece t) a.reply has was_served in
     let f' = record (facts v t) { had = had_by v.back t ++ a.reply ∷ []; state = Some (settled s a.reply) } in
-    let now : IsConsistent f' = is_running f' run.opened run.cause
+    let now : AreFactsConsistent f' = is_running f' run.opened run.cause
     (record {
       gone = run.running.gone;
       shut = run.running.shut;
@@ -158,16 +166,17 @@ told_kept v v' unopened ended a s h open_is has k =
       };
     }) in
     told_within v v' unopened ended h k.events k.sessions (change_at t v v' (taken_elsewhere v v' a (Some (settled s a.reply)) k)
-    (subst IsConsistent (sym (taken_here v v' a (Some (settled s a.reply)) k)) now) (λ j ne. h.each j))
+    (subst AreFactsConsistent (sym (taken_here v v' a (Some (settled s a.reply)) k)) now) (λ j ne. h.each j))
 
-told_dropped : (v v' : RunView) (unopened : ℕ) (ended : Bool) (a : Answered) → IsTold v unopened ended → session_of v.book a.session ≡ None
-    → (asked_by v.posted a.session ≡ [] → ⊥) → TakesIn v v' a None → IsTold v' unopened ended
+-- all is known still once an answer came back for a session that is no longer open and has asked something
+told_dropped : (v v' : RunView) (unopened : ℕ) (ended : Bool) (a : Answered) → IsStoryKnown v unopened ended → session_of v.book a.session ≡ None
+    → (asked_by v.posted a.session ≡ [] → ⊥) → TakesIn v v' a None → IsStoryKnown v' unopened ended
 told_dropped v v' unopened ended a h closed has k =
     let t = a.session in
     let now = dropped (facts v t) a.reply closed has (h.each t) in
     let here : facts v' t ≡ record (facts v t) { had = had_by v.back t ++ a.reply ∷ [] } = taken_here v v' a None k
     ∙ ap (λ (o : Option SessionState). record (facts v t) { had = had_by v.back t ++ a.reply ∷ []; state = o }) (sym closed) in
-    told_within v v' unopened ended h k.events k.sessions (change_at t v v' (taken_elsewhere v v' a None k) (subst IsConsistent (sym here) now)
+    told_within v v' unopened ended h k.events k.sessions (change_at t v v' (taken_elsewhere v v' a None k) (subst AreFactsConsistent (sym here) now)
     (λ j ne. h.each j))
 
 -- ---- the worker after an answer
@@ -176,28 +185,32 @@ told_dropped v v' unopened ended a h closed has k =
 pub record KeepsRest {P : Type 0} (old new : Worker P) : Type 0 where
   pub port : new.port ≡ old.port
   pub request : new.request ≡ old.request
-  pub pieces : new.pieces ≡ old.pieces
   pub sessions : new.sessions ≡ old.sessions
   pub unopened : new.unopened ≡ old.unopened
   pub strangers : new.strangers ≡ old.strangers
   pub ended : new.ended ≡ old.ended
 
+-- what taking back an answer makes of the worker's view, the held pieces left as they were
 taken_in : {P : Type 0} (story : PortStory) (old new : Worker P) (a : Answered) (st : Option SessionState) → KeepsRest old new
     → TakesBack old.worker_end new.worker_end a → ((k : ℕ) → session_of new.book k ≡ cond (k == a.session) st (session_of old.book k))
-    → TakesIn (run_view story old) (run_view story new) a st
+    → TakesIn (run_view story old) (record (run_view story new) { piece = piece_of old.book }) a st
 taken_in story old new a st k b book = record {
   events = refl;
   posted = λ i. b.sent i ++ option_to_list (k.request i);
   back = b.back;
   sessions = λ i. (k.sessions i).items;
   book = book;
-  piece = λ i. piece_of (k.pieces i);
+  piece = refl;
 }
 
+-- a worker that took back an answer goes on, where the book's oldest request is no longer unsettled, the held pieces stay, and
+-- all is known still
 answer_goes_on : {P : Type 0} (told : P → Option PortStory) (old new : Worker P) (a : Answered) → KeepsRest old new
-    → TakesBack old.worker_end new.worker_end a → IsServing told old → new.book.posted ≡ old.book.posted → new.book.unsettled ≡ drop 1 old.book.unsettled
-    → ((story : PortStory) → IsTold (run_view story old) old.unopened old.ended → IsTold (run_view story new) old.unopened old.ended) → GoesOn told old new
-answer_goes_on told old new a k b h p u is_told =
+    → TakesBack old.worker_end new.worker_end a → IsWorkerServing told old → new.book.posted ≡ old.book.posted → new.book.unsettled ≡ drop 1 old.book.unsettled
+    → ((s : ℕ) → piece_of new.book s ≡ piece_of old.book s)
+    → ((story : PortStory) → IsStoryKnown (run_view story old) old.unopened old.ended
+    → IsStoryKnown (record (run_view story new) { piece = piece_of old.book }) old.unopened old.ended) → WorkerGoesOn told old new
+answer_goes_on told old new a k b h p u pieces is_told =
     steps_on told old new (λ story. story) (same_story (told old.port) (told new.port) (ap told k.port)) (record {
       same_end = b.same;
       steady = subst (λ (r : Option Posted). IsSteady new.worker_end r new.book) (sym k.request)
@@ -207,18 +220,12 @@ answer_goes_on told old new a k b h p u is_told =
       ended = k.ended;
     }) h
     (λ story e was_so. (
-      is_told story was_so.0,
-      paused_kept story story (piece_of old.pieces) (piece_of new.pieces) (λ q i. piece_of (k.pieces i) q)
-          (λ q. refl) was_so.1,
+      subst (λ (x : ℕ → List ℕ). IsStoryKnown (record (run_view story new) { piece = x }) old.unopened old.ended) (λ i s. sym (pieces s) i)
+          (is_told story was_so.0),
+      paused_kept story story (piece_of old.book) (piece_of new.book) pieces (λ q. refl) was_so.1,
     ))
 
--- the end has learnt more of the history, and took nothing back
-pub record TakesNone (end end' : WorkerView) : Type 0 where
-  pub sent : end'.sent ≡ end.sent
-  pub back : end'.back ≡ end.back
-  pub running : end'.said_bye ≡ end.said_bye
-  pub same : IsSameEnd end end'
-
+-- the end and the book agree still where the end looked for an answer and found none
 steady_still : (end end' : WorkerView) (request : Option Posted) (book : BookState) → TakesNone end end' → IsSteady end request book
     → IsSteady end' request book
 steady_still end end' request book k h =
@@ -226,12 +233,13 @@ steady_still end end' request book k h =
       running = k.running ∙ h.running;
       posted = h.posted ∙ ap (length {A = Posted}) (sym posted);
       numbered = numbered_as end end' request (ap (length {A = Posted}) k.sent) h.numbered;
-      unsettled = h.unsettled ∙ (λ i. map unsettled_of (drop (length (sym k.back i)) (sym posted i)));
+      unsettled = h.unsettled ∙ (λ i. map unsettled_post (drop (length (sym k.back i)) (sym posted i)));
       back = ap asked_posted k.back ∙ h.back ∙ (λ i. take (length (sym k.back i)) (sym k.sent i));
     }
 
+-- a worker whose end found no answer goes on
 pub none_taken_goes_on : {P : Type 0} (told : P → Option PortStory) (old : Worker P) (end : WorkerView) → TakesNone old.worker_end end
-    → IsServing told old → GoesOn told old (record old { worker_end = end })
+    → IsWorkerServing told old → WorkerGoesOn told old (record old { worker_end = end })
 none_taken_goes_on told old end k h =
     let new = record old { worker_end = end } in
     steps_on told old new (λ story. story) (same_story (told old.port) (told old.port) refl) (record {
@@ -242,30 +250,35 @@ none_taken_goes_on told old end k h =
       ended = refl;
     }) h
     (λ story e was_so. (
-      subst (λ (v : RunView). IsTold v old.unopened old.ended)
+      subst (λ (v : RunView). IsStoryKnown v old.unopened old.ended)
           (λ i. record (run_view story old) { posted = sym k.sent i ++ option_to_list old.request; back = sym k.back i }) was_so.0,
       was_so.1,
     ))
 
+-- a worker goes on where the answer that came back went to its session
 pub kept_goes_on : {P : Type 0} (told : P → Option PortStory) (old new : Worker P) (a : Answered) → KeepsRest old new
-    → TakesBack old.worker_end new.worker_end a → IsServing told old → SettlesReply old.book new.book a → GoesOn told old new
+    → TakesBack old.worker_end new.worker_end a → IsWorkerServing told old → SettlesReply old.book new.book a → WorkerGoesOn told old new
 kept_goes_on told old new a k b h r =
     answer_goes_on told old new a k b h (ap (λ (x : BookState). x.posted) r.settles.rest) (ap (λ (x : BookState). x.unsettled) r.settles.rest)
-    (λ story was_told. told_kept (run_view story old) (run_view story new) old.unopened old.ended a r.s was_told r.was_open r.unsettled
+    (pieces_kept old.book new.book a.session (Some (settled r.s a.reply)) r.settles.only_at (sym (ap held_of r.was_open)))
+    (λ story was_told. told_kept (run_view story old) (record (run_view story new) { piece = piece_of old.book }) old.unopened old.ended a r.s was_told r.was_open r.unsettled
     (taken_in story old new a (Some (settled r.s a.reply)) k b r.settles.only_at))
 
+-- a worker goes on where the answer that came back was dropped, as its session was closed
 pub dropped_goes_on : {P : Type 0} (told : P → Option PortStory) (old new : Worker P) (a : Answered) → KeepsRest old new
-    → TakesBack old.worker_end new.worker_end a → IsServing told old → session_of old.book a.session ≡ None → SettlesOldest old.book new.book a None
-    → GoesOn told old new
+    → TakesBack old.worker_end new.worker_end a → IsWorkerServing told old → session_of old.book a.session ≡ None → SettlesOldest old.book new.book a None
+    → WorkerGoesOn told old new
 dropped_goes_on told old new a k b h closed r =
     answer_goes_on told old new a k b h (ap (λ (x : BookState). x.posted) r.rest) (ap (λ (x : BookState). x.unsettled) r.rest)
+    (pieces_kept old.book new.book a.session None r.only_at (sym (ap held_of closed)))
     (λ story was_told.
-    told_dropped (run_view story old) (run_view story new) old.unopened old.ended a was_told closed
+    told_dropped (run_view story old) (record (run_view story new) { piece = piece_of old.book }) old.unopened old.ended a was_told closed
     (some_asked (posted_by old.worker_end old.request) (length old.worker_end.back) a.session (posted_of a)
     (at_posted old.worker_end old.request a b.own) refl) (taken_in story old new a None k b r.only_at))
 
-told_starved : (v u v' : RunView) (unopened : ℕ) (ended : Bool) (a : Answered) (s : SessionState) → IsTold v unopened ended
-    → session_of v.book a.session ≡ Some s → TakesIn v u a None → ClosesIn u v' a.session causes.NoMemory (was.Shut a.session) → IsTold v' unopened ended
+-- all is known still once a reply came back that found no memory, and its session was shut
+told_starved : (v u v' : RunView) (unopened : ℕ) (ended : Bool) (a : Answered) (s : SessionState) → IsStoryKnown v unopened ended
+    → session_of v.book a.session ≡ Some s → TakesIn v u a None → ClosesIn u v' a.session causes.NoMemory (was.Shut a.session) → IsStoryKnown v' unopened ended
 told_starved v u v' unopened ended a s h open_is k c =
     let t = a.session in
     let run = runs (facts v t) s (h.each t) open_is in
@@ -282,21 +295,22 @@ told_starved v u v' unopened ended a s h open_is k c =
     } in
     let closed = closed_starved (facts v t) (facts v' t) run.running.s (v.piece t) a.reply run.running.served st
     (ap (λ (p : PortFacts). p.shut) here.port_is) in
-    let before : (j : ℕ) → t ≢ j → IsConsistent (facts u j) = λ j ne. subst IsConsistent (sym (taken_elsewhere v u a None k j ne)) (h.each j) in
+    let before : (j : ℕ) → t ≢ j → AreFactsConsistent (facts u j) = λ j ne. subst AreFactsConsistent (sym (taken_elsewhere v u a None k j ne)) (h.each j) in
     let l = u.events in let len = length-with u.sessions t causes.NoMemory in let one = count_same l (was.Shut t) refl in record {
       each = close_all u v' t causes.NoMemory (was.Shut t) (record (port_facts l t) { shut = true }) c (apart_shut t) here
           (ap (λ (p : PortFacts). p.opened) port_same ∙ run.opened) closed before;
       rising = subst Rises (sym c.sessions) (rises_with u.sessions t causes.NoMemory (subst Rises (sym k.sessions) h.rising));
-      counted = subst (λ (y : List PortRecord × List (ℕ × EndCause)). IsCounted y.0 y.1 unopened) (λ i. (sym c.events i, sym c.sessions i))
+      counted = subst (λ (y : List PortRecord × List (ℕ × EndCause)). AreSessionsCounted y.0 y.1 unopened) (λ i. (sym c.events i, sym c.sessions i))
           (subst (λ (y : ℕ × ℕ). (y.1 ≤ y.0) × (unopened ≡ min (y.0 - y.1) (2 ^ 64 - 1))) (λ i. (sym one i, sym len i))
-          (subst (λ (y : List PortRecord × List (ℕ × EndCause)). IsCounted y.0 y.1 unopened) (λ i. (sym k.events i, sym k.sessions i)) h.counted));
+          (subst (λ (y : List PortRecord × List (ℕ × EndCause)). AreSessionsCounted y.0 y.1 unopened) (λ i. (sym k.events i, sym k.sessions i)) h.counted));
       at_end = ap has_ended c.events ∙ ended_same l (was.Shut t) refl ∙ ap has_ended k.events ∙ h.at_end;
       accepts = subst AcceptsOnlyOpen (sym c.events) (accepts_more l (was.Shut t) (subst AcceptsOnlyOpen (sym k.events) h.accepts) tt);
     }
 
+-- a worker goes on where the answer that came back found no memory, and its session was shut
 pub starved_goes_on : {P : Type 0} (told : P → Option PortStory) (old mid new : Worker P) (a : Answered) (s : SessionState) → KeepsRest old mid
-    → TakesBack old.worker_end mid.worker_end a → IsServing told old → session_of old.book a.session ≡ Some s
-    → SettlesOldest old.book mid.book a None → Shuts told mid new a.session causes.NoMemory → GoesOn told old new
+    → TakesBack old.worker_end mid.worker_end a → IsWorkerServing told old → session_of old.book a.session ≡ Some s
+    → SettlesOldest old.book mid.book a None → Shuts told mid new a.session causes.NoMemory → WorkerGoesOn told old new
 starved_goes_on {P} told old mid new a s k b h open_is r c =
     let steady : IsSteady mid.worker_end mid.request mid.book = subst (λ (q : Option Posted). IsSteady mid.worker_end q mid.book) (sym k.request)
     (steady_taken old.worker_end mid.worker_end old.request old.book mid.book a h.steady b (ap (λ (x : BookState). x.posted) r.rest)
@@ -310,10 +324,19 @@ starved_goes_on {P} told old mid new a s k b h open_is r c =
       ended = c.closes.ended ∙ k.ended;
     }) h
     (λ story e was_so.
-    let rising : Rises mid.sessions.items = subst Rises (λ i. (sym k.sessions i).items) was_so.0.rising in (
-      told_starved (run_view story old) (run_view story mid) (run_view (f story) new) old.unopened old.ended a s was_so.0 open_is
-          (taken_in story old mid a None k b r.only_at) (closes_in story mid new a.session causes.NoMemory (was.Shut a.session) c.closes rising),
-      paused_but story (f story) a.session (piece_of mid.pieces) (piece_of new.pieces) c.closes.pieces
-          (λ q ne. paused_elsewhere story (was.Shut a.session) q (ne_eqb a.session q ne))
-          (paused_kept story story (piece_of old.pieces) (piece_of mid.pieces) (λ q i. piece_of (k.pieces i) q) (λ q. refl) was_so.1),
+    let rising : Rises mid.sessions.items = subst Rises (λ i. (sym k.sessions i).items) was_so.0.rising in
+    let closes = closes_in story mid new a.session causes.NoMemory (was.Shut a.session) c.closes rising in
+    let pieces = pieces_gone old.book mid.book new.book a.session r.only_at c.closes.book.only_at in (
+      told_starved (run_view story old)
+          (record (run_view story mid) { piece = piece_of old.book }) (run_view (f story) new) old.unopened old.ended a s was_so.0 open_is
+          (taken_in story old mid a None k b r.only_at) (record {
+            events = closes.events;
+            posted = closes.posted;
+            back = closes.back;
+            sessions = closes.sessions;
+            book = closes.book;
+            piece = pieces;
+          }),
+      paused_but story (f story) a.session (piece_of old.book) (piece_of new.book) pieces
+          (λ q ne. paused_elsewhere story (was.Shut a.session) q (ne_eqb a.session q ne)) was_so.1,
     ))

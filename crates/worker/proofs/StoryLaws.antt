@@ -1,5 +1,6 @@
 -- What the calls of a port make of its story, and which sessions that leaves paused.
-use Rattle.std.proofs.Common.{◌≡◌, ◌≢◌, ℕ, ◌==◌, Bool, true, false, true≢false, ◌||◌, cond, eq-eqb, List, [], ◌∷◌, take, refl, sym, ap, ◌∙◌, Option, Some, None, is_some, Ok}
+use Rattle.std.proofs.Common.{◌≡◌, ◌≢◌, ℕ, ◌==◌, Bool, true, false, true≢false, ◌||◌, cond, eq-eqb, List, [], ◌∷◌, take, refl, sym, ap, ◌∙◌, Option, Some}
+use Rattle.std.proofs.Common.{None, is_some, Ok}
 use Rattle.std.specs.Option.{option_map}
 use Rattle.proto.proofs.Options.{some_is}
 use Rattle.worker.specs.declared.port.PortRecord.{PortRecord}
@@ -38,6 +39,7 @@ tells_none (Some story) h = absurd (h story refl)
 
 -- ---- which sessions an entry ends
 
+-- an entry about another session doesn't end this one
 pub ends_elsewhere : (x : PortRecord) (s : ℕ) → about s x ≡ false → are_end_of s (x ∷ []) ≡ false
 ends_elsewhere (was.Opened t) s e = refl
 ends_elsewhere (was.Data t b) s e = refl
@@ -50,6 +52,7 @@ ends_elsewhere (was.Shut t) s e = ap (λ b. (false || b) || false) e
 pub paused_elsewhere : (story : PortStory) (x : PortRecord) (s : ℕ) → about s x ≡ false → (then_told (x ∷ []) story).paused s ≡ story.paused s
 paused_elsewhere story x s e = ap (λ b. cond b false (story.paused s)) (ends_elsewhere x s e)
 
+-- accepted bytes, whether there are any or not, end no session, and leave each one paused, or not
 accepted_if : (story : PortStory) (b : Bool) (t s : ℕ) (bytes : List ℕ)
     → cond (are_end_of s (cond b [] (was.Accepted t bytes ∷ []))) false (story.paused s) ≡ story.paused s
 accepted_if story true t s bytes = refl

@@ -1,24 +1,30 @@
 -- What each step of a worker leaves true.
-use Rattle.std.proofs.Common.{◌≡◌, ◌≢◌, ℕ, ◌-◌, ◌^◌, ◌≤◌, ◌==◌, Bool, true, false, true≢false, ◌||◌, ◌&&◌, not, cond, ne_eqb, List, [], ◌∷◌, ◌++◌, length, min, refl, sym, ap, subst, ◌∙◌, Option, Some}
+use Rattle.std.proofs.Common.{◌≡◌, ◌≢◌, ℕ, ◌-◌, ◌^◌, ◌≤◌, ◌==◌, Bool, true, false, true≢false, ◌||◌, ◌&&◌, not, cond, ne_eqb, List, [], ◌∷◌, ◌++◌, length}
+use Rattle.std.proofs.Common.{min, refl, sym, ap, subst, ◌∙◌, Option, Some, None}
 use Rattle.std.specs.Option.{option_map}
 use Rattle.proto.specs.declared.history.Posted.{Posted}
 use Rattle.exchange.specs.Ends.{WorkerView}
 use Rattle.session_book.specs.declared.causes.EndCause.{EndCause}
 use Rattle.session_book.specs.declared.causes.EndCause.TheVariants as causes
-use Rattle.session_book.specs.Session.{SessionState, fed}
+use Rattle.session_book.specs.Session.{SessionState, once_fed, holding}
 use Rattle.session_book.specs.Book.{BookState, session_of}
 use Rattle.worker.specs.declared.port.PortRecord.{PortRecord}
 use Rattle.worker.specs.declared.port.PortRecord.TheVariants as was
 use Rattle.worker.specs.declared.worker.Worker.{Worker}
 use Rattle.worker.specs.Ports.{PortStory, then_told, IsOpenIn, is_open, was_opened, has_gone, was_shut, has_ended, opened_count, IsProper, AcceptsOnlyOpen}
-use Rattle.worker.specs.Sessions.{PortFacts, port_facts, SessionFacts, RunView, facts, asked_by, had_by, cause_of, IsConsistent, IsServed, IsClosed}
+use Rattle.worker.specs.Sessions.{PortFacts, port_facts, SessionFacts, RunView, facts, asked_by, had_by, cause_of, AreFactsConsistent, IsSessionServed}
+use Rattle.worker.specs.Sessions.{IsClosed}
 use Rattle.worker.specs.Places.{Rises, piece_of}
-use Rattle.worker.specs.Workers.{posted_by, IsSteady, IsCounted, IsTold, run_view, ArePaused, IsServing, IsSameEnd, GoesOn, Closes, Shuts}
+use Rattle.worker.specs.Workers.{posted_by, IsSteady, AreSessionsCounted, IsStoryKnown, run_view, ArePaused, IsWorkerServing, IsSameEnd, WorkerGoesOn, Closes}
+use Rattle.worker.specs.Workers.{Shuts}
 use Rattle.worker.proofs.PlaceLemmas.{rises_with, length-with}
 use Rattle.worker.proofs.Facts.{about, elsewhere, fed_here}
 use Rattle.worker.proofs.SessionSteps.{Runs, runs, runs_at_port, is_running, closed_gone, closed_no_memory, closed_finished, served_came, served_fed}
+use Rattle.worker.proofs.SessionSteps.{served_holding}
 use Rattle.worker.proofs.StoryLaws.{told_before, tells_as, paused_but, paused_elsewhere}
-use Rattle.worker.proofs.RunViews.{facts_equal, change_at, at_other, at_same, ended_same, count_same, accepts_more, ClosesIn, shuts_here, goes_here, stays, close_all, apart_shut, apart_gone}
+use Rattle.worker.proofs.PieceLaws.{pieces_at}
+use Rattle.worker.proofs.RunViews.{facts_equal, change_at, at_other, at_same, ended_same, count_same, accepts_more, ClosesIn, shuts_here, goes_here, stays}
+use Rattle.worker.proofs.RunViews.{close_all, apart_shut, apart_gone}
 
 -- what the list has open was opened, and is neither gone nor shut
 pub open_parts : (o g s : Bool) → (o && not (g || s)) ≡ true → (o ≡ true) × (g ≡ false) × (s ≡ false)
@@ -28,9 +34,11 @@ open_parts true true false e = absurd (true≢false (sym e))
 open_parts true true true e = absurd (true≢false (sym e))
 open_parts false g s e = absurd (true≢false (sym e))
 
+-- what was opened, and is neither gone nor shut, the list has open
 pub open_of : (o g s : Bool) → o ≡ true → g ≡ false → s ≡ false → (o && not (g || s)) ≡ true
 open_of o g s a b c = ap (λ (x : Bool × Bool × Bool). x.0 && not (x.1 || x.2)) (λ i. (a i, b i, c i))
 
+-- the end agrees with each book that has as many requests posted, and the same ones unsettled
 pub steady_same : (end : WorkerView) (request : Option Posted) (book book' : BookState) → book'.posted ≡ book.posted
     → book'.unsettled ≡ book.unsettled → IsSteady end request book → IsSteady end request book'
 steady_same end request book book' p u h = record {
@@ -44,28 +52,32 @@ steady_same end request book book' p u h = record {
 
 -- ---- a session is closed
 
-told_closed : (v v' : RunView) (unopened : ℕ) (ended : Bool) (t : ℕ) (c : EndCause) (x : PortRecord) → IsTold v unopened ended → ClosesIn v v' t c x
+-- all is known still once a session is closed by a proper entry that opens nothing and isn't the end, where the facts of all
+-- sessions are consistent
+told_closed : (v v' : RunView) (unopened : ℕ) (ended : Bool) (t : ℕ) (c : EndCause) (x : PortRecord) → IsStoryKnown v unopened ended → ClosesIn v v' t c x
     → has_ended (v.events ++ x ∷ []) ≡ has_ended v.events → opened_count (v.events ++ x ∷ []) ≡ opened_count v.events → IsProper v.events x
-    → ((s : ℕ) → IsConsistent (facts v' s)) → IsTold v' unopened ended
+    → ((s : ℕ) → AreFactsConsistent (facts v' s)) → IsStoryKnown v' unopened ended
 told_closed v v' unopened ended t c x h k same count proper each = record {
   each = each;
   rising = subst Rises (sym k.sessions) (rises_with v.sessions t c h.rising);
-  counted = subst (λ (y : List PortRecord × List (ℕ × EndCause)). IsCounted y.0 y.1 unopened) (λ i. (sym k.events i, sym k.sessions i))
+  counted = subst (λ (y : List PortRecord × List (ℕ × EndCause)). AreSessionsCounted y.0 y.1 unopened) (λ i. (sym k.events i, sym k.sessions i))
       (let len = length-with v.sessions t c in subst (λ (y : ℕ × ℕ). (y.1 ≤ y.0) × (unopened ≡ min (y.0 - y.1) (2 ^ 64 - 1)))
       (λ i. (sym count i, sym len i)) h.counted);
   at_end = ap has_ended k.events ∙ same ∙ h.at_end;
   accepts = subst AcceptsOnlyOpen (sym k.events) (accepts_more v.events x h.accepts proper);
 }
 
-pub told_shut : (v v' : RunView) (unopened : ℕ) (ended : Bool) (t : ℕ) (c : EndCause) → IsTold v unopened ended → ClosesIn v v' t c (was.Shut t)
-    → Runs (facts v t) → IsClosed (facts v' t) c → IsTold v' unopened ended
+-- all is known still once a running session was shut, and is closed
+pub told_shut : (v v' : RunView) (unopened : ℕ) (ended : Bool) (t : ℕ) (c : EndCause) → IsStoryKnown v unopened ended → ClosesIn v v' t c (was.Shut t)
+    → Runs (facts v t) → IsClosed (facts v' t) c → IsStoryKnown v' unopened ended
 told_shut v v' unopened ended t c h k r closed =
     told_closed v v' unopened ended t c (was.Shut t) h k (ended_same v.events (was.Shut t) refl) (count_same v.events (was.Shut t) refl) tt
     (close_all v v' t c (was.Shut t) (record (port_facts v.events t) { shut = true }) k (apart_shut t)
     (shuts_here v v' t c causes.Drained k r.cause) r.opened closed (λ s ne. h.each s))
 
-pub told_gone : (v v' : RunView) (unopened : ℕ) (ended : Bool) (t : ℕ) → IsTold v unopened ended → ClosesIn v v' t causes.Gone (was.Gone t)
-    → Runs (facts v t) → IsTold v' unopened ended
+-- all is known still once a running session has gone
+pub told_gone : (v v' : RunView) (unopened : ℕ) (ended : Bool) (t : ℕ) → IsStoryKnown v unopened ended → ClosesIn v v' t causes.Gone (was.Gone t)
+    → Runs (facts v t) → IsStoryKnown v' unopened ended
 told_gone v v' unopened ended t h k r =
     let here = goes_here v v' t causes.Gone causes.Drained k r.cause in
     let port = record (port_facts v.events t) { gone = true } in
@@ -75,8 +87,8 @@ told_gone v v' unopened ended t h k r =
     (close_all v v' t causes.Gone (was.Gone t) port k (apart_gone t) here r.opened closed (λ s ne. h.each s))
 
 -- shut for want of memory
-pub told_no_memory : (v v' : RunView) (unopened : ℕ) (ended : Bool) (t : ℕ) → IsTold v unopened ended → ClosesIn v v' t causes.NoMemory (was.Shut t)
-    → Runs (facts v t) → IsTold v' unopened ended
+pub told_no_memory : (v v' : RunView) (unopened : ℕ) (ended : Bool) (t : ℕ) → IsStoryKnown v unopened ended → ClosesIn v v' t causes.NoMemory (was.Shut t)
+    → Runs (facts v t) → IsStoryKnown v' unopened ended
 told_no_memory v v' unopened ended t h k r =
     let here = shuts_here v v' t causes.NoMemory causes.Drained k r.cause in
     let port = record (port_facts v.events t) { shut = true } in
@@ -85,8 +97,8 @@ told_no_memory v v' unopened ended t h k r =
     (facts v t).piece r.running.served st (ap (λ (p : PortFacts). p.shut) here.port_is))
 
 -- shut as it has finished
-pub told_finished : (v v' : RunView) (unopened : ℕ) (ended : Bool) (t : ℕ) (c : EndCause) → IsTold v unopened ended → ClosesIn v v' t c (was.Shut t)
-    → (r : Runs (facts v t)) → r.running.s.queue ≡ [] → r.running.s.out ≡ [] → r.running.s.ended ≡ Some c → IsTold v' unopened ended
+pub told_finished : (v v' : RunView) (unopened : ℕ) (ended : Bool) (t : ℕ) (c : EndCause) → IsStoryKnown v unopened ended → ClosesIn v v' t c (was.Shut t)
+    → (r : Runs (facts v t)) → r.running.s.queue ≡ [] → r.running.s.out ≡ [] → r.running.s.ended ≡ Some c → IsStoryKnown v' unopened ended
 told_finished v v' unopened ended t c h k r queue out ends =
     let here = shuts_here v v' t c causes.Drained k r.cause in
     let port = record (port_facts v.events t) { shut = true } in
@@ -103,9 +115,10 @@ closes_in story old new t c x k rises = record {
   back = ap (λ (w : WorkerView). w.back) k.end;
   sessions = k.sessions rises;
   book = k.book.only_at;
-  piece = k.pieces;
+  piece = pieces_at old.book new.book t None k.book.only_at;
 }
 
+-- the end and the book agree still once a session is closed
 pub steady_closed : {P : Type 0} (old new : Worker P) (t : ℕ) (c : EndCause) → Closes old new t c → IsSteady old.worker_end old.request old.book
     → IsSteady new.worker_end new.request new.book
 steady_closed old new t c k h =
@@ -113,6 +126,7 @@ steady_closed old new t c k h =
     (steady_same old.worker_end old.request old.book new.book (ap (λ (b : BookState). b.posted) k.book.rest)
     (ap (λ (b : BookState). b.unsettled) k.book.rest) h)
 
+-- an end that hasn't changed is the same end
 pub same_end : {P : Type 0} (old new : Worker P) → new.worker_end ≡ old.worker_end → IsSameEnd old.worker_end new.worker_end
 same_end old new e = record { exchange = ap (λ (w : WorkerView). w.exchange) e; worker = ap (λ (w : WorkerView). w.worker) e }
 
@@ -128,18 +142,19 @@ pub record OwnFacts {P : Type 0} (old new : Worker P) : Type 0 where
 
 -- what is true of it beside its own facts, at this story
 abbrev pub StoryFacts : {P : Type 0} → PortStory → Worker P → ℕ → Bool → Type 0
-StoryFacts story w unopened ended = IsTold (run_view story w) unopened ended × ArePaused story (piece_of w.pieces)
+StoryFacts story w unopened ended = IsStoryKnown (run_view story w) unopened ended × ArePaused story (piece_of w.book)
 
-pub story_facts : {P : Type 0} (told : P → Option PortStory) (w : Worker P) → IsServing told w → (story : PortStory) → told w.port ≡ Some story
+-- of a serving worker all is known at the story that its port tells, and each session of which bytes are held is paused
+pub story_facts : {P : Type 0} (told : P → Option PortStory) (w : Worker P) → IsWorkerServing told w → (story : PortStory) → told w.port ≡ Some story
     → StoryFacts story w w.unopened w.ended
 story_facts told w h story e = (h.known story e, h.paused story e)
 
 -- a step that makes of each story what f does
 pub steps : {P : Type 0} (told : P → Option PortStory) (old new : Worker P) (f : PortStory → PortStory)
     → told new.port ≡ option_map f (told old.port) → IsSameEnd old.worker_end new.worker_end → IsSteady new.worker_end new.request new.book
-    → new.strangers ≡ 0 → IsServing told old
+    → new.strangers ≡ 0 → IsWorkerServing told old
     → ((story : PortStory) → told old.port ≡ Some story → StoryFacts story old old.unopened old.ended
-    → StoryFacts (f story) new new.unopened new.ended) → GoesOn told old new
+    → StoryFacts (f story) new new.unopened new.ended) → WorkerGoesOn told old new
 steps told old new f port same steady strangers h each =
     let at : (after : PortStory) → told new.port ≡ Some after → StoryFacts after new new.unopened new.ended =
     λ after e.
@@ -157,18 +172,18 @@ steps told old new f port same steady strangers h each =
 
 -- the same where the counts stay
 pub steps_on : {P : Type 0} (told : P → Option PortStory) (old new : Worker P) (f : PortStory → PortStory)
-    → told new.port ≡ option_map f (told old.port) → OwnFacts old new → IsServing told old
+    → told new.port ≡ option_map f (told old.port) → OwnFacts old new → IsWorkerServing told old
     → ((story : PortStory) → told old.port ≡ Some story → StoryFacts story old old.unopened old.ended
-    → StoryFacts (f story) new old.unopened old.ended) → GoesOn told old new
+    → StoryFacts (f story) new old.unopened old.ended) → WorkerGoesOn told old new
 steps_on told old new f port own h each =
     steps told old new f port own.same_end own.steady own.strangers h
     (λ story e k. subst (λ (y : ℕ × Bool). StoryFacts (f story) new y.0 y.1) (λ i. (sym own.unopened i, sym own.ended i)) (each story e k))
 
 -- a worker whose session was shut goes on, if all is told of it
-pub shut_goes_on : {P : Type 0} (told : P → Option PortStory) (old new : Worker P) (t : ℕ) (c : EndCause) → Shuts told old new t c → IsServing told old
-    → ((story : PortStory) → IsTold (run_view story old) old.unopened old.ended
+pub shut_goes_on : {P : Type 0} (told : P → Option PortStory) (old new : Worker P) (t : ℕ) (c : EndCause) → Shuts told old new t c → IsWorkerServing told old
+    → ((story : PortStory) → IsStoryKnown (run_view story old) old.unopened old.ended
     → ClosesIn (run_view story old) (run_view (then_told (was.Shut t ∷ []) story) new) t c (was.Shut t)
-    → IsTold (run_view (then_told (was.Shut t ∷ []) story) new) old.unopened old.ended) → GoesOn told old new
+    → IsStoryKnown (run_view (then_told (was.Shut t ∷ []) story) new) old.unopened old.ended) → WorkerGoesOn told old new
 shut_goes_on told old new t c k h is_told =
     steps_on told old new (then_told (was.Shut t ∷ [])) k.port (record {
       same_end = same_end old new k.closes.end;
@@ -179,30 +194,33 @@ shut_goes_on told old new t c k h is_told =
     }) h
     (λ story e was_so. (
       is_told story was_so.0 (closes_in story old new t c (was.Shut t) k.closes was_so.0.rising),
-      paused_but story (then_told (was.Shut t ∷ []) story) t (piece_of old.pieces) (piece_of new.pieces) k.closes.pieces
+      paused_but story (then_told (was.Shut t ∷ []) story) t (piece_of old.book) (piece_of new.book)
+          (pieces_at old.book new.book t None k.closes.book.only_at)
           (λ s ne. paused_elsewhere story (was.Shut t) s (ne_eqb t s ne)) was_so.1,
     ))
 
+-- a worker that has shut an open session for want of memory goes on
 pub no_memory_goes_on : {P : Type 0} (told : P → Option PortStory) (old new : Worker P) (t : ℕ) (s : SessionState)
-    → Shuts told old new t causes.NoMemory → IsServing told old → session_of old.book t ≡ Some s → GoesOn told old new
+    → Shuts told old new t causes.NoMemory → IsWorkerServing told old → session_of old.book t ≡ Some s → WorkerGoesOn told old new
 no_memory_goes_on told old new t s k h e =
     shut_goes_on told old new t causes.NoMemory k h (λ story was_told closes. told_no_memory (run_view story old)
     (run_view (then_told (was.Shut t ∷ []) story) new) old.unopened old.ended t was_told closes (runs (facts (run_view story old) t) s (was_told.each t) e))
 
 -- ---- an event of the port
 
+-- a session that the port's list has open was opened there, and has neither gone nor been shut
 pub open_here : (l : List PortRecord) (t : ℕ) → is_open t l ≡ true → (was_opened t l ≡ true) × (has_gone t l ≡ false) × (was_shut t l ≡ false)
 open_here l t e = open_parts (was_opened t l) (has_gone t l) (was_shut t l) e
 
 -- a session that is open in the book is open at the port
-pub told_open : (v : RunView) (unopened : ℕ) (ended : Bool) (t : ℕ) (s : SessionState) → IsTold v unopened ended → session_of v.book t ≡ Some s
+pub told_open : (v : RunView) (unopened : ℕ) (ended : Bool) (t : ℕ) (s : SessionState) → IsStoryKnown v unopened ended → session_of v.book t ≡ Some s
     → is_open t v.events ≡ true
 told_open v unopened ended t s h e =
     let r = runs (facts v t) s (h.each t) e in open_of (was_opened t v.events) (has_gone t v.events)
     (was_shut t v.events) r.opened r.running.gone r.running.shut
 
 -- the same of a worker
-pub open_at : {P : Type 0} (told : P → Option PortStory) (w : Worker P) (t : ℕ) (s : SessionState) → IsServing told w → session_of w.book t ≡ Some s
+pub open_at : {P : Type 0} (told : P → Option PortStory) (w : Worker P) (t : ℕ) (s : SessionState) → IsWorkerServing told w → session_of w.book t ≡ Some s
     → IsOpenIn t (told w.port)
 open_at told w t s h e = λ story q. told_open (run_view story w) w.unopened w.ended t s (h.known story q) e
 
@@ -215,13 +233,13 @@ others_same v v' t x e p b r other book piece s ne =
     (ap (λ l. had_by l s) b) (ap (λ l. cause_of l s) r) (book s ne) (piece s ne)
 
 -- the view but for its list, where an entry that opens nothing was added
-pub told_same : (v v' : RunView) (unopened : ℕ) (ended : Bool) (x : PortRecord) → IsTold v unopened ended → v'.events ≡ v.events ++ x ∷ []
+pub told_same : (v v' : RunView) (unopened : ℕ) (ended : Bool) (x : PortRecord) → IsStoryKnown v unopened ended → v'.events ≡ v.events ++ x ∷ []
     → v'.sessions ≡ v.sessions → has_ended (v.events ++ x ∷ []) ≡ has_ended v.events → opened_count (v.events ++ x ∷ []) ≡ opened_count v.events
-    → IsProper v.events x → ((s : ℕ) → IsConsistent (facts v' s)) → IsTold v' unopened ended
+    → IsProper v.events x → ((s : ℕ) → AreFactsConsistent (facts v' s)) → IsStoryKnown v' unopened ended
 told_same v v' unopened ended x h e r same count proper each = record {
   each = each;
   rising = subst Rises (sym r) h.rising;
-  counted = subst (λ (y : List PortRecord × List (ℕ × EndCause)). IsCounted y.0 y.1 unopened) (λ i. (sym e i, sym r i))
+  counted = subst (λ (y : List PortRecord × List (ℕ × EndCause)). AreSessionsCounted y.0 y.1 unopened) (λ i. (sym e i, sym r i))
       (subst (λ (y : ℕ). (length v.sessions ≤ y) × (unopened ≡ min (y - length v.sessions) (2 ^ 64 - 1))) (sym count) h.counted);
   at_end = ap has_ended e ∙ same ∙ h.at_end;
   accepts = subst AcceptsOnlyOpen (sym e) (accepts_more v.events x h.accepts proper);
@@ -236,8 +254,8 @@ fact_at v v' t port st q e p b r s k = facts_equal (facts v' t) (record (facts v
 
 -- running on in another state
 pub running_on : (f : SessionFacts) (port : PortFacts) (s : SessionState) (q : List ℕ) → Runs f → port.opened ≡ f.port.opened
-    → port.gone ≡ f.port.gone → port.shut ≡ f.port.shut → IsServed q (record f { port = port }) s
-    → IsConsistent (record f { port = port; state = Some s; piece = q })
+    → port.gone ≡ f.port.gone → port.shut ≡ f.port.shut → IsSessionServed q (record f { port = port }) s
+    → AreFactsConsistent (record f { port = port; state = Some s; piece = q })
 running_on f port s q r o g h served =
     is_running (record f { port = port; state = Some s; piece = q }) (o ∙ r.opened) r.cause
     (record {
@@ -257,41 +275,45 @@ running_on f port s q r o g h served =
     })
 
 -- bytes came and were fed
-pub told_fed : (v v' : RunView) (unopened : ℕ) (ended : Bool) (t : ℕ) (b : List ℕ) → IsTold v unopened ended → is_open t v.events ≡ true
+pub told_fed : (v v' : RunView) (unopened : ℕ) (ended : Bool) (t : ℕ) (b : List ℕ) → IsStoryKnown v unopened ended → is_open t v.events ≡ true
     → v.piece t ≡ [] → v'.events ≡ v.events ++ was.Data t b ∷ [] → v'.posted ≡ v.posted → v'.back ≡ v.back → v'.sessions ≡ v.sessions
-    → ((s : ℕ) → session_of v'.book s ≡ cond (s == t) (option_map (λ (x : SessionState). fed x b) (session_of v.book t)) (session_of v.book s))
-    → ((s : ℕ) → v'.piece s ≡ v.piece s) → IsTold v' unopened ended
+    → ((s : ℕ) → session_of v'.book s ≡ cond (s == t) (option_map (λ (x : SessionState). once_fed x b) (session_of v.book t)) (session_of v.book s))
+    → ((s : ℕ) → v'.piece s ≡ v.piece s) → IsStoryKnown v' unopened ended
 told_fed v v' unopened ended t b h opened none e p k r book piece =
     let o = open_here v.events t opened in
     let run = runs_at_port (facts v t) (h.each t) o.0 o.1 o.2 in
     let s = run.running.s in
     let port = record (port_facts v.events t) { fed = (port_facts v.events t).fed ++ b } in
-    let was_served : IsServed [] (facts v t) s = subst (λ q. IsServed q (facts v t) s) none run.running.served in
+    let was_served : IsSessionServed [] (facts v t) s = subst (λ q. IsSessionServed q (facts v t) s) none run.running.served in
     let f' = record (facts v t) { port = port } in
-    let now_served : IsServed [] f' (fed s b) = served_fed f' s b (served_came (facts v t) s [] b was_served) in
-    let state : session_of v'.book t ≡ Some (fed s b) = book t ∙ at_same t (option_map (λ (x : SessionState). fed x b) (session_of v.book t))
-    (session_of v.book t) ∙ ap (option_map (λ (x : SessionState). fed x b)) run.running.state in
-    let here = fact_at v v' t port (Some (fed s b)) [] (ap (λ l. port_facts l t) e ∙ fed_here v.events t b) p k r state (piece t ∙ none) in
-    let now = running_on (facts v t) port (fed s b) [] run refl refl refl now_served in
+    let now_served : IsSessionServed [] f' (once_fed s b) = served_fed f' s b (served_came (facts v t) s [] b was_served) in
+    let state : session_of v'.book t ≡ Some (once_fed s b) = book t ∙ at_same t (option_map (λ (x : SessionState). once_fed x b) (session_of v.book t))
+    (session_of v.book t) ∙ ap (option_map (λ (x : SessionState). once_fed x b)) run.running.state in
+    let here = fact_at v v' t port (Some (once_fed s b)) [] (ap (λ l. port_facts l t) e ∙ fed_here v.events t b) p k r state (piece t ∙ none) in
+    let now = running_on (facts v t) port (once_fed s b) [] run refl refl refl now_served in
     told_same v v' unopened ended (was.Data t b) h e r (ended_same v.events (was.Data t b) refl) (count_same v.events (was.Data t b) refl) tt
     (change_at t v v' (others_same v v' t (was.Data t b) e p k r (λ s ne. ne_eqb t s ne)
-    (λ s ne. book s ∙ at_other t s (option_map (λ (x : SessionState). fed x b) (session_of v.book t)) (session_of v.book s) ne)
-    (λ s ne. piece s)) (subst IsConsistent (sym here) now) (λ s ne. h.each s))
+    (λ s ne. book s ∙ at_other t s (option_map (λ (x : SessionState). once_fed x b) (session_of v.book t)) (session_of v.book s) ne)
+    (λ s ne. piece s)) (subst AreFactsConsistent (sym here) now) (λ s ne. h.each s))
 
 -- bytes came and are held
-pub told_held : (v v' : RunView) (unopened : ℕ) (ended : Bool) (t : ℕ) (b : List ℕ) → IsTold v unopened ended → is_open t v.events ≡ true
+pub told_held : (v v' : RunView) (unopened : ℕ) (ended : Bool) (t : ℕ) (b : List ℕ) → IsStoryKnown v unopened ended → is_open t v.events ≡ true
     → v.piece t ≡ [] → v'.events ≡ v.events ++ was.Data t b ∷ [] → v'.posted ≡ v.posted → v'.back ≡ v.back → v'.sessions ≡ v.sessions
-    → v'.book ≡ v.book → ((s : ℕ) → v'.piece s ≡ cond (s == t) b (v.piece s)) → IsTold v' unopened ended
+    → ((s : ℕ) → session_of v'.book s ≡ cond (s == t) (option_map (λ (x : SessionState). holding x b) (session_of v.book t)) (session_of v.book s))
+    → ((s : ℕ) → v'.piece s ≡ cond (s == t) b (v.piece s)) → IsStoryKnown v' unopened ended
 told_held v v' unopened ended t b h opened none e p k r book piece =
     let o = open_here v.events t opened in
     let run = runs_at_port (facts v t) (h.each t) o.0 o.1 o.2 in
     let s = run.running.s in
     let port = record (port_facts v.events t) { fed = (port_facts v.events t).fed ++ b } in
-    let was_served : IsServed [] (facts v t) s = subst (λ q. IsServed q (facts v t) s) none run.running.served in
-    let now_served : IsServed b (record (facts v t) { port = port }) s = served_came (facts v t) s [] b was_served in
-    let here = fact_at v v' t port (Some s) b (ap (λ l. port_facts l t) e ∙ fed_here v.events t b) p k r
-    (ap (λ x. session_of x t) book ∙ run.running.state) (piece t ∙ at_same t b (v.piece t)) in
-    let now = running_on (facts v t) port s b run refl refl refl now_served in
+    let was_served : IsSessionServed [] (facts v t) s = subst (λ q. IsSessionServed q (facts v t) s) none run.running.served in
+    let f' = record (facts v t) { port = port } in
+    let now_served : IsSessionServed b f' (holding s b) = served_holding f' s b b (served_came (facts v t) s [] b was_served) in
+    let state : session_of v'.book t ≡ Some (holding s b) = book t ∙ at_same t (option_map (λ (x : SessionState). holding x b) (session_of v.book t))
+    (session_of v.book t) ∙ ap (option_map (λ (x : SessionState). holding x b)) run.running.state in
+    let here = fact_at v v' t port (Some (holding s b)) b (ap (λ l. port_facts l t) e ∙ fed_here v.events t b) p k r state (piece t ∙ at_same t b (v.piece t)) in
+    let now = running_on (facts v t) port (holding s b) b run refl refl refl now_served in
     told_same v v' unopened ended (was.Data t b) h e r (ended_same v.events (was.Data t b) refl) (count_same v.events (was.Data t b) refl) tt
-    (change_at t v v' (others_same v v' t (was.Data t b) e p k r (λ s ne. ne_eqb t s ne) (λ s ne. ap (λ x. session_of x s) book)
-    (λ s ne. piece s ∙ at_other t s b (v.piece s) ne)) (subst IsConsistent (sym here) now) (λ s ne. h.each s))
+    (change_at t v v' (others_same v v' t (was.Data t b) e p k r (λ s ne. ne_eqb t s ne)
+    (λ s ne. book s ∙ at_other t s (option_map (λ (x : SessionState). holding x b) (session_of v.book t)) (session_of v.book s) ne)
+    (λ s ne. piece s ∙ at_other t s b (v.piece s) ne)) (subst AreFactsConsistent (sym here) now) (λ s ne. h.each s))

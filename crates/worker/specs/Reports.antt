@@ -15,7 +15,7 @@ use Rattle.worker.specs.declared.port.PortRecord.{PortRecord}
 use Rattle.worker.specs.Ports.{fed, given, was_opened, has_gone, was_shut, has_ended, AcceptsOnlyOpen}
 use Rattle.worker.specs.Sessions.{cause_of}
 use Rattle.worker.specs.Places.{Rises}
-use Rattle.worker.specs.Workers.{IsCounted}
+use Rattle.worker.specs.Workers.{AreSessionsCounted}
 
 -- the session was answered to its end
 abbrev pub is_complete : EndCause → Bool
@@ -39,7 +39,7 @@ IsCauseOf events s messages causes.NoMemory = was_shut s events ≡ true
 -- Of a session whose bytes spell these messages: its requests in the history are the first of theirs, the bytes given
 -- are a beginning of their answers, both are complete where the session was answered to its end, and the cause is
 -- one of it.
-pub record IsAnswered (events : List PortRecord) (history : List Answered) (worker s : ℕ) (cause : EndCause) (messages : List Message) : Type 0 where
+pub record IsSessionAnswered (events : List PortRecord) (history : List Answered) (worker s : ℕ) (cause : EndCause) (messages : List Message) : Type 0 where
   pub first : StartsWith (asks messages) (asked (session_share history worker s))
   pub beginning : StartsWith (said messages (had (session_share history worker s))) (given s events)
   pub complete : is_complete cause ≡ true → (asked (session_share history worker s) ≡ asks messages)
@@ -52,7 +52,7 @@ abbrev pub SessionHolds : List PortRecord → WorkerView → ℕ → EndCause �
 SessionHolds events end s cause =
     (history : List Answered) → worker_share history end.worker ≡ end.back → asked_posted (worker_share history end.worker) ≡ end.sent
     → (messages : List Message) (rest : List ℕ) → Reads (fed s events) messages rest
-    → IsAnswered events history end.worker s cause messages
+    → IsSessionAnswered events history end.worker s cause messages
 
 -- What a worker's report says of a port that tells its list: the list has Ended; each session of the report was
 -- opened; each opened session stands in the report once, or was shut and is counted; nothing was accepted for a session
@@ -62,7 +62,7 @@ pub record IsReported (events : List PortRecord) (end : WorkerView) (sessions : 
   pub once : Rises sessions
   pub opened : (s : ℕ) → IsSome (cause_of sessions s) → was_opened s events ≡ true
   pub refused : (s : ℕ) → was_opened s events ≡ true → cause_of sessions s ≡ None → was_shut s events ≡ true
-  pub counted : IsCounted events sessions unopened
+  pub counted : AreSessionsCounted events sessions unopened
   pub accepts : AcceptsOnlyOpen events
   pub no_stranger : (s : ℕ) → cause_of sessions s ≡ None → given s events ≡ []
   pub placed : (p : Posted) → (before after : List Posted) → end.sent ≡ before ++ p ∷ after → IsSome (cause_of sessions p.session)

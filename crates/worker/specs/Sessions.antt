@@ -73,7 +73,7 @@ pub record IsUnopened (f : SessionFacts) : Type 0 where
 
 -- The session was fed all bytes that came, but for those held back; messages were read and asked, and their
 -- answers given or put out, as its state says.
-pub record IsServed (held : List ℕ) (f : SessionFacts) (s : SessionState) : Type 0 where
+pub record IsSessionServed (held : List ℕ) (f : SessionFacts) (s : SessionState) : Type 0 where
   pub bytes : List ℕ
   pub messages : List Message
   pub fed : f.port.fed ≡ bytes ++ held
@@ -87,7 +87,7 @@ pub record IsRunning (f : SessionFacts) : Type 0 where
   pub shut : f.port.shut ≡ false
   pub s : SessionState
   pub state : f.state ≡ Some s
-  pub served : IsServed f.piece f s
+  pub served : IsSessionServed f.piece f s
 
 -- b begins with spellings of the messages, and rest is behind them
 pub record BeginsWith (b : List ℕ) (messages : List Message) (rest : List ℕ) : Type 0 where
@@ -121,19 +121,19 @@ pub record IsClosed (f : SessionFacts) (cause : EndCause) : Type 0 where
   pub state : f.state ≡ None
 
 -- what is known of a session, by whether it was opened and by its place in the report
-abbrev pub IsPlaced : SessionFacts → Option EndCause → Type 0
-IsPlaced f None = IsUnopened f
-IsPlaced f (Some causes.Drained) = IsRunning f
-IsPlaced f (Some causes.Quit) = IsClosed f causes.Quit
-IsPlaced f (Some causes.Fatal) = IsClosed f causes.Fatal
-IsPlaced f (Some causes.Gone) = IsClosed f causes.Gone
-IsPlaced f (Some causes.NoMemory) = IsClosed f causes.NoMemory
+abbrev pub IsReportedAs : SessionFacts → Option EndCause → Type 0
+IsReportedAs f None = IsUnopened f
+IsReportedAs f (Some causes.Drained) = IsRunning f
+IsReportedAs f (Some causes.Quit) = IsClosed f causes.Quit
+IsReportedAs f (Some causes.Fatal) = IsClosed f causes.Fatal
+IsReportedAs f (Some causes.Gone) = IsClosed f causes.Gone
+IsReportedAs f (Some causes.NoMemory) = IsClosed f causes.NoMemory
 
 abbrev pub IsKnownAs : Bool → Option EndCause → SessionFacts → Type 0
 IsKnownAs false cause f = IsUntouched f × (cause ≡ None)
-IsKnownAs true cause f = IsPlaced f cause
+IsKnownAs true cause f = IsReportedAs f cause
 
-pub record IsConsistent (f : SessionFacts) : Type 0 where
+pub record AreFactsConsistent (f : SessionFacts) : Type 0 where
   pub known : IsKnownAs f.port.opened f.cause f
 
 -- What the facts of all sessions are read from: the port's list, the requests posted, or held to be, the answers

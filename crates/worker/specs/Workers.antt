@@ -1,19 +1,24 @@
 -- What stays true of a worker while it runs.
-use Rattle.std.specs.Prelude.{◌≡◌, ℕ, ◌+◌, ◌-◌, ◌^◌, ◌<◌, ◌≤◌, slice_index_or, ⊤, Bool, true, false, is_some, List, [], ◌∷◌, ◌++◌, length, map, take, drop, min, Option, Some, None, ◌==◌, if◌then◌else◌}
+use Rattle.std.specs.Prelude.{◌≡◌, ℕ, ◌+◌, ◌-◌, ◌^◌, ◌<◌, ◌≤◌, slice_index_or, ⊤, Bool, true, false, is_some, List, [], ◌∷◌, ◌++◌, length, map, take, drop}
+use Rattle.std.specs.Prelude.{min, Option, Some, None, ◌==◌, if◌then◌else◌}
 use Rattle.std.specs.Option.{option_to_list, option_map}
+use mathlib.Core.Option.{some}
+use lib.ListN.{get_elem?}
 use Rattle.proto.specs.declared.history.Posted.{Posted}
+use Rattle.proto.specs.declared.history.Answered.{Answered}
 use Rattle.proto.specs.History.{asked_posted}
 use Rattle.exchange.specs.Ends.{WorkerView}
+use Rattle.exchange.specs.Beginnings.{posted_of}
 use Rattle.session_book.specs.declared.causes.EndCause.{EndCause}
 use Rattle.session_book.specs.declared.causes.Unsettled.{Unsettled}
 use Rattle.session_book.specs.declared.causes.EndCause.TheVariants as causes
-use Rattle.session_book.specs.Session.{SessionState, new_session, fed, finished_by, Stops}
-use Rattle.session_book.specs.Book.{BookState, session_of, Changes, OnlyAt, GivesNone}
+use Rattle.session_book.specs.Session.{SessionState, new_session, once_fed, holding, finished_by, Stops}
+use Rattle.session_book.specs.Book.{BookState, session_of, ChangesSession, OnlyAt, GivesNone}
 use Rattle.worker.specs.declared.port.PortRecord.{PortRecord}
 use Rattle.worker.specs.declared.port.PortRecord.TheVariants as was
 use Rattle.worker.specs.declared.worker.Worker.{Worker}
 use Rattle.worker.specs.Ports.{PortStory, then_told, with_pause, has_ended, opened_count, AcceptsOnlyOpen}
-use Rattle.worker.specs.Sessions.{RunView, facts, IsConsistent}
+use Rattle.worker.specs.Sessions.{RunView, facts, AreFactsConsistent}
 use Rattle.worker.specs.Places.{Rises, with_cause, piece_of}
 
 -- the requests that were sent, and the one that is held
@@ -25,28 +30,28 @@ abbrev pub IsNumbered : WorkerView → Option Posted → Type 0
 IsNumbered end None = ⊤
 IsNumbered end (Some p) = p.number ≡ length end.sent + 1
 
-abbrev pub unsettled_of : Posted → Unsettled
-unsettled_of p = record { number = p.number; session = p.session }
+abbrev pub unsettled_post : Posted → Unsettled
+unsettled_post p = record { number = p.number; session = p.session }
 
 -- The end and the book agree: the book's unsettled requests are those posted that didn't come back.
 pub record IsSteady (end : WorkerView) (request : Option Posted) (book : BookState) : Type 0 where
   pub running : end.said_bye ≡ false
   pub posted : book.posted ≡ length (posted_by end request)
   pub numbered : IsNumbered end request
-  pub unsettled : book.unsettled ≡ map unsettled_of (drop (length end.back) (posted_by end request))
+  pub unsettled : book.unsettled ≡ map unsettled_post (drop (length end.back) (posted_by end request))
   pub back : asked_posted end.back ≡ take (length end.back) end.sent
 
 -- the sessions in the report and those unopened are those that the list opens; the count stays at the greatest
 -- number
-abbrev pub IsCounted : List PortRecord → List (ℕ × EndCause) → ℕ → Type 0
-IsCounted events sessions unopened =
+abbrev pub AreSessionsCounted : List PortRecord → List (ℕ × EndCause) → ℕ → Type 0
+AreSessionsCounted events sessions unopened =
     (length sessions ≤ opened_count events) × (unopened ≡ min (opened_count events - length sessions) (2 ^ 64 - 1))
 
 -- All that is known where the port tells its list.
-pub record IsTold (v : RunView) (unopened : ℕ) (ended : Bool) : Type 0 where
-  pub each : (s : ℕ) → IsConsistent (facts v s)
+pub record IsStoryKnown (v : RunView) (unopened : ℕ) (ended : Bool) : Type 0 where
+  pub each : (s : ℕ) → AreFactsConsistent (facts v s)
   pub rising : Rises v.sessions
-  pub counted : IsCounted v.events v.sessions unopened
+  pub counted : AreSessionsCounted v.events v.sessions unopened
   pub at_end : has_ended v.events ≡ ended
   pub accepts : AcceptsOnlyOpen v.events
 
@@ -58,7 +63,7 @@ run_view story w =
       back = w.worker_end.back;
       sessions = w.sessions.items;
       book = w.book;
-      piece = piece_of w.pieces;
+      piece = piece_of w.book;
     }
 
 -- each session of which bytes are held is paused
@@ -66,30 +71,44 @@ abbrev pub ArePaused : PortStory → (ℕ → List ℕ) → Type 0
 ArePaused story piece = (s : ℕ) → (piece s ≡ [] → ⊥) → story.paused s ≡ true
 
 -- what stays true of a worker over a port
-pub record IsServing {P : Type 0} (told : P → Option PortStory) (w : Worker P) : Type 0 where
+pub record IsWorkerServing {P : Type 0} (told : P → Option PortStory) (w : Worker P) : Type 0 where
   pub steady : IsSteady w.worker_end w.request w.book
   pub strangers : w.strangers ≡ 0
-  pub known : (story : PortStory) → told w.port ≡ Some story → IsTold (run_view story w) w.unopened w.ended
-  pub paused : (story : PortStory) → told w.port ≡ Some story → ArePaused story (piece_of w.pieces)
+  pub known : (story : PortStory) → told w.port ≡ Some story → IsStoryKnown (run_view story w) w.unopened w.ended
+  pub paused : (story : PortStory) → told w.port ≡ Some story → ArePaused story (piece_of w.book)
 
 -- it is the same end, later
 pub record IsSameEnd (old new : WorkerView) : Type 0 where
   pub exchange : new.exchange ≡ old.exchange
   pub worker : new.worker ≡ old.worker
 
+-- the end looked for an answer and found none
+pub record TakesNone (old new : WorkerView) : Type 0 where
+  pub sent : new.sent ≡ old.sent
+  pub back : new.back ≡ old.back
+  pub running : new.said_bye ≡ old.said_bye
+  pub same : IsSameEnd old new
+
+-- the end took back the next answer, that of the first request that hadn't come back
+pub record TakesBack (old new : WorkerView) (a : Answered) : Type 0 where
+  pub own : get_elem? old.sent (length old.back) ≡ some (posted_of a)
+  pub sent : new.sent ≡ old.sent
+  pub running : new.said_bye ≡ old.said_bye
+  pub back : new.back ≡ old.back ++ a ∷ []
+  pub same : IsSameEnd old new
+
 -- the worker went on
-pub record GoesOn {P : Type 0} (told : P → Option PortStory) (old new : Worker P) : Type 0 where
+pub record WorkerGoesOn {P : Type 0} (told : P → Option PortStory) (old new : Worker P) : Type 0 where
   pub tells : is_some (told new.port) ≡ is_some (told old.port)
   pub same_end : IsSameEnd old.worker_end new.worker_end
-  pub serving : IsServing told new
+  pub serving : IsWorkerServing told new
 
--- Of a worker only the port and what it knows of this session change: it is no longer in the book, no piece of it
--- is held, and the cause stands at its place.
+-- Of a worker only the port and what it knows of this session change: it is no longer in the book, with its held piece,
+-- and the cause stands at its place.
 pub record Closes {P : Type 0} (old new : Worker P) (session : ℕ) (cause : EndCause) : Type 0 where
   pub end : new.worker_end ≡ old.worker_end
   pub request : new.request ≡ old.request
-  pub book : Changes old.book new.book session None
-  pub pieces : (s : ℕ) → piece_of new.pieces s ≡ (if s == session then [] else piece_of old.pieces s)
+  pub book : ChangesSession old.book new.book session None
   pub sessions : Rises old.sessions.items → new.sessions.items ≡ with_cause old.sessions.items session cause
   pub unopened : new.unopened ≡ old.unopened
   pub strangers : new.strangers ≡ old.strangers
@@ -118,12 +137,11 @@ pub record Refuses {P : Type 0} (told : P → Option PortStory) (old new : Worke
 pub record SameRest {P : Type 0} (old new : Worker P) : Type 0 where
   pub end : new.worker_end ≡ old.worker_end
   pub request : new.request ≡ old.request
-  pub pieces : new.pieces ≡ old.pieces
   pub strangers : new.strangers ≡ old.strangers
   pub ended : new.ended ≡ old.ended
 
 -- the rest of the worker
-pub record Leaves {P : Type 0} (old new : Worker P) : Type 0 where
+pub record LeavesWorker {P : Type 0} (old new : Worker P) : Type 0 where
   pub end : new.worker_end ≡ old.worker_end
   pub request : new.request ≡ old.request
   pub sessions : new.sessions.items ≡ old.sessions.items
@@ -132,28 +150,25 @@ pub record Leaves {P : Type 0} (old new : Worker P) : Type 0 where
   pub ended : new.ended ≡ old.ended
 
 -- the piece is held, and nothing else changes but for a pause
-pub record Holds {P : Type 0} (told : P → Option PortStory) (old : Worker P) (session : ℕ) (bytes : List ℕ) (new : Worker P) : Type 0 where
-  pub book : new.book ≡ old.book
+pub record HoldsPiece {P : Type 0} (told : P → Option PortStory) (old : Worker P) (session : ℕ) (bytes : List ℕ) (new : Worker P) : Type 0 where
+  pub book : ChangesSession old.book new.book session (option_map (λ s. holding s bytes) (session_of old.book session))
   pub port : told new.port ≡ option_map (with_pause session true) (told old.port)
-  pub pieces : (t : ℕ) → piece_of new.pieces t ≡ (if t == session then bytes else piece_of old.pieces t)
-  pub leaves : Leaves old new
+  pub leaves : LeavesWorker old new
 
 -- A piece of input came: it is fed, or held, or its session is shut for want of memory; a session that isn't
 -- open drops it. That bytes are held already is a reason to shut only at a port that tells nothing.
 pub data Receives {P : Type 0} (told : P → Option PortStory) (old : Worker P) (session : ℕ) (bytes : List ℕ) (new : Worker P) : Type 0 where
-  feeds : piece_of old.pieces session ≡ []
-      → Changes old.book new.book session (option_map (λ s. fed s bytes) (session_of old.book session)) → new.port ≡ old.port
-      → new.pieces ≡ old.pieces → Leaves old new → Receives told old session bytes new
-  holds : piece_of old.pieces session ≡ [] → Holds told old session bytes new → Receives told old session bytes new
-  shuts : ((piece_of old.pieces session ≡ [] → ⊥) → told old.port ≡ None) → Shuts told old new session causes.NoMemory → Receives told old session bytes new
-  drops : session_of old.book session ≡ None → new.book ≡ old.book → new.port ≡ old.port → new.pieces ≡ old.pieces → Leaves old new
-      → Receives told old session bytes new
+  feeds : piece_of old.book session ≡ []
+      → ChangesSession old.book new.book session (option_map (λ s. once_fed s bytes) (session_of old.book session)) → new.port ≡ old.port
+      → LeavesWorker old new → Receives told old session bytes new
+  holds : piece_of old.book session ≡ [] → HoldsPiece told old session bytes new → Receives told old session bytes new
+  shuts : ((piece_of old.book session ≡ [] → ⊥) → told old.port ≡ None) → Shuts told old new session causes.NoMemory → Receives told old session bytes new
+  drops : session_of old.book session ≡ None → new.book ≡ old.book → new.port ≡ old.port → LeavesWorker old new → Receives told old session bytes new
 
 -- The session was asked and gave no request; nothing else of the worker changed but what was read of it.
 pub record IsQuiet {P : Type 0} (old new : Worker P) (session : ℕ) : Type 0 where
   pub end : new.worker_end ≡ old.worker_end
   pub request : new.request ≡ old.request
-  pub pieces : new.pieces ≡ old.pieces
   pub sessions : new.sessions ≡ old.sessions
   pub ended : new.ended ≡ old.ended
   pub others : (s : ℕ) → (s ≡ session → ⊥) → session_of new.book s ≡ session_of old.book s
@@ -163,14 +178,14 @@ pub record IsQuiet {P : Type 0} (old new : Worker P) (session : ℕ) : Type 0 wh
 pub record IsStill {P : Type 0} (old new : Worker P) (session : ℕ) (cause : EndCause) : Type 0 where
   pub end : new.worker_end ≡ old.worker_end
   pub request : new.request ≡ old.request
-  pub pieces : new.pieces ≡ old.pieces
   pub sessions : new.sessions ≡ old.sessions
   pub ended : new.ended ≡ old.ended
   pub others : (s : ℕ) → (s ≡ session → cause ≡ causes.Drained → ⊥) → session_of new.book s ≡ session_of old.book s
 
--- the session has no output, hasn't finished, and reads no further
+-- the session has no output and no held piece, hasn't finished, and reads no further
 pub record IsEmptied (s : SessionState) : Type 0 where
   pub out : s.out ≡ []
+  pub held : s.held ≡ []
   pub unfinished : finished_by s ≡ None
   pub stops : Stops s
 
@@ -179,6 +194,5 @@ pub record IsDrained {P : Type 0} (w : Worker P) : Type 0 where
   pub ended : w.ended ≡ true
   pub request : w.request ≡ None
   pub back : length w.worker_end.back ≡ length w.worker_end.sent
-  pub pieces : (s : ℕ) → piece_of w.pieces s ≡ []
   pub emptied : (k : ℕ) (d : ℕ × EndCause) → k < length w.sessions.items → (slice_index_or w.sessions.items k d).1 ≡ causes.Drained
       → (s : SessionState) → session_of w.book (slice_index_or w.sessions.items k d).0 ≡ Some s → IsEmptied s

@@ -1,12 +1,12 @@
 //! One worker's loop over a port: the port's events become requests, and the answers become bytes.
 #![tactic(auto)]
 
+mod batched_end;
 pub mod gate;
-mod pieces;
 mod places;
 pub mod port;
-mod ready;
 pub mod report;
+mod rooms;
 pub mod run;
 mod worker;
 

@@ -6,11 +6,14 @@ ghost use Rattle.worker.specs.Ports.{PortStory, then_told, with_pause, event_rec
 
 use bytes::Bytes;
 
+/// The most bytes of one piece of input.
+pub const MAX_PIECE: usize = 16_384;
+
 /// What a port tells its worker.
 #[derive(Drop)]
 pub enum PortEvent {
     Opened(u64),
-    /// At most 16,384 bytes of a session.
+    /// At most `MAX_PIECE` bytes of a session.
     Data(u64, Bytes),
     /// The session's peer has gone: no more bytes come, and none can be given.
     Gone(u64),

@@ -3,14 +3,15 @@
 ghost use Rattle.std.specs.Prelude.{◌≡◌, ◌<◌, [], true, false, is_some};
 ghost use Rattle.session_book.specs.Session.{SessionState};
 ghost use Rattle.session_book.specs.Book.{session_of};
-ghost use Rattle.worker.specs.Workers.{IsServing, GoesOn, IsStill, IsEmptied, IsDrained};
+ghost use Rattle.worker.specs.Workers.{IsWorkerServing, WorkerGoesOn, IsStill, IsEmptied, IsDrained};
 ghost use Rattle.worker.specs.Ports.{PortStory};
 ghost use Rattle.worker.specs.Reports.{IsReported, IsOver};
 
+use crate::batched_end::BatchedEnd;
 use crate::gate::Gate;
 use crate::port::Port;
-use crate::ready::Ready;
 use crate::report::WorkerReport;
+use crate::rooms::Rooms;
 use crate::worker::Worker;
 use crossbeam_utils::Backoff;
 use exchange::WorkerEnd;
@@ -19,7 +20,6 @@ use session_book::book::Book;
 use session_book::causes::EndCause;
 use session_book::limits::{MAX_POSTS, MAX_UNSETTLED};
 use std::alloc::Global;
-use std::collections::BTreeMap;
 use std::sync::Wait;
 
 /// The most events that are taken in a turn.
@@ -28,11 +28,11 @@ const EVENTS_A_TURN: usize = 8;
 /// So many sessions whose peer accepted nothing are offered their output again in a turn.
 const SLOW_A_TURN: usize = 2;
 
-// Takes what has come, in a few events, up to the first input that may hold a request: what a session has sent is
-// asked before it is taken that its peer has gone.
-fn take_events<P: Port>(worker: &mut Worker<P>) -> bool
-    requires { IsServing P.told worker.old }
-    ensures goes_on { GoesOn P.told worker.old worker.new }
+// Takes what has come, in a few events, and asks at once what they bring: what a session has sent is asked before it is
+// taken that its peer has gone. They end where a session can't be asked further.
+fn take_events<P: Port, G: Gate>(worker: &mut Worker<P>, gate: &G, storage: &ParkingWord) -> bool
+    requires { IsWorkerServing P.told worker.old }
+    ensures goes_on { WorkerGoesOn P.told worker.old worker.new }
     ensures leads { P.leads_to worker.old.port worker.new.port }
 {
     let mut moved = false;
@@ -41,7 +41,8 @@ fn take_events<P: Port>(worker: &mut Worker<P>) -> bool
             break;
         }
         moved = true;
-        if worker.ready.to_ask() > 0 {
+        ask_sessions(worker, gate, storage);
+        if worker.book.to_ask() > 0 {
             break;
         }
     }
@@ -50,42 +51,47 @@ fn take_events<P: Port>(worker: &mut Worker<P>) -> bool
 
 // Feeds each held piece that may fit by now.
 fn feed_pieces<P: Port>(worker: &mut Worker<P>) -> bool
-    requires { IsServing P.told worker.old }
-    ensures goes_on { GoesOn P.told worker.old worker.new }
+    requires { IsWorkerServing P.told worker.old }
+    ensures goes_on { WorkerGoesOn P.told worker.old worker.new }
     ensures leads { P.leads_to worker.old.port worker.new.port }
 {
     let mut moved = false;
-    for _ in 0..worker.ready.to_feed() {
+    for _ in 0..worker.book.to_feed() {
         moved |= worker.feed_next();
     }
     moved
 }
 
 // Asks the session for requests until it has none left or the window is full.
-fn ask_session<P: Port, G: Gate>(worker: &mut Worker<P>, session: u64, gate: &G)
-    requires { IsServing P.told worker.old }
-    ensures goes_on { GoesOn P.told worker.old worker.new }
+fn ask_session<P: Port, G: Gate>(
+    worker: &mut Worker<P>,
+    session: u64,
+    gate: &G,
+    storage: &ParkingWord,
+)
+    requires { IsWorkerServing P.told worker.old }
+    ensures goes_on { WorkerGoesOn P.told worker.old worker.new }
     ensures leads { P.leads_to worker.old.port worker.new.port }
 {
     for _ in 0..=MAX_UNSETTLED {
-        if !worker.ask_and_post(session, gate) {
+        if !worker.ask_and_post(session, gate, storage) {
             break;
         }
     }
 }
 
 // Asks the next session that has input, unless no request can be asked now.
-fn ask_next<P: Port, G: Gate>(worker: &mut Worker<P>, gate: &G) -> bool
-    requires { IsServing P.told worker.old }
-    ensures goes_on { GoesOn P.told worker.old worker.new }
+fn ask_next<P: Port, G: Gate>(worker: &mut Worker<P>, gate: &G, storage: &ParkingWord) -> bool
+    requires { IsWorkerServing P.told worker.old }
+    ensures goes_on { WorkerGoesOn P.told worker.old worker.new }
     ensures leads { P.leads_to worker.old.port worker.new.port }
 {
     if worker.is_busy() {
         return false;
     }
-    match worker.ready.next_to_ask() {
+    match worker.book.next_to_ask() {
         Some(session) => {
-            ask_session(worker, session, gate);
+            ask_session(worker, session, gate, storage);
             true
         }
         None => false,
@@ -93,34 +99,38 @@ fn ask_next<P: Port, G: Gate>(worker: &mut Worker<P>, gate: &G) -> bool
 }
 
 // Asks the sessions in turn while the window has room.
-fn ask_sessions<P: Port, G: Gate>(worker: &mut Worker<P>, gate: &G)
-    requires { IsServing P.told worker.old }
-    ensures goes_on { GoesOn P.told worker.old worker.new }
+fn ask_sessions<P: Port, G: Gate>(worker: &mut Worker<P>, gate: &G, storage: &ParkingWord)
+    requires { IsWorkerServing P.told worker.old }
+    ensures goes_on { WorkerGoesOn P.told worker.old worker.new }
     ensures leads { P.leads_to worker.old.port worker.new.port }
 {
-    for _ in 0..worker.ready.to_ask() {
-        if !ask_next(worker, gate) {
+    for _ in 0..worker.book.to_ask() {
+        if !ask_next(worker, gate, storage) {
             break;
         }
     }
 }
 
-// Posts the held request, and then asks for more.
-fn post_requests<P: Port, G: Gate>(worker: &mut Worker<P>, gate: &G) -> bool
-    requires { IsServing P.told worker.old }
-    ensures goes_on { GoesOn P.told worker.old worker.new }
+// Posts the held request, then what has come and what fits by now, and tells storage of all of it.
+fn post_requests<P: Port, G: Gate>(worker: &mut Worker<P>, gate: &G, storage: &ParkingWord) -> bool
+    requires { IsWorkerServing P.told worker.old }
+    ensures goes_on { WorkerGoesOn P.told worker.old worker.new }
     ensures leads { P.leads_to worker.old.port worker.new.port }
 {
-    let sent = worker.worker_end.sent();
-    worker.post(gate);
-    ask_sessions(worker, gate);
-    worker.worker_end.sent() > sent
+    let held = worker.post(gate, storage);
+    let came = take_events(worker, gate, storage);
+    let fed = feed_pieces(worker);
+    let posted = worker.worker_end.posted();
+    ask_sessions(worker, gate, storage);
+    let asked = worker.worker_end.posted() > posted;
+    worker.flush(storage);
+    held || came || fed || asked
 }
 
 // Takes and settles all answers that are there.
 fn settle_answers<P: Port, G: Gate>(worker: &mut Worker<P>, gate: &G) -> bool
-    requires { IsServing P.told worker.old }
-    ensures goes_on { GoesOn P.told worker.old worker.new }
+    requires { IsWorkerServing P.told worker.old }
+    ensures goes_on { WorkerGoesOn P.told worker.old worker.new }
     ensures leads { P.leads_to worker.old.port worker.new.port }
 {
     let mut moved = false;
@@ -135,12 +145,12 @@ fn settle_answers<P: Port, G: Gate>(worker: &mut Worker<P>, gate: &G) -> bool
 
 // Gives the output of each session that has some, and shuts those that have finished.
 fn give_output<P: Port>(worker: &mut Worker<P>) -> bool
-    requires { IsServing P.told worker.old }
-    ensures goes_on { GoesOn P.told worker.old worker.new }
+    requires { IsWorkerServing P.told worker.old }
+    ensures goes_on { WorkerGoesOn P.told worker.old worker.new }
     ensures leads { P.leads_to worker.old.port worker.new.port }
 {
     let mut moved = false;
-    for _ in 0..worker.ready.to_give() {
+    for _ in 0..worker.book.to_give() {
         moved |= worker.give_next();
     }
     moved
@@ -148,50 +158,43 @@ fn give_output<P: Port>(worker: &mut Worker<P>) -> bool
 
 // The same of a few of the sessions whose peer accepted nothing.
 fn give_slowly<P: Port>(worker: &mut Worker<P>) -> bool
-    requires { IsServing P.told worker.old }
-    ensures goes_on { GoesOn P.told worker.old worker.new }
+    requires { IsWorkerServing P.told worker.old }
+    ensures goes_on { WorkerGoesOn P.told worker.old worker.new }
     ensures leads { P.leads_to worker.old.port worker.new.port }
 {
     let mut moved = false;
-    for _ in 0..worker.ready.to_give_slowly().min(SLOW_A_TURN) {
+    for _ in 0..worker.book.to_give_slowly().min(SLOW_A_TURN) {
         moved |= worker.give_next_slow();
     }
     moved
 }
 
-// One turn. False where there was nothing to do. Once a turn in which it posted it unparks the storage thread.
+// One turn. False where there was nothing to do. Storage knows of all that was posted before the answers are looked for, so
+// nothing is kept back while the worker waits.
 fn take_turn<P: Port, G: Gate>(worker: &mut Worker<P>, gate: &G, storage: &ParkingWord) -> bool
-    requires { IsServing P.told worker.old }
-    ensures goes_on { GoesOn P.told worker.old worker.new }
+    requires { IsWorkerServing P.told worker.old }
+    ensures goes_on { WorkerGoesOn P.told worker.old worker.new }
     ensures leads { P.leads_to worker.old.port worker.new.port }
 {
-    let came = take_events(worker);
-    let fed = feed_pieces(worker);
-    let posted = post_requests(worker, gate);
-    if posted {
-        storage.unpark();
-    }
+    let posted = post_requests(worker, gate, storage);
     let settled = settle_answers(worker, gate);
     let given = give_output(worker);
     let given_slowly = give_slowly(worker);
-    came || fed || posted || settled || given || given_slowly
+    posted || settled || given || given_slowly
 }
 
 // Whether all is done: the port has ended, nothing is held or outstanding, and no open session has a message or
 // output left. A request that is found is held.
 fn has_drained<P: Port>(worker: &mut Worker<P>) -> bool
-    requires { IsServing P.told worker.old }
-    ensures goes_on { GoesOn P.told worker.old worker.new }
+    requires { IsWorkerServing P.told worker.old }
+    ensures goes_on { WorkerGoesOn P.told worker.old worker.new }
     ensures leads { P.leads_to worker.old.port worker.new.port }
     ensures drained { result ≡ true → IsDrained worker.new }
 {
     if !worker.ended || worker.request.is_some() || worker.worker_end.outstanding() > 0 {
         return false;
     }
-    if !worker.pieces.is_empty()
-        || !worker.ready.is_empty()
-        || worker.worker_end.sent() >= MAX_POSTS
-    {
+    if !worker.book.is_idle() || worker.worker_end.posted() >= MAX_POSTS {
         return false;
     }
     for place in 0..worker.sessions.len() {
@@ -205,11 +208,11 @@ fn has_drained<P: Port>(worker: &mut Worker<P>) -> bool
 
 // Whether a session that is still open has nothing left to read and to give.
 fn is_emptied<P: Port>(worker: &mut Worker<P>, session: u64, cause: EndCause) -> bool
-    requires serving { IsServing P.told worker.old }
+    requires serving { IsWorkerServing P.told worker.old }
     requires none { worker.old.request ≡ None }
     requires settled { worker.old.book.unsettled ≡ [] }
     requires few { worker.old.book.posted < MAX_POSTS }
-    ensures goes_on { GoesOn P.told worker.old worker.new }
+    ensures goes_on { WorkerGoesOn P.told worker.old worker.new }
     ensures leads { P.leads_to worker.old.port worker.new.port }
     ensures still { result ≡ true → IsStill worker.old worker.new session cause }
     ensures emptied { result ≡ true → cause ≡ EndCause.Drained → (s : SessionState) → session_of worker.new.book session ≡ Some s → IsEmptied s }
@@ -217,10 +220,10 @@ fn is_emptied<P: Port>(worker: &mut Worker<P>, session: u64, cause: EndCause) ->
     match cause {
         EndCause::Drained => {
             if !worker.ask(session) {
-                worker.ready.ask_later(session);
+                worker.book.ask_later(session);
                 return false;
             }
-            worker.has_no_output(session)
+            worker.has_no_output(session) && worker.holds_nothing(session)
         }
         _ => true,
     }
@@ -231,20 +234,19 @@ fn new_worker<P: Port>(alloc: Global, port: P, worker_end: WorkerEnd) -> Worker<
     requires fresh { (worker_end.sent ≡ []) × (worker_end.back ≡ []) × (worker_end.said_bye ≡ false) }
     ensures port { result.port ≡ port }
     ensures end { result.worker_end ≡ worker_end }
-    ensures serving { IsServing P.told result }
+    ensures serving { IsWorkerServing P.told result }
 {
     let book = Book::new(alloc, worker_end.worker());
     Worker {
         port,
-        worker_end,
+        worker_end: BatchedEnd::new(worker_end),
         book,
         request: None,
-        pieces: BTreeMap::new(alloc),
         sessions: Vec::new(alloc),
         unopened: 0,
         strangers: 0,
         ended: false,
-        ready: Ready::new(alloc),
+        rooms: Rooms::new(alloc),
     }
 }
 
@@ -284,7 +286,7 @@ pub fn run_worker<P: Port, G: Gate, R: Wait>(
 
 // Says bye, and leaves the report.
 fn leave<P: Port>(worker: Worker<P>, storage: &ParkingWord) -> WorkerReport<P>
-    requires serving { IsServing P.told worker }
+    requires serving { IsWorkerServing P.told worker }
     requires drained { IsDrained worker }
     ensures port { result.port ≡ worker.port }
     ensures over { IsOver worker.worker_end result.worker_end }
@@ -293,16 +295,16 @@ fn leave<P: Port>(worker: Worker<P>, storage: &ParkingWord) -> WorkerReport<P>
 {
     let Worker {
         port,
-        mut worker_end,
+        worker_end,
         book: _,
         request: _,
-        pieces: _,
         sessions,
         unopened,
         strangers,
         ended: _,
-        ready: _,
+        rooms: _,
     } = worker;
+    let mut worker_end = worker_end.into_end();
     worker_end.bye();
     storage.unpark();
     WorkerReport {

@@ -5,37 +5,34 @@ ghost use Rattle.session_book.specs.Session.{SessionState, finished_by};
 ghost use Rattle.session_book.specs.Book.{session_of};
 ghost use Rattle.worker.specs.Places.{piece_of};
 ghost use Rattle.worker.specs.Ports.{PortStory, IsOpenIn};
-ghost use Rattle.worker.specs.Workers.{Closes, Shuts, IsServing, GoesOn, Admits, Refuses, SameRest, Holds, Receives, IsQuiet};
+ghost use Rattle.worker.specs.Workers.{Closes, Shuts, IsWorkerServing, WorkerGoesOn, Admits, Refuses, SameRest, Receives, IsQuiet};
+ghost use Rattle.std.specs.Option.{option_and_then};
 
+use crate::batched_end::BatchedEnd;
 use crate::gate::Gate;
-use crate::pieces::{Pieces, held, hold, release};
 use crate::places::set_cause;
 use crate::port::{Gone, Port, PortEvent};
-use crate::ready::Ready;
+use crate::rooms::Rooms;
 use bytes::Bytes;
-use exchange::WorkerEnd;
+use parking::ParkingWord;
 use proto::history::Posted;
 use session_book::book::Book;
-use session_book::causes::{EndCause, FeedFault, Settled};
+use session_book::causes::{EndCause, Received, Settled};
 use session_book::limits::MAX_UNSETTLED;
-
-/// So many bytes of output are given though more will stand behind them.
-const WORTH_GIVING: usize = 16_384;
 
 #[derive(Drop)]
 pub(crate) struct Worker<P> {
     pub(crate) port: P,
-    pub(crate) worker_end: WorkerEnd,
+    pub(crate) worker_end: BatchedEnd,
     pub(crate) book: Book,
     /// A request that has its number and isn't posted yet.
     pub(crate) request: Option<Posted>,
-    pub(crate) pieces: Pieces,
     pub(crate) sessions: Vec<(u64, EndCause)>,
     pub(crate) unopened: u64,
     pub(crate) strangers: u64,
     /// The port has ended.
     pub(crate) ended: bool,
-    pub(crate) ready: Ready,
+    pub(crate) rooms: Rooms,
 }
 
 impl<P: Port> Worker<P> {
@@ -46,9 +43,7 @@ impl<P: Port> Worker<P> {
         ensures closes { Closes self.old self.new session cause }
     {
         self.book.close(session);
-        release(&mut self.pieces, session);
         set_cause(&mut self.sessions, session, cause);
-        self.ready.dismiss(session);
     }
 
     pub(crate) fn shut(&mut self, session: u64, cause: EndCause)
@@ -68,7 +63,6 @@ impl<P: Port> Worker<P> {
         ensures refuses { Refuses P.told self.old self.new newcomer }
     {
         self.port.shut(newcomer);
-        self.ready.dismiss(newcomer);
         self.unopened = self.unopened.saturating_add(1);
     }
 
@@ -79,9 +73,7 @@ impl<P: Port> Worker<P> {
         ensures rest { SameRest self.old self.new }
         ensures admits { Admits P.told self.old self.new session ⊎ Refuses P.told self.old self.new session }
     {
-        if self.ready.admit(session).is_err()
-            || self.sessions.push((session, EndCause::Drained)).is_err()
-        {
+        if self.sessions.push((session, EndCause::Drained)).is_err() {
             self.refuse(session);
             return;
         }
@@ -91,40 +83,19 @@ impl<P: Port> Worker<P> {
         }
     }
 
-    // Holds a piece that doesn't fit, and pauses its session.
-    fn wait_for_room(&mut self, session: u64, bytes: Bytes)
-        requires { IsOpenIn session (P.told self.old.port) }
-        ensures waits { Holds P.told self.old session bytes self.new ⊎ Shuts P.told self.old self.new session EndCause.NoMemory }
-        ensures leads { P.leads_to self.old.port self.new.port }
-    {
-        if hold(&mut self.pieces, session, bytes).is_err() {
-            self.shut(session, EndCause::NoMemory);
-            return;
-        }
-        self.port.pause(session);
-    }
-
-    // Feeds a piece of input that came, or holds it until it fits. Input of a session that isn't open is dropped.
+    // Feeds a piece of input that came, or holds it until it fits, and then pauses its session. Input of a session that
+    // isn't open is dropped. At a port that tells, a session of which bytes are held is paused and has no data.
     fn receive(&mut self, session: u64, bytes: Bytes)
         requires open { IsOpenIn session (P.told self.old.port) }
-        requires resumed { (story : PortStory) → P.told self.old.port ≡ Some story → piece_of self.old.pieces session ≡ [] }
+        requires resumed { (story : PortStory) → P.told self.old.port ≡ Some story → piece_of self.old.book session ≡ [] }
         ensures receives { Receives P.told self.old session bytes self.new }
         ensures leads { P.leads_to self.old.port self.new.port }
         ensures drops { session_of self.old.book session ≡ None → self.new ≡ self.old }
     {
-        // At a port that tells, a session of which bytes are held is paused and has no data.
-        if !held(&self.pieces, session).is_empty() {
-            if !self.book.is_open(session) {
-                return;
-            }
-            self.shut(session, EndCause::NoMemory);
-            return;
-        }
-        match self.book.feed(session, &bytes) {
-            Ok(()) => self.ready.ask_later(session),
-            Err(FeedFault::Full) => self.wait_for_room(session, bytes),
-            Err(FeedFault::NoMemory) => self.shut(session, EndCause::NoMemory),
-            Err(FeedFault::Unknown) => {}
+        match self.book.receive(session, bytes) {
+            Received::Fed | Received::Unknown => {}
+            Received::Held => self.port.pause(session),
+            Received::Refused => self.shut(session, EndCause::NoMemory),
         }
     }
 
@@ -142,13 +113,13 @@ impl<P: Port> Worker<P> {
 
     // Whether the port may wait: nothing is outstanding or held back, and no session has anything to do.
     fn may_wait(&self) -> bool {
-        self.request.is_none() && self.worker_end.outstanding() == 0 && self.ready.is_empty()
+        self.request.is_none() && self.worker_end.outstanding() == 0 && self.book.is_idle()
     }
 
     // One event of the port, unless it has ended. False where there was none.
     pub(crate) fn take_event(&mut self) -> bool
-        requires { IsServing P.told self.old }
-        ensures goes_on { GoesOn P.told self.old self.new }
+        requires { IsWorkerServing P.told self.old }
+        ensures goes_on { WorkerGoesOn P.told self.old self.new }
         ensures leads { P.leads_to self.old.port self.new.port }
     {
         if self.ended {
@@ -167,52 +138,42 @@ impl<P: Port> Worker<P> {
 
     // Feeds the session's held piece, if it fits by now.
     pub(crate) fn feed_again(&mut self, session: u64) -> bool
-        requires { IsServing P.told self.old }
-        ensures goes_on { GoesOn P.told self.old self.new }
+        requires { IsWorkerServing P.told self.old }
+        ensures goes_on { WorkerGoesOn P.told self.old self.new }
         ensures leads { P.leads_to self.old.port self.new.port }
     {
-        let Some(piece) = self.pieces.get(&session) else {
-            return false;
-        };
-        match self.book.feed(session, piece) {
-            Ok(()) => {
-                release(&mut self.pieces, session);
+        match self.book.feed_held(session) {
+            Ok(true) => {
                 self.port.resume(session);
-                self.ready.ask_later(session);
                 true
             }
-            Err(FeedFault::NoMemory) => {
+            Ok(false) => false,
+            Err(_) => {
                 self.shut(session, EndCause::NoMemory);
                 true
             }
-            Err(_) => false,
         }
     }
 
     // Reads up to the session's next request, which is held until it is posted. True where none is left for now.
     pub(crate) fn ask(&mut self, session: u64) -> bool
-        requires serving { IsServing P.told self.old }
+        requires serving { IsWorkerServing P.told self.old }
         requires none { self.old.request ≡ None }
-        ensures goes_on { GoesOn P.told self.old self.new }
+        ensures goes_on { WorkerGoesOn P.told self.old self.new }
         ensures leads { P.leads_to self.old.port self.new.port }
         ensures quiet { result ≡ true → IsQuiet self.old self.new session }
     {
         match self.book.next_ask(session) {
-            Ok(Some((request, number))) => {
+            Ok(Some((mut request, number))) => {
+                self.rooms.lend(&mut request);
                 self.request = Some(Posted {
                     session,
                     number,
                     request,
                 });
-                let holds_piece = self.pieces.contains_key(&session);
-                self.ready.asked(session, holds_piece);
                 false
             }
-            Ok(None) => {
-                let holds_piece = self.pieces.contains_key(&session);
-                self.ready.asked(session, holds_piece);
-                true
-            }
+            Ok(None) => true,
             Err(_) => {
                 self.shut(session, EndCause::NoMemory);
                 false
@@ -231,28 +192,33 @@ impl<P: Port> Worker<P> {
             || (outstanding > 0 && self.book.is_crowded())
     }
 
-    // Reads the session's next request and posts it. False where none is left for now, or none can be asked: then the
+    // Reads the session's next request and posts it. True where there may be another one. Where none can be asked the
     // session is asked again later.
-    pub(crate) fn ask_and_post<G: Gate>(&mut self, session: u64, gate: &G) -> bool
-        requires { IsServing P.told self.old }
-        ensures goes_on { GoesOn P.told self.old self.new }
+    pub(crate) fn ask_and_post<G: Gate>(
+        &mut self,
+        session: u64,
+        gate: &G,
+        storage: &ParkingWord,
+    ) -> bool
+        requires { IsWorkerServing P.told self.old }
+        ensures goes_on { WorkerGoesOn P.told self.old self.new }
         ensures leads { P.leads_to self.old.port self.new.port }
     {
         if self.is_busy() {
-            self.ready.ask_later(session);
+            self.book.ask_later(session);
             return false;
         }
         if self.ask(session) {
             return false;
         }
-        self.post(gate);
-        true
+        self.post(gate, storage);
+        self.book.reads_on()
     }
 
-    // Posts the held request, if the gate lets it and there is room.
-    pub(crate) fn post<G: Gate>(&mut self, gate: &G) -> bool
-        requires { IsServing P.told self.old }
-        ensures goes_on { GoesOn P.told self.old self.new }
+    // Posts the held request, if the gate lets it and there is room. Storage is told of it at the next flush, if not at once.
+    pub(crate) fn post<G: Gate>(&mut self, gate: &G, storage: &ParkingWord) -> bool
+        requires { IsWorkerServing P.told self.old }
+        ensures goes_on { WorkerGoesOn P.told self.old self.new }
         ensures leads { P.leads_to self.old.port self.new.port }
         ensures posted { result ≡ true → self.new.request ≡ None }
     {
@@ -263,7 +229,7 @@ impl<P: Port> Worker<P> {
             self.request = Some(posted);
             return false;
         }
-        match self.worker_end.post(posted) {
+        match self.worker_end.post(posted, storage) {
             Ok(()) => true,
             Err(posted) => {
                 self.request = Some(posted);
@@ -272,10 +238,19 @@ impl<P: Port> Worker<P> {
         }
     }
 
+    // Tells storage of all that was posted.
+    pub(crate) fn flush(&mut self, storage: &ParkingWord)
+        requires { IsWorkerServing P.told self.old }
+        ensures goes_on { WorkerGoesOn P.told self.old self.new }
+        ensures leads { P.leads_to self.old.port self.new.port }
+    {
+        self.worker_end.flush(storage);
+    }
+
     // Takes the next answer and settles it. False where there is none.
     pub(crate) fn settle_next<G: Gate>(&mut self, gate: &G) -> bool
-        requires { IsServing P.told self.old }
-        ensures goes_on { GoesOn P.told self.old self.new }
+        requires { IsWorkerServing P.told self.old }
+        ensures goes_on { WorkerGoesOn P.told self.old self.new }
         ensures leads { P.leads_to self.old.port self.new.port }
     {
         let Some(answered) = self.worker_end.take() else {
@@ -283,8 +258,10 @@ impl<P: Port> Worker<P> {
         };
         let session = answered.session;
         gate.answered(self.worker_end.worker(), answered.number);
-        match self.book.settle(answered) {
-            Settled::Kept => self.ready.give_later(session),
+        let settled = self.book.settle(&answered);
+        self.rooms.keep(answered);
+        match settled {
+            Settled::Kept => {}
             Settled::Dropped => {}
             Settled::Starved => self.shut(session, EndCause::NoMemory),
             Settled::Stranger => self.strangers = self.strangers.saturating_add(1),
@@ -292,30 +269,23 @@ impl<P: Port> Worker<P> {
         true
     }
 
-    // Offers the session's output in one call, unless more is about to stand behind it: little output waits for the
-    // answers that are outstanding, and for the input that is left to be read.
-    pub(crate) fn offer(&mut self, session: u64) -> bool
-        requires { IsServing P.told self.old }
-        ensures goes_on { GoesOn P.told self.old self.new }
+    // Offers the session's output in one call, where it is worth it. It answers whether that changed anything, and whether
+    // the session has finished.
+    pub(crate) fn offer(&mut self, session: u64) -> (bool, Option<EndCause>)
+        requires { IsWorkerServing P.told self.old }
+        ensures goes_on { WorkerGoesOn P.told self.old self.new }
         ensures leads { P.leads_to self.old.port self.new.port }
+        ensures finished { result.1 ≡ option_and_then finished_by (session_of self.new.book session) }
     {
-        let out = self.book.out(session);
-        let offered = out.len();
-        if offered == 0 {
-            return false;
+        let offer = self.book.offer(session);
+        if offer.out.is_empty() {
+            return (false, offer.finished);
         }
-        if offered < WORTH_GIVING && (self.book.awaits(session) || self.ready.is_asking(session)) {
-            return false;
-        }
-        match self.port.give(session, out) {
-            Ok(accepted) => {
-                self.book.gave(session, accepted);
-                self.ready.given(session, offered, accepted);
-                accepted > 0
-            }
+        match self.port.give(session, offer.out) {
+            Ok(accepted) => (accepted > 0, self.book.gave(session, accepted)),
             Err(Gone) => {
                 self.close(session, EndCause::Gone);
-                true
+                (true, None)
             }
         }
     }
@@ -327,13 +297,20 @@ impl<P: Port> Worker<P> {
         self.book.out(session).is_empty() && self.book.finished(session).is_none()
     }
 
+    // No piece of the session is held.
+    pub(crate) fn holds_nothing(&self, session: u64) -> bool
+        ensures { result ≡ true → (s : SessionState) → session_of self.now.book session ≡ Some s → s.held ≡ [] }
+    {
+        self.book.held(session).is_empty()
+    }
+
     // Feeds the next held piece that may fit by now.
     pub(crate) fn feed_next(&mut self) -> bool
-        requires { IsServing P.told self.old }
-        ensures goes_on { GoesOn P.told self.old self.new }
+        requires { IsWorkerServing P.told self.old }
+        ensures goes_on { WorkerGoesOn P.told self.old self.new }
         ensures leads { P.leads_to self.old.port self.new.port }
     {
-        match self.ready.next_to_feed() {
+        match self.book.next_to_feed() {
             Some(session) => self.feed_again(session),
             None => false,
         }
@@ -341,11 +318,11 @@ impl<P: Port> Worker<P> {
 
     // Offers the output of the next session that has some, and shuts it where it has finished.
     pub(crate) fn give_next(&mut self) -> bool
-        requires { IsServing P.told self.old }
-        ensures goes_on { GoesOn P.told self.old self.new }
+        requires { IsWorkerServing P.told self.old }
+        ensures goes_on { WorkerGoesOn P.told self.old self.new }
         ensures leads { P.leads_to self.old.port self.new.port }
     {
-        match self.ready.next_to_give() {
+        match self.book.next_to_give() {
             Some(session) => self.give(session),
             None => false,
         }
@@ -353,11 +330,11 @@ impl<P: Port> Worker<P> {
 
     // The same of the next session whose peer accepted nothing when it was last offered some.
     pub(crate) fn give_next_slow(&mut self) -> bool
-        requires { IsServing P.told self.old }
-        ensures goes_on { GoesOn P.told self.old self.new }
+        requires { IsWorkerServing P.told self.old }
+        ensures goes_on { WorkerGoesOn P.told self.old self.new }
         ensures leads { P.leads_to self.old.port self.new.port }
     {
-        match self.ready.next_to_give_slowly() {
+        match self.book.next_to_give_slowly() {
             Some(session) => self.give(session),
             None => false,
         }
@@ -365,22 +342,23 @@ impl<P: Port> Worker<P> {
 
     // Offers the session's output, and shuts it where it has finished.
     fn give(&mut self, session: u64) -> bool
-        requires { IsServing P.told self.old }
-        ensures goes_on { GoesOn P.told self.old self.new }
+        requires { IsWorkerServing P.told self.old }
+        ensures goes_on { WorkerGoesOn P.told self.old self.new }
         ensures leads { P.leads_to self.old.port self.new.port }
     {
-        let offered = self.offer(session);
-        let finished = self.finish(session);
-        offered || finished
+        let (moved, finished) = self.offer(session);
+        let finished = self.finish(session, finished);
+        moved || finished
     }
 
     // Shuts a session that has ended itself, once all was answered and given.
-    pub(crate) fn finish(&mut self, session: u64) -> bool
-        requires { IsServing P.told self.old }
-        ensures goes_on { GoesOn P.told self.old self.new }
+    pub(crate) fn finish(&mut self, session: u64, finished: Option<EndCause>) -> bool
+        requires serving { IsWorkerServing P.told self.old }
+        requires is { finished ≡ option_and_then finished_by (session_of self.old.book session) }
+        ensures goes_on { WorkerGoesOn P.told self.old self.new }
         ensures leads { P.leads_to self.old.port self.new.port }
     {
-        match self.book.finished(session) {
+        match finished {
             Some(cause) => {
                 self.shut(session, cause);
                 true

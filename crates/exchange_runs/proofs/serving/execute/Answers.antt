@@ -1,5 +1,6 @@
 use Rattle.std.proofs.Common.{rules, ℕ, sym, subst}
 use Rattle.proto.specs.declared.history.Answered.{Answered}
+use Rattle.proto.specs.declared.message.Request.{Request}
 use Rattle.proto.specs.Sizes.{Sizes}
 use Rattle.proto.specs.Steps.{Step}
 use Rattle.engine.specs.Reaching.{Reaches}
@@ -16,11 +17,12 @@ answer_when_room-requires-clause-legal g c =
       worker = c.args.worker;
       session = p.session;
       number = p.number;
-      request = p.request;
+      request = c.handle-reply.new.request;
       moment = c.last_moment-moment.result;
       reply = c.handle-reply.result;
     } in
-    let step = subst (λ (z : Sizes). Step z (cache c.args.store.now) e.moment e.request e.reply (cache after)) c.requires.sizes c.handle-reply.ensures.step in
+    let step = subst (λ (z : Sizes × Request). Step z.0 (cache c.args.store.now) e.moment z.1 e.reply (cache after))
+    (λ i. (c.requires.sizes i, sym c.handle-reply.ensures.request i)) c.handle-reply.ensures.step in
     legal_of _ _ _ _
     (reaches_more c.args.end.now.geometry c.args.end.now.history (cache c.args.store.now)
     (cache after) last e c.requires.reaches step (search rules) (search rules) c.requires.next)
@@ -34,11 +36,12 @@ returns-clause-reaches g c =
       worker = c.args.worker;
       session = p.session;
       number = p.number;
-      request = p.request;
+      request = c.handle-reply.new.request;
       moment = c.last_moment-moment.result;
       reply = c.handle-reply.result;
     } in
-    let step = subst (λ (z : Sizes). Step z (cache c.args.store.now) e.moment e.request e.reply (cache after)) c.requires.sizes c.handle-reply.ensures.step in
+    let step = subst (λ (z : Sizes × Request). Step z.0 (cache c.args.store.now) e.moment z.1 e.reply (cache after))
+    (λ i. (c.requires.sizes i, sym c.handle-reply.ensures.request i)) c.handle-reply.ensures.step in
     let more =
     reaches_more c.args.end.now.geometry c.args.end.now.history (cache c.args.store.now)
     (cache after) last e c.requires.reaches step (search rules) (search rules) c.requires.next in

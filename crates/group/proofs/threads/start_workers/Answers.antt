@@ -1,6 +1,6 @@
 use Rattle.std.proofs.Common.{rules, ◌≡◌, [], ◌∷◌, ◌++◌, All, map, sym, ap, subst, ◌∙◌, append_assoc}
 use Rattle.std.proofs.lemmas.List.{map-append}
-use Rattle.group.specs.Threads.{IsFresh, IsSilent}
+use Rattle.group.specs.Threads.{HasSentNothing, IsSilent}
 use Rattle.group.proofs.Places.{first_of_all, all_more}
 use Rattle.group.proofs.threads.start_workers.Goals as goal
 
@@ -24,7 +24,7 @@ loop-end-preserved g c =
       silent = (first_of_all
           (IsSilent g.P.Port.told) c.loop-end.ports.rest.items c.in-Some-next.port c.next-in-loop-end.new.self.rest.items
           c.in-Some-next.ensures.items i.silent).1;
-      fresh = (first_of_all IsFresh c.loop-end.end-iterator.rest.items c.in-Some.end c.next.new.self.rest.items c.in-Some.ensures.steps.0 i.fresh).1;
+      fresh = (first_of_all HasSentNothing c.loop-end.end-iterator.rest.items c.in-Some.end c.next.new.self.rest.items c.in-Some.ensures.steps.0 i.fresh).1;
       started = subst (All (λ h. h.promise.start.now.id ≡ c.args.start.now.id)) (sym pushed)
           (all_more (λ h. h.promise.start.now.id ≡ c.args.start.now.id) c.loop-end.handles.items h i.started c.in_ok-handle.ensures.start);
       ends = more ∙ ap (λ l. l ++ h.promise.end.value ∷ []) i.ends ∙ ap (λ e. y ++ e ∷ []) c.in_ok-handle.ensures.given.1;

@@ -6,6 +6,7 @@ use Rattle.index.proofs.Agreeing.{keys_agree, held_key}
 use Rattle.segments.proofs.Places.{appended}
 use Rattle.index.proofs.PoolKeys.{key_added}
 use Rattle.index.proofs.PoolPlaces.{room_for_one}
+use Rattle.index.proofs.InLayout.{appended_in_layout}
 use Rattle.index.proofs.write.write.Goals as goal
 
 pub returns-in-None-clause-map : goal.returns-in-None-clause-map
@@ -41,3 +42,17 @@ insert-requires-clause-room c =
     c.append.ensures.pool stands c.requires.index in
     let room = c.requires.room in
     omega (arith, free, room)
+
+pub insert-requires-clause-place : goal.insert-requires-clause-place
+insert-requires-clause-place c =
+    let stands = appended c.args.pool.now c.args.bucket c.args.moment _ c.append.new.self c.in_ok-place.place
+    c.geometry.ensures.pool c.in_ok-place.ensures.appended in
+    appended_in_layout c.args.pool.now c.append.new.self c.args.bucket c.args.moment _ c.in_ok-place.place c.args.index.now.layout
+    c.append.ensures.pool stands c.requires.layout
+
+pub replace-requires-clause-target : goal.replace-requires-clause-target
+replace-requires-clause-target c =
+    let stands = appended c.args.pool.now c.args.bucket c.args.moment _ c.append.new.self c.in_ok-place.place
+    c.geometry.ensures.pool c.in_ok-place.ensures.appended in
+    appended_in_layout c.args.pool.now c.append.new.self c.args.bucket c.args.moment _ c.in_ok-place.place c.args.index.now.layout
+    c.append.ensures.pool stands c.requires.layout

@@ -1,6 +1,6 @@
 use Rattle.std.proofs.Common.{◌+◌, ◌-◌, ◌/◌, ◌<◌, length, subst, ◌∙◌, arith}
 use Rattle.std.proofs.lemmas.List.{get_or_default}
-use Rattle.script_port.specs.Sessions.{SessionState}
+use Rattle.script_port.specs.Sessions.{ScriptSessionState}
 use Rattle.script_port.proofs.SessionLemmas.{under_middle, over_middle, below_none}
 use Rattle.script_port.proofs.sessions.place_of.Goals as goal
 
@@ -11,7 +11,7 @@ loop-low-preserved-then-found-number-2 c =
     let here : x.number < c.args.number = omega (arith, c.number-found.ensures, c.if-found-number-2.true) in record {
       order = (omega (arith, c.loop-low-test.true), c.loop-low.invariant.order.1);
       below = under_middle 0 xs c.args.number middle c.requires lt
-          (λ d. subst (λ (e : SessionState). e.number < c.args.number) (c.index-sessions-middle.is ∙ get_or_default xs middle x d lt) here);
+          (λ d. subst (λ (e : ScriptSessionState). e.number < c.args.number) (c.index-sessions-middle.is ∙ get_or_default xs middle x d lt) here);
       from = c.loop-low.invariant.from;
     }
 
@@ -23,7 +23,7 @@ loop-low-preserved c =
       order = (omega (arith, c.loop-low-test.true), omega (arith, lt));
       below = c.loop-low.invariant.below;
       from = over_middle 0 xs c.args.number middle c.requires
-          (λ d. subst (λ (e : SessionState). c.args.number < e.number) (c.index-sessions-middle.is ∙ get_or_default xs middle x d lt) here);
+          (λ d. subst (λ (e : ScriptSessionState). c.args.number < e.number) (c.index-sessions-middle.is ∙ get_or_default xs middle x d lt) here);
     }
 
 pub returns : goal.returns

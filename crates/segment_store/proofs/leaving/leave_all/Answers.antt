@@ -4,6 +4,7 @@ use Rattle.std.proofs.lemmas.Option.{none-some}
 use Rattle.std.specs.FinMap as finite
 use Rattle.std.specs.Ordering.{nat_cmp}
 use Rattle.std.specs.Cmp.Lexicographic.{slice_cmp}
+use Rattle.index.specs.Layouts.{IsLayoutOf}
 use Rattle.index.specs.Table.{Places}
 use Rattle.index.specs.Keys.{key_at}
 use Rattle.segments.proofs.Places.{mark_within}
@@ -56,4 +57,5 @@ returns-clause-tied c =
           (let w = (mark_within p r i known.pool e).0 in
           absurd (false≢true (sym (c.loop-segment.invariant.cleared r.segment (r.offset / 32) (omega (arith, w, s, done))) ∙ h)));
       roomy = subst (λ n. 2 * (p.sizes.segments * (p.sizes.segment_size / 32)) ≤ n) (sym size.count) c.requires.tied.roomy;
+      layout = subst (IsLayoutOf p.sizes) (sym size.layout) c.requires.tied.layout;
     }

@@ -4,7 +4,7 @@ use Rattle.segments.specs.Shown.{item_of}
 use Rattle.segments.specs.Pools.{PoolState}
 use Rattle.segments.proofs.Places.{has_room}
 use Rattle.index.specs.Table.{Table}
-use Rattle.segment_store.specs.Shown.{shown}
+use Rattle.segment_store.specs.Shown.{shown_entries}
 use Rattle.segment_store.specs.Room.{IsRoomMade}
 use Rattle.segments.specs.Changes.{HasNoRoom}
 use Rattle.tally.specs.Marks.{Marks}
@@ -34,7 +34,7 @@ returns-else-is_err-clause-put c =
     let i = item_of c.args.item in
     let done = was_done c.append.result _ _ c.append.ensures.appended (sym c.is_err.ensures.value ∙ c.if-is_err.false) in
     put_made p c.args.index.now p c.args.index.now c.args.tally.now c.args.bucket c.args.now i c.args.item.deadline c.append.new.pool c.append.new.index done.0
-    refl (record { forgotten = []; evicted = inl refl; entries = sym (without-nil (shown p c.args.index.now c.args.now)) })
+    refl (record { forgotten = []; evicted = inl refl; entries = sym (without-nil (shown_entries p c.args.index.now c.args.now)) })
     c.requires.past c.requires.tied done.1.0 done.1.1 c.requires.waits c.requires.of_bucket
 
 pub returns-then-is_err-clause-placed : goal.returns-then-is_err-clause-placed

@@ -1,5 +1,6 @@
-use Rattle.std.proofs.Common.{rules, ℕ, List, ◌++◌, sym, subst}
+use Rattle.std.proofs.Common.{◌≡◌, rules, ℕ, List, ◌++◌, sym, subst}
 use Rattle.proto.specs.declared.history.Answered.{Answered}
+use Rattle.proto.specs.declared.message.Request.{Request}
 use Rattle.proto.specs.Sizes.{Sizes}
 use Rattle.proto.specs.Steps.{Step}
 use Rattle.exchange.specs.Ends.{StorageView}
@@ -11,21 +12,21 @@ use Rattle.engine.proofs.ReachingLemmas.{reaches_more, legal_of}
 use Rattle.storage_thread.proofs.Kept.{leads_more}
 use Rattle.storage_thread.proofs.serving.execute.Goals as goal
 
-pub answer-requires-clause-legal : goal.answer-requires-clause-legal
-answer-requires-clause-legal g c = let p = c.args.posted in
+pub answer_later-requires-clause-legal : goal.answer_later-requires-clause-legal
+answer_later-requires-clause-legal g c = let p = c.args.posted in
     let e : Answered = record {
       worker = c.args.worker;
       session = p.session;
       number = p.number;
-      request = p.request;
+      request = c.handle-reply.new.request;
       moment = c.max-moment.result;
       reply = c.handle-reply.result;
     } in
     legal_of _ _ _ _
-    (reaches_more c.args.end.now.geometry c.args.end.now.history (g.S.StorageEngine.cache c.args.store.now)
+    (reaches_more c.args.end.now.end.geometry c.args.end.now.end.history (g.S.StorageEngine.cache c.args.store.now)
     (g.S.StorageEngine.cache c.handle-reply.new.self) (g.S.StorageEngine.moment c.args.store.now) e c.requires.reaches
-    (subst (λ (z : Sizes). Step z (g.S.StorageEngine.cache c.args.store.now) e.moment e.request e.reply
-    (g.S.StorageEngine.cache c.handle-reply.new.self)) c.requires.sizes c.handle-reply.ensures.step)
+    (subst (λ (z : Sizes × Request). Step z.0 (g.S.StorageEngine.cache c.args.store.now) e.moment z.1 e.reply
+    (g.S.StorageEngine.cache c.handle-reply.new.self)) (λ i. (c.requires.sizes i, sym c.handle-reply.ensures.request i)) c.handle-reply.ensures.step)
     (search rules) (search rules) c.requires.next)
 
 pub returns-clause-reaches : goal.returns-clause-reaches
@@ -34,17 +35,17 @@ returns-clause-reaches g c = let p = c.args.posted in
       worker = c.args.worker;
       session = p.session;
       number = p.number;
-      request = p.request;
+      request = c.handle-reply.new.request;
       moment = c.max-moment.result;
       reply = c.handle-reply.result;
     } in
-    let more = reaches_more c.args.end.now.geometry c.args.end.now.history (g.S.StorageEngine.cache c.args.store.now)
+    let more = reaches_more c.args.end.now.end.geometry c.args.end.now.end.history (g.S.StorageEngine.cache c.args.store.now)
     (g.S.StorageEngine.cache c.handle-reply.new.self) (g.S.StorageEngine.moment c.args.store.now) e c.requires.reaches
-    (subst (λ (z : Sizes). Step z (g.S.StorageEngine.cache c.args.store.now) e.moment e.request e.reply
-    (g.S.StorageEngine.cache c.handle-reply.new.self)) c.requires.sizes c.handle-reply.ensures.step)
+    (subst (λ (z : Sizes × Request). Step z.0 (g.S.StorageEngine.cache c.args.store.now) e.moment z.1 e.reply
+    (g.S.StorageEngine.cache c.handle-reply.new.self)) (λ i. (c.requires.sizes i, sym c.handle-reply.ensures.request i)) c.handle-reply.ensures.step)
     (search rules) (search rules) c.requires.next in
     subst (λ (z : StorageView × ℕ). Reaches z.0.geometry z.0.history (g.S.StorageEngine.cache c.handle-reply.new.self) z.1)
-    (λ i. (sym c.answer.ensures.answered i, sym c.handle-reply.ensures.moment i)) more
+    (λ i. (sym c.answer_later.ensures.answered i, sym c.handle-reply.ensures.moment i)) more
 
 pub returns-clause-kept : goal.returns-clause-kept
 returns-clause-kept g c l = let p = c.args.posted in let m = g.S.StorageEngine in
@@ -52,14 +53,17 @@ returns-clause-kept g c l = let p = c.args.posted in let m = g.S.StorageEngine i
       worker = c.args.worker;
       session = p.session;
       number = p.number;
-      request = p.request;
+      request = c.handle-reply.new.request;
       moment = c.max-moment.result;
       reply = c.handle-reply.result;
     } in
     let old = m.cache c.args.store.now in let after = m.cache c.handle-reply.new.self in
-    let more = leads_more c.args.end.now.geometry c.args.end.now.history old after e (m.keeps c.args.store.now) (m.keeps c.handle-reply.new.self) l
-    (subst (λ (z : Sizes). Step z old e.moment e.request e.reply after) c.requires.sizes c.handle-reply.ensures.step)
-    (subst (λ (z : Sizes). (items : List StoredItem) → m.keeps c.args.store.now items → SetsNoDeadline e.request → IsWithinBound z (items ++ stored_by z old e)
-    → ForgetsNone z old e.moment e.request e.reply after
-    × m.keeps c.handle-reply.new.self (items ++ stored_by z old e)) c.requires.sizes c.handle-reply.ensures.kept) in
-    subst (λ (z : StorageView). LeadsKeeping z.geometry z.history after (m.keeps c.handle-reply.new.self)) (sym c.answer.ensures.answered) more
+    let sizes : m.sizes c.args.store.now ≡ c.args.end.now.end.geometry = c.requires.sizes in
+    let request : p.request ≡ c.handle-reply.new.request = sym c.handle-reply.ensures.request in
+    let more = leads_more c.args.end.now.end.geometry c.args.end.now.end.history old after e (m.keeps c.args.store.now) (m.keeps c.handle-reply.new.self) l
+    (subst (λ (z : Sizes × Request). Step z.0 old e.moment z.1 e.reply after) (λ i. (sizes i, request i)) c.handle-reply.ensures.step)
+    (subst (λ (z : Sizes × Request). (items : List StoredItem) → m.keeps c.args.store.now items → SetsNoDeadline z.1
+    → IsWithinBound z.0 (items ++ stored_by z.0 old (record e { request = z.1 }))
+    → ForgetsNone z.0 old e.moment z.1 e.reply after
+    × m.keeps c.handle-reply.new.self (items ++ stored_by z.0 old (record e { request = z.1 }))) (λ i. (sizes i, request i)) c.handle-reply.ensures.kept) in
+    subst (λ (z : StorageView). LeadsKeeping z.geometry z.history after (m.keeps c.handle-reply.new.self)) (sym c.answer_later.ensures.answered) more

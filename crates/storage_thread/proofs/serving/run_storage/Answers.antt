@@ -1,6 +1,7 @@
-use Rattle.std.proofs.Common.{rules, arith, ℕ, ◌<◌, All, sym, subst, ◌∙◌}
+use Rattle.std.proofs.Common.{rules, arith, ℕ, ◌<◌, All, sym, ap, subst, ◌∙◌}
 use Rattle.proto.specs.declared.history.Posted.{Posted}
-use Rattle.exchange.specs.Ends.{StorageView}
+use Rattle.exchange.specs.Ends.{StorageView, StorageBatchView}
+use Rattle.storage_thread.specs.Serving.{SaidBye}
 use Rattle.storage_thread.specs.Keeping.{LeadsKeeping, MayForgetNothing}
 use Rattle.storage_thread.proofs.Kept.{none_forgotten}
 use Rattle.storage_thread.proofs.Turns.{longer, same_sizes, same_byes, same_workers, serving_asked, timed_asked, all_said}
@@ -8,8 +9,8 @@ use Rattle.storage_thread.proofs.serving.run_storage.Goals as goal
 
 pub loop-preserved-in-Some-Asked : goal.loop-preserved-in-Some-Asked
 loop-preserved-in-Some-Asked g c = let i = c.loop.invariant in
-    let f = rw c.in-Some-Asked.field-0-is at c.in-Some-Asked.ensures.next in let now : StorageView = c.loop.end in
-    let mid : StorageView = c.next-in-loop.new.self in let new : StorageView = c.execute.new.end in
+    let f = rw c.in-Some-Asked.field-0-is at c.in-Some-Asked.ensures.taken in let now : StorageView = c.loop.end.end in
+    let mid : StorageView = c.take_next.new.end.end in let new : StorageView = c.execute.new.end.end in
     let w : ℕ = c.in-Some-Asked.worker in let p : Posted = c.in-Some-Asked.posted in
     let m : ℕ = g.S.StorageEngine.moment c.execute.new.store in let a = c.execute.ensures.answered in
     let long = longer now mid w p f new m a in let added = c.saturating_add-executed.ensures in let so_far = i.7 in let all = i.4 in
@@ -29,11 +30,18 @@ loop-preserved-in-Some-Asked g c = let i = c.loop.invariant in
     )
 
 pub returns-then-left-eq0-clause-bye : goal.returns-then-left-eq0-clause-bye
-returns-then-left-eq0-clause-bye g c = let i = c.loop.invariant in let all = i.4 in all_said _ _ _ _ i.2 (search rules)
+returns-then-left-eq0-clause-bye g c = let i = c.loop.invariant in let all = i.4 in
+    let same = c.into_end.ensures ∙ ap (λ (z : StorageBatchView). z.end) c.flush_answers.ensures in
+    subst SaidBye (sym same) (all_said _ _ _ _ i.2 (search rules))
 
 pub returns-then-left-eq0-clause-inside : goal.returns-then-left-eq0-clause-inside
-returns-then-left-eq0-clause-inside g c = let i = c.loop.invariant in subst (λ n. All (λ e. e.worker < n) c.loop.end.history) i.2.same.1 i.2.known
+returns-then-left-eq0-clause-inside g c = let i = c.loop.invariant in
+    let same = c.into_end.ensures ∙ ap (λ (z : StorageBatchView). z.end) c.flush_answers.ensures in
+    subst (λ (z : StorageView). All (λ e. e.worker < c.args.storage_end.workers) z.history) (sym same)
+    (subst (λ n. All (λ e. e.worker < n) c.loop.end.end.history) i.2.same.1 i.2.known)
 
 pub returns-then-left-eq0-clause-bounded : goal.returns-then-left-eq0-clause-bounded
 returns-then-left-eq0-clause-bounded g c start = let i = c.loop.invariant in
-    subst (λ sizes. MayForgetNothing sizes c.loop.end.history) i.2.same.2 (none_forgotten c.loop.end.geometry c.loop.end.history _ _ (i.8 start))
+    let same = c.into_end.ensures ∙ ap (λ (z : StorageBatchView). z.end) c.flush_answers.ensures in
+    subst (λ (z : StorageView). MayForgetNothing c.args.storage_end.geometry z.history) (sym same)
+    (subst (λ sizes. MayForgetNothing sizes c.loop.end.end.history) i.2.same.2 (none_forgotten c.loop.end.end.geometry c.loop.end.end.history _ _ (i.8 start)))

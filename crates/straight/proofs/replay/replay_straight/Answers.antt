@@ -2,7 +2,7 @@ use Rattle.std.proofs.Common.{◌≡◌, ◌+◌, ◌<◌, List, [], ◌∷◌, 
 use Rattle.std.proofs.lemmas.List.{take_all, take_more}
 use Rattle.std.proofs.lemmas.Result.{IfOk-weaker}
 use Rattle.script.specs.declared.event.ScriptEvent.{ScriptEvent}
-use Rattle.script.specs.Events.{MayCome}
+use Rattle.script.specs.Events.{MayFollow}
 use Rattle.straight.specs.declared.replay.SessionOutput.{SessionOutput}
 use Rattle.straight.specs.Execution.{Execution}
 use Rattle.straight.specs.Sessions.{Setup}
@@ -26,7 +26,7 @@ loop-event-preserved g c =
     let i = c.loop-event.event-index in
     let e = c.event-item.result in
     let within : i < length events = omega arith in
-    let may : MayCome (take i events) e = subst (λ (v : ScriptEvent). MayCome (take i events) v) (sym c.event-item.is) (c.requires.playable i e within) in
+    let may : MayFollow (take i events) e = subst (λ (v : ScriptEvent). MayFollow (take i events) v) (sym c.event-item.is) (c.requires.playable i e within) in
     let front : take (i + 1) events ≡ take i events ++ e ∷ [] = take_more events i e within
     ∙ ap (λ (v : ScriptEvent). take i events ++ v ∷ []) (sym c.event-item.is) in
     rw front (c.in_ok-play.ensures setup (take i events) c.loop-event.invariant may)

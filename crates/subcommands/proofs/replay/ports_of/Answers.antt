@@ -1,4 +1,4 @@
-use Rattle.std.proofs.Common.{◌≡◌, ℕ, List, [], ◌∷◌, ◌++◌, sym, ap, subst, ◌∙◌, append_assoc, append-nil}
+use Rattle.std.proofs.Common.{◌≡◌, ℕ, List, [], ◌∷◌, ◌++◌, ◌||◌, nat_lt, sym, ap, subst, ◌∙◌, append_assoc, append-nil}
 use Rattle.std.proofs.lemmas.List.{nil_from_length}
 use Rattle.group.specs.Threads.{AreEach}
 use Rattle.group.proofs.Places.{each_more}
@@ -18,7 +18,7 @@ loop-script-preserved c =
     let is : IsPort accept fail_give x port = (
       ap is_playable (sym events) ∙ ap (λ (p : PortState). is_playable p.script) (sym c.new-port.ensures.fresh)
           ∙ c.new-port.ensures.tells.1 (subst IsPlayable (sym events) c.into_events.ensures.playable),
-      c.with_faults.ensures ∙ (λ k. let p : PortState = c.new-port.ensures.fresh k in record p { accept = accept; fail_give = fail_give })
+      c.with_faults.ensures ∙ (λ k. let p : PortState = c.new-port.ensures.fresh k in record p { accept = accept; fail_give = fail_give; can_fail = p.can_fail || nat_lt 0 fail_give })
           ∙ ap (λ (l : List ScriptEvent). let p : PortState = record {
             script = l;
             left = l;
@@ -26,6 +26,7 @@ loop-script-preserved c =
             records = [];
             accept = accept;
             fail_give = fail_give;
+            can_fail = nat_lt 0 fail_give;
           } in p) c.into_events.ensures.events,
     ) in record {
       left = append_assoc y (x ∷ []) c.next.new.self.rest.items ∙ ap (λ l. y ++ l) (sym c.in-Some.ensures.steps.0) ∙ i.left;

@@ -5,7 +5,7 @@ use Rattle.std.specs.Prelude.{slice_index_or}
 use Rattle.script_port.specs.States.{PortState}
 use Rattle.group.specs.declared.report.GroupWorker.{GroupWorker}
 use Rattle.std.specs.Io.KnownBytes.{Appends}
-use Rattle.subcommands.specs.Printed.{IsPlayedAt, lines_from, lines_of, events_of}
+use Rattle.subcommands.specs.Printed.{IsPlayedAt, lines_from, printed_lines, events_of}
 use Rattle.subcommands.proofs.Lines.{one_worker_more, one_played_more, kept_after}
 use Rattle.subcommands.proofs.replay.write_lines.Goals as goal
 
@@ -15,7 +15,7 @@ loop-worker-preserved g c =
     let x : GroupWorker PortState = c.index-workers-worker.result in
     let low : k < length ws = search rules in
     let is : slice_index_or ws k x ≡ x = search rules in
-    let wrote : Appends (g.W.Write.contents c.loop-worker.out) (g.W.Write.contents c.write_worker.new.out) (lines_of k (events_of x)) = search rules in
+    let wrote : Appends (g.W.Write.contents c.loop-worker.out) (g.W.Write.contents c.write_worker.new.out) (printed_lines k (events_of x)) = search rules in
     let here : IsPlayedAt x.port = subst (λ (z : GroupWorker PortState). IsPlayedAt z.port) is c.write_worker.ensures.played in record {
       written = one_worker_more ws k x (g.W.Write.contents c.args.out.now) (g.W.Write.contents c.loop-worker.out)
           (g.W.Write.contents c.write_worker.new.out) low is c.loop-worker.invariant.written wrote;

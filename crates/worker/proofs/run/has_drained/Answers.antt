@@ -3,7 +3,6 @@ use Rattle.std.proofs.lemmas.List.{get_or_default}
 use Rattle.exchange.specs.Ends.{WorkerView}
 use Rattle.session_book.specs.declared.limits.TheConstants.{MAX_POSTS}
 use Rattle.session_book.specs.declared.causes.EndCause.{EndCause}
-use Rattle.worker.specs.Places.{piece_of}
 use Rattle.worker.proofs.AskSteps.{goes_on_trans}
 use Rattle.worker.proofs.DrainSteps.{EmptiedBelow, emptied_more}
 use Rattle.worker.proofs.run.has_drained.Goals as goal
@@ -19,7 +18,6 @@ loop-place-preserved g c =
       request = still.request ∙ i.request;
       back = ap (λ (v : WorkerView). length v.back) still.end ∙ i.back ∙ sym (ap (λ (v : WorkerView). length v.sent) still.end);
       few = subst (λ (v : WorkerView). length v.sent < MAX_POSTS) (sym still.end) i.few;
-      pieces = λ s. ap (λ p. piece_of p s) still.pieces ∙ i.pieces s;
       ended = still.ended ∙ i.ended;
       sessions = same ∙ i.sessions;
       emptied = subst (λ (ys : List (ℕ × EndCause)). EmptiedBelow new.book ys (n + 1)) (sym same)
@@ -33,7 +31,6 @@ returns-clause-drained g c =
       ended = i.ended;
       request = i.request;
       back = i.back;
-      pieces = i.pieces;
       emptied = λ k d lt e s q. i.emptied k d (omega (
         arith,
         lt,

@@ -1,18 +1,16 @@
 use Rattle.std.proofs.Common.{◌≡◌, ℕ, ◌<◌, [], length, true, None}
 use Rattle.session_book.specs.declared.limits.TheConstants.{MAX_POSTS}
-use Rattle.worker.specs.Places.{piece_of}
-use Rattle.worker.specs.Workers.{GoesOn}
+use Rattle.worker.specs.Workers.{WorkerGoesOn}
 use Rattle.worker.proofs.DrainSteps.{EmptiedBelow}
 use Rattle.worker.proofs.run.has_drained.Given as goal
 
 abbrev pub invariant-loop-place : goal.invariant-loop-place
 invariant-loop-place g l = record {
-  goes_on : GoesOn g.P.Port.told l.fn.worker l.worker;
+  goes_on : WorkerGoesOn g.P.Port.told l.fn.worker l.worker;
   leads : g.P.Port.leads_to l.fn.worker.port l.worker.port;
   request : l.worker.request ≡ None;
   back : length l.worker.worker_end.back ≡ length l.worker.worker_end.sent;
   few : length l.worker.worker_end.sent < MAX_POSTS;
-  pieces : (s : ℕ) → piece_of l.worker.pieces s ≡ [];
   ended : l.worker.ended ≡ true;
   sessions : l.worker.sessions.items ≡ l.initial.worker.sessions.items;
   emptied : EmptiedBelow l.worker.book l.worker.sessions.items l.place;

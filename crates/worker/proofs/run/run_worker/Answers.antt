@@ -8,6 +8,13 @@ loop-init g c = record {
   leads = g.met.P.Port.leads_reflexive c.new_worker-worker.result.port;
 }
 
+pub loop-preserved-then-take_turn : goal.loop-preserved-then-take_turn
+loop-preserved-then-take_turn g c =
+    let i = c.loop.invariant in let a = c.new_worker-worker.result in let b = c.loop.worker in let m = c.take_turn.new.worker in record {
+      goes_on = goes_on_trans g.P.Port.told a b m i.goes_on c.take_turn.ensures.goes_on;
+      leads = g.met.P.Port.leads_transitive a.port b.port m.port i.leads c.take_turn.ensures.leads;
+    }
+
 pub loop-preserved : goal.loop-preserved
 loop-preserved g c =
     let i = c.loop.invariant in let a = c.new_worker-worker.result in let b = c.loop.worker in let m = c.take_turn.new.worker in

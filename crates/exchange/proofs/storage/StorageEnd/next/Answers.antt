@@ -1,30 +1,13 @@
-use Rattle.std.proofs.Common.{arith, ◌+◌}
-use Rattle.exchange.proofs.Looks.{found_above, found_below, vain_above, vain_below, all_looked, each_once}
+use Rattle.std.proofs.Common.{ℕ, ◌<◌, sym, ◌∙◌, subst}
+use Rattle.std.specs.Option.{IfNone}
+use Rattle.exchange.specs.Ends.{StorageView, LookedOnce}
+use Rattle.exchange.proofs.Looks.{next_history}
 use Rattle.exchange.proofs.storage.StorageEnd.next.Goals as goal
 
-pub loop-lane-preserved : goal.loop-lane-preserved
-loop-lane-preserved c = let inv = c.loop-lane.invariant in let l = c.in_default.ensures in let small = c.loop-lane-test.true in let e = inv.looks.1 in record {
-  same = inv.same;
-  shut = inv.shut;
-  looks = (inv.looks.0 + 1, omega arith, omega arith, vain_above _ _ _ _ _ _ inv.same.0 inv.same.1 inv.looks.0 l.0 e l.1.0 l.1.1 inv.looks.3);
-}
-
-pub loop-lane-2-preserved : goal.loop-lane-2-preserved
-loop-lane-2-preserved c = let inv = c.loop-lane-2.invariant in let l = c.in_default-look.ensures in let small = c.loop-lane-2-test.true in record {
-  same = inv.same;
-  shut = inv.shut;
-  looks = (omega arith, vain_below _ _ _ _ _ _ inv.same.0 inv.same.1 l.0 l.1.0 l.1.1 inv.looks.1);
-}
-
-pub returns-in-Some-clause-next : goal.returns-in-Some-clause-next
-returns-in-Some-clause-next c = let inv = c.loop-lane.invariant in
-    found_above _ _ _ _ _ c.loop-lane.lane inv.same.0 inv.same.1 inv.looks.0 _ inv.looks.1 c.loop-lane-test.true inv.looks.3 c.in-Some.ensures
-
-pub returns-in-Some-look-clause-next : goal.returns-in-Some-look-clause-next
-returns-in-Some-look-clause-next c = let inv = c.loop-lane-2.invariant in
-    found_below _ _ _ _ _ c.loop-lane-2.lane inv.same.0 inv.same.1 _ c.loop-lane-2-test.true inv.same.2 inv.looks.1 c.in-Some-look.ensures
+pub invariant_of-self : goal.invariant_of-self
+invariant_of-self c = let did = c.next.ensures in did.told ∙ (c.self.invariant
+    ∙ sym (next_history c.self.inside.batch.end c.next.new.self.end c.next.result did.next))
 
 pub returns-clause-every_lane : goal.returns-clause-every_lane
-returns-clause-every_lane c = let inv = c.loop-lane-2.invariant in
-    λ w l. each_once c.args.self.now c.loop-lane-2.self w (let a = inv.same.0 in let b = inv.same.1 in let d = inv.same.2 in omega arith) l
-    (all_looked _ _ c.loop-lane-2.self _ _ c.loop-lane-2.lane inv.same.0 inv.same.1 inv.looks.0 (let h = c.loop-lane-2-test.false in omega arith) inv.looks.1)
+returns-clause-every_lane c = subst (λ (z : StorageView). IfNone c.next.result ((w : ℕ) → w < z.workers
+    → LookedOnce z c.next.new.self.end w)) c.self.view_is c.next.ensures.every_lane

@@ -12,14 +12,16 @@ relocate-requires-clause-can c =
     let before : KeysOf = key_at c.args.pool.now in
     let after : KeysOf = keys_behind c.args.pool.now in
     let can = subst (λ (ms : List Move). CanFollow before after c.args.self.now ms) (sym c.moves-moves.ensures.planned) c.requires.can in
-    can_still before after c.moves-moves.result.now c.args.self.now c.drop_lost.new.self can c.requires.index c.drop_lost.ensures.followed
+    can_still before after c.moves-moves.result.now c.args.self.now c.drop_lost.new.self can c.requires.index
+    c.drop_lost.ensures.followed c.drop_lost.ensures.size.layout
 
 pub relocate-requires-clause-lost : goal.relocate-requires-clause-lost
 relocate-requires-clause-lost c =
     let before : KeysOf = key_at c.args.pool.now in
     let after : KeysOf = keys_behind c.args.pool.now in
     let can = subst (λ (ms : List Move). CanFollow before after c.args.self.now ms) (sym c.moves-moves.ensures.planned) c.requires.can in
-    lost_out before after c.moves-moves.result.now c.args.self.now c.drop_lost.new.self can c.requires.index c.drop_lost.ensures.followed
+    lost_out before after c.moves-moves.result.now c.args.self.now c.drop_lost.new.self can c.requires.index
+    c.drop_lost.ensures.followed c.drop_lost.ensures.size.layout
 
 pub returns-clause-followed : goal.returns-clause-followed
 returns-clause-followed c =

@@ -19,7 +19,7 @@ loop-place-init c =
     let left = c.walk-walk.ensures.left in
     record {
       index = c.requires.index;
-      size = record { count = refl; hasher = refl };
+      size = record { count = refl; hasher = refl; layout = refl };
       standing = subst (All (λ s. item_in p s.place ≡ Some s.item)) (sym left) (found_from p n [] (items_of (segment_at p n)) refl);
       ends = λ end h.
           retargeted (key_at p) (key_at p) (forget_listed c.walk-walk.result.left) (forget_segment n) c.args.self.now end h

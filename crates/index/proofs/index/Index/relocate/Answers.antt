@@ -25,7 +25,7 @@ loop-step-init c =
       can = c.requires.can;
       lost = c.requires.lost;
       same = λ k d lt some. refl;
-      size = record { count = refl; hasher = refl };
+      size = record { count = refl; hasher = refl; layout = refl };
       ends = λ end h. h;
     }
 

@@ -1,8 +1,6 @@
-use Rattle.std.proofs.Common.{◌≡◌, sym, ap, ◌∙◌, length, Some, ◌<◌}
+use Rattle.std.proofs.Common.{◌≡◌, ap, ◌∙◌, length, Some, ◌<◌}
 use Rattle.std.specs.Prelude.{MatchOption, IfSome}
 use Rattle.std.specs.FinMap as map
-use Rattle.std.specs.Vec.{with_items}
-use Rattle.std.proofs.lemmas.List.{with_items_is}
 use Rattle.index.specs.Keys.{key_at, home_of, KeysOf}
 use Rattle.index.specs.Slots.{slot_at, place_of}
 use Rattle.index.specs.Table.{AreIndexed, hashing, Hashing, places_in}
@@ -14,16 +12,16 @@ use Rattle.index.proofs.index.Index.remove.Goals as goal
 
 pub unwrap-at-requires : goal.unwrap-at-requires
 unwrap-at-requires c =
-    let slots = c.self.inside.slots.items in
+    let slots = c.self.inside.slots.slots in
     let key = c.args.key.now in
     let place = c.args.place in
     let keys : KeysOf = key_at c.args.pool.now in
-    let h : Hashing = hashing (length slots) c.self.inside.hasher in
-    let len : c.len.result ≡ length slots = c.len.ensures ∙ c.self.inside.slots.ok.0 in
+    let h : Hashing = hashing (length slots) c.self.inside.slots.layout c.self.inside.hasher in
+    let len : c.len.result ≡ length slots = c.len.ensures in
     let home_is : c.home_of-home.result ≡ h.home key =
     c.home_of-home.ensures.value ∙ ap (λ n. home_of n c.hash_of-hash.result) len ∙ ap (home_of (length slots)) c.hash_of-hash.ensures in
     let found : MatchOption c.find_place.result (NoneOfPlace slots (h.home key) place) (IsOfPlace slots place) =
-    rw c.deref.ensures.value at (rw home_is at c.find_place.ensures) in
+    rw home_is at c.find_place.ensures in
     let below : h.home key < length slots = rw len at (rw home_is at c.home_of-home.ensures.in_range) in
     let index : AreIndexed h keys slots = rw (← c.self.view_is) at c.requires.index in
     let is : map.get (places_in keys slots) key ≡ Some place = rw (← c.self.view_is) at c.requires.there in
@@ -32,23 +30,21 @@ unwrap-at-requires c =
 
 pub returns-clause-map : goal.returns-clause-map
 returns-clause-map c =
-    let slots = c.self.inside.slots.items in
+    let slots = c.self.inside.slots.slots in
     let key = c.args.key.now in
     let place = c.args.place in
     let keys : KeysOf = key_at c.args.pool.now in
-    let h : Hashing = hashing (length slots) c.self.inside.hasher in
+    let h : Hashing = hashing (length slots) c.self.inside.slots.layout c.self.inside.hasher in
     let at = c.unwrap-at.result in
-    let after = c.empty.new.slots in
+    let after = c.empty.new.slots.slots in
     let of : IsOfPlace slots place at =
-    rw c.deref.ensures.value at (found_is c.find_place.result at (NoneOfPlace c.deref.result.now c.home_of-home.result place)
-    (IsOfPlace c.deref.result.now place) c.find_place.ensures c.unwrap-at.ensures) in
+    found_is c.find_place.result at (NoneOfPlace slots c.home_of-home.result place) (IsOfPlace slots place) c.find_place.ensures c.unwrap-at.ensures in
     let is : map.get (places_in keys slots) key ≡ Some place = rw (← c.self.view_is) at c.requires.there in
     let has : keys (place_of (slot_at slots at)) ≡ Some key = ap keys of.place_is ∙ (stands_from_get keys slots key place is).key_is in
-    let emptied : IfSome (keys (place_of (slot_at slots at))) (λ k. IsWithout h keys slots after k) = rw c.deref_mut.ensures.value at c.empty.ensures in
+    let emptied : IfSome (keys (place_of (slot_at slots at))) (λ k. IsWithout h keys slots after k) = c.empty.ensures.without in
     let without : IsWithout h keys slots after key = rw has at emptied in
-    let len : length after ≡ length slots = c.empty.auto.slots ∙ ap length c.deref_mut.ensures.value in
-    let items : (with_items c.self.inside.slots after).items ≡ after = with_items_is c.self.inside.slots after (len ∙ sym c.self.inside.slots.ok.0) in
+    let len : length after ≡ length slots = c.empty.ensures.count in
     rw (← c.self.view_is) record {
-      index = rw (items, len) without.indexed;
-      places_are = rw items without.places_are;
+      index = rw (len, c.empty.ensures.layout) without.indexed;
+      places_are = without.places_are;
     }

@@ -1,8 +1,6 @@
-use Rattle.std.proofs.Common.{◌≡◌, sym, ap, ◌∙◌, length, Some, ◌<◌}
+use Rattle.std.proofs.Common.{◌≡◌, ap, ◌∙◌, length, Some, ◌<◌}
 use Rattle.std.specs.Prelude.{IfSome}
 use Rattle.std.specs.FinMap as map
-use Rattle.std.specs.Vec.{with_items}
-use Rattle.std.proofs.lemmas.List.{with_items_is}
 use Rattle.index.specs.Keys.{key_at, home_of, KeysOf}
 use Rattle.index.specs.Slots.{slot_at, place_of}
 use Rattle.index.specs.Table.{AreIndexed, hashing, Hashing, places_in}
@@ -15,39 +13,38 @@ use Rattle.index.proofs.index.Index.take_out.Goals as goal
 
 pub returns-in-Some-clause-followed : goal.returns-in-Some-clause-followed
 returns-in-Some-clause-followed c =
-    let slots = c.self.inside.slots.items in
+    let slots = c.self.inside.slots.slots in
     let key = c.args.key.now in
     let place = c.args.place in
     let keys : KeysOf = key_at c.args.pool.now in
-    let h : Hashing = hashing (length slots) c.self.inside.hasher in
+    let h : Hashing = hashing (length slots) c.self.inside.slots.layout c.self.inside.hasher in
     let at = c.in-Some.at in
-    let after = c.empty.new.slots in
+    let after = c.empty.new.slots.slots in
     let index : AreIndexed h keys slots = rw (← c.self.view_is) at c.requires.index in
-    let of : IsOfPlace slots place at = rw c.deref.ensures.value at c.in-Some.ensures in
+    let of : IsOfPlace slots place at = c.in-Some.ensures in
     let has : keys (place_of (slot_at slots at)) ≡ Some key = ap keys of.place_is ∙ c.requires.key in
     let st : Stands keys slots key place = record { at = at; in_range = of.in_range; used = of.used; place_is = of.place_is; key_is = c.requires.key } in
     let held : map.get (places_in keys slots) key ≡ Some place = get_from_stands keys slots key place st
     (λ r. stands_once h keys slots index key place r st) in
-    let emptied : IfSome (keys (place_of (slot_at slots at))) (λ k. IsWithout h keys slots after k) = rw c.deref_mut.ensures.value at c.empty.ensures in
+    let emptied : IfSome (keys (place_of (slot_at slots at))) (λ k. IsWithout h keys slots after k) = c.empty.ensures.without in
     let without : IsWithout h keys slots after key = rw has at emptied in
-    let len : length after ≡ length slots = c.empty.auto.slots ∙ ap length c.deref_mut.ensures.value in
-    let items : (with_items c.self.inside.slots after).items ≡ after = with_items_is c.self.inside.slots after (len ∙ sym c.self.inside.slots.ok.0) in
+    let len : length after ≡ length slots = c.empty.ensures.count in
     rw (← c.self.view_is) record {
-      index = rw (items, len) without.indexed;
-      places = λ q. rw (items, without.places_are) (forgotten keys slots key place c.requires.key held q);
+      index = rw (len, c.empty.ensures.layout) without.indexed;
+      places = λ q. rw without.places_are (forgotten keys slots key place c.requires.key held q);
     }
 
 pub returns-in_default-clause-followed : goal.returns-in_default-clause-followed
 returns-in_default-clause-followed c =
-    let slots = c.self.inside.slots.items in
+    let slots = c.self.inside.slots.slots in
     let key = c.args.key.now in
     let place = c.args.place in
     let keys : KeysOf = key_at c.args.pool.now in
-    let h : Hashing = hashing (length slots) c.self.inside.hasher in
-    let len : c.len.result ≡ length slots = c.len.ensures ∙ c.self.inside.slots.ok.0 in
+    let h : Hashing = hashing (length slots) c.self.inside.slots.layout c.self.inside.hasher in
+    let len : c.len.result ≡ length slots = c.len.ensures in
     let home_is : c.home_of-home.result ≡ h.home key =
     c.home_of-home.ensures.value ∙ ap (λ n. home_of n c.hash_of.result) len ∙ ap (home_of (length slots)) c.hash_of.ensures in
-    let none : NoneOfPlace slots (h.home key) place = rw c.deref.ensures.value at (rw home_is at c.in_default.ensures) in
+    let none : NoneOfPlace slots (h.home key) place = rw home_is at c.in_default.ensures in
     let below : h.home key < length slots = rw len at (rw home_is at c.home_of-home.ensures.in_range) in
     let index : AreIndexed h keys slots = rw (← c.self.view_is) at c.requires.index in
     rw (← c.self.view_is) record {

@@ -17,4 +17,5 @@ invariant_of-result c =
       (c.in_ok-new-2.ensures.map (key_at c.in_ok-new.field-0)).index,
       ap (λ (p : PoolState). p.sizes) c.in_ok-new.ensures.empty,
       omega (arith, long, enough, most),
+      rw c.in_ok-new-2.ensures.layout c.layout_for.ensures.sizes,
     )

@@ -6,5 +6,8 @@ use Rattle.index_tests.proofs.small.Small.new.Goals as goal
 
 pub invariant_of-result : goal.invariant_of-result
 unfolding new_pool
-invariant_of-result c =
-    ((c.in_ok-new-2.ensures.map (key_at c.in_ok-new.field-0)).index, ap (λ (p : PoolState). p.sizes) c.in_ok-new.ensures.empty)
+invariant_of-result c = (
+  (c.in_ok-new-2.ensures.map (key_at c.in_ok-new.field-0)).index,
+  ap (λ (p : PoolState). p.sizes) c.in_ok-new.ensures.empty,
+  rw c.in_ok-new-2.ensures.layout c.layout_for.ensures.sizes,
+)

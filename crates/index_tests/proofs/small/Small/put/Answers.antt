@@ -6,6 +6,7 @@ use Rattle.index.specs.Keys.{key_at, KeysOf, IsKeyAdded}
 use Rattle.index.specs.Table.{Table, IsMap, IsIndex, places, place_at}
 use Rattle.index.proofs.Agreeing.{keys_agree, held_key}
 use Rattle.index.proofs.PoolKeys.{key_added}
+use Rattle.index.proofs.InLayout.{appended_in_layout}
 use Rattle.index_tests.proofs.small.Small.put.Goals as goal
 
 pub invariant_of-self : goal.invariant_of-self
@@ -13,6 +14,7 @@ invariant_of-self c =
     let e = sym c.in_default.ensures.appended.1 in (
       subst (λ (p : PoolState). IsIndex (key_at p) c.self.inside.index) e c.self.invariant.0,
       subst (λ (p : PoolState). p.sizes ≡ c.self.inside.geometry) e c.self.invariant.1,
+      c.self.invariant.2,
     )
 
 pub invariant_of-self-in-None : goal.invariant_of-self-in-None
@@ -28,7 +30,7 @@ invariant_of-self-in-None c =
     let same : IsMap after t (places before t) = keys_agree before after t c.self.invariant.0
     (λ p h. added.kept p (held_key before t c.self.invariant.0 p h)) in
     let none : place_at after t key ≡ None = ap (λ m. map.get m key) same.places_are ∙ sym c.look_up-held.ensures.place ∙ c.in-None.is in
-    ((c.insert.ensures.map after same.index added.new none).index, stands.sizes ∙ c.self.invariant.1)
+    ((c.insert.ensures.map after same.index added.new none).index, stands.sizes ∙ c.self.invariant.1, rw c.insert.ensures.size.layout c.self.invariant.2)
 
 pub invariant_of-self-in-Some : goal.invariant_of-self-in-Some
 invariant_of-self-in-Some c =
@@ -43,4 +45,19 @@ invariant_of-self-in-Some c =
       (c.replace.ensures.map before after c.self.invariant.0 (sym c.look_up-held.ensures.place ∙ c.in-Some.is) added.new
           (λ p h other. added.kept p (held_key before t c.self.invariant.0 p h))).index,
       stands.sizes ∙ c.self.invariant.1,
+      rw c.replace.ensures.size.layout c.self.invariant.2,
     )
+
+pub insert-requires-clause-place : goal.insert-requires-clause-place
+insert-requires-clause-place c =
+    let pool = c.self.inside.pool in
+    let place = c.in-Ok.place in
+    let stands = appended pool _ _ _ c.append.new.self place c.geometry.ensures.pool c.in-Ok.ensures.appended in
+    appended_in_layout pool c.append.new.self _ _ _ place c.self.inside.index.layout c.append.ensures.pool stands (rw c.self.invariant.1 c.self.invariant.2)
+
+pub replace-requires-clause-target : goal.replace-requires-clause-target
+replace-requires-clause-target c =
+    let pool = c.self.inside.pool in
+    let place = c.in-Ok.place in
+    let stands = appended pool _ _ _ c.append.new.self place c.geometry.ensures.pool c.in-Ok.ensures.appended in
+    appended_in_layout pool c.append.new.self _ _ _ place c.self.inside.index.layout c.append.ensures.pool stands (rw c.self.invariant.1 c.self.invariant.2)

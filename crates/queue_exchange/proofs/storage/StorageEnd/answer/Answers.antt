@@ -7,7 +7,7 @@ use Rattle.queue_exchange.specs.Replies.{ReplyLog}
 use Rattle.queue_exchange.specs.Requests.{with_senders, byes_among}
 use Rattle.queue_exchange.specs.Queues.{StorageQueues, RepliesFull, after_answering}
 use Rattle.queue_exchange.specs.Ends.{storage_queues}
-use Rattle.queue_exchange.specs.declared.views.RequestView.{RequestView}
+use Rattle.queue_exchange.specs.declared.views.RequestQueueView.{RequestQueueView}
 use Rattle.queue_exchange.proofs.Sides.{same_replies}
 use Rattle.queue_exchange.proofs.storage.StorageEnd.answer.Goals as goal
 
@@ -31,7 +31,7 @@ returns g c =
     let is = c.self.view_is in let noted = c.note.ensures.view in let s : StorageQueues = storage_queues c.self.inside in let a : Answered = c.args.answered in
     let same = same_replies c.self.inside.lanes.items a.worker c.push.new.self c.index_mut.result.now
     (ap (λ (l : ReplyLog). l.replies) c.in_default.ensures) c.index_mut.ensures.value in
-    let u : RequestView = view c.note.new.pass in
+    let u : RequestQueueView = view c.note.new.pass in
     let found : StorageQueues =
     record s {
       requests = c.note.new.pass.table_id;

@@ -4,7 +4,7 @@ use Rattle.crossbeam_queue.specs.Passes.{view}
 use Rattle.proto.specs.History.{worker_share}
 use Rattle.exchange.specs.declared.messages.Taken.{Taken}
 use Rattle.exchange.specs.Beginnings.{StartsWith}
-use Rattle.queue_exchange.specs.declared.views.RequestView.{RequestView}
+use Rattle.queue_exchange.specs.declared.views.RequestQueueView.{RequestQueueView}
 use Rattle.queue_exchange.specs.declared.views.Sending.{Sending}
 use Rattle.queue_exchange.specs.Requests.{part, messages_of}
 use Rattle.queue_exchange.specs.Replies.{ReplyLog}
@@ -24,11 +24,11 @@ pub returns-clause-met : goal.returns-clause-met
 returns-clause-met c =
     let i = c.self.invariant in let is = c.self.view_is in let p = c.into_passes-asks.ensures in let e : WorkerQueues = c.args.end in
     let s : StorageQueues = storage_queues c.self.inside in
-    let v : RequestView = view c.self.inside.takes in let items : List Taken = c.learn_as.ensures.rule.0 in let lane : ReplyLog = c.index_mut.result.now in
+    let v : RequestQueueView = view c.self.inside.takes in let items : List Taken = c.learn_as.ensures.rule.0 in let lane : ReplyLog = c.index_mut.result.now in
     let b = c.meet.ensures.begins in
     let told : messages_of e.worker record { sent = e.sent; said_bye = e.said_bye } ≡ part e.worker (v.taken ++ items) =
     subst (λ (z : ℕ × Sending). messages_of z.0 z.1 ≡ part z.0 (v.taken ++ items)) (λ j. (p.asks.3 j, p.asks.4 j))
-    (subst (λ (u : RequestView). messages_of u.worker u.sending ≡ part u.worker (u.taken ++ items)) c.absorb.ensures.rule c.learn_as.ensures.rule.1) in
+    (subst (λ (u : RequestQueueView). messages_of u.worker u.sending ≡ part u.worker (u.taken ++ items)) c.absorb.ensures.rule c.learn_as.ensures.rule.1) in
     let many = length-map c.self.inside.lanes.items (λ (l : ReplyLog). l.replies) in
     let below : e.worker < length c.self.inside.lanes.items = subst (λ (n : ℕ). e.worker < n)
     (sym (ap (λ (z : StorageQueues). length z.replies) is) ∙ many) c.requires.inside in

@@ -3,12 +3,12 @@ use Rattle.script.specs.declared.event.ScriptEvent.TheVariants.{Gone}
 use Rattle.script_port.specs.declared.player.Player.{Player}
 use Rattle.worker.specs.declared.port.PortRecord.TheVariants as was
 use Rattle.script_port.specs.Sessions.{is_open}
-use Rattle.script_port.specs.Players.{Closes}
+use Rattle.script_port.specs.Players.{RecordsClose}
 use Rattle.script_port.proofs.EventLemmas.{bool_cases}
-use Rattle.script_port.proofs.StepLemmas.{GoesTo, removed_at, gone_consistent, gone_told, goes_open, odd_consistent}
+use Rattle.script_port.proofs.StepLemmas.{GoesTo, removed_at, gone_consistent, gone_told, goes_open, goes_by_line, odd_consistent}
 use Rattle.script_port.proofs.player.Player.go.Goals as goal
 
-goes : (c : goal.Joined-remove) → Closes c.args.self.now c.args.session (was.Gone c.args.session) c.close.new.self
+goes : (c : goal.Joined-remove) → RecordsClose c.args.self.now c.args.session (was.Gone c.args.session) c.close.new.self
     → GoesTo c.close.new.self (record (c.close.new.self) { events = c.remove.new.self }) c.requires.first.before c.requires.first.after
 goes c closes = let f = c.requires.first in record {
   q_is = refl;
@@ -16,6 +16,9 @@ goes c closes = let f = c.requires.first in record {
       (Gone c.args.session) f.after c.args.at (ap (λ d. d.items) closes.events_are ∙ f.events_are) f.at_is c.remove.ensures.items
       (λ lt. c.remove.ensures.succeeds (Gone c.args.session) (subst (λ (n : ℕ). c.args.at < n) (sym c.close.new.self.events.ok.0) lt));
 }
+
+pub close-requires-clause-caused : goal.close-requires-clause-caused
+close-requires-clause-caused c = goes_by_line c.args.self.now c.args.at c.args.session c.requires.consistent c.requires.first
 
 pub returns-clause-consistent : goal.returns-clause-consistent
 returns-clause-consistent c =
@@ -27,6 +30,7 @@ returns-clause-consistent c =
     let same = c.close.ensures.same not_open in
     odd_consistent p _ c.requires.consistent (ap (λ (x : Player). x.sessions) same) (ap (λ (x : Player). x.records) same)
     (ap (λ (x : Player). x.ended) same) (ap (λ (x : Player). x.script) same)
+    (ap (λ (x : Player). x.fail_give) same) (ap (λ (x : Player). x.can_fail) same)
     (λ over. absurd (true≢false (sym over ∙ ap (λ (x : Player). x.ended) same ∙ c.requires.running)))
     (λ tells. true≢false (sym (goes_open p c.args.at s c.requires.consistent c.requires.first tells) ∙ not_open)))
 

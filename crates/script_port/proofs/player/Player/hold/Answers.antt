@@ -1,7 +1,7 @@
 use Rattle.std.proofs.Common.{◌≡◌, ℕ, List, subst, sym, ◌∙◌, ap, not}
 use Rattle.worker.specs.Sessions.{port_facts}
-use Rattle.script_port.specs.Sessions.{SessionState, newest, last_from, entry_of, is_open, is_closed, was_closed, with_stage}
-use Rattle.script_port.specs.Players.{Agrees, events_left, IsConsistent}
+use Rattle.script_port.specs.Sessions.{ScriptSessionState, newest, last_from, session_entry, is_open, is_closed, was_closed, with_stage}
+use Rattle.script_port.specs.Players.{Agrees, events_left, IsPlayerConsistent}
 use Rattle.script_port.proofs.SessionLemmas.{either_way}
 use Rattle.script_port.proofs.EventLemmas.{bool_cases}
 use Rattle.script_port.proofs.FollowLemmas.{follows_as}
@@ -20,20 +20,21 @@ returns-clause-consistent c =
     record {
       each = λ t.
           either_way t s
-          (λ eq. subst (λ (u : ℕ). Agrees (entry_of ss' u) (port_facts l u)) (sym eq) (agrees_held ss ss' l s stage x.0 a x.1 same (k.each s)))
+          (λ eq. subst (λ (u : ℕ). Agrees (session_entry ss' u) (port_facts l u)) (sym eq) (agrees_held ss ss' l s stage x.0 a x.1 same (k.each s)))
           (λ ne. subst (λ o. Agrees o (port_facts l t)) (sym (a.others t ne)) (k.each t));
       opened_are = a.numbers_are ∙ k.opened_are;
       rising = rising_at ss ss' s (with_stage stage) a k.rising;
       at_end = k.at_end;
       plays = λ tells. plays_along (newest ss) (newest ss') (is_open ss) (is_open ss') (events_left ss p.events.items) (events_left ss' p.events.items)
           (ap (last_from 0) a.numbers_are)
-          (test_same (λ (y : SessionState). not (is_closed y.stage)) ss ss' s (with_stage stage) x.0 a x.1 (ap not same))
-          (left_same ss ss' p.events.items (test_same (λ (y : SessionState). is_closed y.stage) ss ss' s (with_stage stage) x.0 a x.1 same))
+          (test_same (λ (y : ScriptSessionState). not (is_closed y.stage)) ss ss' s (with_stage stage) x.0 a x.1 (ap not same))
+          (left_same ss ss' p.events.items (test_same (λ (y : ScriptSessionState). is_closed y.stage) ss ss' s (with_stage stage) x.0 a x.1 same))
           (k.plays tells);
       follows = λ tells.
-          let closed_as = test_same (λ (y : SessionState). is_closed y.stage) ss ss' s (with_stage stage) x.0 a x.1 same in
+          let closed_as = test_same (λ (y : ScriptSessionState). is_closed y.stage) ss ss' s (with_stage stage) x.0 a x.1 same in
           follows_as p.script.value.items (events_left ss p.events.items) (events_left ss' p.events.items) l (was_closed ss)
-          (was_closed ss') (left_same ss ss' p.events.items closed_as) closed_as (k.follows tells);
+          (was_closed ss') p.can_fail (left_same ss ss' p.events.items closed_as) closed_as (k.follows tells);
       finished = k.finished;
+      may_fail = k.may_fail;
     })
-    (λ no. subst (λ (q : List SessionState). IsConsistent (record p { sessions = q })) (sym (c.change.ensures.same no)) k)
+    (λ no. subst (λ (q : List ScriptSessionState). IsPlayerConsistent (record p { sessions = q })) (sym (c.change.ensures.same no)) k)

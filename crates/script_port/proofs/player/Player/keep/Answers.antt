@@ -3,7 +3,7 @@ use Rattle.worker.specs.declared.port.PortRecord.{PortRecord}
 use Rattle.worker.specs.declared.port.PortRecord.TheVariants as was
 use Rattle.worker.specs.Ports.{has_ended}
 use Rattle.worker.proofs.RunViews.{ended_same}
-use Rattle.script_port.specs.Sessions.{SessionState, newest, last_from, is_open, is_closed, was_closed, with_output, AcceptsAt}
+use Rattle.script_port.specs.Sessions.{ScriptSessionState, newest, last_from, is_open, is_closed, was_closed, with_output, AcceptsAt}
 use Rattle.script_port.specs.Players.{events_left}
 use Rattle.script_port.proofs.SessionLemmas.{ok_of}
 use Rattle.script_port.proofs.FollowLemmas.{follows_still}
@@ -25,13 +25,14 @@ returns-clause-consistent c =
       at_end = ap has_ended l_is ∙ ended_same l (was.Accepted s b) refl ∙ k.at_end;
       plays = λ tells. plays_along (newest ss) (newest ss') (is_open ss) (is_open ss') (events_left ss p.events.items) (events_left ss' p.events.items)
           (ap (last_from 0) a.at.numbers_are)
-          (test_same (λ (y : SessionState). not (is_closed y.stage)) ss ss' s (with_output b) x.0 a.at x.1 refl)
-          (left_same ss ss' p.events.items (test_same (λ (y : SessionState). is_closed y.stage) ss ss' s (with_output b) x.0 a.at x.1 refl))
+          (test_same (λ (y : ScriptSessionState). not (is_closed y.stage)) ss ss' s (with_output b) x.0 a.at x.1 refl)
+          (left_same ss ss' p.events.items (test_same (λ (y : ScriptSessionState). is_closed y.stage) ss ss' s (with_output b) x.0 a.at x.1 refl))
           (k.plays tells);
       follows = λ tells.
-          let same = test_same (λ (y : SessionState). is_closed y.stage) ss ss' s (with_output b) x.0 a.at x.1 refl in
+          let same = test_same (λ (y : ScriptSessionState). is_closed y.stage) ss ss' s (with_output b) x.0 a.at x.1 refl in
           follows_still p.script.value.items (events_left ss p.events.items) (events_left ss' p.events.items) l l'
-          (was.Accepted s b) (was_closed ss) (was_closed ss')
-          (left_same ss ss' p.events.items same) l_is refl (λ t. refl) same (k.follows tells);
+          (was.Accepted s b) (was_closed ss) (was_closed ss') p.can_fail
+          (left_same ss ss' p.events.items same) l_is refl (λ t. refl) (λ t. refl) same (k.follows tells);
       finished = k.finished;
+      may_fail = k.may_fail;
     }

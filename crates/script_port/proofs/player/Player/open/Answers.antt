@@ -19,6 +19,7 @@ opens c =
       script_is = refl;
       accept_is = refl;
       fail_is = refl;
+      can_fail_is = refl;
       events_are = removed_at p.events.items c.remove-2.new.self.items c.remove-2.result f.before
           (Open s) f.after c.args.at f.events_are f.at_is c.remove-2.ensures.items
           (λ lt. c.remove-2.ensures.succeeds (Open s) (subst (λ (n : ℕ). c.args.at < n) (sym p.events.ok.0) lt));
@@ -32,7 +33,7 @@ returns-clause-played c tells = open_told c.args.self.now _ c.args.at c.args.ses
 
 pub returns-then-session-newest-clause-consistent : goal.returns-then-session-newest-clause-consistent
 returns-then-session-newest-clause-consistent c =
-    odd_consistent c.args.self.now _ c.requires.consistent refl refl refl refl (λ over. absurd (true≢false (sym over ∙ c.requires.running)))
+    odd_consistent c.args.self.now _ c.requires.consistent refl refl refl refl refl refl (λ over. absurd (true≢false (sym over ∙ c.requires.running)))
     (λ tells. let lt = opens_new c.args.self.now c.args.at c.args.session c.requires.consistent c.requires.first tells in
     omega (arith, lt, c.newest.ensures, c.if-session-newest.true))
 

@@ -1,7 +1,7 @@
 use Rattle.std.proofs.Common.{ℕ, List, [], ◌∷◌, ◌++◌, refl, sym, subst, ◌∙◌}
 use Rattle.worker.specs.declared.port.PortRecord.TheVariants as was
 use Rattle.worker.specs.declared.port.PortEvent.TheVariants as event
-use Rattle.script_port.specs.Players.{state_of, TellsNext}
+use Rattle.script_port.specs.Players.{player_state, TellsNext}
 use Rattle.script_port.proofs.StepLemmas.{SendsTo, send_consistent, send_told}
 use Rattle.script_port.proofs.player.Player.send.Goals as goal
 
@@ -17,6 +17,7 @@ sends c =
       script_is = refl;
       accept_is = refl;
       fail_is = refl;
+      can_fail_is = refl;
       events_are = c.take_piece.ensures f.before f.after s bytes f.events_are f.at_is;
     }
 
@@ -26,6 +27,6 @@ returns-clause-consistent c = send_consistent c.args.self.now _ c.args.at c.args
 pub returns-clause-played : goal.returns-clause-played
 returns-clause-played c tells =
     let p = c.args.self.now in let s = c.args.session in let bytes = c.requires.first.0 in
-    subst (λ (b : List ℕ). TellsNext (state_of p) (event.Data s b)
-    (state_of (record p { events = c.take_piece.new.events; records = c.write.new.self }))) (sym c.requires.first.2)
+    subst (λ (b : List ℕ). TellsNext (player_state p) (event.Data s b)
+    (player_state (record p { events = c.take_piece.new.events; records = c.write.new.self }))) (sym c.requires.first.2)
     (send_told p _ c.args.at s bytes c.requires.consistent c.requires.first.1 (sends c) c.requires.running tells)

@@ -7,5 +7,5 @@ use Rattle.script_port.proofs.port.ScriptPort.sessions.Goals as goal
 
 pub returns-clause-played : goal.returns-clause-played
 returns-clause-played c tells =
-    subst (λ (p : PortState). IsPlayed p.script p.records) c.self.view_is
+    subst (λ (p : PortState). IsPlayed p.script p.records p.can_fail) c.self.view_is
     (played c.self.inside.player c.self.invariant (ap (λ (p : PortState). is_playable p.script) c.self.view_is ∙ tells))

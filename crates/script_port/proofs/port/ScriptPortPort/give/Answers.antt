@@ -1,13 +1,13 @@
 use Rattle.std.proofs.Common.{◌++◌, ap, ◌∙◌, subst}
 use Rattle.worker.specs.Ports.{give_records}
 use Rattle.script_port.specs.States.{PortState, Gives}
-use Rattle.script_port.specs.Players.{state_of}
+use Rattle.script_port.specs.Players.{player_state}
 use Rattle.script_port.proofs.ToldLemmas.{open_in_table, told_give}
 use Rattle.script_port.proofs.port.ScriptPortPort.give.Goals as goal
 
 pub returns-clause-gives : goal.returns-clause-gives
 returns-clause-gives c tells =
-    subst (λ (p : PortState). Gives p c.args.session c.args.bytes.now c.give-given.result (state_of c.give-given.new.self)) c.self.view_is
+    subst (λ (p : PortState). Gives p c.args.session c.args.bytes.now c.give-given.result (player_state c.give-given.new.self)) c.self.view_is
     (c.give-given.ensures.given (open_in_table c.args.self.now c.self.inside.player c.args.session c.self.view_is c.self.invariant c.requires tells)).gives
 
 pub returns-clause-told : goal.returns-clause-told

@@ -1,10 +1,10 @@
 use Rattle.std.proofs.Common.{true, subst}
 use Rattle.script_port.specs.States.{PortState, SetsHeld}
-use Rattle.script_port.specs.Players.{state_of}
+use Rattle.script_port.specs.Players.{player_state}
 use Rattle.script_port.proofs.ToldLemmas.{open_in_table}
 use Rattle.script_port.proofs.port.ScriptPortPort.pause.Goals as goal
 
 pub returns-clause-held : goal.returns-clause-held
 returns-clause-held c tells =
-    subst (λ (p : PortState). SetsHeld p c.args.session true (state_of c.hold.new.self)) c.self.view_is
+    subst (λ (p : PortState). SetsHeld p c.args.session true (player_state c.hold.new.self)) c.self.view_is
     (c.hold.ensures.held (open_in_table c.args.self.now c.self.inside.player c.args.session c.self.view_is c.self.invariant c.requires tells))

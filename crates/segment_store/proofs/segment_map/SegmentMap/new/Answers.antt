@@ -7,7 +7,7 @@ use Rattle.std.proofs.lemmas.List.{length-replicate}
 use Rattle.index.specs.Slots.{empty_slot}
 use Rattle.index.specs.Keys.{key_at}
 use Rattle.index.specs.Table.{Places}
-use Rattle.segment_store.specs.Shown.{live_in}
+use Rattle.segment_store.specs.Shown.{live_entries}
 use Rattle.segment_store.specs.State.{MapState}
 use Rattle.segment_store.proofs.KeptEntries.{keeps_none}
 use Rattle.segment_store.proofs.Showing.{shown_empty}
@@ -25,7 +25,8 @@ invariant_of-result c =
     let tally : c.in_ok-new-3.field-0 ≡ no_tally p.sizes = c.in_ok-new-3.ensures ∙ ap no_tally (sym sizes) in
     record {
       tied = tied_start p c.in_ok-new-2.field-0 c.in_ok-new-3.field-0 c.in_ok-new.ensures.pool tally (c.in_ok-new-2.ensures.map (key_at p))
-          (subst (λ (s : Sizes). 2 * (s.segments * (s.segment_size / 32)) ≤ length c.in_ok-new-2.field-0.slots) (sym sizes) (omega (arith, len, many)));
+          (subst (λ (s : Sizes). 2 * (s.segments * (s.segment_size / 32)) ≤ length c.in_ok-new-2.field-0.slots) (sym sizes) (omega (arith, len, many)))
+          (rw (sizes, c.in_ok-new-2.ensures.layout) c.layout_for.ensures.sizes);
       past = past_start p c.args.geometry c.in_ok-new.ensures.empty;
     }
 
@@ -36,7 +37,7 @@ returns-clause-sizes c = ap (λ (q : PoolState). q.sizes) c.in_ok-new.ensures.em
 pub returns-clause-entries : goal.returns-clause-entries
 returns-clause-entries c =
     let p = c.in_ok-new.field-0 in
-    ap (λ (m : Places). live_in p m 0) (c.in_ok-new-2.ensures.map (key_at p)).places_are ∙ shown_empty p 0
+    ap (λ (m : Places). live_entries p m 0) (c.in_ok-new-2.ensures.map (key_at p)).places_are ∙ shown_empty p 0
 
 pub returns-clause-keeps : goal.returns-clause-keeps
 returns-clause-keeps c =

@@ -5,7 +5,7 @@ use Rattle.segments.specs.Pools.{PoolState}
 use Rattle.segment_store.specs.Kept.{IsPast}
 use Rattle.segment_store.specs.State.{MapState}
 use Rattle.segment_store.proofs.KeptEntries.{keeps_read}
-use Rattle.segment_store.specs.Shown.{current, live_in}
+use Rattle.segment_store.specs.Shown.{current, live_entries}
 use Rattle.segment_store.proofs.Showing.{shown_same, touched_entry}
 use Rattle.segment_store.proofs.Tying.{tied_touched, current_some}
 use Rattle.segment_store.proofs.Opening.{past_touched}
@@ -34,8 +34,8 @@ returns-clause-entries c =
     let some = current_some a.pool a.index c.args._key.now c.args.place there in
     let same = (tied_touched a.pool c.touch.new.self a.index a.tally c.args.place c.self.invariant.tied some c.touch.ensures.pool c.touch.ensures.touched).1 in
     rw (← c.self.view_is)
-    (ap (λ (m : Places). live_in c.touch.new.self m a.moment) same
-    ∙ ap (λ (q : PoolState). live_in q (current a.pool a.index) a.moment) c.touch.ensures.touched
+    (ap (λ (m : Places). live_entries c.touch.new.self m a.moment) same
+    ∙ ap (λ (q : PoolState). live_entries q (current a.pool a.index) a.moment) c.touch.ensures.touched
     ∙ shown_same a.pool _ (current a.pool a.index) a.moment (λ q r h. touched_entry a.pool c.args.place r some))
 
 pub returns-clause-counted : goal.returns-clause-counted

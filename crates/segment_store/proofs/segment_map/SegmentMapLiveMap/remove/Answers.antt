@@ -1,6 +1,6 @@
 use Rattle.std.proofs.Common.{ap, ◌∙◌}
 use Rattle.index.specs.Table.{Places}
-use Rattle.segment_store.specs.Shown.{current, live_in}
+use Rattle.segment_store.specs.Shown.{current, live_entries}
 use Rattle.segment_store.proofs.Showing.{shown_remove}
 use Rattle.segment_store.proofs.segment_map.SegmentMapLiveMap.remove.Goals as goal
 
@@ -8,4 +8,4 @@ pub returns-clause-entries : goal.returns-clause-entries
 returns-clause-entries c =
     let a = c.self.inside in
     rw (← c.self.view_is)
-    (ap (λ (m : Places). live_in a.pool m a.moment) c.leave_key.ensures.left ∙ shown_remove a.pool (current a.pool a.index) a.moment c.args.key.now)
+    (ap (λ (m : Places). live_entries a.pool m a.moment) c.leave_key.ensures.left ∙ shown_remove a.pool (current a.pool a.index) a.moment c.args.key.now)

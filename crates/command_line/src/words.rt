@@ -1,0 +1,304 @@
+//! The words after the program's name.
+
+ghost use Rattle.std.specs.Prelude.{◌≡◌, ◌≤◌, IfOk, Err};
+ghost use Rattle.clap.specs.Values.{kind_of};
+ghost use Rattle.clap.specs.declared.error.ErrorKind.TheVariants as clap;
+ghost use Rattle.std.specs.IoError.{error_kind};
+ghost use Rattle.std.specs.declared.io.ErrorKind.TheVariants as io;
+ghost use Rattle.command_line.specs.declared.words.WordsFault.TheVariants as words;
+ghost use Rattle.command_line.specs.Words.{IsJob, IsReplayInRange, IsServeInRange};
+
+use clap::error::ErrorKind;
+use clap::{Arg, ArgMatches, Command};
+use std::alloc::{AllocError, Global};
+use std::io;
+use thiserror::Error;
+
+/// What `segcached replay` is told.
+#[derive(Debug, Drop, PartialEq, Eq)]
+pub struct Options {
+    /// The path of the script.
+    pub file: String,
+    /// How many workers run, 1 to 8.
+    pub workers: u64,
+    /// The bytes of a segment, 4,096 to 1,048,576. Whether it is a power of two is tested later.
+    pub segment_size: u64,
+    /// The number of segments, 8 to 65,536.
+    pub segments: u64,
+    /// The clock's first answer, in seconds.
+    pub now: u64,
+    /// How many seconds more each further answer is.
+    pub tick: u64,
+    /// How many bytes a port accepts at once, 1 to 65,536; 0 is any number.
+    pub accept: u64,
+    /// Which give of each worker's port finds its peer gone, counted from 1; 0 is none.
+    pub fail_give: u64,
+}
+
+/// What `segcached serve` is told.
+#[derive(Debug, Drop, PartialEq, Eq)]
+pub struct ServeOptions {
+    /// The address: an IP address and a port.
+    pub listen: String,
+    /// How many workers run, 1 to 8.
+    pub workers: u64,
+    /// So many streams are accepted; none is any number.
+    pub sessions: Option<u64>,
+    /// The bytes of a segment, 4,096 to 1,048,576. Whether it is a power of two is tested later.
+    pub segment_size: u64,
+    /// The number of segments, 8 to 65,536.
+    pub segments: u64,
+}
+
+/// What the words ask for.
+#[derive(Debug, Drop)]
+pub enum Job {
+    /// To print this text.
+    Help(String),
+    Replay(Options),
+    Serve(ServeOptions),
+}
+
+/// Why the words ask for nothing.
+#[derive(Debug, Drop, Error)]
+pub enum WordsFault {
+    /// The text to print on standard error, with its line ends.
+    #[error("{0}")]
+    BadWords(String),
+    #[error("out of memory")]
+    NoMemory,
+}
+
+impl From<AllocError> for WordsFault {
+    ghost from_gives = { λ error fault. fault ≡ words.NoMemory };
+
+    fn from(_error: AllocError) -> WordsFault {
+        WordsFault::NoMemory
+    }
+}
+
+/// What `--version` shows behind the program's name.
+const VERSION: &str = "0.1.0";
+
+const OUT_OF_RANGE: &str = "error: a number is out of its range\n";
+
+const REPLAY_HELP: &str = "A script has a line for each event, with single spaces between its words:
+  open W S      session S begins at worker W
+  send W S HEX  its bytes come, in hexadecimal
+  gone W S      its peer has gone
+Workers are counted from 0. A session that begins has a number above those before it at its worker, from 1 on.
+
+For each session that was opened, in order of worker and session, the line `W S HEX` is printed, where HEX is all that the session was given, or `-` where that is nothing.
+
+Exit status: 0 done, 1 a fault (one line on standard error), 2 bad words";
+
+const SERVE_HELP: &str =
+    "The first line on standard output is `listening on ADDR`, with the real port.
+
+Exit status: 0 done, 1 a fault (one line on standard error), 2 bad words";
+
+fn segment_size<'a>(alloc: Global) -> Arg<'a> {
+    Arg::new(alloc, "segment-size")
+        .long("segment-size")
+        .value_name("BYTES")
+        .help("Bytes of a segment, a power of two from 4096 to 1048576")
+        .value_parser(clap::value_parser!(u64).range(4096..=1_048_576))
+        .default_value("65536")
+}
+
+fn segments<'a>(alloc: Global) -> Arg<'a> {
+    Arg::new(alloc, "segments")
+        .long("segments")
+        .value_name("COUNT")
+        .help(
+            "Number of segments, 8 to 65536. What is set without a life is sure to stay while all that is written takes no more than 7/8 of all segments but one",
+        )
+        .value_parser(clap::value_parser!(u64).range(8..=65_536))
+        .default_value("64")
+}
+
+fn workers<'a>(alloc: Global, default: &'a str) -> Arg<'a> {
+    Arg::new(alloc, "workers")
+        .long("workers")
+        .value_name("COUNT")
+        .help("Number of worker threads, 1 to 8")
+        .value_parser(clap::value_parser!(u64).range(1..=8))
+        .default_value(default)
+}
+
+fn accept<'a>(alloc: Global) -> Arg<'a> {
+    Arg::new(alloc, "accept")
+        .long("accept")
+        .value_name("BYTES")
+        .help("Each give accepts at most so many bytes, 1 to 65536")
+        .value_parser(clap::value_parser!(u64).range(1..=65_536))
+}
+
+fn fail_give<'a>(alloc: Global) -> Arg<'a> {
+    Arg::new(alloc, "fail-give")
+        .long("fail-give")
+        .value_name("N")
+        .help("At each worker the Nth give finds its peer gone")
+        .value_parser(clap::value_parser!(u64).range(1..))
+}
+
+fn now<'a>(alloc: Global) -> Arg<'a> {
+    Arg::new(alloc, "now")
+        .long("now")
+        .value_name("SECONDS")
+        .help("The clock's first answer")
+        .value_parser(clap::value_parser!(u64))
+        .default_value("1000")
+}
+
+fn tick<'a>(alloc: Global) -> Arg<'a> {
+    Arg::new(alloc, "tick")
+        .long("tick")
+        .value_name("SECONDS")
+        .help("How much more each further answer of the clock is")
+        .value_parser(clap::value_parser!(u64))
+        .default_value("0")
+}
+
+fn replay_command<'a>(alloc: Global) -> Result<Command<'a>, AllocError> {
+    let file = Arg::new(alloc, "file")
+        .value_name("FILE")
+        .help("The script")
+        .required(true);
+    Command::new(alloc, "replay")
+        .about("Runs a script and prints what each session was given")
+        .override_usage("segcached replay [OPTIONS] <FILE>")
+        .after_help(REPLAY_HELP)
+        .arg(file)?
+        .arg(workers(alloc, "1"))?
+        .arg(segment_size(alloc))?
+        .arg(segments(alloc))?
+        .arg(now(alloc))?
+        .arg(tick(alloc))?
+        .arg(accept(alloc))?
+        .arg(fail_give(alloc))
+}
+
+fn serve_command<'a>(alloc: Global) -> Result<Command<'a>, AllocError> {
+    let listen = Arg::new(alloc, "listen")
+        .long("listen")
+        .value_name("ADDR")
+        .help("An IP address and a port; port 0 is any free one")
+        .required(true);
+    let sessions = Arg::new(alloc, "sessions")
+        .long("sessions")
+        .value_name("COUNT")
+        .help("Accept so many streams, and end when their sessions have ended")
+        .value_parser(clap::value_parser!(u64).range(1..));
+    Command::new(alloc, "serve")
+        .about("Listens on an address and serves")
+        .override_usage("segcached serve [OPTIONS] --listen <ADDR>")
+        .after_help(SERVE_HELP)
+        .arg(listen)?
+        .arg(workers(alloc, "2"))?
+        .arg(sessions)?
+        .arg(segment_size(alloc))?
+        .arg(segments(alloc))
+}
+
+fn command<'a>(alloc: Global) -> Result<Command<'a>, AllocError> {
+    Command::new(alloc, "segcached")
+        .about("A cache server: memcached's text protocol over Segcache's segments")
+        .version(VERSION)
+        .no_binary_name(true)
+        .subcommand_required(true)
+        .subcommand(replay_command(alloc)?)?
+        .subcommand(serve_command(alloc)?)
+}
+
+/// A number that the words give, or by default; 0 where there is neither.
+fn number(matches: &ArgMatches<'_>, id: &str) -> u64 {
+    matches.get_one::<u64>(id).unwrap_or(0)
+}
+
+/// A number from `least` to `most`. The parser of the words refuses any other before.
+fn number_in(
+    alloc: Global,
+    matches: &ArgMatches<'_>,
+    id: &str,
+    least: u64,
+    most: u64,
+) -> Result<u64, WordsFault>
+    ensures { IfOk result (λ n. (least ≤ n) × (n ≤ most)) }
+{
+    let found = number(matches, id);
+    if found < least || most < found {
+        return Err(WordsFault::BadWords(String::from_str(alloc, OUT_OF_RANGE)?));
+    }
+    Ok(found)
+}
+
+fn replay_options(alloc: Global, matches: &ArgMatches<'_>) -> Result<Options, WordsFault>
+    ensures { IfOk result IsReplayInRange }
+{
+    Ok(Options {
+        file: String::from_str(alloc, matches.get_str("file").unwrap_or(""))?,
+        workers: number_in(alloc, matches, "workers", 1, 8)?,
+        segment_size: number_in(alloc, matches, "segment-size", 4096, 1_048_576)?,
+        segments: number_in(alloc, matches, "segments", 8, 65_536)?,
+        now: number(matches, "now"),
+        tick: number(matches, "tick"),
+        accept: number_in(alloc, matches, "accept", 0, 65_536)?,
+        fail_give: number(matches, "fail-give"),
+    })
+}
+
+fn serve_options(alloc: Global, matches: &ArgMatches<'_>) -> Result<ServeOptions, WordsFault>
+    ensures { IfOk result IsServeInRange }
+{
+    Ok(ServeOptions {
+        listen: String::from_str(alloc, matches.get_str("listen").unwrap_or(""))?,
+        workers: number_in(alloc, matches, "workers", 1, 8)?,
+        sessions: matches.get_one::<u64>("sessions"),
+        segment_size: number_in(alloc, matches, "segment-size", 4096, 1_048_576)?,
+        segments: number_in(alloc, matches, "segments", 8, 65_536)?,
+    })
+}
+
+/// Why the parser of the words asks for nothing: to show a text, want of memory, or bad words.
+fn parse_fault(alloc: Global, error: &clap::Error) -> Result<Job, WordsFault>
+    ensures job { IfOk result IsJob }
+    ensures memory { kind_of error.now ≡ clap.OutOfMemory → result ≡ Err words.NoMemory }
+{
+    if error.kind() == ErrorKind::OutOfMemory {
+        return Err(WordsFault::NoMemory);
+    }
+    let text = error.to_string(alloc)?;
+    if error.use_stderr() {
+        return Err(WordsFault::BadWords(text));
+    }
+    Ok(Job::Help(text))
+}
+
+/// Why the words after the program's name can't be had: want of memory, or a word that isn't UTF-8.
+pub fn unreadable_words(alloc: Global, error: &io::Error) -> WordsFault
+    ensures { error_kind error.now ≡ io.OutOfMemory → result ≡ words.NoMemory }
+{
+    if error.kind() == io::ErrorKind::OutOfMemory {
+        return WordsFault::NoMemory;
+    }
+    match String::from_str(alloc, "error: a word isn't UTF-8\n") {
+        Ok(text) => WordsFault::BadWords(text),
+        Err(_) => WordsFault::NoMemory,
+    }
+}
+
+/// What the words after the program's name ask for. Words that are bad are answered with the text to print.
+pub fn parse_words(alloc: Global, words: &[String]) -> Result<Job, WordsFault>
+    ensures { IfOk result IsJob }
+{
+    let command = command(alloc)?;
+    match command.try_get_matches_from(words) {
+        Ok(matches) => match matches.subcommand() {
+            Some(("serve", serve)) => Ok(Job::Serve(serve_options(alloc, serve)?)),
+            Some((_, replay)) => Ok(Job::Replay(replay_options(alloc, replay)?)),
+            None => Err(WordsFault::BadWords(String::new(alloc))),
+        },
+        Err(error) => parse_fault(alloc, &error),
+    }
+}

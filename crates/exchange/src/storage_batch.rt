@@ -1,0 +1,260 @@
+//! The storage thread's end of all lanes, for a storage thread that tells the workers of several answers at once.
+
+use crate::messages::{LaneMessage, Taken};
+use crate::rule::{Compares, JoinsWorker, LaneSeat, LaneTable};
+use crate::steps::{put_answer, settle_bye, take_message, take_seen_message, tell_answers};
+use crate::storage::StorageEnd;
+use crate::worker::WorkerEnd;
+use proto::history::Answered;
+use std::alloc::Global;
+use std::marker::Model;
+use std::sync::Arc;
+
+/// What storage takes requests from, answers them, and tells the workers of all that it answered. One thread at a
+/// time uses it.
+#[derive(Drop)]
+pub struct StorageBatch {
+    lane_table: Arc<LaneTable, Global>,
+    seat: LaneSeat,
+    workers: usize,
+    /// The lane that the last message was taken from.
+    last: usize,
+    /// How many messages of each lane were settled.
+    counts: [u64; 8],
+    open_now: bool,
+    /// Whether there are answers that weren't told of.
+    waiting: bool,
+    /// The lane that all of them are of.
+    waiting_lane: usize,
+    /// The lane that was looked at last, and the posted word that was found there.
+    looked_lane: usize,
+    named: u64,
+}
+
+impl Model for StorageBatch {
+    ghost use Rattle.std.specs.Prelude.{◌≡◌, ℕ, ◌+◌, ◌*◌, ◌<◌, ◌≤◌};
+    ghost use Rattle.std.specs.Arc.{arc_value};
+    ghost use Rattle.exchange.specs.Ends.{StorageBatchView};
+    ghost use Rattle.exchange.specs.Seats.{StorageAgrees, IsWaiting, IsNamed, IsTableSized, storage_batch_view, storage_state_in};
+
+    ghost Value = { StorageBatchView };
+
+    ghost view = { λ e. storage_batch_view e.seat.table_id e.workers e.last (storage_state_in e.seat.me.0) };
+
+    ghost invariant = { λ e. (e.seat.table_id ≡ (arc_value e.lane_table).shared.table_id) × IsTableSized e.seat.table_id e.workers × ((arc_value e.lane_table).shared.key.workers ≡ e.workers) × StorageAgrees e.seat.me e.workers e.last e.counts e.open_now × IsWaiting (storage_state_in e.seat.me.0) e.waiting e.waiting_lane e.workers × IsNamed (storage_state_in e.seat.me.0) e.looked_lane e.named e.workers };
+}
+
+impl StorageBatch {
+    ghost use Rattle.std.specs.Prelude.{◌≡◌, ◌≢◌, ◌⊎◌, ℕ, ◌+◌, ◌-◌, ◌*◌, ◌<◌, ◌≤◌, ◌++◌, ◌∷◌, [], length, None, Some, is_some, MatchOption, IsOk};
+    ghost use Rattle.std.specs.Option.{IfNone};
+    ghost use Rattle.std.specs.Arc.{arc_value};
+    ghost use Rattle.proto.specs.Sizes.{Sizes};
+    ghost use Rattle.proto.specs.History.{Legal, worker_share};
+    ghost use Rattle.exchange.specs.declared.views.LaneView.TheVariants.{Storage};
+    ghost use Rattle.exchange.specs.Beginnings.{posted_of};
+    ghost use Rattle.exchange.specs.Ends.{IsCount, new_storage_view, LooksAt, FindsNone, FindsOne, LookedOnce, SeesNext, with_answer, AreCompared};
+    ghost use Rattle.exchange.specs.Seats.{IsTableSized, made_storage_state};
+
+    pub(crate) fn over(
+        lane_table: Arc<LaneTable, Global>,
+        seat: LaneSeat,
+        workers: usize,
+    ) -> StorageBatch
+        requires table { (seat.table_id ≡ (arc_value lane_table).shared.table_id) × IsTableSized seat.table_id workers × ((arc_value lane_table).shared.key.workers ≡ workers) × (0 < workers) × (workers ≤ 8) }
+        requires fresh { (g : Sizes) × (seat.me ≡ (Storage (made_storage_state g workers), [])) }
+        ensures { (g : Sizes) → seat.me ≡ (Storage (made_storage_state g workers), []) → result ≡ record { end = new_storage_view seat.table_id g workers; told = [] } }
+    {
+        StorageBatch {
+            lane_table,
+            seat,
+            workers,
+            last: workers - 1,
+            counts: [0; 8],
+            open_now: false,
+            waiting: false,
+            waiting_lane: 0,
+            looked_lane: 0,
+            named: 0,
+        }
+    }
+
+    /// The number of workers that the exchange was made for.
+    pub fn workers(&self) -> usize
+        ensures value { result ≡ self.now.end.workers }
+        ensures range { IsCount result }
+    {
+        self.workers
+    }
+
+    /// Whether a request was taken that isn't answered yet.
+    pub fn is_open(&self) -> bool
+        ensures { result ≡ is_some self.now.end.open_request }
+    {
+        self.open_now
+    }
+
+    /// Answers the open request. Its worker isn't told of it before the next `flush_answers`, or the next answer to
+    /// another worker. Waits for nobody and takes no memory.
+    pub fn answer_later(&mut self, answered: Answered)
+        requires open_request { self.old.end.open_request ≡ Some (answered.worker, posted_of answered) }
+        requires legal { Legal self.old.end.geometry (self.old.end.history ++ answered ∷ []) }
+        ensures answered { self.new.end ≡ with_answer self.old.end answered }
+        ensures told { (self.new.told ≡ self.old.told) ⊎ (self.new.told ≡ self.old.end.history) }
+    {
+        self.make_way(answered.worker);
+        self.add_answer(answered);
+    }
+
+    // Tells of the answers that wait, where they are of another lane.
+    fn make_way(&mut self, lane: usize)
+        ensures end { self.new.end ≡ self.old.end }
+        ensures told { (self.new.told ≡ self.old.told) ⊎ (self.new.told ≡ self.old.end.history) }
+        ensures others { (j : ℕ) → j ≢ lane → worker_share self.new.end.history j ≡ worker_share self.new.told j }
+    {
+        if self.waiting && self.waiting_lane != lane {
+            self.flush_answers();
+        }
+    }
+
+    // Answers the open request, where the answers that wait are of its lane.
+    fn add_answer(&mut self, answered: Answered)
+        requires open_request { self.old.end.open_request ≡ Some (answered.worker, posted_of answered) }
+        requires legal { Legal self.old.end.geometry (self.old.end.history ++ answered ∷ []) }
+        requires others { (j : ℕ) → j ≢ answered.worker → worker_share self.old.end.history j ≡ worker_share self.old.told j }
+        ensures answered { self.new.end ≡ with_answer self.old.end answered }
+        ensures told { self.new.told ≡ self.old.told }
+    {
+        let _workers = self.workers;
+        let lane = answered.worker;
+        let count = self.counts[lane];
+        put_answer(&self.lane_table, &mut self.seat, count, answered);
+        self.counts[lane] = count + 1;
+        self.open_now = false;
+        self.waiting = true;
+        self.waiting_lane = lane;
+    }
+
+    /// Tells the workers of all answers, in one step. Waits for nobody and takes no memory.
+    pub fn flush_answers(&mut self)
+        ensures { self.new ≡ record self.old { told = self.old.end.history } }
+    {
+        let _workers = self.workers;
+        if self.waiting {
+            let lane = self.waiting_lane;
+            let count = self.counts[lane];
+            tell_answers(&self.lane_table, &mut self.seat, lane, count);
+            self.waiting = false;
+        }
+    }
+
+    // Looks at one lane, and takes its next message out, if there is one.
+    fn look(&mut self, lane: usize) -> Option<Taken>
+        requires { (self.old.end.open_request ≡ None) × (lane < self.old.end.workers) }
+        ensures looks { LooksAt self.old.end lane result self.new.end }
+        ensures told { self.new.told ≡ self.old.told }
+    {
+        let _workers = self.workers;
+        let count = self.counts[lane];
+        let (posted, taken) = take_message(&self.lane_table, &mut self.seat, lane, count);
+        self.looked_lane = lane;
+        self.named = posted;
+        match taken {
+            None => None,
+            Some(LaneMessage::Ask(posted)) => {
+                self.last = lane;
+                self.open_now = true;
+                Some(Taken::Asked {
+                    worker: lane,
+                    posted,
+                })
+            }
+            Some(LaneMessage::Bye) => {
+                settle_bye(&self.lane_table, &mut self.seat, lane, count);
+                self.last = lane;
+                self.counts[lane] = count + 1;
+                Some(Taken::Bye { worker: lane })
+            }
+            Some(LaneMessage::Answer(_)) => unreachable!(),
+        }
+    }
+
+    /// The next message of some lane. The lanes are looked at in turn, beginning after the one that
+    /// was taken from last. Waits for nobody and takes no memory.
+    pub fn next(&mut self) -> Option<Taken>
+        requires { self.old.end.open_request ≡ None }
+        ensures next { MatchOption result (FindsNone self.old.end self.new.end) (FindsOne self.old.end self.new.end) }
+        ensures every_lane { IfNone result ((w : ℕ) → w < self.old.end.workers → LookedOnce self.old.end self.new.end w) }
+        ensures told { self.new.told ≡ self.old.told }
+    {
+        let workers = self.workers;
+        let last = self.last;
+        for lane in last + 1..workers {
+            if let Some(taken) = self.look(lane) {
+                return Some(taken);
+            }
+        }
+        for lane in 0..last + 1 {
+            if let Some(taken) = self.look(lane) {
+                return Some(taken);
+            }
+        }
+        None
+    }
+
+    /// The next message among those that the last look of `next` named, at the lane of that look. It doesn't look for
+    /// further ones. Waits for nobody and takes no memory.
+    pub fn next_seen(&mut self) -> Option<Taken>
+        requires { self.old.end.open_request ≡ None }
+        ensures next { SeesNext self.old.end result self.new.end }
+        ensures told { self.new.told ≡ self.old.told }
+    {
+        let _workers = self.workers;
+        let lane = self.looked_lane;
+        let count = self.counts[lane];
+        if self.named <= count {
+            return None;
+        }
+        match take_seen_message(&self.lane_table, &mut self.seat, lane, count) {
+            LaneMessage::Ask(posted) => {
+                self.last = lane;
+                self.open_now = true;
+                Some(Taken::Asked {
+                    worker: lane,
+                    posted,
+                })
+            }
+            LaneMessage::Bye => {
+                settle_bye(&self.lane_table, &mut self.seat, lane, count);
+                self.last = lane;
+                self.counts[lane] = count + 1;
+                Some(Taken::Bye { worker: lane })
+            }
+            LaneMessage::Answer(_) => unreachable!(),
+        }
+    }
+
+    // Brings a worker's end of this exchange and storage's together, and tells how many requests the
+    // worker sent and how many answers it took back.
+    pub(crate) fn compare(&mut self, end: WorkerEnd) -> (u64, u64)
+        requires { end.exchange ≡ self.old.end.exchange }
+        ensures same { self.new ≡ self.old }
+        ensures compared { AreCompared self.old.end end }
+        ensures counts { (result.0 ≡ length end.sent) × (result.1 ≡ length end.back) }
+    {
+        let (seat, sent, back) = end.into_seat();
+        let lane_table = &self.lane_table;
+        lane_table
+            .shared
+            .join_seat::<JoinsWorker>(&mut self.seat, seat);
+        lane_table.shared.load::<Compares>(&mut self.seat, 0);
+        (sent, back)
+    }
+
+    /// The end, where all answers were flushed.
+    pub fn into_end(self) -> StorageEnd
+        requires { self.told ≡ self.end.history }
+        ensures { result ≡ self.end }
+    {
+        StorageEnd::of(self)
+    }
+}

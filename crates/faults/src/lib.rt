@@ -1,0 +1,4 @@
+//! Why the program failed.
+#![tactic(auto)]
+
+pub mod fault;

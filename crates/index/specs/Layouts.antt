@@ -1,0 +1,64 @@
+-- How a slot is kept in one number.
+use Rattle.std.specs.Prelude.{◌≡◌, ℕ, ◌+◌, ◌-◌, ◌*◌, ◌/◌, ◌%◌, ◌^◌, ◌<◌, ◌≤◌, List, map, nat_le, ◌==◌, if◌then◌else◌}
+use Rattle.proto.specs.Sizes.{Sizes}
+use Rattle.segments.specs.declared.place.Place.{Place}
+use Rattle.index.specs.declared.slot.Slot.{Slot}
+use Rattle.index.specs.declared.layout.Layout.{Layout}
+use Rattle.index.specs.Slots.{empty_slot, place_of}
+
+-- offsets and places take these many bits at most
+pub record IsLayout (l : Layout) : Type 0 where
+  pub offsets : l.offset_bits ≤ 17
+  pub some : 1 ≤ l.place_bits
+  pub places : l.place_bits ≤ 33
+
+-- the numbers of slots have four bytes where the places leave room in them, and else eight
+abbrev pub word_limit : Layout → ℕ
+word_limit l = if nat_le l.place_bits 32 then 2 ^ 32 else 2 ^ 64
+
+-- how many of a hash's upper 32 bits don't go into the bits beside a place
+abbrev pub tag_shift : Layout → ℕ
+tag_shift l = if nat_le l.place_bits 32 then l.place_bits else l.place_bits - 32
+
+-- the bits of a hash that stand in its slot, counted from 1
+unfoldable pub tag_of : Layout → ℕ → ℕ
+tag_of l hash = hash / 2 ^ 32 / 2 ^ tag_shift l + 1
+
+-- the slot that a number stands for: 0 for an empty one, else the tag, the segment, and the offset in steps of eight bytes
+unfoldable pub slot_of : Layout → ℕ → Slot
+slot_of l word =
+    if word == 0 then empty_slot
+    else record {
+      tag = word / 2 ^ l.place_bits + 1;
+      segment = (word % 2 ^ l.place_bits - 1) / 2 ^ l.offset_bits % 2 ^ 16;
+      offset = 8 * ((word % 2 ^ l.place_bits - 1) % 2 ^ l.offset_bits);
+    }
+
+unfoldable pub word_of : Layout → Slot → ℕ
+word_of l s = (s.tag - 1) * 2 ^ l.place_bits + (s.segment * 2 ^ l.offset_bits + s.offset / 8 + 1)
+
+-- the place is one that a number can say
+pub record IsInLayout (l : Layout) (place : Place) : Type 0 where
+  pub segment : place.segment < 2 ^ 16
+  pub aligned : 8 * (place.offset / 8) ≡ place.offset
+  pub offset : place.offset / 8 < 2 ^ l.offset_bits
+  pub number : place.segment * 2 ^ l.offset_bits + place.offset / 8 + 1 < 2 ^ l.place_bits
+
+-- the slot is one that a number stands for
+pub record CanHold (l : Layout) (s : Slot) : Type 0 where
+  pub place : IsInLayout l (place_of s)
+  pub some : 1 ≤ s.tag
+  pub tag : (s.tag - 1) * 2 ^ l.place_bits + 2 ^ l.place_bits ≤ word_limit l
+
+-- the places of a pool of these sizes are in the layout
+pub record IsLayoutOf (sizes : Sizes) (l : Layout) : Type 0 where
+  pub offsets : sizes.segment_size ≤ 8 * 2 ^ l.offset_bits
+  pub places : sizes.segments * 2 ^ l.offset_bits ≤ 2 ^ l.place_bits
+
+-- slots, and how they are kept
+pub record Row : Type 0 where
+  pub slots : List Slot
+  pub layout : Layout
+
+abbrev pub row_of : Layout → List ℕ → List ℕ → Row
+row_of l narrow wide = record { slots = map (slot_of l) (if nat_le l.place_bits 32 then narrow else wide); layout = l }

@@ -1,0 +1,111 @@
+//! How a slot is kept in one number.
+
+ghost use Rattle.std.specs.Prelude.{◌≡◌, ◌<◌, ◌≤◌, ◌^◌, nat_le};
+ghost use Rattle.index.specs.Layouts.{IsLayout, IsLayoutOf, CanHold, word_limit, tag_shift, tag_of, slot_of, word_of};
+
+use crate::slot::{EMPTY, Slot};
+use proto::geometry::Geometry;
+
+/// How many bits an offset takes, counted in eight bytes, and how many a place takes. What these leave of a number's four
+/// bytes is the tag's; where they leave less than nothing, numbers have eight bytes.
+#[derive(Clone, Copy, Debug)]
+pub struct Layout {
+    pub offset_bits: u32,
+    pub place_bits: u32,
+}
+
+/// The least number of bits, at least one, in which so many numbers go.
+fn bits_for(count: u64, most: u32) -> u32
+    requires count { count ≤ 2 ^ most }
+    requires some { 1 ≤ most }
+    requires few { most ≤ 33 }
+    ensures enough { count ≤ 2 ^ result }
+    ensures least { 1 ≤ result }
+    ensures most { result ≤ most }
+{
+    let mut bits = 1;
+    while bits < most && 1u64 << bits < count {
+        bits += 1;
+    }
+    bits
+}
+
+/// The layout for a pool of these sizes.
+pub fn layout_for(geometry: Geometry) -> Layout
+    ensures layout { IsLayout result }
+    ensures sizes { IsLayoutOf geometry result }
+{
+    let offset_bits = bits_for((geometry.segment_size() as u64 + 7) / 8, 17);
+    let place_bits = bits_for(geometry.segments() as u64 * (1u64 << offset_bits), 33);
+    Layout {
+        offset_bits,
+        place_bits,
+    }
+}
+
+impl Layout {
+    /// Whether a number has four bytes.
+    pub fn is_narrow(self) -> bool
+        ensures { result ≡ nat_le self.place_bits 32 }
+    {
+        self.place_bits <= 32
+    }
+
+    fn tag_shift(self) -> u32
+        ensures { result ≡ tag_shift self }
+    {
+        if self.is_narrow() {
+            self.place_bits
+        } else {
+            self.place_bits - 32
+        }
+    }
+
+    /// The bits of the hash that stand in a slot.
+    pub fn tag_of(self, hash: u64) -> u64
+        requires { IsLayout self }
+        ensures value { result ≡ tag_of self hash }
+        ensures some { 1 ≤ result }
+    {
+        ((hash >> 32) >> self.tag_shift()) + 1
+    }
+
+    /// The tag of the slot that a number stands for, 0 where that is empty.
+    pub fn tag_in(self, word: u64) -> u64
+        requires { IsLayout self }
+        ensures { result ≡ (slot_of self word).tag }
+    {
+        if word == 0 {
+            0
+        } else {
+            (word >> self.place_bits) + 1
+        }
+    }
+
+    /// The slot that a number stands for.
+    pub fn slot_of(self, word: u64) -> Slot
+        requires { IsLayout self }
+        ensures { result ≡ slot_of self word }
+    {
+        if word == 0 {
+            return EMPTY;
+        }
+        let number = (word & ((1u64 << self.place_bits) - 1)).saturating_sub(1);
+        Slot {
+            tag: (word >> self.place_bits) + 1,
+            segment: ((number >> self.offset_bits) % 65_536) as u32,
+            offset: 8 * (number & ((1u64 << self.offset_bits) - 1)) as u32,
+        }
+    }
+
+    /// The number that stands for a slot.
+    pub fn word_of(self, slot: Slot) -> u64
+        requires layout { IsLayout self }
+        requires slot { CanHold self slot }
+        ensures value { result ≡ word_of self slot }
+        ensures limit { result < word_limit self }
+    {
+        let number = ((slot.segment as u64) << self.offset_bits) + slot.offset as u64 / 8 + 1;
+        ((slot.tag - 1) << self.place_bits) + number
+    }
+}

@@ -1,0 +1,101 @@
+//! Sets of ever new keys, each timed alone, and a flush.
+
+use crate::requests::sets;
+use anyhow::Result;
+use engine::StorageEngine;
+use proto::message::{Reply, Request};
+use std::alloc::Global;
+use std::io::{Eprint, Print};
+use std::time::{Clock, Duration, Instant};
+
+/// How many requests are made at once, before they are sent.
+const BATCH: u64 = 50_000;
+
+/// How many requests did what they asked, the time of all of them, and of the one that took longest.
+#[derive(Clone, Copy)]
+struct Times {
+    done: u64,
+    all: Duration,
+    longest: Duration,
+}
+
+/// Sends the requests, and times each.
+fn time_each<E: StorageEngine, R: Clock>(
+    rt: &R,
+    store: &mut E,
+    requests: &mut [Request],
+    before: Times,
+) -> Result<Times> {
+    let mut times = before;
+    let mut last = Instant::now(rt)?;
+    for request in requests {
+        if store.last_moment() > 0 {
+            return Ok(times);
+        }
+        let reply = store.handle(0, request);
+        let now = Instant::now(rt)?;
+        let time = now.saturating_duration_since(last);
+        last = now;
+        match reply {
+            Reply::Stored | Reply::Flushed => times.done = times.done.wrapping_add(1),
+            _ => {}
+        }
+        times.all = times.all.saturating_add(time);
+        times.longest = times.longest.max(time);
+    }
+    Ok(times)
+}
+
+/// Sets so many keys from a number on, and writes how many were stored, the time of each, and the longest one.
+fn set_many<E: StorageEngine, R: Print + Eprint + Clock>(
+    rt: &R,
+    alloc: Global,
+    name: &str,
+    store: &mut E,
+    keys: (u64, u64),
+    length: usize,
+) -> Result<()> {
+    let (from, count) = keys;
+    let mut times = Times {
+        done: 0,
+        all: Duration::ZERO,
+        longest: Duration::ZERO,
+    };
+    for batch in 0..count / BATCH {
+        let first = from.wrapping_add(batch.wrapping_mul(BATCH));
+        let mut requests = sets(alloc, first, BATCH, length)?;
+        times = time_each(rt, store, requests.as_mut_slice(), times)?;
+    }
+    println!(rt; "{name}: {} stored", times.done)?;
+    eprintln!(rt;
+        "{name}: {} ns each, the longest {} us",
+        times.all.as_nanos() / times.done.max(1) as u128,
+        times.longest.as_micros(),
+    )?;
+    Ok(())
+}
+
+/// Sets so many keys, then as many others, and flushes the store.
+pub fn run_steady<E: StorageEngine, R: Print + Eprint + Clock>(
+    rt: &R,
+    alloc: Global,
+    name: &str,
+    store: &mut E,
+    count: u64,
+    length: usize,
+) -> Result<()> {
+    println!(rt; "{name}")?;
+    eprintln!(rt; "{name}")?;
+    set_many(rt, alloc, "first sets", store, (0, count), length)?;
+    set_many(rt, alloc, "further sets", store, (count, count), length)?;
+    let mut flush = [Request::FlushAll { delay: 0 }];
+    let none = Times {
+        done: 0,
+        all: Duration::ZERO,
+        longest: Duration::ZERO,
+    };
+    let times = time_each(rt, store, &mut flush, none)?;
+    println!(rt; "flush_all: {} done", times.done)?;
+    eprintln!(rt; "flush_all: {} us", times.longest.as_micros())?;
+    Ok(())
+}

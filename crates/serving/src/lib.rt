@@ -1,0 +1,5 @@
+//! `segcached serve`, and the seed of its keys' hash.
+#![tactic(auto)]
+
+pub mod seed;
+pub mod serve;

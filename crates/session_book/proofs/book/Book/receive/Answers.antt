@@ -1,0 +1,23 @@
+use Rattle.std.proofs.Common.{refl, sym}
+use Rattle.session_book.proofs.Books.{written_only, written_back, received}
+use Rattle.session_book.proofs.book.Book.receive.Goals as goal
+
+pub returns-then-eq : goal.returns-then-eq
+returns-then-eq c =
+    let t = c.ask_later.new.self in
+    received c.receive-received.result _ _ c.args.self.now c.self.view_is c.args.session c.args.piece c.in-Some.open.now c.receive-received.new.self t
+    (sym c.in-Some.ensures.value)
+    (written_only c.self.inside.sessions (c.get_mut.follows.lender t) _ _ _ (c.get_mut.follows.holds t) c.in-Some.ensures.value)
+    refl c.receive-received.ensures c.ask_later.ensures
+    (written_back c.self.inside.sessions (c.get_mut.follows.lender t) c.args.session c.in-Some.open.now t
+    (c.get_mut.follows.holds t) c.in-Some.ensures.value)
+
+pub returns-else-eq : goal.returns-else-eq
+returns-else-eq c =
+    let t = c.receive-received.new.self in
+    received c.receive-received.result _ _ c.args.self.now c.self.view_is c.args.session c.args.piece c.in-Some.open.now t t
+    (sym c.in-Some.ensures.value)
+    (written_only c.self.inside.sessions (c.get_mut.follows.lender t) _ _ _ (c.get_mut.follows.holds t) c.in-Some.ensures.value)
+    refl c.receive-received.ensures refl
+    (written_back c.self.inside.sessions (c.get_mut.follows.lender t) c.args.session c.in-Some.open.now t
+    (c.get_mut.follows.holds t) c.in-Some.ensures.value)

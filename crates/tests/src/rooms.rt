@@ -1,0 +1,68 @@
+//! The memory of hits goes round: of that no clause speaks.
+
+use plain_store::Store;
+use proto::geometry::Geometry;
+use proto::message::{Message, Next, Request};
+use proto::next::next_message;
+use proto::room::Room;
+use std::alloc::Global;
+use std::process::Abort;
+use std::test::Fail;
+
+/// The capacity of the room that is lent with each request.
+const LENT: usize = 100;
+
+/// Requests in order, and the capacity of the room that comes back with the reply to each.
+const REQUESTS: [(&str, Option<usize>); 5] = [
+    ("set a 0 0 1\r\nx\r\n", None),
+    ("get a\r\n", Some(LENT)),
+    ("get a a\r\n", Some(LENT)),
+    ("get b\r\n", Some(LENT)),
+    ("get b c\r\n", Some(LENT)),
+];
+
+fn read(alloc: Global, text: &str) -> Result<Request, Fail> {
+    match next_message(alloc, text.as_bytes())? {
+        Next::Found(Message::Ask(request, _), _) => Ok(request),
+        _ => Err(Fail::from("a request")),
+    }
+}
+
+fn capacity_of(room: Option<Room>) -> Option<usize> {
+    match room {
+        Some(room) => Some(room.capacity()),
+        None => None,
+    }
+}
+
+/// The capacity of the room that the request hands back, and of the one that comes back with the reply.
+fn rooms_back(
+    alloc: Global,
+    store: &mut Store,
+    text: &str,
+) -> Result<(Option<usize>, Option<usize>), Fail> {
+    let mut request = read(alloc, text)?;
+    let room = Room::emptied(Vec::with_capacity(alloc, LENT)?);
+    let handed_back = capacity_of(request.lend_room(room));
+    if store.last_moment() > 1 {
+        return Err(Fail::from("the moment 1 is over"));
+    }
+    let reply = store.handle(1, &mut request);
+    drop(request);
+    Ok((handed_back, capacity_of(reply.into_room())))
+}
+
+fn check_rooms(rt: &impl Abort, alloc: Global, rows: &[(&str, Option<usize>)]) -> Result<(), Fail> {
+    let mut store = Store::new(alloc, Geometry::new(4096, 8)?);
+    for (text, comes_back) in rows {
+        let (handed_back, room) = rooms_back(alloc, &mut store, text)?;
+        assert_eq!(rt; room, *comes_back, "with the reply to {text}");
+        assert_eq!(rt; handed_back.is_some(), room.is_none(), "of {text}");
+    }
+    Ok(())
+}
+
+#[test]
+fn the_memory_of_hits_goes_round(rt: HostRuntime) -> Result<(), Fail> {
+    check_rooms(&rt, rt.alloc(), &REQUESTS)
+}

@@ -26,6 +26,10 @@ BEGIN, END = "<!-- bench: begin -->", "<!-- bench: end -->"
 MIB = 1 << 20
 # memcached's threads, and the workers that stand beside them
 SIZES = ((1, 1), (2, 2), (4, 3))
+# Both servers may ask for huge pages, as docs/OPERATIONS.md says.
+TUNABLES = {"GLIBC_TUNABLES": "glibc.malloc.hugetlb=1"}
+# The segments of 1 MiB that segcached has where a value has so many bytes: room for what the load stores, and more.
+SEGMENTS = {100: 128, 1000: 512, 10000: 512}
 # By the bytes of a value and the number of keys: each load's name and words. Those that write come last, since what they write
 # makes segcached merge segments.
 LOADS = {
@@ -52,7 +56,7 @@ RATES = {
 }
 IDLE = "idle, 50 connections"
 # At equal memory: the bytes of a value, the keys, and memcached's -m. segcached has 64 segments of 1 MiB.
-MEMORIES = ((100, 1500000, 97), (1000, 300000, 97))
+MEMORIES = ((100, 1500000, 79), (1000, 300000, 79))
 
 
 class Trouble(Exception):
@@ -75,7 +79,8 @@ class Server:
         else:
             words = [PROGRAM, "serve", "--listen", f"127.0.0.1:{self.port}", "--workers", str(size)]
             words += ["--segment-size", str(MIB), "--segments", str(megabytes)]
-        self.process = subprocess.Popen(words, stdout=subprocess.DEVNULL, stderr=subprocess.DEVNULL)
+        tuned = {**os.environ, **TUNABLES}
+        self.process = subprocess.Popen(words, env=tuned, stdout=subprocess.DEVNULL, stderr=subprocess.DEVNULL)
         self.await_port()
 
     def await_port(self):
@@ -105,7 +110,7 @@ class Server:
         self.process.wait()
 
 
-def both(size, memcached_megabytes=1024, segments=512):
+def both(size, memcached_megabytes=1024, segments=SEGMENTS[100]):
     return [Server("memcached", size[0], memcached_megabytes), Server("segcached", size[1], segments)]
 
 
@@ -143,7 +148,7 @@ def speeds(bench, sizes, wanted):
     for (value, keys), loads in LOADS.items():
         chosen = {name: flags for name, flags in loads.items() if wanted(name)}
         for size in sizes if chosen else ():
-            servers = both(size)
+            servers = both(size, segments=SEGMENTS[value])
             try:
                 shape = ["--value", value, "--keys", keys]
                 for server in servers:

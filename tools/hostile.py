@@ -24,6 +24,8 @@ import traceback
 
 TOP = os.path.dirname(os.path.dirname(os.path.abspath(__file__)))
 PROGRAM = f"{TOP}/crates/segcached/out/segcached"
+# What a session leaves behind until the server ends: its number and its end.
+BYTES_A_SESSION = 16
 # (six answers to the canary may take so many seconds)
 LATE = 1.0
 # (in place of a minute, or of half an hour)
@@ -200,10 +202,12 @@ class Crowd:
 
     def __init__(self, server, most):
         self.server, self.most, self.peers, self.ready = server, most, {}, select.epoll()
+        self.opened = 0
 
     def fill(self):
         while len(self.peers) < self.most:
             peer = self.server.connect()
+            self.opened += 1
             peer.setblocking(False)
             self.peers[peer.fileno()] = peer
             self.ready.register(peer, select.EPOLLIN)
@@ -254,13 +258,15 @@ def fuzz(is_long):
             sent += crowd.send(chance)
             crowd.read(chance)
             if settled is None and time.monotonic() > until - seconds * 0.75:
-                settled = server.resident_kilobytes()
+                settled = server.resident_kilobytes(), crowd.opened
             server.must_run()
-        grown = server.resident_kilobytes() - (settled or 0)
+        grown, opened = server.resident_kilobytes() - settled[0], crowd.opened - settled[1]
         crowd.close()
-        if grown > 64 * 1024:
-            raise Trouble(f"memory grew by {grown} kB in the last three quarters")
-        return f"{sent // 1024} kB of bad bytes, memory grew by {grown} kB; {canary.stop()}"
+        said = canary.stop()
+        # Each session that was opened leaves its end in its worker's report.
+        if grown > 16 * 1024 + opened * BYTES_A_SESSION // 1024:
+            raise Trouble(f"memory grew by {grown} kB in the last three quarters, with {opened} sessions; {said}")
+        return f"{sent // 1024} kB of bad bytes, memory grew by {grown} kB with {opened} sessions; {said}"
 
 
 def reset(peer):

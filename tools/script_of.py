@@ -92,6 +92,8 @@ class Recorder:
         self.words, self.script, self.answers = words, Script(words.workers), {}
         self.trouble = None
         self.listener = socket.create_server(words.listen, backlog=128)
+        # An interrupt that comes just before a call that waits is seen when that returns.
+        self.listener.settimeout(0.5)
 
     def run(self):
         host, port = self.listener.getsockname()[:2]
@@ -99,7 +101,10 @@ class Recorder:
         threads = []
         with contextlib.suppress(KeyboardInterrupt):
             while self.words.sessions is None or len(threads) < self.words.sessions:
-                client, _ = self.listener.accept()
+                try:
+                    client, _ = self.listener.accept()
+                except TimeoutError:
+                    continue
                 server = socket.create_connection(self.words.to, 10)
                 server.settimeout(None)
                 threads.append(threading.Thread(target=self.serve, args=(client, server), daemon=True))

@@ -6,4 +6,6 @@ cd "$(dirname "$0")/.."
 bash tools/build.sh
 # A worker has up to 1,024 sessions, each with a descriptor.
 ulimit -n "$(ulimit -Hn)"
+# Index and segments on huge pages, where the system lets a program ask for them.
+export GLIBC_TUNABLES="${GLIBC_TUNABLES:-glibc.malloc.hugetlb=1}"
 exec crates/segcached/out/segcached serve --listen "${1:-127.0.0.1:11211}" "${@:2}"

@@ -503,8 +503,8 @@ def large_use(is_long):
 
         together(server, 60, fill)
         resident = server.resident_kilobytes()
-        # (half of the segments for the index, 64 MiB for the rest)
-        most = segments * 1024 * 1.6 + 65536
+        # (a quarter of the segments for the index, a 32nd for the marks, and 64 MiB for the rest)
+        most = segments * 1024 * 1.3 + 65536
         if resident > most:
             raise Trouble(f"{resident} kB of memory, and at most {most:.0f} were said")
         return f"{8 * writes} values of {size} bytes into {segments} MiB, {sum(found)} old ones found and right, {resident // 1024} MiB of memory"

@@ -3,11 +3,8 @@
 #![tactic(auto)]
 
 use anyhow::{Result, bail};
-use proto::history::Answered;
-use proto::hits::Hits;
-use proto::message::{Reply, Request};
-use session_book::book::Book;
-use session_book::causes::Settled;
+use proto::{Answered, Hits, Reply, Request};
+use session_book::{Book, Settled};
 use std::alloc::Global;
 use std::time::Instant;
 

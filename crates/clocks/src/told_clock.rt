@@ -4,8 +4,8 @@ ghost use Rattle.script.specs.Clocks.{answer_of};
 ghost use Rattle.clocks.specs.Readings.{readings_in_order};
 
 use crate::readings::Readings;
-use script::clock::ScriptClock;
-use storage_thread::clock::Clock;
+use script::ScriptClock;
+use storage_thread::Clock;
 
 /// A script's clock that tells the list of its readings. The list takes no memory.
 #[derive(Drop)]

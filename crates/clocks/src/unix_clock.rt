@@ -1,7 +1,7 @@
 //! The system's clock.
 
 use std::time::{self, SystemTime, UNIX_EPOCH};
-use storage_thread::clock::Clock;
+use storage_thread::Clock;
 
 /// Unix seconds, 0 before 1970 or where the clock can't be read. It doesn't tell its answers.
 #[derive(Drop)]

@@ -1,4 +1,6 @@
 //! The words that the program is given.
 #![tactic(auto)]
 
-pub mod words;
+mod words;
+
+pub use words::{Job, Options, ServeOptions, WordsFault, parse_words, unreadable_words};

@@ -9,27 +9,29 @@ use Rattle.proto.specs.Commands.{is_number}
 use Rattle.std.specs.Str.{all_ascii_digits}
 use Rattle.std.specs.Str.Parse.{digits_value, digits_value_after}
 use Rattle.engine.specs.Number.{number_of}
-
--- a number never shrinks as digits follow
-pub digits_value_after_ge : (n : ℕ) (ds : List ℕ) → n ≤ digits_value_after 10 n ds
-digits_value_after_ge n [] = omega arith
-digits_value_after_ge n (c ∷ ds) = omega (arith, digits_value_after_ge (n * 10 + digit_value c) ds)
+use Rattle.proto.proofs.FirstWord.{after_le}
 
 -- the next of the digits makes the number too large
-pub number_of_overflow : (value : List ℕ) (n k : ℕ) → k < length value → digits_value_after 10 n (drop k value) ≡ digits_value 10 value
-    → 48 ≤ get_or value k 0 → get_or value k 0 ≤ 57 → (n * 10 + (get_or value k 0 - 48) < 2 ^ 64 → ⊥) → None ≡ number_of value
+pub number_of_overflow : (value : List ℕ) (n k : ℕ) → k < length value
+    → digits_value_after 10 n (drop k value) ≡ digits_value 10 value
+    → 48 ≤ get_or value k 0 → get_or value k 0 ≤ 57 → (n * 10 + (get_or value k 0 - 48) < 2 ^ 64 → ⊥)
+    → None ≡ number_of value
 number_of_overflow value n k lt is low high large =
-    let digit : digit_value (get_or value k 0) + 48 ≡ get_or value k 0 = digit_value_digit (get_or value k 0) (low, high) in
-    let grows : n * 10 + digit_value (get_or value k 0) ≤ digits_value_after 10 n (drop k value) = rw (drop-cons value k 0 lt)
-    (digits_value_after_ge (n * 10 + digit_value (get_or value k 0)) (drop (suc k) value)) in
+    let digit : digit_value (get_or value k 0) + 48 ≡ get_or value k 0 =
+    digit_value_digit (get_or value k 0) (low, high) in
+    let grows : n * 10 + digit_value (get_or value k 0) ≤ digits_value_after 10 n (drop k value) =
+    rw (drop-cons value k 0 lt)
+    (after_le (n * 10 + digit_value (get_or value k 0)) (drop (suc k) value)) in
     let over : 2 ^ 64 ≤ digits_value 10 value = omega arith in
     let too_large : ltb (digits_value 10 value) (2 ^ 64) ≡ false = le-ltb _ _ over in
     let no : is_number value ≡ false = and_right _ _ too_large in
     rw no refl
 
 -- all digits are read
-pub number_of_read : (value : List ℕ) (n k : ℕ) → eqb (length value) 0 ≡ false → length value ≤ 20 → length value ≤ k → n < 2 ^ 64
-    → all_ascii_digits (drop k value) ≡ all_ascii_digits value → digits_value_after 10 n (drop k value) ≡ digits_value 10 value
+pub number_of_read : (value : List ℕ) (n k : ℕ) → eqb (length value) 0 ≡ false → length value ≤ 20 → length value ≤ k
+    → n < 2 ^ 64
+    → all_ascii_digits (drop k value) ≡ all_ascii_digits value
+    → digits_value_after 10 n (drop k value) ≡ digits_value 10 value
     → Some n ≡ number_of value
 number_of_read value n k some short end small digits is =
     let number : n ≡ digits_value 10 value = sym (at_drop_all (digits_value_after 10 n) value k end) ∙ is in

@@ -38,13 +38,16 @@ written_exactly sizes t old key e new waits is =
 -- ---- first to the moment, and then the request
 
 -- an engine that went on to the moment, and did what the outcome says, has handled the request
-pub handled_by : {M P : Type 0} (m : MapOf M P) (old found : Engine M) (t : ℕ) (q : Request) (reply : Reply) (new : Engine M)
-    → cache_in m.entries found ≡ found_at (cache_in m.entries old) t → m.sizes found.map ≡ m.sizes old.map → m.moment found.map ≡ t
+pub handled_by : {M P : Type 0} (m : MapOf M P) (old found : Engine M) (t : ℕ) (q : Request) (reply : Reply)
+    (new : Engine M)
+    → cache_in m.entries found ≡ found_at (cache_in m.entries old) t → m.sizes found.map ≡ m.sizes old.map
+    → m.moment found.map ≡ t
     → m.alike old.map found.map → StaysKept m.keeps old.map found.map
     → Leaves m found new (act (item_limit (m.sizes found.map)) (cache_in m.entries found) (m.moment found.map) q) reply
     → IsHandled m old t q reply new
 handled_by m old found t q reply new cache same at alike kept leaves =
-    let same_outcome : act (item_limit (m.sizes found.map)) (cache_in m.entries found) (m.moment found.map) q ≡ outcome_at (m.sizes old.map)
+    let same_outcome : act (item_limit (m.sizes found.map)) (cache_in m.entries found) (m.moment found.map) q
+    ≡ outcome_at (m.sizes old.map)
     (cache_in m.entries old) t q =
     λ i. act (item_limit (same i)) (cache i) (at i) q in
     record {
@@ -69,13 +72,21 @@ record IsReached (sizes : Sizes) (t : ℕ) (old asked : Entries) (stored : Optio
 
 -- what an engine's map becomes is what a step may leave
 reached : {M P : Type 0} (m : MapOf M P) (old : M) (done : Outcome) (stored : Option (List ℕ)) (new : M)
-    → Changes m old done stored new → IsReached (m.sizes old) (m.moment old) (m.entries old) done.entries stored (m.entries new)
+    → Changes m old done stored new → IsReached (m.sizes old) (m.moment old) (m.entries old) done.entries stored
+    (m.entries new)
 reached m old done None new is =
-    record { dated = done.entries; is_dated = refl; forgotten = []; may_forget = refl; entries = is.entries ∙ sym (without-nil done.entries) }
+    record {
+      dated = done.entries;
+      is_dated = refl;
+      forgotten = [];
+      may_forget = refl;
+      entries = is.entries ∙ sym (without-nil done.entries);
+    }
 reached m old done (Some key) new s =
     let w = s.written in
     let dated : Entries = map.insert (m.entries old) key (record s.entry { deadline = w.deadline }) in
-    let is_dated : IsDated (m.moment old) (map.insert (m.entries old) key s.entry) (Some key) dated = dated-insert (m.moment old)
+    let is_dated : IsDated (m.moment old) (map.insert (m.entries old) key s.entry) (Some key) dated =
+    dated-insert (m.moment old)
     (m.entries old) key s.entry w.deadline w.may_live in
     record {
       dated = dated;
@@ -101,7 +112,8 @@ asks_memory false false hits e = e
 
 -- what was found stays, seen as a refusal of the cache
 denied : {M P : Type 0} (m : MapOf M P) (old new : Engine M) (found : Cache) (done : Outcome) (reply : Reply)
-    → cache_in m.entries old ≡ found → IsDenied m old new done reply → IsRefused found done reply (cache_in m.entries new)
+    → cache_in m.entries old ≡ found → IsDenied m old new done reply
+    → IsRefused found done reply (cache_in m.entries new)
 denied m old new found done reply is d =
     record {
       reply_is = d.reply_is;
@@ -112,7 +124,8 @@ denied m old new found done reply is d =
     }
 
 -- a request that was handled is a step
-pub step_from_handled : {M P : Type 0} (m : MapOf M P) (old : Engine M) (t : ℕ) (q : Request) (reply : Reply) (new : Engine M)
+pub step_from_handled : {M P : Type 0} (m : MapOf M P) (old : Engine M) (t : ℕ) (q : Request) (reply : Reply)
+    (new : Engine M)
     → IsHandled m old t q reply new
     → Step (m.sizes old.map) (cache_in m.entries old) t q reply (cache_in m.entries new)
 step_from_handled m old t q reply new h =
@@ -137,12 +150,14 @@ step_from_handled m old t q reply new h =
     ]
 
 -- where memory was refused, the cache that was found stays
-pub refused_stays : {M P : Type 0} (m : MapOf M P) (old : Engine M) (t : ℕ) (q : Request) (reply : Reply) (new : Engine M)
+pub refused_stays : {M P : Type 0} (m : MapOf M P) (old : Engine M) (t : ℕ) (q : Request) (reply : Reply)
+    (new : Engine M)
     → IsHandled m old t q reply new
     → reply ≡ NoMemory → cache_in m.entries new ≡ found_at (cache_in m.entries old) t
 refused_stays m old t q reply new h is =
     elim h.leaves.gives [
-      | inl d ↦ absurd (answers_act (item_limit (m.sizes old.map)) (found_at (cache_in m.entries old) t) t q (sym d.reply_is ∙ is))
+      | inl d ↦ absurd (answers_act (item_limit (m.sizes old.map)) (found_at (cache_in m.entries old) t) t q
+          (sym d.reply_is ∙ is))
       | inr d ↦
           let same : cache_in m.entries new ≡ cache_in m.entries h.found = λ i. record {
             entries = d.entries_same i;
@@ -153,11 +168,13 @@ refused_stays m old t q reply new h is =
     ]
 
 -- what needs no memory isn't refused any
-pub none_refused : {M P : Type 0} (m : MapOf M P) (old : Engine M) (t : ℕ) (q : Request) (reply : Reply) (new : Engine M)
+pub none_refused : {M P : Type 0} (m : MapOf M P) (old : Engine M) (t : ℕ) (q : Request) (reply : Reply)
+    (new : Engine M)
     → IsHandled m old t q reply new
     → needs_memory m.may_refuse (outcome_at (m.sizes old.map) (cache_in m.entries old) t q) ≡ false → reply ≢ NoMemory
 none_refused m old t q reply new h free is =
     elim h.leaves.gives [
-      | inl d ↦ answers_act (item_limit (m.sizes old.map)) (found_at (cache_in m.entries old) t) t q (sym d.reply_is ∙ is)
+      | inl d ↦ answers_act (item_limit (m.sizes old.map)) (found_at (cache_in m.entries old) t) t q
+          (sym d.reply_is ∙ is)
       | inr d ↦ let both = sym free ∙ d.cause in cc
     ]

@@ -22,7 +22,8 @@ use Rattle.engine.proofs.Refusals.{answers_act}
 use Rattle.engine.proofs.NoDeadlines.{AddsNone, none_act}
 
 -- want of memory stores no item, and any other reply the outcome's
-pub answered_item : (reply : Reply) (items : List StoredItem) → (reply ≡ NoMemory → ⊥) → (if is_no_memory reply then [] else items) ≡ items
+pub answered_item : (reply : Reply) (items : List StoredItem) → (reply ≡ NoMemory → ⊥)
+    → (if is_no_memory reply then [] else items) ≡ items
 answered_item Stored items other = refl
 answered_item NotStored items other = refl
 answered_item Exists items other = refl
@@ -37,49 +38,61 @@ answered_item NotNumber items other = refl
 answered_item NoCas items other = refl
 
 -- what a map leaves of what was asked for, where items are kept
-record IsKept {M P : Type 0} (m : MapOf M P) (t : ℕ) (asked : Entries) (stored : Option (List ℕ)) (items : List StoredItem) (new : M) : Type 0 where
+record IsKept {M P : Type 0} (m : MapOf M P) (t : ℕ) (asked : Entries) (stored : Option (List ℕ))
+    (items : List StoredItem) (new : M) : Type 0 where
   dated : IsDated t asked stored (m.entries new)
   keeps : m.keeps new items
 
 -- a stored entry is kept with the others
-kept_entry : {M P : Type 0} (m : MapOf M P) (old : M) (key : List ℕ) (done : Outcome) (new : M) (items : List StoredItem)
+kept_entry : {M P : Type 0} (m : MapOf M P) (old : M) (key : List ℕ) (done : Outcome) (new : M)
+    (items : List StoredItem)
     → IsStored m old key done.entries new → m.keeps old items → AddsNone (m.entries old) done.entries (Some key)
     → IsWithinBound (m.sizes old) (items ++ item_stored (m.moment old) done (Some key))
     → IsKept m (m.moment old) done.entries (Some key) (items ++ item_stored (m.moment old) done (Some key)) new
 kept_entry m old key done new items s keeps none within =
     let e = s.entry in
-    let there : map.get done.entries key ≡ Some e = ap (λ (asked : Entries). map.get asked key) s.asked_is ∙ get-stored (m.entries old) key e in
-    let item : item_stored (m.moment old) done (Some key) ≡ stored_item_of (m.moment old) key (Some e) = ap (stored_item_of (m.moment old) key) there in
-    let all : items ++ item_stored (m.moment old) done (Some key) ≡ items ++ stored_item_of (m.moment old) key (Some e) = ap
+    let there : map.get done.entries key ≡ Some e =
+    ap (λ (asked : Entries). map.get asked key) s.asked_is ∙ get-stored (m.entries old) key e in
+    let item : item_stored (m.moment old) done (Some key) ≡ stored_item_of (m.moment old) key (Some e) =
+    ap (stored_item_of (m.moment old) key) there in
+    let all : items ++ item_stored (m.moment old) done (Some key)
+    ≡ items ++ stored_item_of (m.moment old) key (Some e) = ap
     (λ (more : List StoredItem). items ++ more) item in
-    let deadline : deadline_at done.entries key ≡ e.deadline = ap (λ (asked : Entries). deadline_at asked key) s.asked_is
+    let deadline : deadline_at done.entries key ≡ e.deadline =
+    ap (λ (asked : Entries). deadline_at asked key) s.asked_is
     ∙ deadline_at-insert (m.entries old) key e in
     let adds : AddsNoDeadline (m.entries old) key e = elim none [
       | inl undated ↦ inl (sym deadline ∙ undated)
       | inr same ↦ inr (sym deadline ∙ same)
     ] in
     let kept = s.kept items keeps adds (subst (IsWithinBound (m.sizes old)) all within) in
-    let exact : IsDated (m.moment old) (map.insert (m.entries old) key e) (Some key) (map.insert (m.entries old) key e) = dated-insert (m.moment old)
+    let exact : IsDated (m.moment old) (map.insert (m.entries old) key e) (Some key)
+    (map.insert (m.entries old) key e) = dated-insert (m.moment old)
     (m.entries old) key e e.deadline (may_be_exact (m.moment old) e.deadline s.waits) in
     record {
       dated = subst (λ (asked : Entries). IsDated (m.moment old) asked (Some key) (m.entries new)) (sym s.asked_is)
-          (subst (λ (left : Entries). IsDated (m.moment old) (map.insert (m.entries old) key e) (Some key) left) (sym kept.0) exact);
+          (subst (λ (left : Entries). IsDated (m.moment old) (map.insert (m.entries old) key e) (Some key) left)
+          (sym kept.0) exact);
       keeps = subst (m.keeps new) (sym all) kept.1;
     }
 
 -- what was asked for is kept, whether an item was stored or not
-kept_change : {M P : Type 0} (m : MapOf M P) (old : M) (stored : Option (List ℕ)) (done : Outcome) (new : M) (items : List StoredItem)
+kept_change : {M P : Type 0} (m : MapOf M P) (old : M) (stored : Option (List ℕ)) (done : Outcome) (new : M)
+    (items : List StoredItem)
     → Changes m old done stored new → m.keeps old items → AddsNone (m.entries old) done.entries stored
     → IsWithinBound (m.sizes old) (items ++ item_stored (m.moment old) done stored)
     → IsKept m (m.moment old) done.entries stored (items ++ item_stored (m.moment old) done stored) new
 kept_change m old None done new items is keeps none within =
     record { dated = is.entries; keeps = subst (m.keeps new) (sym (append-nil items)) (is.kept items keeps) }
-kept_change m old (Some key) done new items is keeps none within = kept_entry m old key done new items is keeps none within
+kept_change m old (Some key) done new items is keeps none within =
+    kept_entry m old key done new items is keeps none within
 
 -- an engine keeps what its map keeps
-pub kept_from_handled : {M P : Type 0} (m : MapOf M P) (old : Engine M) (t : ℕ) (q : Request) (reply : Reply) (new : Engine M)
+pub kept_from_handled : {M P : Type 0} (m : MapOf M P) (old : Engine M) (t : ℕ) (q : Request) (reply : Reply)
+    (new : Engine M)
     → IsHandled m old t q reply new
-    → KeepsAll (λ (engine : Engine M). m.sizes engine.map) (cache_in m.entries) (λ (engine : Engine M) items. m.keeps engine.map items) old t q reply new
+    → KeepsAll (λ (engine : Engine M). m.sizes engine.map) (cache_in m.entries)
+    (λ (engine : Engine M) items. m.keeps engine.map items) old t q reply new
 kept_from_handled m old t q reply new h items keeps sets within =
     let sizes = m.sizes old.map in
     let before = found_at (cache_in m.entries old) t in
@@ -88,18 +101,25 @@ kept_from_handled m old t q reply new h items keeps sets within =
     elim h.leaves.gives [
       | inl d ↦
           let other : reply ≡ NoMemory → ⊥ = λ is. answers_act (item_limit sizes) before t q (sym d.reply_is ∙ is) in
-          let item : stored_in sizes (cache_in m.entries old) t q reply ≡ item_stored t done done.stored = answered_item reply
+          let item : stored_in sizes (cache_in m.entries old) t q reply ≡ item_stored t done done.stored =
+          answered_item reply
           (item_stored t done done.stored) other in
-          let all : items ++ stored_in sizes (cache_in m.entries old) t q reply ≡ items ++ item_stored t done done.stored = ap
+          let all : items ++ stored_in sizes (cache_in m.entries old) t q reply
+          ≡ items ++ item_stored t done done.stored = ap
           (λ (more : List StoredItem). items ++ more) item in
           let none : AddsNone (m.entries h.found.map) done.entries done.stored =
-          subst (λ (c : Cache). AddsNone c.entries done.entries done.stored) (sym h.found_is) (none_act (item_limit sizes) before t q sets) in
-          let bound : IsWithinBound (m.sizes h.found.map) (items ++ item_stored (m.moment h.found.map) done done.stored) =
-          subst (λ (s : Sizes). IsWithinBound s (items ++ item_stored (m.moment h.found.map) done done.stored)) (sym h.sizes_same)
-          (subst (λ (at : ℕ). IsWithinBound sizes (items ++ item_stored at done done.stored)) (sym h.moment_is) (subst (IsWithinBound sizes) all within)) in
+          subst (λ (c : Cache). AddsNone c.entries done.entries done.stored) (sym h.found_is)
+          (none_act (item_limit sizes) before t q sets) in
+          let bound : IsWithinBound (m.sizes h.found.map)
+          (items ++ item_stored (m.moment h.found.map) done done.stored) =
+          subst (λ (s : Sizes). IsWithinBound s (items ++ item_stored (m.moment h.found.map) done done.stored))
+          (sym h.sizes_same)
+          (subst (λ (at : ℕ). IsWithinBound sizes (items ++ item_stored at done done.stored)) (sym h.moment_is)
+          (subst (IsWithinBound sizes) all within)) in
           let kept = kept_change m h.found.map done.stored done new.map items d.changes found_keeps none bound in (
             inr (subst (λ (at : ℕ). IsDated at done.entries done.stored (m.entries new.map)) h.moment_is kept.dated),
-            subst (m.keeps new.map) (sym all) (subst (λ (at : ℕ). m.keeps new.map (items ++ item_stored at done done.stored)) h.moment_is kept.keeps),
+            subst (m.keeps new.map) (sym all)
+                (subst (λ (at : ℕ). m.keeps new.map (items ++ item_stored at done done.stored)) h.moment_is kept.keeps),
           )
       | inr d ↦
           let none : stored_in sizes (cache_in m.entries old) t q reply ≡ [] = ap

@@ -24,7 +24,8 @@ abbrev pub AddsNoneTo : Entries → Outcome → Type 0
 AddsNoneTo old done = AddsNone old done.entries done.stored
 
 -- of two outcomes
-none_if : (old : Entries) (b : Bool) (x y : Outcome) → AddsNoneTo old x → AddsNoneTo old y → AddsNoneTo old (if b then x else y)
+none_if : (old : Entries) (b : Bool) (x y : Outcome) → AddsNoneTo old x → AddsNoneTo old y
+    → AddsNoneTo old (if b then x else y)
 none_if old true x y on off = on
 none_if old false x y on off = off
 
@@ -34,7 +35,8 @@ none_write : (cache : Cache) (key : List ℕ) (entry : ℕ → Entry) (reply : R
     → AddsNoneTo cache.entries (write cache key entry reply)
 none_write cache key entry reply undated =
     let e = entry (cache.last_cas + 1) in
-    let there : deadline_at (map.insert cache.entries key e) key ≡ e.deadline = deadline_at-insert cache.entries key e in
+    let there : deadline_at (map.insert cache.entries key e) key ≡ e.deadline =
+    deadline_at-insert cache.entries key e in
     none_if cache.entries (cache.last_cas == max_cas) _ _ tt (elim (undated (cache.last_cas + 1)) [
       | inl none ↦ inl (there ∙ none)
       | inr same ↦ inr (there ∙ same)
@@ -45,10 +47,16 @@ none_put : (cache : Cache) (t : ℕ) (p : Put) → p.exptime ≡ pos 0 → AddsN
 none_put cache t p sets =
     let none : deadline_of p.exptime t ≡ None = ap (λ e. deadline_of e t) sets in
     none_if cache.entries (has_arrived (deadline_of p.exptime t) t) _ _ tt
-    (none_write cache p.key (λ cas. record { value = p.value; flags = p.flags; deadline = deadline_of p.exptime t; cas = cas }) Stored (λ cas. inl none))
+    (none_write cache p.key (λ cas. record {
+      value = p.value;
+      flags = p.flags;
+      deadline = deadline_of p.exptime t;
+      cas = cas;
+    }) Stored (λ cas. inl none))
 
 -- a put in place of an entry with a number
-none_same : (o : Option Entry) (cache : Cache) (t : ℕ) (p : Put) (unique : ℕ) → p.exptime ≡ pos 0 → AddsNoneTo cache.entries (put_same o cache t p unique)
+none_same : (o : Option Entry) (cache : Cache) (t : ℕ) (p : Put) (unique : ℕ) → p.exptime ≡ pos 0
+    → AddsNoneTo cache.entries (put_same o cache t p unique)
 none_same None cache t p unique sets = tt
 none_same (Some e) cache t p unique sets = none_if cache.entries (e.cas == unique) _ _ (none_put cache t p sets) tt
 
@@ -60,19 +68,24 @@ none_change new (Some e) cache key is =
     let n = new (digits_value 10 e.value) in
     let same : deadline_at cache.entries key ≡ e.deadline = rw is refl in
     none_if cache.entries (is_number e.value) _ _
-    (none_write cache key (λ cas. record { value = decimal n; flags = e.flags; deadline = e.deadline; cas = cas }) (Number n) (λ cas. inr (sym same))) tt
+    (none_write cache key (λ cas. record { value = decimal n; flags = e.flags; deadline = e.deadline; cas = cas })
+    (Number n) (λ cas. inr (sym same))) tt
 
 -- any request
-pub none_act : (limit : ℕ) (cache : Cache) (t : ℕ) (q : Request) → SetsNoDeadline q → AddsNoneTo cache.entries (act limit cache t q)
+pub none_act : (limit : ℕ) (cache : Cache) (t : ℕ) (q : Request) → SetsNoDeadline q
+    → AddsNoneTo cache.entries (act limit cache t q)
 none_act limit cache t (Get keys with_cas) sets = tt
 none_act limit cache t (Set p) sets = none_if cache.entries (is_too_large limit p) _ _ tt (none_put cache t p sets)
 none_act limit cache t (Add p) sets =
-    none_if cache.entries (is_too_large limit p) _ _ tt (none_if cache.entries (map.contains_key cache.entries p.key) _ _ tt (none_put cache t p sets))
+    none_if cache.entries (is_too_large limit p) _ _ tt
+    (none_if cache.entries (map.contains_key cache.entries p.key) _ _ tt (none_put cache t p sets))
 none_act limit cache t (Replace p) sets =
-    none_if cache.entries (is_too_large limit p) _ _ tt (none_if cache.entries (map.contains_key cache.entries p.key) _ _ (none_put cache t p sets) tt)
+    none_if cache.entries (is_too_large limit p) _ _ tt
+    (none_if cache.entries (map.contains_key cache.entries p.key) _ _ (none_put cache t p sets) tt)
 none_act limit cache t (Cas p unique) sets =
     none_if cache.entries (is_too_large limit p) _ _ tt (none_same (map.get cache.entries p.key) cache t p unique sets)
 none_act limit cache t (Delete key) sets = none_if cache.entries (map.contains_key cache.entries key) _ _ tt tt
-none_act limit cache t (Incr key amount) sets = none_change (λ n. (n + amount) % 2 ^ 64) (map.get cache.entries key) cache key refl
+none_act limit cache t (Incr key amount) sets =
+    none_change (λ n. (n + amount) % 2 ^ 64) (map.get cache.entries key) cache key refl
 none_act limit cache t (Decr key amount) sets = none_change (λ n. n - amount) (map.get cache.entries key) cache key refl
 none_act limit cache t (FlushAll delay) sets = none_if cache.entries (delay == 0) _ _ tt tt

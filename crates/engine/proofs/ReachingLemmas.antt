@@ -12,9 +12,11 @@ use Rattle.proto.specs.Cache.{Cache, empty_cache}
 use Rattle.proto.specs.Steps.{Step}
 use Rattle.proto.specs.History.{max_moment, MomentsFrom, Chain, NumbersFrom, worker_share, Legal}
 use Rattle.engine.specs.Reaching.{moments, moment_after, moments_after, last_or, last_cache, Reaches}
+use Rattle.proto.proofs.CountLemmas.{share_mine, share_other}
 
 -- a chain with one step more
-pub chain_more : (sizes : Sizes) (before : Cache) (h : List Answered) (caches : List Cache) (e : Answered) (after : Cache)
+pub chain_more : (sizes : Sizes) (before : Cache) (h : List Answered) (caches : List Cache) (e : Answered)
+    (after : Cache)
     → Chain sizes before h caches → Step sizes (last_cache before caches) e.moment e.request e.reply after
     → Chain sizes before (h ++ e ∷ []) (caches ++ after ∷ [])
 chain_more sizes before [] [] e after c s = (s, tt)
@@ -23,7 +25,8 @@ chain_more sizes before (b ∷ h) [] e after c s = absurd c
 chain_more sizes before (b ∷ h) (x ∷ caches) e after c s = (c.0, chain_more sizes x h caches e after c.1 s)
 
 -- the cache behind that step is the last one
-pub last_more : (before : Cache) (caches : List Cache) (after : Cache) → last_cache before (caches ++ after ∷ []) ≡ after
+pub last_more : (before : Cache) (caches : List Cache) (after : Cache)
+    → last_cache before (caches ++ after ∷ []) ≡ after
 last_more before [] after = refl
 last_more before (x ∷ caches) after = last_more x caches after
 
@@ -37,26 +40,15 @@ pub moments_more : (h : List Answered) (e : Answered) → moments (h ++ e ∷ []
 moments_more h e = map-append (λ (x : Answered). x.moment) h (e ∷ [])
 
 -- moments that don't fall, and one more that isn't below the last of them
-rising_more : (t : ℕ) (h : List Answered) (e : Answered) → MomentsFrom t h → last_or t (moments h) ≤ e.moment → e.moment ≤ max_moment
+rising_more : (t : ℕ) (h : List Answered) (e : Answered) → MomentsFrom t h → last_or t (moments h) ≤ e.moment
+    → e.moment ≤ max_moment
     → MomentsFrom t (h ++ e ∷ [])
 rising_more t [] e r low high = (low, high, tt)
 rising_more t (b ∷ h) e r low high = (r.0, r.1, rising_more b.moment h e r.2 low high)
 
--- the share of the worker of one more request, and those of the others
-share_more : (h : List Answered) (e : Answered) (w : ℕ) → e.worker ≡ w → worker_share (h ++ e ∷ []) w ≡ worker_share h w ++ e ∷ []
-share_more h e w is =
-    filter-append (λ (x : Answered). x.worker == w) h (e ∷ [])
-    ∙ ap (λ (b : Bool). worker_share h w ++ (let l : List Answered = cond b (e ∷ []) [] in l)) (eq-eqb e.worker w is)
-
--- where one more request is another worker's, the share of a worker stays
-share_else : (h : List Answered) (e : Answered) (w : ℕ) → e.worker ≢ w → worker_share (h ++ e ∷ []) w ≡ worker_share h w
-share_else h e w other =
-    filter-append (λ (x : Answered). x.worker == w) h (e ∷ [])
-    ∙ ap (λ (b : Bool). worker_share h w ++ (let l : List Answered = cond b (e ∷ []) [] in l)) (ne_eqb e.worker w other)
-    ∙ append-nil (worker_share h w)
-
 -- numbers that count on by one, and the next one
-numbers_more : (n : ℕ) (h : List Answered) (e : Answered) → NumbersFrom n h → e.number ≡ n + length h → NumbersFrom n (h ++ e ∷ [])
+numbers_more : (n : ℕ) (h : List Answered) (e : Answered) → NumbersFrom n h → e.number ≡ n + length h
+    → NumbersFrom n (h ++ e ∷ [])
 numbers_more n [] e r is = (is ∙ (omega arith), tt)
 numbers_more n (b ∷ h) e r is = (r.0, numbers_more (n + 1) h e r.1 (is ∙ (omega arith)))
 
@@ -75,8 +67,8 @@ reaches_more sizes h c after m e r s low high next = record {
   numbers = λ w. dite (ℕ_discrete e.worker w)
       (λ mine.
       let next_is = next ∙ (ap (λ (z : ℕ). length (worker_share h z) + 1) mine ∙ (omega arith)) in
-      subst (NumbersFrom 1) (sym (share_more h e w mine)) (numbers_more 1 (worker_share h w) e (r.numbers w) next_is))
-      (λ other. subst (NumbersFrom 1) (sym (share_else h e w other)) (r.numbers w));
+      subst (NumbersFrom 1) (sym (share_mine h e w mine)) (numbers_more 1 (worker_share h w) e (r.numbers w) next_is))
+      (λ other. subst (NumbersFrom 1) (sym (share_other h e w other)) (r.numbers w));
 }
 
 -- a history that leads somewhere is legal
@@ -85,6 +77,8 @@ legal_of sizes h c m r = record { moments = r.moments_are; caches = r.caches; ch
 
 -- the moment of one more request is that of the clock's next answer
 pub times_more : (last : ℕ) (answers : List ℕ) (n : ℕ)
-    → moments_after last (answers ++ n ∷ []) ≡ moments_after last answers ++ moment_after (last_or last (moments_after last answers)) n ∷ []
+    → moments_after last (answers ++ n ∷ [])
+    ≡ moments_after last answers ++ moment_after (last_or last (moments_after last answers)) n ∷ []
 times_more last [] n = refl
-times_more last (a ∷ answers) n = ap (λ (l : List ℕ). moment_after last a ∷ l) (times_more (moment_after last a) answers n)
+times_more last (a ∷ answers) n = ap (λ (l : List ℕ). moment_after last a ∷ l)
+    (times_more (moment_after last a) answers n)

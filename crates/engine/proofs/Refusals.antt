@@ -21,14 +21,20 @@ answers_if true x y on off = on
 answers_if false x y on off = off
 
 -- nor is a write
-answers_write : (cache : Cache) (key : List ℕ) (entry : ℕ → Entry) (reply : Reply) → reply ≢ NoMemory → Answers (write cache key entry reply)
+answers_write : (cache : Cache) (key : List ℕ) (entry : ℕ → Entry) (reply : Reply) → reply ≢ NoMemory
+    → Answers (write cache key entry reply)
 answers_write cache key entry reply other = answers_if (cache.last_cas == max_cas) _ _ (λ e. cc) other
 
 -- nor a put
 answers_put : (cache : Cache) (t : ℕ) (p : Put) → Answers (put cache t p)
 answers_put cache t p =
     answers_if (has_arrived (deadline_of p.exptime t) t) _ _ (λ e. cc)
-    (answers_write cache p.key (λ cas. record { value = p.value; flags = p.flags; deadline = deadline_of p.exptime t; cas = cas }) Stored (λ e. cc))
+    (answers_write cache p.key (λ cas. record {
+      value = p.value;
+      flags = p.flags;
+      deadline = deadline_of p.exptime t;
+      cas = cas;
+    }) Stored (λ e. cc))
 
 -- nor a put under the cas number given
 answers_same : (o : Option Entry) (cache : Cache) (t : ℕ) (p : Put) (unique : ℕ) → Answers (put_same o cache t p unique)
@@ -41,18 +47,23 @@ answers_change new None cache key = λ e. cc
 answers_change new (Some e) cache key =
     let n = new (digits_value 10 e.value) in
     answers_if (is_number e.value) _ _ (answers_write cache key
-    (λ cas. record { value = decimal n; flags = e.flags; deadline = e.deadline; cas = cas }) (Number n) (λ e. cc)) (λ e. cc)
+    (λ cas. record { value = decimal n; flags = e.flags; deadline = e.deadline; cas = cas }) (Number n) (λ e. cc))
+    (λ e. cc)
 
 -- no outcome is a want of memory
 pub answers_act : (limit : ℕ) (cache : Cache) (t : ℕ) (q : Request) → Answers (act limit cache t q)
 answers_act limit cache t (Get keys with_cas) = λ e. cc
 answers_act limit cache t (Set p) = answers_if (is_too_large limit p) _ _ (λ e. cc) (answers_put cache t p)
 answers_act limit cache t (Add p) =
-    answers_if (is_too_large limit p) _ _ (λ e. cc) (answers_if (map.contains_key cache.entries p.key) _ _ (λ e. cc) (answers_put cache t p))
+    answers_if (is_too_large limit p) _ _ (λ e. cc)
+    (answers_if (map.contains_key cache.entries p.key) _ _ (λ e. cc) (answers_put cache t p))
 answers_act limit cache t (Replace p) =
-    answers_if (is_too_large limit p) _ _ (λ e. cc) (answers_if (map.contains_key cache.entries p.key) _ _ (answers_put cache t p) (λ e. cc))
-answers_act limit cache t (Cas p unique) = answers_if (is_too_large limit p) _ _ (λ e. cc) (answers_same (map.get cache.entries p.key) cache t p unique)
+    answers_if (is_too_large limit p) _ _ (λ e. cc)
+    (answers_if (map.contains_key cache.entries p.key) _ _ (answers_put cache t p) (λ e. cc))
+answers_act limit cache t (Cas p unique) =
+    answers_if (is_too_large limit p) _ _ (λ e. cc) (answers_same (map.get cache.entries p.key) cache t p unique)
 answers_act limit cache t (Delete key) = answers_if (map.contains_key cache.entries key) _ _ (λ e. cc) (λ e. cc)
-answers_act limit cache t (Incr key amount) = answers_change (λ n. (n + amount) % 2 ^ 64) (map.get cache.entries key) cache key
+answers_act limit cache t (Incr key amount) =
+    answers_change (λ n. (n + amount) % 2 ^ 64) (map.get cache.entries key) cache key
 answers_act limit cache t (Decr key amount) = answers_change (λ n. n - amount) (map.get cache.entries key) cache key
 answers_act limit cache t (FlushAll delay) = answers_if (delay == 0) _ _ (λ e. cc) (λ e. cc)

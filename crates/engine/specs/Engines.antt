@@ -61,7 +61,8 @@ pub record Leaves {M P : Type 0} (m : MapOf M P) (old new : Engine M) (done : Ou
   pub gives : IsDone m old new done reply ⊎ IsDenied m old new done reply
 
 -- the engine went on to the moment, and the request was executed on what was found there
-pub record IsHandled {M P : Type 0} (m : MapOf M P) (old : Engine M) (t : ℕ) (q : Request) (reply : Reply) (new : Engine M) : Type 0 where
+pub record IsHandled {M P : Type 0} (m : MapOf M P) (old : Engine M) (t : ℕ) (q : Request) (reply : Reply)
+    (new : Engine M) : Type 0 where
   pub found : Engine M
   pub found_is : cache_in m.entries found ≡ found_at (cache_in m.entries old) t
   pub sizes_same : m.sizes found.map ≡ m.sizes old.map

@@ -25,7 +25,8 @@ AddsNoDeadline old key entry = (entry.deadline ≡ None) ⊎ (entry.deadline ≡
 
 -- Where items were kept, and are within the bound together with the entry that is written, it is kept with them, and
 -- nothing is forgotten.
-abbrev pub KeepsEntry : {M : Type 0} → (M → Sizes) → (M → Entries) → (M → ℕ) → (M → List StoredItem → Type 0) → M → List ℕ → Entry → M → Type 0
+abbrev pub KeepsEntry : {M : Type 0} → (M → Sizes) → (M → Entries) → (M → ℕ) → (M → List StoredItem → Type 0) → M
+    → List ℕ → Entry → M → Type 0
 KeepsEntry sizes entries moment keeps old key entry new =
     (items : List StoredItem) → keeps old items → AddsNoDeadline (entries old) key entry
     → (let all = items ++ stored_item_of (moment old) key (Some entry) in
@@ -45,7 +46,8 @@ ForgetsNone sizes before t q reply after =
 
 -- Where items were kept, the request sets no deadline, and they are within the bound together with the item that it
 -- stores, nothing is forgotten, and that item is kept with them.
-abbrev pub KeepsAll : {E : Type 0} → (E → Sizes) → (E → Cache) → (E → List StoredItem → Type 0) → E → ℕ → Request → Reply → E → Type 0
+abbrev pub KeepsAll : {E : Type 0} → (E → Sizes) → (E → Cache) → (E → List StoredItem → Type 0) → E → ℕ → Request
+    → Reply → E → Type 0
 KeepsAll sizes cache keeps old t q reply new =
     (items : List StoredItem) → keeps old items → SetsNoDeadline q
     → (let all = items ++ stored_in (sizes old) (cache old) t q reply in

@@ -6,6 +6,7 @@ pub mod Outcomes
 pub mod Keeping
 pub mod Counting
 pub mod Members
+pub mod Finding
 pub mod Showing
 pub mod Engines
 pub mod Reaching

@@ -8,7 +8,8 @@ use Rattle.engine.specs.Counting.{CountsEach, keys_of}
 
 -- What was written are the hits of the keys, without room that is left; a read of each was counted, one after the other, and
 -- the map has what it had.
-pub record HasShown {M P : Type 0} (m : MapOf M P) (old : M) (keys : List (List ℕ)) (new : M) (written : Writing) : Type 0 where
+pub record HasShown {M P : Type 0} (m : MapOf M P) (old : M) (keys : List (List ℕ)) (new : M)
+    (written : Writing) : Type 0 where
   pub hits : written.hits ≡ hits_of (m.entries old) keys
   pub exact : written.room ≡ 0
   pub counted : CountsEach m.reads old (keys_of (hits_of (m.entries old) keys)) new

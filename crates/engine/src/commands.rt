@@ -21,8 +21,7 @@ use crate::number::{Change, number_of};
 use crate::size::is_too_large;
 use crate::storage_engine::StorageEngine;
 use itoa::Buffer;
-use proto::keys::Keys;
-use proto::message::{Put, Reply, Request};
+use proto::{Keys, Put, Reply, Request};
 
 /// A cache over a map of live entries.
 #[derive(Drop)]

@@ -1,18 +1,16 @@
 //! What a `get` shows.
 
-ghost use Rattle.std.specs.Prelude.{◌≡◌, ◌<◌, ◌∷◌, [], length, sum_by, IfOk, MatchOption, OnErr, OnOk};
+ghost use Rattle.std.specs.Prelude.{◌≡◌, ◌+◌, ◌<◌, ◌∷◌, [], length, sum_by, IfOk, IfSome, OnErr};
 ghost use Rattle.proto.specs.Commands.{hit_of, hits_of};
 ghost use Rattle.proto.specs.Hits.{packed_size};
 ghost use Rattle.proto.specs.SeenHits.{seen_hit};
 ghost use Rattle.engine.specs.Shown.{entry_of};
+ghost use Rattle.engine.specs.Finding.{AreFound, HasFound, keys_found};
 ghost use Rattle.engine.specs.Showing.{HasShown};
 
 use crate::entry_ref::EntryRef;
 use crate::live_map::LiveMap;
-use proto::hits::{HitRef, HitWriter};
-use proto::keys::Keys;
-use proto::no_memory::NoMemory;
-use proto::words::Words;
+use proto::{HitRef, HitWriter, Keys, NoMemory};
 
 /// The entry at the key, lent.
 fn hit_of<'a>(key: &'a [u8], entry: EntryRef<'a>) -> HitRef<'a>
@@ -26,17 +24,66 @@ fn hit_of<'a>(key: &'a [u8], entry: EntryRef<'a>) -> HitRef<'a>
     }
 }
 
-/// The room that the hits of the keys take; None where it is more than memory can have.
-fn room_of<M: LiveMap>(map: &M, mut keys: Words) -> Option<usize>
-    ensures { MatchOption result (0 < length (hits_of (M.entries map.now) keys.entry)) (λ room. room ≡ sum_by packed_size (hits_of (M.entries map.now) keys.entry)) }
+/// A key that is there, and where its entry stands.
+#[derive(Clone, Copy)]
+struct Found<'k, P> {
+    key: &'k [u8],
+    place: P,
+}
+
+/// What was found of a key.
+fn found_at<'k, P: Copy>(key: &'k [u8], place: P) -> Found<'k, P>
+    ensures key { result.key.now ≡ key.now }
+    ensures place { result.place ≡ place }
 {
+    Found { key, place }
+}
+
+/// The room with that of one more hit; None where it is more than memory can have.
+fn room_with(room: usize, hit: HitRef) -> Option<usize>
+    ensures { IfSome result (λ n. n ≡ room + packed_size (seen_hit hit.entry)) }
+{
+    room.checked_add(hit.room()?)
+}
+
+/// Looks the keys up once: those that are there, and the room that their hits take.
+fn find_keys<'k, M: LiveMap>(
+    map: &M,
+    keys: &'k Keys,
+) -> Result<(Vec<Found<'k, M::Place>>, usize), NoMemory>
+    ensures found { IfOk result (λ f. HasFound M.LiveMap map.now keys.now f.0.items) }
+    ensures room { IfOk result (λ f. f.1 ≡ sum_by packed_size (hits_of (M.entries map.now) keys.now)) }
+    ensures err { OnErr result (0 < length (hits_of (M.entries map.now) keys.now)) }
+{
+    let mut found = Vec::new(keys.allocator());
     let mut room: usize = 0;
-    while let Some(key) = keys.next() {
-        if let Some((entry, _)) = map.get(key) {
-            room = room.checked_add(hit_of(key, entry).room()?)?;
+    let mut words = keys.iter();
+    while let Some(key) = words.next() {
+        if let Some((entry, place)) = map.get(key) {
+            room = room_with(room, hit_of(key, entry)).ok_or(NoMemory)?;
+            // With the first key that is there, memory for all is taken.
+            let wanted = if found.is_empty() { keys.len() } else { 1 };
+            found.reserve(wanted)?;
+            found.push(found_at(key, place))?;
         }
     }
-    Some(room)
+    Ok((found, room))
+}
+
+/// The hits of keys that were found, for which there is room; a read of each is counted. The writer is new.
+fn hits_found<M: LiveMap>(map: &mut M, found: &[Found<M::Place>], hits: HitWriter) -> HitWriter
+    requires found { AreFound M.LiveMap map.old found.now }
+    requires hits { hits ≡ record { hits = []; room = sum_by packed_size (hits_of (M.entries map.old) (keys_found found.now)) } }
+    ensures { HasShown M.LiveMap map.old (keys_found found.now) map.new result }
+{
+    let mut hits = hits;
+    for i in 0..found.len() {
+        let key = found[i].key;
+        let place = found[i].place;
+        hits.push(hit_of(key, map.entry_at(key, place)));
+        map.count_read(key, place);
+    }
+    hits
 }
 
 /// The hit of the only key, which is looked up once. The writer is new.
@@ -56,26 +103,21 @@ fn hit_of_only<M: LiveMap>(map: &mut M, only: &[u8], hits: HitWriter) -> Result<
     Ok(hits)
 }
 
-/// The hits of the keys, for which all memory is taken at once. The writer is new.
+/// The hits of the keys, each of which is looked up once, and for which all memory is taken at once. The writer is new.
 fn hits_of_keys<M: LiveMap>(
     map: &mut M,
-    mut keys: Words,
+    keys: &Keys,
     hits: HitWriter,
 ) -> Result<HitWriter, NoMemory>
     requires { hits ≡ record { hits = []; room = 0 } }
-    ensures ok { IfOk result (λ written. HasShown M.LiveMap map.old keys.entry map.new written) }
-    ensures err { OnErr result (0 < length (hits_of (M.entries map.old) keys.entry)) }
+    ensures ok { IfOk result (λ written. HasShown M.LiveMap map.old keys.now map.new written) }
+    ensures err { OnErr result (0 < length (hits_of (M.entries map.old) keys.now)) }
     ensures refused { OnErr result (map.new ≡ map.old) }
 {
     let mut hits = hits;
-    hits.reserve(room_of(map, keys.again()).ok_or(NoMemory)?)?;
-    while let Some(key) = keys.next() {
-        if let Some((entry, place)) = map.get(key) {
-            hits.push(hit_of(key, entry));
-            map.count_read(key, place);
-        }
-    }
-    Ok(hits)
+    let (found, room) = find_keys(map, keys)?;
+    hits.reserve(room)?;
+    Ok(hits_found(map, found.as_slice(), hits))
 }
 
 /// The hits of the keys, in the room that they were lent where that is large enough; a read of each is counted. Where none
@@ -89,6 +131,6 @@ pub fn hits_of<M: LiveMap>(map: &mut M, keys: &mut Keys) -> Result<HitWriter, No
     let hits = HitWriter::in_room(keys.take_room());
     match keys.only() {
         Some(only) => hit_of_only(map, only, hits),
-        None => hits_of_keys(map, keys.iter(), hits),
+        None => hits_of_keys(map, keys, hits),
     }
 }

@@ -2,15 +2,16 @@
 #![tactic(auto)]
 
 mod commands;
-pub mod deadline;
+mod deadline;
 mod entry_ref;
 mod hits;
 mod live_map;
-pub mod number;
-pub mod size;
+mod number;
+mod size;
 mod storage_engine;
 
 pub use commands::Engine;
+pub use deadline::has_arrived;
 pub use entry_ref::EntryRef;
 pub use live_map::LiveMap;
 pub use storage_engine::{MAX_MOMENT, StorageEngine};

@@ -1,6 +1,6 @@
 //! What an engine asks of the map that has its entries.
 
-ghost use Rattle.std.specs.Prelude.{◌≡◌, ℕ, ◌≤◌, Bool, List, OnOk, OnErr, IfSome, IsTrue, false};
+ghost use Rattle.std.specs.Prelude.{◌≡◌, ℕ, ◌≤◌, Bool, List, OnOk, OnErr, IfSome, IsSome, IsTrue, Some, false};
 ghost use Rattle.std.specs.Option.{option_map};
 ghost use Rattle.std.specs.FinMap as map;
 ghost use Rattle.proto.specs.Sizes.{Sizes, IsGeometry, item_limit};
@@ -13,7 +13,7 @@ ghost use Rattle.engine.specs.Keeping.{StaysKept, KeepsEntry};
 ghost use Rattle.engine.specs.Counting.{StaysAlike};
 
 use crate::entry_ref::EntryRef;
-use proto::no_memory::NoMemory;
+use proto::NoMemory;
 
 /// Entries by their keys, as they are seen at the last moment.
 pub trait LiveMap {
@@ -72,13 +72,20 @@ pub trait LiveMap {
         ensures stands { IfSome result (λ r. stands self.now key.now r.1) }
         ensures waits { IfSome result (λ r. has_arrived r.0.deadline (moment self.now) ≡ false) };
 
+    /// The entry at the key, which stands at the place, without a search.
+    fn entry_at<'a>(&'a self, key: &[u8], place: Self::Place) -> EntryRef<'a>
+        requires stands { stands self.now key.now place }
+        requires there { IsSome (map.get (entries self.now) key.now) }
+        ensures { Some (entry_of result) ≡ map.get (entries self.now) key.now };
+
     fn contains_key(&self, key: &[u8]) -> bool
         ensures { result ≡ map.contains_key (entries self.now) key.now };
 
-    /// Counts a read of the entry at the key, which stands at the place.
+    /// Counts a read of the entry at the key, which stands at the place. All entries stand where they stood.
     fn count_read(&mut self, key: &[u8], place: Self::Place)
         requires { stands self.old key.now place }
         ensures counted { reads self.old key.now self.new }
+        ensures stands { (other : List ℕ) (there : Self.Place) → stands self.old other there → stands self.new other there }
         ensures entries { entries self.new ≡ entries self.old }
         ensures sizes { sizes self.new ≡ sizes self.old }
         ensures moment { moment self.new ≡ moment self.old }

@@ -9,7 +9,7 @@ ghost use Rattle.proto.specs.History.{max_moment};
 ghost use Rattle.engine.specs.Outcomes.{outcome_at, needs_memory};
 ghost use Rattle.engine.specs.Keeping.{KeepsAll};
 
-use proto::message::{Reply, Request};
+use proto::{Reply, Request};
 
 /// The greatest moment in seconds.
 pub const MAX_MOMENT: u64 = 4_611_686_018_427_387_904;
@@ -44,7 +44,8 @@ pub trait StorageEngine {
         ensures moment { moment self.new ≡ now }
 
         // want of memory is answered only where an item would be stored or a hit be shown
-        ensures succeeds { needs_memory true (outcome_at (sizes self.old) (cache self.old) now request.old) ≡ false → result ≢ Reply.NoMemory }
+        ensures succeeds { needs_memory true (outcome_at (sizes self.old) (cache self.old) now request.old) ≡ false
+            → result ≢ Reply.NoMemory }
 
         // nothing is forgotten while little is stored, and nothing with a deadline
         ensures kept { KeepsAll sizes cache keeps self.old now request.old result self.new };

@@ -31,21 +31,25 @@ use Rattle.exchange.specs.Seats.{IsWaiting, IsNamed}
 use Rattle.exchange.specs.Ends.{WorkerView, WorkerBatchView, max_posts, flushed, IsToldDone, WasTold, TakesAnswer, new_worker_view, new_storage_view, AreNew}
 use Rattle.exchange.specs.Ends.{AreMade}
 use Rattle.exchange.specs.Ends.{StorageView}
-use Rattle.exchange.proofs.Shares.{share_other}
 use Rattle.exchange.proofs.Known.{last_look_at}
 use Rattle.exchange.specs.Ends.{LastLook}
 use Rattle.exchange.proofs.Lists.{at_below, at_end, starts_more, starts_below, take_whole, take_front}
 use Rattle.atomic_table.specs.Seated.{TableId}
 use Rattle.proto.specs.Sizes.{Sizes}
+use Rattle.proto.proofs.CountLemmas.{share_other}
 
 -- the answers that a worker is told of are no more than its requests
-pub few_answers : (c : WorkerState) (d : ℕ) (g : List Answered) → Learnt c d g → length (worker_share g c.worker) ≤ length c.sent
-few_answers c d g h = let e = ap length h.asks in omega (arith, e, length-map (worker_share g c.worker) posted_of, length-take d c.sent)
+pub few_answers : (c : WorkerState) (d : ℕ) (g : List Answered) → Learnt c d g
+    → length (worker_share g c.worker) ≤ length c.sent
+few_answers c d g h = let e = ap length h.asks in
+    omega (arith, e, length-map (worker_share g c.worker) posted_of, length-take d c.sent)
 
 -- after a load of done that found d, so many answers are known
-pub told_of_load : (c : WorkerState) (d n known : ℕ) (g : List Answered) → Learnt c d g → length c.sent ≡ n → ((d < n) × (known ≡ d)) ⊎ ((n ≤ d) × (known ≡ n))
+pub told_of_load : (c : WorkerState) (d n known : ℕ) (g : List Answered) → Learnt c d g → length c.sent ≡ n
+    → ((d < n) × (known ≡ d)) ⊎ ((n ≤ d) × (known ≡ n))
     → (asked_posted (worker_share g c.worker) ≡ take known c.sent) × (length (worker_share g c.worker) ≡ known)
-told_of_load c d n known g h n_is known_is = let e = ap length h.asks in let l : ℕ = length (worker_share g c.worker) in ⊎_elim
+told_of_load c d n known g h n_is known_is = let e = ap length h.asks in
+    let l : ℕ = length (worker_share g c.worker) in ⊎_elim
     (λ (k : (d < n) × (known ≡ d)). let below : d < n = k.0 in let is : known ≡ d = k.1 in (
       h.asks
           ∙ ap (λ (z : ℕ). take z c.sent) (sym is),
@@ -64,14 +68,19 @@ abbrev pub Least : ℕ → ℕ → ℕ → Type 0
 Least known d n = ((d < n) × (known ≡ d)) ⊎ ((n ≤ d) × (known ≡ n))
 
 -- the fields agree once an answer was counted
-pub taken_more : (me me' : SeatState) (w sent put back known known' d : ℕ) (bye : Bool) (result : Option Answered) → WorkerAgrees me w sent put back known bye
-    → is_some result ≡ true → StateTakes (worker_state_in me.0) d result (worker_state_in me'.0) → me' ≡ (Worker (worker_state_in me'.0), [])
+pub taken_more : (me me' : SeatState) (w sent put back known known' d : ℕ) (bye : Bool) (result : Option Answered)
+    → WorkerAgrees me w sent put back known bye
+    → is_some result ≡ true → StateTakes (worker_state_in me.0) d result (worker_state_in me'.0)
+    → me' ≡ (Worker (worker_state_in me'.0), [])
     → Least known' d sent → WorkerAgrees me' w sent put (back + 1) known' bye
 taken_more me me' w sent put back known known' d bye None r e t seat least = absurd (true≢false (sym e))
-taken_more me me' w sent put back known known' d bye (Some a) r _ t seat least = let c : WorkerState = worker_state_in me.0 in
+taken_more me me' w sent put back known known' d bye (Some a) r _ t seat least = let c : WorkerState =
+    worker_state_in me.0 in
     let few : length (worker_share t.0 c.worker) ≤ length c.sent = few_answers c d t.0 t.1 in let at = t.2.0 in
-    let below : length c.back < length (worker_share t.0 c.worker) = at_below (worker_share t.0 c.worker) (length c.back) a at in
-    let is = t.2.1 in let sent_is : length c.sent ≡ sent = r.sent_is in let back_is : length c.back ≡ back = r.back_is in let order = r.order in
+    let below : length c.back < length (worker_share t.0 c.worker) =
+    at_below (worker_share t.0 c.worker) (length c.back) a at in
+    let is = t.2.1 in let sent_is : length c.sent ≡ sent = r.sent_is in
+    let back_is : length c.back ≡ back = r.back_is in let order = r.order in
     let o0 : sent + put ≤ back + 64 = order.2 in let now = told_of_load c d sent known' t.0 t.1 sent_is least in
     let known_is : length (worker_share t.0 c.worker) ≡ known' = now.1 in record {
       seated = seat;
@@ -99,15 +108,21 @@ taken_more me me' w sent put back known known' d bye (Some a) r _ t seat least =
     }
 
 -- the fields agree where no answer came, too
-pub taken_none : (me me' : SeatState) (w sent put back known known' d : ℕ) (bye : Bool) (result : Option Answered) → WorkerAgrees me w sent put back known bye
-    → is_some result ≡ false → StateTakes (worker_state_in me.0) d result (worker_state_in me'.0) → me' ≡ (Worker (worker_state_in me'.0), [])
+pub taken_none : (me me' : SeatState) (w sent put back known known' d : ℕ) (bye : Bool) (result : Option Answered)
+    → WorkerAgrees me w sent put back known bye
+    → is_some result ≡ false → StateTakes (worker_state_in me.0) d result (worker_state_in me'.0)
+    → me' ≡ (Worker (worker_state_in me'.0), [])
     → Least known' d sent → WorkerAgrees me' w sent put back known' bye
 taken_none me me' w sent put back known known' d bye (Some a) r e t seat least = absurd (true≢false e)
-taken_none me me' w sent put back known known' d bye None r _ t seat least = let c : WorkerState = worker_state_in me.0 in
+taken_none me me' w sent put back known known' d bye None r _ t seat least = let c : WorkerState =
+    worker_state_in me.0 in
     let few : length (worker_share t.0 c.worker) ≤ length c.sent = few_answers c d t.0 t.1 in
-    let is = t.2.1 in let sent_is : length c.sent ≡ sent = r.sent_is in let back_is : length c.back ≡ back = r.back_is in let order = r.order in
-    let now = told_of_load c d sent known' t.0 t.1 sent_is least in let known_is : length (worker_share t.0 c.worker) ≡ known' = now.1 in
-    let low : length c.back ≤ length (worker_share t.0 c.worker) = starts_below (worker_share t.0 c.worker) c.back t.1.back in record {
+    let is = t.2.1 in let sent_is : length c.sent ≡ sent = r.sent_is in
+    let back_is : length c.back ≡ back = r.back_is in let order = r.order in
+    let now = told_of_load c d sent known' t.0 t.1 sent_is least in
+    let known_is : length (worker_share t.0 c.worker) ≡ known' = now.1 in
+    let low : length c.back ≤ length (worker_share t.0 c.worker) =
+    starts_below (worker_share t.0 c.worker) c.back t.1.back in record {
       seated = seat;
       worker_is = ap (λ (z : WorkerState). z.worker) is ∙ r.worker_is;
       sent_is = ap (λ (z : WorkerState). length z.sent) is ∙ r.sent_is;
@@ -117,15 +132,19 @@ taken_none me me' w sent put back known known' d bye None r _ t seat least = let
       idle = ap (λ (z : WorkerState). z.slot_held) is ∙ r.idle;
       order = (let g : back ≤ known' = omega arith in g, let g : known' ≤ sent = omega arith in g, order.2, order.3);
       quiet = r.quiet;
-      told = subst (λ (z : WorkerState). HasToldOf z known') (sym is) record { legal = t.1.legal; asked = now.0; known_is = now.1; back = t.1.back };
+      told = subst (λ (z : WorkerState). HasToldOf z known')
+          (sym is) record { legal = t.1.legal; asked = now.0; known_is = now.1; back = t.1.back };
     }
 
 -- after an answer that was seen
-pub taken_seen : (me me' : SeatState) (w sent put back known : ℕ) (bye : Bool) (a : Answered) → WorkerAgrees me w sent put back known bye → back < known
-    → get_elem? (worker_share (worker_state_in me.0).seen (worker_state_in me.0).worker) (length (worker_state_in me.0).back) ≡ some a
+pub taken_seen : (me me' : SeatState) (w sent put back known : ℕ) (bye : Bool) (a : Answered)
+    → WorkerAgrees me w sent put back known bye → back < known
+    → get_elem? (worker_share (worker_state_in me.0).seen (worker_state_in me.0).worker)
+    (length (worker_state_in me.0).back) ≡ some a
     → me' ≡ (Worker (holding_slot (took_seen (worker_state_in me.0) a) 0), [])
     → WorkerAgrees me' w sent put (back + 1) known bye
-taken_seen me me' w sent put back known bye a r more at is = let c : WorkerState = worker_state_in me.0 in let back_is : length c.back ≡ back = r.back_is in
+taken_seen me me' w sent put back known bye a r more at is = let c : WorkerState = worker_state_in me.0 in
+    let back_is : length c.back ≡ back = r.back_is in
     let order = r.order in let o0 : known ≤ sent = order.1 in let o1 : sent + put ≤ back + 64 = order.2 in
     subst (λ (z : SeatState). WorkerAgrees z w sent put (back + 1) known bye) (sym is) record {
       seated = refl;
@@ -135,7 +154,13 @@ taken_seen me me' w sent put back known bye a r more at is = let c : WorkerState
       back_is = length-append c.back (a ∷ []) ∙ (omega arith);
       bye_is = r.bye_is;
       idle = refl;
-      order = (let g : back + 1 ≤ known = omega arith in g, order.1, let g : sent + put ≤ back + 1 + 64 = omega arith in g, order.3);
+      order = (
+        let g : back + 1 ≤ known = omega arith in g,
+        order.1,
+        let g : sent + put ≤ back + 1 + 64 = omega arith in
+            g,
+        order.3,
+      );
       quiet = λ y. let q : back ≡ sent = (r.quiet y).0 in absurd (omega arith);
       told = record {
         legal = r.told.legal;
@@ -147,8 +172,10 @@ taken_seen me me' w sent put back known bye a r more at is = let c : WorkerState
     }
 
 -- with one more request put
-pub put_more : (me me' : SeatState) (w sent put back known : ℕ) (p : Posted) → WorkerAgrees me w sent put back known false → sent + put < back + 64
-    → sent + put < max_posts → me' ≡ (Worker (put_on (worker_state_in me.0) p), []) → WorkerAgrees me' w sent (put + 1) back known false
+pub put_more : (me me' : SeatState) (w sent put back known : ℕ) (p : Posted)
+    → WorkerAgrees me w sent put back known false → sent + put < back + 64
+    → sent + put < max_posts → me' ≡ (Worker (put_on (worker_state_in me.0) p), [])
+    → WorkerAgrees me' w sent (put + 1) back known false
 put_more me me' w sent put back known p r room room' is = let c : WorkerState = worker_state_in me.0 in
     let put_is : length c.put ≡ put = r.put_is in let order = r.order in
     subst (λ (z : SeatState). WorkerAgrees z w sent (put + 1) back known false) (sym is) record {
@@ -159,16 +186,24 @@ put_more me me' w sent put back known p r room room' is = let c : WorkerState = 
       back_is = r.back_is;
       bye_is = r.bye_is;
       idle = refl;
-      order = (order.0, order.1, let g : sent + (put + 1) ≤ back + 64 = omega arith in g, let g : sent + (put + 1) ≤ max_posts = omega arith in g);
+      order = (
+        order.0,
+        order.1,
+        let g : sent + (put + 1) ≤ back + 64 = omega arith in
+            g,
+        let g : sent + (put + 1) ≤ max_posts = omega arith in g,
+      );
       quiet = λ y. absurd (true≢false (sym y));
       told = record { legal = r.told.legal; asked = r.told.asked; known_is = r.told.known_is; back = r.told.back };
     }
 
 -- with all that was put sent
-pub sent_all : (me me' : SeatState) (w sent put back known number : ℕ) (bye : Bool) → WorkerAgrees me w sent put back known bye → 0 < put → number ≡ sent + put
+pub sent_all : (me me' : SeatState) (w sent put back known number : ℕ) (bye : Bool)
+    → WorkerAgrees me w sent put back known bye → 0 < put → number ≡ sent + put
     → me' ≡ (Worker (all_sent (worker_state_in me.0)), []) → WorkerAgrees me' w number 0 back known bye
 sent_all me me' w sent put back known number bye r some_put number_is is = let c : WorkerState = worker_state_in me.0 in
-    let put_is : length c.put ≡ put = r.put_is in let sent_is : length c.sent ≡ sent = r.sent_is in let order = r.order in let o : known ≤ sent = order.1 in
+    let put_is : length c.put ≡ put = r.put_is in let sent_is : length c.sent ≡ sent = r.sent_is in
+    let order = r.order in let o : known ≤ sent = order.1 in
     let o1 : sent + put ≤ back + 64 = order.2 in let o2 : sent + put ≤ max_posts = order.3 in
     subst (λ (z : SeatState). WorkerAgrees z w number 0 back known bye) (sym is) record {
       seated = refl;
@@ -196,23 +231,26 @@ sent_all me me' w sent put back known number bye r some_put number_is is = let c
     }
 
 -- with a bye
-pub bye_said : (me me' : SeatState) (w sent put back known : ℕ) → WorkerAgrees me w sent put back known false → put ≡ 0 → back ≡ sent
+pub bye_said : (me me' : SeatState) (w sent put back known : ℕ) → WorkerAgrees me w sent put back known false → put ≡ 0
+    → back ≡ sent
     → me' ≡ (Worker (with_bye (worker_state_in me.0)), []) → WorkerAgrees me' w sent put back known true
-bye_said me me' w sent put back known r none_put all is = subst (λ (z : SeatState). WorkerAgrees z w sent put back known true) (sym is) record {
-  seated = refl;
-  worker_is = r.worker_is;
-  sent_is = r.sent_is;
-  put_is = r.put_is;
-  back_is = r.back_is;
-  bye_is = refl;
-  idle = refl;
-  order = r.order;
-  quiet = λ _. (all, none_put);
-  told = record { legal = r.told.legal; asked = r.told.asked; known_is = r.told.known_is; back = r.told.back };
-}
+bye_said me me' w sent put back known r none_put all is =
+    subst (λ (z : SeatState). WorkerAgrees z w sent put back known true) (sym is) record {
+      seated = refl;
+      worker_is = r.worker_is;
+      sent_is = r.sent_is;
+      put_is = r.put_is;
+      back_is = r.back_is;
+      bye_is = refl;
+      idle = refl;
+      order = r.order;
+      quiet = λ _. (all, none_put);
+      told = record { legal = r.told.legal; asked = r.told.asked; known_is = r.told.known_is; back = r.told.back };
+    }
 
 -- a worker's end as it is made
-pub new_agrees : (me : SeatState) (g : Sizes) (w : ℕ) → me ≡ (Worker (first_worker_state g w), []) → WorkerAgrees me w 0 0 0 0 false
+pub new_agrees : (me : SeatState) (g : Sizes) (w : ℕ) → me ≡ (Worker (first_worker_state g w), [])
+    → WorkerAgrees me w 0 0 0 0 false
 new_agrees me g w is = subst (λ (z : SeatState). WorkerAgrees z w 0 0 0 0 false) (sym is) record {
   seated = refl;
   worker_is = refl;
@@ -229,12 +267,18 @@ new_agrees me g w is = subst (λ (z : SeatState). WorkerAgrees z w 0 0 0 0 false
     let g : 0 + 0 ≤ max_posts = omega arith in g,
   );
   quiet = λ _. (refl, refl);
-  told = record { legal = record { moments = tt; caches = []; chain = tt; numbers = λ w. tt }; asked = refl; known_is = refl; back = ([], refl) };
+  told = record {
+    legal = record { moments = tt; caches = []; chain = tt; numbers = λ w. tt };
+    asked = refl;
+    known_is = refl;
+    back = ([], refl);
+  };
 }
 
 -- nothing put, nothing sent
 pub none_flushed : (v : WorkerBatchView) → length v.put ≡ 0 → v ≡ flushed v
-none_flushed v none_put = let e = none_of v.put none_put in let s : v.end.sent ≡ v.end.sent ++ v.put = sym (append-nil v.end.sent)
+none_flushed v none_put = let e = none_of v.put none_put in
+    let s : v.end.sent ≡ v.end.sent ++ v.put = sym (append-nil v.end.sent)
     ∙ ap (λ (l : List Posted). v.end.sent ++ l) (sym e) in
     λ i. record { end = record v.end { sent = s i }; put = e i }
   where
@@ -243,7 +287,8 @@ none_flushed v none_put = let e = none_of v.put none_put in let s : v.end.sent �
     none_of (x ∷ l) e = absurd (omega arith)
 
 -- what a take tells, seen from outside
-told_outside : (z : TableId) (c : WorkerState) (d : ℕ) (g : List Answered) → Learnt c d g → IsToldDone (worker_view z c) d g
+told_outside : (z : TableId) (c : WorkerState) (d : ℕ) (g : List Answered) → Learnt c d g
+    → IsToldDone (worker_view z c) d g
 told_outside z c d g h = record { legal = h.legal; later = h.later; asked = h.asks; counted = h.counted; back = h.back }
 
 -- what a take tells, in the words of contracts
@@ -259,11 +304,17 @@ takes_put c c' d (Some a) t = ap (λ (z : WorkerState). z.put) t.2.1
 
 -- what is known of the history that a worker saw, seen from outside
 pub was_told : (z : TableId) (c : WorkerState) (known : ℕ) → HasToldOf c known → WasTold (worker_view z c)
-was_told z c known h = record { legal = h.legal; asked = h.asked ∙ ap (λ (n : ℕ). take n c.sent) (sym h.known_is); back = h.back }
+was_told z c known h = record {
+  legal = h.legal;
+  asked = h.asked ∙ ap (λ (n : ℕ). take n c.sent) (sym h.known_is);
+  back = h.back;
+}
 
 -- what came back is a beginning of the worker's share
-pub taken_back : (v v' : WorkerView) (result : Option Answered) → TakesAnswer v result v' → StartsWith (worker_share v'.seen v.worker) v'.back
-taken_back v v' None t = subst (λ (z : WorkerView). StartsWith (worker_share z.seen v.worker) z.back) (sym t.3.1) t.2.back
+pub taken_back : (v v' : WorkerView) (result : Option Answered) → TakesAnswer v result v'
+    → StartsWith (worker_share v'.seen v.worker) v'.back
+taken_back v v' None t = subst (λ (z : WorkerView). StartsWith (worker_share z.seen v.worker) z.back)
+    (sym t.3.1) t.2.back
 taken_back v v' (Some a) t = subst (λ (z : WorkerView). StartsWith (worker_share z.seen v.worker) z.back) (sym t.3.1)
     (starts_more (worker_share t.1 v.worker) v.back a t.2.back t.3.0)
 
@@ -274,29 +325,35 @@ blank_words (suc n) zero = refl
 blank_words (suc n) (suc i) = blank_words n i
 
 -- one more end leaves all of them new
-pub one_more_end : (g : Sizes) (table : TableId) (ends : List WorkerView) (n : ℕ) (e : WorkerView) → length ends ≡ n → AreNew table g ends
+pub one_more_end : (g : Sizes) (table : TableId) (ends : List WorkerView) (n : ℕ) (e : WorkerView) → length ends ≡ n
+    → AreNew table g ends
     → e ≡ new_worker_view table g n → AreNew table g (ends ++ e ∷ [])
 one_more_end g table ends n e long all is w u at = ⊎_elim (λ (h : get_elem? ends w ≡ some u). all w u h)
-    (λ (h : (w ≡ length ends) × (e ≡ u)). sym h.1 ∙ (is ∙ ap (new_worker_view table g) (sym (h.0 ∙ long)))) (at_end ends e w u at)
+    (λ (h : (w ≡ length ends) × (e ≡ u)). sym h.1 ∙ (is ∙ ap (new_worker_view table g) (sym (h.0 ∙ long))))
+    (at_end ends e w u at)
 
 -- an entry of a worker's worker_share is that worker's
 pub share_at : (h : List Answered) (w k : ℕ) (a : Answered) → get_elem? (worker_share h w) k ≡ some a → a.worker ≡ w
 share_at [] w k a e = absurd (some-ne-none a (sym e))
 share_at (b ∷ h) w k a e = dite (ℕ_discrete b.worker w)
     (λ mine. at_front b h w k a mine
-    (subst (λ (x : Bool). get_elem? (let l : List Answered = cond x (b ∷ worker_share h w) (worker_share h w) in l) k ≡ some a)
+    (subst (λ (x : Bool). get_elem? (let l : List Answered = cond x (b ∷ worker_share h w) (worker_share h w) in l) k
+    ≡ some a)
     (eq-eqb b.worker w mine) e) (share_at h w))
     (λ other. share_at h w k a
-    (subst (λ (x : Bool). get_elem? (let l : List Answered = cond x (b ∷ worker_share h w) (worker_share h w) in l) k ≡ some a)
+    (subst (λ (x : Bool). get_elem? (let l : List Answered = cond x (b ∷ worker_share h w) (worker_share h w) in l) k
+    ≡ some a)
     (ne_eqb b.worker w other) e))
   where
-    at_front : (b : Answered) (h : List Answered) (w k : ℕ) (a : Answered) → b.worker ≡ w → get_elem? (b ∷ worker_share h w) k ≡ some a
+    at_front : (b : Answered) (h : List Answered) (w k : ℕ) (a : Answered) → b.worker ≡ w
+        → get_elem? (b ∷ worker_share h w) k ≡ some a
         → ((k : ℕ) (a : Answered) → get_elem? (worker_share h w) k ≡ some a → a.worker ≡ w) → a.worker ≡ w
     at_front b h w zero a mine e later = ap (λ (x : Answered). x.worker) (sym (some-injective b a e)) ∙ mine
     at_front b h w (suc k) a mine e later = later k a e
 
 -- the request of an entry stands where the entry does
-asked_at : (l : List Answered) (k : ℕ) (a : Answered) → get_elem? l k ≡ some a → get_elem? (asked_posted l) k ≡ some (posted_of a)
+asked_at : (l : List Answered) (k : ℕ) (a : Answered) → get_elem? l k ≡ some a
+    → get_elem? (asked_posted l) k ≡ some (posted_of a)
 asked_at l k a e = at_map posted_of l k a e
 
 -- the answer taken is to the request at its place
@@ -317,16 +374,19 @@ taken_own v v' None t = tt
 taken_own v v' (Some a) t = let at = t.3.0 in (
   share_at t.1 v.worker (length v.back) a at,
   taken_at v.sent t.0 (length v.back) (posted_of a)
-      (subst (λ (l : List Posted). get_elem? l (length v.back) ≡ some (posted_of a)) t.2.asked (asked_at (worker_share t.1 v.worker) (length v.back) a at)),
+      (subst (λ (l : List Posted). get_elem? l (length v.back) ≡ some (posted_of a)) t.2.asked
+      (asked_at (worker_share t.1 v.worker) (length v.back) a at)),
 )
 
 -- the same of an answer that was seen
-pub seen_own : (v : WorkerView) (a : Answered) → WasTold v → get_elem? (worker_share v.seen v.worker) (length v.back) ≡ some a
+pub seen_own : (v : WorkerView) (a : Answered) → WasTold v
+    → get_elem? (worker_share v.seen v.worker) (length v.back) ≡ some a
     → (a.worker ≡ v.worker) × (get_elem? v.sent (length v.back) ≡ some (posted_of a))
 seen_own v a h at = (
   share_at v.seen v.worker (length v.back) a at,
   taken_at v.sent (length (worker_share v.seen v.worker)) (length v.back) (posted_of a)
-      (subst (λ (l : List Posted). get_elem? l (length v.back) ≡ some (posted_of a)) h.asked (asked_at (worker_share v.seen v.worker) (length v.back) a at)),
+      (subst (λ (l : List Posted). get_elem? l (length v.back) ≡ some (posted_of a)) h.asked
+      (asked_at (worker_share v.seen v.worker) (length v.back) a at)),
 )
 
 -- the nth number is n more than the first
@@ -336,23 +396,29 @@ number_at (b ∷ l) n zero a h e = ap (λ (x : Answered). x.number) (sym (some-i
 number_at (b ∷ l) n (suc k) a h e = number_at l (n + 1) k a h.1 e ∙ (omega arith)
 
 -- the answers come in the order of their numbers
-pub taken_next : (v v' : WorkerView) (result : Option Answered) → TakesAnswer v result v' → IfSome result (λ a. a.number ≡ length v.back + 1)
+pub taken_next : (v v' : WorkerView) (result : Option Answered) → TakesAnswer v result v'
+    → IfSome result (λ a. a.number ≡ length v.back + 1)
 taken_next v v' None t = tt
-taken_next v v' (Some a) t = number_at (worker_share t.1 v.worker) 1 (length v.back) a (t.2.legal.numbers v.worker) t.3.0 ∙ (omega arith)
+taken_next v v' (Some a) t = number_at (worker_share t.1 v.worker) 1 (length v.back) a
+    (t.2.legal.numbers v.worker) t.3.0 ∙ (omega arith)
 
 -- an answer that was seen is the next one by its number
-pub seen_next : (v : WorkerView) (a : Answered) → WasTold v → get_elem? (worker_share v.seen v.worker) (length v.back) ≡ some a → a.number ≡ length v.back + 1
-seen_next v a h at = number_at (worker_share v.seen v.worker) 1 (length v.back) a (h.legal.numbers v.worker) at ∙ (omega arith)
+pub seen_next : (v : WorkerView) (a : Answered) → WasTold v
+    → get_elem? (worker_share v.seen v.worker) (length v.back) ≡ some a → a.number ≡ length v.back + 1
+seen_next v a h at = number_at (worker_share v.seen v.worker) 1 (length v.back) a (h.legal.numbers v.worker) at
+    ∙ (omega arith)
 
 -- what storage holds is its open request
 
 -- one message is held by one worker
 abbrev HeldIs : ℕ → LaneMessage → ℕ → Posted → Type 0
-HeldIs v m w p = let a : Option (ℕ × LaneMessage) = Some (v, m) in let b : Option (ℕ × LaneMessage) = Some (w, Ask p) in a ≡ b
+HeldIs v m w p = let a : Option (ℕ × LaneMessage) = Some (v, m) in
+    let b : Option (ℕ × LaneMessage) = Some (w, Ask p) in a ≡ b
 
 -- a message that shows a request is that request
 held_in : (v : ℕ) (m : LaneMessage) (w : ℕ) (p : Posted) → lane_request v m ≡ Some (w, p) → HeldIs v m w p
-held_in v (Ask q) w p e = ap (λ (z : Option (ℕ × Posted)). option_map (λ (y : ℕ × Posted). let r : ℕ × LaneMessage = (y.0, Ask y.1) in r) z) e
+held_in v (Ask q) w p e = ap (λ (z : Option (ℕ × Posted)). option_map
+    (λ (y : ℕ × Posted). let r : ℕ × LaneMessage = (y.0, Ask y.1) in r) z) e
 held_in v Bye w p e = absurd (true≢false (sym (ap is_some e)))
 held_in v (Answer a) w p e = absurd (true≢false (sym (ap is_some e)))
 
@@ -362,21 +428,26 @@ held_is None w p e = absurd (true≢false (sym (ap is_some e)))
 held_is (Some x) w p e = held_in x.0 x.1 w p e
 
 -- where no request is open, nothing is held
-pub idle_is : (h : Option (ℕ × LaneMessage)) → ((w : ℕ) (x : LaneMessage) → h ≡ Some (w, x) → (p : Posted) × (x ≡ Ask p)) → open_in h ≡ None → h ≡ None
+pub idle_is : (h : Option (ℕ × LaneMessage))
+    → ((w : ℕ) (x : LaneMessage) → h ≡ Some (w, x) → (p : Posted) × (x ≡ Ask p)) → open_in h ≡ None → h ≡ None
 idle_is None ask e = refl
-idle_is (Some x) ask e = let p = ask x.0 x.1 refl in absurd (true≢false (ap is_some (sym (ap (lane_request x.0) p.1) ∙ e)))
+idle_is (Some x) ask e = let p = ask x.0 x.1 refl in
+    absurd (true≢false (ap is_some (sym (ap (lane_request x.0) p.1) ∙ e)))
 
 -- the ends of one call of make
-pub made_all : (ends : List WorkerView) (storage : StorageView) (n : ℕ) (z y : TableId) (g f : Sizes) → length ends ≡ n → AreNew z g ends
+pub made_all : (ends : List WorkerView) (storage : StorageView) (n : ℕ) (z y : TableId) (g f : Sizes) → length ends ≡ n
+    → AreNew z g ends
     → storage ≡ new_storage_view y g n → y ≡ z → g ≡ f → AreMade n f ends storage
 made_all ends storage n z y g f long new is table sizes = (
   long,
-  subst (λ (a : TableId × Sizes). AreNew a.0 a.1 ends) (λ i. ((sym table ∙ ap (λ (s : StorageView). s.exchange) (sym is)) i, sizes i)) new,
+  subst (λ (a : TableId × Sizes). AreNew a.0 a.1 ends)
+      (λ i. ((sym table ∙ ap (λ (s : StorageView). s.exchange) (sym is)) i, sizes i)) new,
   is ∙ (λ i. new_storage_view (sym (ap (λ (s : StorageView). s.exchange) is) i) (sizes i) n),
 )
 
 -- after the store of done
-pub agrees_told : (me me' : SeatState) (workers last : ℕ) (counts : List ℕ) (open_now : Bool) → StorageAgrees me workers last counts open_now
+pub agrees_told : (me me' : SeatState) (workers last : ℕ) (counts : List ℕ) (open_now : Bool)
+    → StorageAgrees me workers last counts open_now
     → me' ≡ (Storage (all_told (storage_state_in me.0)), me.1) → StorageAgrees me' workers last counts open_now
 agrees_told me me' workers last counts open_now r is = let d : StorageState = storage_state_in me.0 in
     subst (λ (z : SeatState). StorageAgrees z workers last counts open_now) (sym is) record {
@@ -394,7 +465,8 @@ told_waits d lane workers inside = record { none_waits = λ _. refl; others = λ
 
 -- with one more answer to the lane
 pub waits_more : (d : StorageState) (a : Answered) (workers : ℕ) → a.worker < workers
-    → ((j : ℕ) → j ≢ a.worker → worker_share d.history j ≡ worker_share d.told j) → IsWaiting (replied d a) true a.worker workers
+    → ((j : ℕ) → j ≢ a.worker → worker_share d.history j ≡ worker_share d.told j)
+    → IsWaiting (replied d a) true a.worker workers
 waits_more d a workers inside others = record {
   none_waits = λ y. absurd (true≢false y);
   others = λ j other. share_other d.history a j (λ e. other (sym e))
@@ -403,17 +475,26 @@ waits_more d a workers inside others = record {
 }
 
 -- the look that named a message that isn't settled
-pub named_look : (d : StorageState) (lane named workers count : ℕ) → IsNamed d lane named workers → count ≡ settled d lane → count < named
+pub named_look : (d : StorageState) (lane named workers count : ℕ) → IsNamed d lane named workers
+    → count ≡ settled d lane → count < named
     → (k p : ℕ) × (get_elem? d.looks k ≡ some (lane, p)) × (settled d lane < p)
-named_look d lane named workers count is count_is more = ⊎_elim (λ (h : (d.looks ≡ []) × (named ≡ 0)). let z : named ≡ 0 = h.1 in absurd (omega arith))
-    (λ (l : LastLook d.looks lane named). (length l.0, named, last_look_at d.looks lane named l, subst (λ (z : ℕ). z < named) count_is more)) is.0
+named_look d lane named workers count is count_is more =
+    ⊎_elim (λ (h : (d.looks ≡ []) × (named ≡ 0)). let z : named ≡ 0 = h.1 in absurd (omega arith))
+    (λ (l : LastLook d.looks lane named). (
+      length l.0,
+      named,
+      last_look_at d.looks lane named l,
+      subst (λ (z : ℕ). z < named) count_is more,
+    )) is.0
 
 -- none comes where the look that came last named none
-pub named_none : (looks : List (ℕ × ℕ)) (lane named w n : ℕ) → ((looks ≡ []) × (named ≡ 0)) ⊎ LastLook looks lane named → LastLook looks w n
+pub named_none : (looks : List (ℕ × ℕ)) (lane named w n : ℕ) → ((looks ≡ []) × (named ≡ 0)) ⊎ LastLook looks lane named
+    → LastLook looks w n
     → ◌≡◌ {A = ℕ × ℕ} (lane, named) (w, n)
 named_none looks lane named w n is l = ⊎_elim
     (λ (h : (looks ≡ []) × (named ≡ 0)). absurd (some-ne-none (w, n)
     (sym (subst (λ (z : List (ℕ × ℕ)). get_elem? z (length l.0) ≡ some (w, n)) h.0 (last_look_at looks w n l)))))
     (λ (h : LastLook looks lane named). let a = ap length h.1 ∙ length-append h.0 ((lane, named) ∷ []) in
     let b = ap length l.1 ∙ length-append l.0 ((w, n) ∷ []) in let same : length h.0 ≡ length l.0 = omega arith in
-    some-injective (lane, named) (w, n) (sym (last_look_at looks lane named h) ∙ (ap (get_elem? looks) same ∙ last_look_at looks w n l))) is
+    some-injective (lane, named) (w, n)
+    (sym (last_look_at looks lane named h) ∙ (ap (get_elem? looks) same ∙ last_look_at looks w n l))) is

@@ -54,21 +54,28 @@ abbrev pub SentAt : List Posted → Bool → ℕ → LaneMessage → Type 0
 SentAt l b t m = ((p : Posted) × (m ≡ Ask p) × (get_elem? l t ≡ some p)) ⊎ ((m ≡ Bye) × (b ≡ true) × (t ≡ length l))
 
 -- so each of a worker's messages is
-pub sent_at : (l : List Posted) (b : Bool) (t : ℕ) (m : LaneMessage) → get_elem? (map Ask l ++ bye_at_end b) t ≡ some m → SentAt l b t m
+pub sent_at : (l : List Posted) (b : Bool) (t : ℕ) (m : LaneMessage) → get_elem? (map Ask l ++ bye_at_end b) t ≡ some m
+    → SentAt l b t m
 sent_at [] true zero m e = inr (sym (some-injective Bye m e), refl, refl)
 sent_at [] true (suc t) m e = absurd (some-ne-none m (sym e))
 sent_at [] false t m e = absurd (some-ne-none m (sym e))
 sent_at (p ∷ l) b zero m e = inl (p, sym (some-injective (Ask p) m e), refl)
-sent_at (p ∷ l) b (suc t) m e = ⊎_elim (λ h. inl h) (λ (h : (m ≡ Bye) × (b ≡ true) × (t ≡ length l)). inr (h.0, h.1, ap suc h.2)) (sent_at l b t m e)
+sent_at (p ∷ l) b (suc t) m e = ⊎_elim (λ h. inl h)
+    (λ (h : (m ≡ Bye) × (b ≡ true) × (t ≡ length l)). inr (h.0, h.1, ap suc h.2)) (sent_at l b t m e)
 
 -- a request stands among the requests
-pub ask_at : (l : List Posted) (b : Bool) (t : ℕ) (p : Posted) → get_elem? (map Ask l ++ bye_at_end b) t ≡ some (Ask p) → get_elem? l t ≡ some p
-ask_at l b t p e = ⊎_elim (λ (h : (q : Posted) × (Ask p ≡ Ask q) × (get_elem? l t ≡ some q)). h.2 ∙ ap (λ (q : Posted). some q) (sym (ask_injective p h.0 h.1)))
-    (λ (h : (Ask p ≡ Bye) × (b ≡ true) × (t ≡ length l)). let e : 0 ≡ 1 = ap kind h.0 in absurd (omega arith)) (sent_at l b t (Ask p) e)
+pub ask_at : (l : List Posted) (b : Bool) (t : ℕ) (p : Posted) → get_elem? (map Ask l ++ bye_at_end b) t ≡ some (Ask p)
+    → get_elem? l t ≡ some p
+ask_at l b t p e = ⊎_elim (λ (h : (q : Posted) × (Ask p ≡ Ask q) × (get_elem? l t ≡ some q)). h.2
+    ∙ ap (λ (q : Posted). some q) (sym (ask_injective p h.0 h.1)))
+    (λ (h : (Ask p ≡ Bye) × (b ≡ true) × (t ≡ length l)). let e : 0 ≡ 1 = ap kind h.0 in absurd (omega arith))
+    (sent_at l b t (Ask p) e)
 
 -- a bye stands behind all requests, and was said
-pub bye_at : (l : List Posted) (b : Bool) (t : ℕ) → get_elem? (map Ask l ++ bye_at_end b) t ≡ some Bye → (b ≡ true) × (t ≡ length l)
-bye_at l b t e = ⊎_elim (λ (h : (q : Posted) × (Bye ≡ Ask q) × (get_elem? l t ≡ some q)). let e : 1 ≡ 0 = ap kind h.1 in absurd (omega arith))
+pub bye_at : (l : List Posted) (b : Bool) (t : ℕ) → get_elem? (map Ask l ++ bye_at_end b) t ≡ some Bye
+    → (b ≡ true) × (t ≡ length l)
+bye_at l b t e = ⊎_elim (λ (h : (q : Posted) × (Bye ≡ Ask q) × (get_elem? l t ≡ some q)). let e : 1 ≡ 0 = ap kind h.1 in
+    absurd (omega arith))
     (λ (h : (Bye ≡ Bye) × (b ≡ true) × (t ≡ length l)). (h.1, h.2)) (sent_at l b t Bye e)
 
 -- 1 where a bye was said
@@ -83,7 +90,8 @@ length-bye false = refl
 
 -- how many messages there are
 pub count : (c : WorkerState) → length (messages c) ≡ length c.sent + bye_count c.said_bye
-count c = length-append (map Ask c.sent) (bye_at_end c.said_bye) ∙ (omega (arith, length-map c.sent Ask, length-bye c.said_bye))
+count c = length-append (map Ask c.sent) (bye_at_end c.said_bye)
+    ∙ (omega (arith, length-map c.sent Ask, length-bye c.said_bye))
 
 -- there is one bye at most
 pub at_most_one : (b : Bool) → bye_count b ≤ 1
@@ -92,12 +100,14 @@ at_most_one false = omega arith
 
 -- the requests that were put are messages behind the others, once they are sent
 pub all_more : (c : WorkerState) → c.said_bye ≡ false → messages (all_sent c) ≡ messages c ++ map Ask c.put
-all_more c e = subst (λ (b : Bool). map Ask (c.sent ++ c.put) ++ bye_at_end b ≡ (map Ask c.sent ++ bye_at_end b) ++ map Ask c.put) (sym e)
+all_more c e = subst (λ (b : Bool). map Ask (c.sent ++ c.put) ++ bye_at_end b
+    ≡ (map Ask c.sent ++ bye_at_end b) ++ map Ask c.put) (sym e)
     (append-nil (map Ask (c.sent ++ c.put)) ∙ (map-append Ask c.sent c.put
     ∙ ap (λ (l : List LaneMessage). l ++ map Ask c.put) (sym (append-nil (map Ask c.sent)))))
 
 -- a message made of a request
-pub ask_of : (l : List Posted) (k : ℕ) (m : LaneMessage) → get_elem? (map Ask l) k ≡ some m → (p : Posted) × (Ask p ≡ m) × (get_elem? l k ≡ some p)
+pub ask_of : (l : List Posted) (k : ℕ) (m : LaneMessage) → get_elem? (map Ask l) k ≡ some m
+    → (p : Posted) × (Ask p ≡ m) × (get_elem? l k ≡ some p)
 ask_of [] k m e = absurd (some-ne-none m (sym e))
 ask_of (p ∷ l) zero m e = (p, some-injective (Ask p) m e, refl)
 ask_of (p ∷ l) (suc k) m e = ask_of l k m e
@@ -112,7 +122,8 @@ one_bye c e = subst (λ (b : Bool). map Ask c.sent ++ Bye ∷ [] ≡ (map Ask c.
     append_nil (x ∷ l) = λ i. x ∷ append_nil l i
 
 -- the requests of the answers that were told of are the first that the worker sent
-pub asked_told : (sent : List Posted) (mine told : List Answered) → asked_posted mine ≡ take (length mine) sent → StartsWith mine told
+pub asked_told : (sent : List Posted) (mine told : List Answered) → asked_posted mine ≡ take (length mine) sent
+    → StartsWith mine told
     → asked_posted told ≡ take (length told) sent
 asked_told sent mine told asked first = let low : length told ≤ length mine = starts_below mine told first in
     sym (take_of (asked_posted told) (asked_posted first.0) (length told) (length-map told posted_of))
@@ -120,7 +131,8 @@ asked_told sent mine told asked first = let low : length told ≤ length mine = 
     ∙ take-take-le (length told) (length mine) sent low)
   where
     take_of : (l m : List Posted) (k : ℕ) → length l ≡ k → take k (l ++ m) ≡ l
-    take_of l m k e = take_front l m k (let g : k ≤ length l = omega arith in g) ∙ take_whole l k (let g : length l ≤ k = omega arith in g)
+    take_of l m k e = take_front l m k (let g : k ≤ length l = omega arith in g)
+        ∙ take_whole l k (let g : length l ≤ k = omega arith in g)
 
     take-take-le : (a b : ℕ) (l : List Posted) → a ≤ b → take a (take b l) ≡ take a l
     take-take-le zero b l h = none_of (take b l) ∙ sym (none_of l)
@@ -134,7 +146,8 @@ asked_told sent mine told asked first = let low : length told ≤ length mine = 
 
 -- A worker's steps
 
-module _ (c : WorkerState) (mine told : List Answered) (byes : ℕ) (held : maybe.Option LaneMessage) (posted done : ℕ) (at : At)
+module _ (c : WorkerState) (mine told : List Answered) (byes : ℕ) (held : maybe.Option LaneMessage) (posted done : ℕ)
+    (at : At)
     (r : LaneOk c mine told byes held posted done at) where
   -- the number of messages
   len : ℕ
@@ -153,11 +166,14 @@ module _ (c : WorkerState) (mine told : List Answered) (byes : ℕ) (held : mayb
   told_below = starts_below mine told r.told_is
 
   -- the worker takes the slot of its next message
-  pub begins : (at' : At) → c.slot_held ≡ 0 → c.said_bye ≡ false → placed c < length c.back + 64 → Else at at' (placed c)
+  pub begins : (at' : At) → c.slot_held ≡ 0 → c.said_bye ≡ false → placed c < length c.back + 64
+      → Else at at' (placed c)
       → LaneOk (holding_slot c (suc (placed c))) mine told byes held posted done at'
-  begins at' idle open_ room same = let n : ℕ = placed c in let b : ℕ = length c.back in let q : ℕ = length c.put in let n_is : n ≡ length c.sent + q = refl in
+  begins at' idle open_ room same = let n : ℕ = placed c in let b : ℕ = length c.back in let q : ℕ = length c.put in
+      let n_is : n ≡ length c.sent + q = refl in
       let e : length (messages c) ≡ length c.sent = count c ∙ (omega (arith, ap bye_count open_)) in
-      let low : b ≤ length mine = back_below in let high : length mine ≤ length c.sent = r.answered in let room' : n < b + 64 = room in record {
+      let low : b ≤ length mine = back_below in let high : length mine ≤ length c.sent = r.answered in
+      let room' : n < b + 64 = room in record {
         posted_is = r.posted_is;
         done_is = r.done_is;
         told_is = r.told_is;
@@ -170,25 +186,38 @@ module _ (c : WorkerState) (mine told : List Answered) (byes : ℕ) (held : mayb
         quiet = r.quiet;
         behind = r.behind;
         open_is = r.open_is;
-        slot_held_is = λ _. (let g : length (messages c) + q < suc n = omega arith in g, let g : suc n ≤ b + 64 = omega arith in g);
+        slot_held_is = λ _. (
+          let g : length (messages c) + q < suc n = omega arith in
+              g,
+          let g : suc n ≤ b + 64 = omega arith in g,
+        );
         within = r.within;
-        answers = λ k a le is. let below : k < length mine = at_below mine k a is in same k (apart k n (omega arith) (omega arith)) ∙ r.answers k a le is;
+        answers = λ k a le is. let below : k < length mine = at_below mine k a is in
+            same k (apart k n (omega arith) (omega arith)) ∙ r.answers k a le is;
         requests = λ k m le is. let below : k < length (messages c) = at_below (messages c) k m is in
-            let le' : length mine + byes + count_of held ≤ k = le in same k (apart k n (omega arith) (omega arith)) ∙ r.requests k m le is;
+            let le' : length mine + byes + count_of held ≤ k = le in
+            same k (apart k n (omega arith) (omega arith)) ∙ r.requests k m le is;
         waits = λ k p is. let below : k < q = at_below c.put k p is in
-            same (length (messages c) + k) (apart (length (messages c) + k) n (omega arith) (omega arith)) ∙ r.waits k p is;
+            same (length (messages c) + k) (apart (length (messages c) + k) n (omega arith) (omega arith))
+            ∙ r.waits k p is;
         frees = λ k le near other. let le' : length (messages c) + q ≤ k = le in let near' : k < b + 64 = near in
-            let ne : suc k ≢ suc n = other in same k (apart' n k (omega arith) (omega arith)) ∙ r.frees k le near (λ z. suc-ne-zero k (z ∙ idle));
+            let ne : suc k ≢ suc n = other in
+            same k (apart' n k (omega arith) (omega arith)) ∙ r.frees k le near (λ z. suc-ne-zero k (z ∙ idle));
       }
 
   -- the worker gives the slot back, with a request in it
   pub puts : (at' : At) (p : Posted) → p.number ≡ suc (placed c) → c.slot_held ≡ suc (placed c) → c.said_bye ≡ false
-      → at' (placed c) ≡ some (some (Some (Ask p))) → Else at at' (placed c) → LaneOk (put_on c p) mine told byes held posted done at'
-  puts at' p next mineis open_ here same = let n : ℕ = placed c in let b : ℕ = length c.back in let q : ℕ = length c.put in
-      let n_is : n ≡ length c.sent + q = refl in let e : length (messages c) ≡ length c.sent = count c ∙ (omega (arith, ap bye_count open_)) in
-      let low : b ≤ length mine = back_below in let high : length mine ≤ length c.sent = r.answered in let slot_held : c.slot_held ≡ suc n = mineis in
+      → at' (placed c) ≡ some (some (Some (Ask p))) → Else at at' (placed c)
+      → LaneOk (put_on c p) mine told byes held posted done at'
+  puts at' p next mineis open_ here same = let n : ℕ = placed c in let b : ℕ = length c.back in
+      let q : ℕ = length c.put in
+      let n_is : n ≡ length c.sent + q = refl in
+      let e : length (messages c) ≡ length c.sent = count c ∙ (omega (arith, ap bye_count open_)) in
+      let low : b ≤ length mine = back_below in let high : length mine ≤ length c.sent = r.answered in
+      let slot_held : c.slot_held ≡ suc n = mineis in
       let hands = r.slot_held_is (let g : 0 < c.slot_held = omega arith in g) in
-      let room : c.slot_held ≤ b + 64 = hands.1 in let longer : length (c.put ++ p ∷ []) ≡ suc q = length-append c.put (p ∷ []) ∙ (omega arith) in
+      let room : c.slot_held ≤ b + 64 = hands.1 in
+      let longer : length (c.put ++ p ∷ []) ≡ suc q = length-append c.put (p ∷ []) ∙ (omega arith) in
       let both : length (c.sent ++ c.put) ≡ n = length-append c.sent c.put in record {
         posted_is = r.posted_is;
         done_is = r.done_is;
@@ -198,33 +227,44 @@ module _ (c : WorkerState) (mine told : List Answered) (byes : ℕ) (held : mayb
         answered = r.answered;
         known = r.known;
         numbered = λ k x y. ⊎_elim (λ (h : get_elem? (c.sent ++ c.put) k ≡ some x). r.numbered k x h)
-            (λ (h : (k ≡ length (c.sent ++ c.put)) × (p ≡ x)). ap (λ (z : Posted). z.number) (sym h.1) ∙ (next ∙ ap suc (sym (h.0 ∙ both))))
-            (at_end (c.sent ++ c.put) p k x (subst (λ (l : List Posted). get_elem? l k ≡ some x) (sym (append_assoc c.sent c.put (p ∷ []))) y));
+            (λ (h : (k ≡ length (c.sent ++ c.put)) × (p ≡ x)). ap (λ (z : Posted). z.number) (sym h.1)
+            ∙ (next ∙ ap suc (sym (h.0 ∙ both))))
+            (at_end (c.sent ++ c.put) p k x
+            (subst (λ (l : List Posted). get_elem? l k ≡ some x) (sym (append_assoc c.sent c.put (p ∷ []))) y));
         leaves = r.leaves;
         quiet = r.quiet;
         behind = r.behind;
         open_is = r.open_is;
         slot_held_is = λ (y : 0 < 0). absurd (omega arith);
         within = let g : length (messages c) + length (c.put ++ p ∷ []) ≤ b + 64 = omega arith in g;
-        answers = λ k a le is. let below : k < length mine = at_below mine k a is in same k (apart k n (omega arith) (omega arith)) ∙ r.answers k a le is;
+        answers = λ k a le is. let below : k < length mine = at_below mine k a is in
+            same k (apart k n (omega arith) (omega arith)) ∙ r.answers k a le is;
         requests = λ k m le is. let below : k < length (messages c) = at_below (messages c) k m is in
-            let le' : length mine + byes + count_of held ≤ k = le in same k (apart k n (omega arith) (omega arith)) ∙ r.requests k m le is;
+            let le' : length mine + byes + count_of held ≤ k = le in
+            same k (apart k n (omega arith) (omega arith)) ∙ r.requests k m le is;
         waits = λ k x is. ⊎_elim (λ (h : get_elem? c.put k ≡ some x). let below : k < q = at_below c.put k x h in
-            same (length (messages c) + k) (apart (length (messages c) + k) n (omega arith) (omega arith)) ∙ r.waits k x h)
-            (λ (h : (k ≡ length c.put) × (p ≡ x)). let k_is : k ≡ q = h.0 in let at_is : length (messages c) + k ≡ n = omega arith in
+            same (length (messages c) + k) (apart (length (messages c) + k) n (omega arith) (omega arith))
+            ∙ r.waits k x h)
+            (λ (h : (k ≡ length c.put) × (p ≡ x)). let k_is : k ≡ q = h.0 in
+            let at_is : length (messages c) + k ≡ n = omega arith in
             ap at' at_is ∙ (here ∙ ap (λ (z : Posted). some (some (Some (Ask z)))) h.1)) (at_end c.put p k x is);
-        frees = λ k le near other. let le' : length (messages c) + length (c.put ++ p ∷ []) ≤ k = le in let near' : k < b + 64 = near in
-            same k (apart' n k (omega arith) (omega arith)) ∙ r.frees k (let g : length (messages c) + q ≤ k = omega arith in
+        frees = λ k le near other. let le' : length (messages c) + length (c.put ++ p ∷ []) ≤ k = le in
+            let near' : k < b + 64 = near in
+            same k (apart' n k (omega arith) (omega arith))
+            ∙ r.frees k (let g : length (messages c) + q ≤ k = omega arith in
             g) near (λ z. let z' : suc k ≡ suc n = z ∙ mineis in let k' : n < k = omega arith in absurd (omega arith));
       }
 
   -- the store of posted
   pub sends : c.slot_held ≡ 0 → c.said_bye ≡ false → LaneOk (all_sent c) mine told byes held (placed c) done at
-  sends idle open_ = let n : ℕ = placed c in let b : ℕ = length c.back in let q : ℕ = length c.put in let n_is : n ≡ length c.sent + q = refl in
+  sends idle open_ = let n : ℕ = placed c in let b : ℕ = length c.back in let q : ℕ = length c.put in
+      let n_is : n ≡ length c.sent + q = refl in
       let e : length (messages c) ≡ length c.sent = count c ∙ (omega (arith, ap bye_count open_)) in
-      let low : b ≤ length mine = back_below in let high : length mine ≤ length c.sent = r.answered in let is = all_more c open_ in
+      let low : b ≤ length mine = back_below in let high : length mine ≤ length c.sent = r.answered in
+      let is = all_more c open_ in
       let free : c.slot_held ≡ 0 = idle in let room : length (messages c) + q ≤ b + 64 = r.within in
-      let long : length (messages (all_sent c)) ≡ n = ap length is ∙ (length-append (messages c) (map Ask c.put) ∙ (omega (arith, length-map c.put Ask))) in
+      let long : length (messages (all_sent c)) ≡ n =
+      ap length is ∙ (length-append (messages c) (map Ask c.put) ∙ (omega (arith, length-map c.put Ask))) in
       let longer : length (c.sent ++ c.put) ≡ n = length-append c.sent c.put in record {
         posted_is = let g : n ≡ length (messages (all_sent c)) = omega arith in g;
         done_is = r.done_is;
@@ -238,7 +278,8 @@ module _ (c : WorkerState) (mine told : List Answered) (byes : ℕ) (held : mayb
         asked_is = r.asked_is ∙ sym (take_front c.sent c.put (length mine) r.answered);
         answered = let g : length mine ≤ length (c.sent ++ c.put) = omega arith in g;
         known = r.known;
-        numbered = λ k x y. r.numbered k x (subst (λ (l : List Posted). get_elem? l k ≡ some x) (append-nil (c.sent ++ c.put)) y);
+        numbered = λ k x y. r.numbered k x
+            (subst (λ (l : List Posted). get_elem? l k ≡ some x) (append-nil (c.sent ++ c.put)) y);
         leaves = r.leaves;
         quiet = λ y. absurd (true≢false (sym y ∙ open_));
         behind = let h : length mine + byes + count_of held ≤ length (messages c) = r.behind in
@@ -249,31 +290,41 @@ module _ (c : WorkerState) (mine told : List Answered) (byes : ℕ) (held : mayb
         within = let g : length (messages (all_sent c)) + 0 ≤ b + 64 = omega arith in g;
         answers = r.answers;
         requests = λ k m le y. ⊎_elim (λ (h : get_elem? (messages c) k ≡ some m). r.requests k m le h)
-            (λ (h : (j : ℕ) × (k ≡ length (messages c) + j) × (get_elem? (map Ask c.put) j ≡ some m)). let x = ask_of c.put h.0 m h.2 in
+            (λ (h : (j : ℕ) × (k ≡ length (messages c) + j) × (get_elem? (map Ask c.put) j ≡ some m)). let x = ask_of
+            c.put h.0 m h.2 in
             ap at h.1 ∙ (r.waits h.0 x.0 x.2 ∙ ap (λ (z : LaneMessage). some (some (Some z))) x.1))
-            (at_either (messages c) (map Ask c.put) k m (subst (λ (l : List LaneMessage). get_elem? l k ≡ some m) is y));
+            (at_either (messages c) (map Ask c.put) k m
+            (subst (λ (l : List LaneMessage). get_elem? l k ≡ some m) is y));
         waits = λ k p y. absurd (some-ne-none p (sym y));
         frees = λ k le near other. let le' : length (messages (all_sent c)) + 0 ≤ k = le in
             r.frees k (let g : length (messages c) + q ≤ k = omega arith in g) near other;
       }
 
   -- the store of posted, with the Bye
-  pub posts_last : (at' : At) → c.put ≡ [] → c.slot_held ≡ suc (placed c) → c.said_bye ≡ false → length c.back ≡ length c.sent
-      → at' (placed c) ≡ some (some (Some Bye)) → Else at at' (placed c) → LaneOk (with_bye c) mine told byes held (suc posted) done at'
-  posts_last at' none_put mineis open_ all here same = let n : ℕ = placed c in let b : ℕ = length c.back in let q : ℕ = length c.put in
-      let n_is : n ≡ length c.sent + q = refl in let empty_put : q ≡ 0 = ap length none_put in let sent_is : length c.sent ≡ n = omega arith in
-      let e : length (messages c) ≡ n = count c ∙ (omega (arith, ap bye_count open_)) in let low : b ≤ length mine = back_below in
+  pub posts_last : (at' : At) → c.put ≡ [] → c.slot_held ≡ suc (placed c) → c.said_bye ≡ false
+      → length c.back ≡ length c.sent
+      → at' (placed c) ≡ some (some (Some Bye)) → Else at at' (placed c)
+      → LaneOk (with_bye c) mine told byes held (suc posted) done at'
+  posts_last at' none_put mineis open_ all here same = let n : ℕ = placed c in let b : ℕ = length c.back in
+      let q : ℕ = length c.put in
+      let n_is : n ≡ length c.sent + q = refl in let empty_put : q ≡ 0 = ap length none_put in
+      let sent_is : length c.sent ≡ n = omega arith in
+      let e : length (messages c) ≡ n = count c ∙ (omega (arith, ap bye_count open_)) in
+      let low : b ≤ length mine = back_below in
       let high' : length mine ≤ length c.sent = r.answered in let high : length mine ≤ n = omega arith in
       let slot_held : c.slot_held ≡ suc n = mineis in let is = one_bye c open_ in
-      let long : length (messages (with_bye c)) ≡ suc n = ap length is ∙ length-append (messages c) (Bye ∷ []) ∙ (omega arith) in
+      let long : length (messages (with_bye c)) ≡ suc n =
+      ap length is ∙ length-append (messages c) (Bye ∷ []) ∙ (omega arith) in
       let all_ : b ≡ length c.sent = all in let all' : b ≡ n = omega arith in record {
-        posted_is = ap suc r.posted_is ∙ (let g : suc (length (messages c)) ≡ length (messages (with_bye c)) = omega arith in g);
+        posted_is = ap suc r.posted_is ∙ (let g : suc (length (messages c))
+            ≡ length (messages (with_bye c)) = omega arith in g);
         done_is = r.done_is;
         told_is = r.told_is;
         order = (
           let o : done ≤ posted = r.order.0 in let g : done ≤ suc posted = omega arith in g,
           let o : posted ≡ length (messages c) = r.posted_is in
-              let d : done ≡ length told + byes = r.done_is in let low' : b ≤ length told = back_told in let g : suc posted ≤ done + 64 = omega arith in g,
+              let d : done ≡ length told + byes = r.done_is in let low' : b ≤ length told = back_told in
+              let g : suc posted ≤ done + 64 = omega arith in g,
         );
         asked_is = r.asked_is;
         answered = r.answered;
@@ -287,27 +338,33 @@ module _ (c : WorkerState) (mine told : List Answered) (byes : ℕ) (held : mayb
             (at_longer (messages c) (Bye ∷ []) (length mine + byes) m (r.open_is m y));
         slot_held_is = λ (y : 0 < 0). absurd (omega arith);
         within = let g : length (messages (with_bye c)) + q ≤ b + 64 = omega arith in g;
-        answers = λ k a le y. let below : k < length mine = at_below mine k a y in same k (apart k n (omega arith) (omega arith)) ∙ r.answers k a le y;
+        answers = λ k a le y. let below : k < length mine = at_below mine k a y in
+            same k (apart k n (omega arith) (omega arith)) ∙ r.answers k a le y;
         requests = λ k m le y. let le' : length mine + byes + count_of held ≤ k = le in
-            ⊎_elim (λ (h : get_elem? (messages c) k ≡ some m). let below : k < length (messages c) = at_below (messages c) k m h in
+            ⊎_elim (λ (h : get_elem? (messages c) k ≡ some m). let below : k
+            < length (messages c) = at_below (messages c) k m h in
             same k (apart k n (omega arith) (omega arith)) ∙ r.requests k m le h)
             (λ (h : (k ≡ length (messages c)) × (Bye ≡ m)). let k_is : k ≡ n = h.0 ∙ e in ap at' k_is
             ∙ (here ∙ ap (λ (z : LaneMessage). some (some (Some z))) h.1))
             (at_end (messages c) Bye k m (subst (λ (l : List LaneMessage). get_elem? l k ≡ some m) is y));
         waits = λ k p y. absurd (some-ne-none p (sym (subst (λ (l : List Posted). get_elem? l k ≡ some p) none_put y)));
-        frees = λ k le near other. let le' : length (messages (with_bye c)) + q ≤ k = le in let near' : k < b + 64 = near in
+        frees = λ k le near other. let le' : length (messages (with_bye c)) + q ≤ k = le in
+            let near' : k < b + 64 = near in
             same k (apart' n k (omega arith) (omega arith))
             ∙ r.frees k (let g : length (messages c) + q ≤ k = omega arith in g) near
             (λ z. let z' : suc k ≡ suc n = z ∙ mineis in let k' : n < k = omega arith in absurd (omega arith));
       }
 
   -- the load of done, where an answer is taken
-  pub takes_back : (at' : At) (a : Answered) → c.slot_held ≡ 0 → get_elem? told (length c.back) ≡ some a → Else at at' (length c.back)
+  pub takes_back : (at' : At) (a : Answered) → c.slot_held ≡ 0 → get_elem? told (length c.back) ≡ some a
+      → Else at at' (length c.back)
       → LaneOk (took_seen c a) mine told byes held posted done at'
   takes_back at' a idle is same = let b : ℕ = length c.back in let q : ℕ = length c.put in let all = count c in
-      let high : length mine ≤ length c.sent = r.answered in let low : b < length mine = at_below mine b a (starts_at mine told b a r.told_is is) in
+      let high : length mine ≤ length c.sent = r.answered in
+      let low : b < length mine = at_below mine b a (starts_at mine told b a r.told_is is) in
       let longer : length (c.back ++ a ∷ []) ≡ suc b = length-append c.back (a ∷ []) ∙ (omega arith) in
-      let room : length (messages c) + q ≤ b + 64 = r.within in let behind' : length mine + byes + count_of held ≤ length (messages c) = r.behind in record {
+      let room : length (messages c) + q ≤ b + 64 = r.within in
+      let behind' : length mine + byes + count_of held ≤ length (messages c) = r.behind in record {
         posted_is = r.posted_is;
         done_is = r.done_is;
         told_is = r.told_is;
@@ -326,15 +383,20 @@ module _ (c : WorkerState) (mine told : List Answered) (byes : ℕ) (held : mayb
           let h : suc (b + 64) ≤ length (c.back ++ a ∷ []) + 64 = omega arith in h,
         );
         within = let h : length (messages c) + q ≤ length (c.back ++ a ∷ []) + 64 = omega arith in h;
-        answers = λ k x le y. let below : k < length mine = at_below mine k x y in let le' : length (c.back ++ a ∷ []) ≤ k = le in
+        answers = λ k x le y. let below : k < length mine = at_below mine k x y in
+            let le' : length (c.back ++ a ∷ []) ≤ k = le in
             same k (apart' b k (omega arith) (omega arith)) ∙ r.answers k x (let h : b ≤ k = omega arith in h) y;
         requests = λ k m le y. let below : k < length (messages c) = at_below (messages c) k m y in
-            let le' : length mine + byes + count_of held ≤ k = le in same k (apart' b k (omega arith) (omega arith)) ∙ r.requests k m le y;
+            let le' : length mine + byes + count_of held ≤ k = le in
+            same k (apart' b k (omega arith) (omega arith)) ∙ r.requests k m le y;
         waits = λ k p y. let below : k < q = at_below c.put k p y in
-            same (length (messages c) + k) (apart' b (length (messages c) + k) (omega arith) (omega arith)) ∙ r.waits k p y;
-        frees = λ k le near other. let le' : length (messages c) + q ≤ k = le in let near' : k < length (c.back ++ a ∷ []) + 64 = near in
+            same (length (messages c) + k) (apart' b (length (messages c) + k) (omega arith) (omega arith))
+            ∙ r.waits k p y;
+        frees = λ k le near other. let le' : length (messages c) + q ≤ k = le in
+            let near' : k < length (c.back ++ a ∷ []) + 64 = near in
             let ne : suc k ≢ suc (b + 64) = other in
-            same k (apart' b k (omega arith) (omega arith)) ∙ r.frees k le (let h : k < b + 64 = omega arith in h) (λ z. suc-ne-zero k (z ∙ idle));
+            same k (apart' b k (omega arith) (omega arith))
+            ∙ r.frees k le (let h : k < b + 64 = omega arith in h) (λ z. suc-ne-zero k (z ∙ idle));
       }
 
   -- the load of done, where nothing is taken
@@ -364,7 +426,8 @@ module _ (c : WorkerState) (mine told : List Answered) (byes : ℕ) (held : mayb
   pub returns_slot : (at' : At) (i : ℕ) → c.slot_held ≡ suc i → at' i ≡ some (some None) → Else at at' i
       → LaneOk (holding_slot c 0) mine told byes held posted done at'
   returns_slot at' i slot_held here same = let b : ℕ = length c.back in let q : ℕ = length c.put in let all = count c in
-      let high : length mine ≤ length c.sent = r.answered in let low : b ≤ length mine = back_below in let hand' : c.slot_held ≡ suc i = slot_held in
+      let high : length mine ≤ length c.sent = r.answered in let low : b ≤ length mine = back_below in
+      let hand' : c.slot_held ≡ suc i = slot_held in
       let hands = r.slot_held_is (let g : 0 < c.slot_held = omega arith in g) in
       let above : length (messages c) + q < c.slot_held = hands.0 in let below_ : c.slot_held ≤ b + 64 = hands.1 in
       let behind' : length mine + byes + count_of held ≤ length (messages c) = r.behind in record {
@@ -385,16 +448,21 @@ module _ (c : WorkerState) (mine told : List Answered) (byes : ℕ) (held : mayb
         answers = λ k a le y. let below : k < length mine = at_below mine k a y in let le' : b ≤ k = le in
             same k (apart k i (omega arith) (omega arith)) ∙ r.answers k a le y;
         requests = λ k m le y. let below : k < length (messages c) = at_below (messages c) k m y in
-            let le' : length mine + byes + count_of held ≤ k = le in same k (apart k i (omega arith) (omega arith)) ∙ r.requests k m le y;
+            let le' : length mine + byes + count_of held ≤ k = le in
+            same k (apart k i (omega arith) (omega arith)) ∙ r.requests k m le y;
         waits = λ k p y. let below : k < q = at_below c.put k p y in
-            same (length (messages c) + k) (apart (length (messages c) + k) i (omega arith) (omega arith)) ∙ r.waits k p y;
+            same (length (messages c) + k) (apart (length (messages c) + k) i (omega arith) (omega arith))
+            ∙ r.waits k p y;
         frees = λ k le near _. let le' : length (messages c) + q ≤ k = le in let near' : k < b + 64 = near in
-            dite (ℕ_discrete k i) (λ e. ap at' e ∙ here) (λ ne. same k (λ e. ne (window k i (omega arith) (omega arith) e))
-            ∙ r.frees k le near (λ z. let z' : suc k ≡ suc i = z ∙ slot_held in let e : k ≡ i = omega arith in absurd (ne e)));
+            dite (ℕ_discrete k i) (λ e. ap at' e ∙ here)
+            (λ ne. same k (λ e. ne (window k i (omega arith) (omega arith) e))
+            ∙ r.frees k le near (λ z. let z' : suc k ≡ suc i = z ∙ slot_held in let e : k ≡ i = omega arith in
+            absurd (ne e)));
       }
     where
       window : (k i : ℕ) → k < i + 64 → i < k + 64 → k % 64 ≡ i % 64 → k ≡ i
-      window k i a z e = ⊎_elim (λ (l : k ≤ i). one_turn k i 64 l z e) (λ (l : i ≤ k). sym (one_turn i k 64 l a (sym e))) (le_total k i)
+      window k i a z e = ⊎_elim (λ (l : k ≤ i). one_turn k i 64 l z e)
+          (λ (l : i ≤ k). sym (one_turn i k 64 l a (sym e))) (le_total k i)
         where
           le_total : (k i : ℕ) → (k ≤ i) ⊎ (i ≤ k)
           le_total k i = dite (dec_le k i) (λ l. inl l) (λ l. inr (omega arith))
@@ -402,11 +470,14 @@ module _ (c : WorkerState) (mine told : List Answered) (byes : ℕ) (held : mayb
   -- Storage's steps on the lane
 
   -- storage takes the next message out
-  pub opens : (at' : At) (x : LaneMessage) → held ≡ none → get_elem? (messages c) (length mine + byes) ≡ some x → Else at at' (length mine + byes)
+  pub opens : (at' : At) (x : LaneMessage) → held ≡ none → get_elem? (messages c) (length mine + byes) ≡ some x
+      → Else at at' (length mine + byes)
       → LaneOk c mine told byes (some x) posted done at'
-  opens at' x none_ is same = let t : ℕ = length mine + byes in let b : ℕ = length c.back in let low : b ≤ length mine = back_below in
+  opens at' x none_ is same = let t : ℕ = length mine + byes in let b : ℕ = length c.back in
+      let low : b ≤ length mine = back_below in
       let below_ : t < length (messages c) = at_below (messages c) t x is in
-      let room : length (messages c) + length c.put ≤ b + 64 = r.within in let zero_ : count_of held ≡ 0 = ap count_of none_ in record {
+      let room : length (messages c) + length c.put ≤ b + 64 = r.within in
+      let zero_ : count_of held ≡ 0 = ap count_of none_ in record {
         posted_is = r.posted_is;
         done_is = r.done_is;
         told_is = r.told_is;
@@ -427,24 +498,31 @@ module _ (c : WorkerState) (mine told : List Answered) (byes : ℕ) (held : mayb
             let le' : length mine + byes + 1 ≤ k = le in same k (apart' t k (omega arith) (omega arith))
             ∙ r.requests k m (let g : length mine + byes + count_of held ≤ k = omega arith in g) y;
         waits = λ k p y. let below : k < length c.put = at_below c.put k p y in
-            same (length (messages c) + k) (apart' t (length (messages c) + k) (omega arith) (omega arith)) ∙ r.waits k p y;
+            same (length (messages c) + k) (apart' t (length (messages c) + k) (omega arith) (omega arith))
+            ∙ r.waits k p y;
         frees = λ k le near other. let le' : length (messages c) + length c.put ≤ k = le in
             let near' : k < b + 64 = near in same k (apart' t k (omega arith) (omega arith)) ∙ r.frees k le near other;
       }
 
   -- the store of done, with an answer
-  pub replies : (at' : At) (p : Posted) (a : Answered) → held ≡ some (Ask p) → posted_of a ≡ p → at' (length mine + byes) ≡ some (some (Some (Answer a)))
+  pub replies : (at' : At) (p : Posted) (a : Answered) → held ≡ some (Ask p) → posted_of a ≡ p
+      → at' (length mine + byes) ≡ some (some (Some (Answer a)))
       → Else at at' (length mine + byes)
       → LaneOk c (mine ++ a ∷ []) told byes none posted done at'
-  replies at' p a held_ for here same = let t : ℕ = length mine + byes in let n : ℕ = length mine in let b : ℕ = length c.back in
+  replies at' p a held_ for here same = let t : ℕ = length mine + byes in let n : ℕ = length mine in
+      let b : ℕ = length c.back in
       let low : b ≤ n = back_below in
       let item : get_elem? (messages c) t ≡ some (Ask p) = r.open_is (Ask p) held_ in
       let below_ : t < length (messages c) = at_below (messages c) t (Ask p) item in
-      let item' : get_elem? c.sent t ≡ some p = ask_at c.sent c.said_bye t p item in let below' : t < length c.sent = at_below c.sent t p item' in
-      let room : length (messages c) + length c.put ≤ b + 64 = r.within in let one_ : count_of held ≡ 1 = ap count_of held_ in
+      let item' : get_elem? c.sent t ≡ some p = ask_at c.sent c.said_bye t p item in
+      let below' : t < length c.sent = at_below c.sent t p item' in
+      let room : length (messages c) + length c.put ≤ b + 64 = r.within in
+      let one_ : count_of held ≡ 1 = ap count_of held_ in
       let zero_ : byes ≡ 0 = dite (ℕ_discrete byes 0) (λ z. z)
-      (λ nz. let bye = r.leaves (let g : 0 < byes = omega arith in g) in let q : b ≡ length c.sent = r.quiet bye in absurd (omega arith)) in
-      let longer : length (mine ++ a ∷ []) ≡ suc n = length-append mine (a ∷ []) ∙ (omega arith) in let t_is : t ≡ n = omega arith in
+      (λ nz. let bye = r.leaves (let g : 0 < byes = omega arith in g) in let q : b ≡ length c.sent = r.quiet bye in
+      absurd (omega arith)) in
+      let longer : length (mine ++ a ∷ []) ≡ suc n = length-append mine (a ∷ []) ∙ (omega arith) in
+      let t_is : t ≡ n = omega arith in
       let item'' : get_elem? c.sent n ≡ some p = subst (λ (z : ℕ). get_elem? c.sent z ≡ some p) t_is item' in record {
         posted_is = r.posted_is;
         done_is = r.done_is;
@@ -452,7 +530,8 @@ module _ (c : WorkerState) (mine told : List Answered) (byes : ℕ) (held : mayb
         order = r.order;
         asked_is = map-append posted_of mine (a ∷ [])
             ∙ (ap (λ (z : List Posted). z ++ posted_of a ∷ []) r.asked_is
-            ∙ (ap (λ (z : Posted). take n c.sent ++ z ∷ []) for ∙ (sym (take_more c.sent n p item'') ∙ ap (λ (z : ℕ). take z c.sent) (sym longer))));
+            ∙ (ap (λ (z : Posted). take n c.sent ++ z ∷ []) for
+            ∙ (sym (take_more c.sent n p item'') ∙ ap (λ (z : ℕ). take z c.sent) (sym longer))));
         answered = let g : length (mine ++ a ∷ []) ≤ length c.sent = omega arith in g;
         known = r.known;
         numbered = r.numbered;
@@ -463,14 +542,18 @@ module _ (c : WorkerState) (mine told : List Answered) (byes : ℕ) (held : mayb
         slot_held_is = r.slot_held_is;
         within = r.within;
         answers = λ k x le y. let le' : b ≤ k = le in
-            ⊎_elim (λ (h : get_elem? mine k ≡ some x). let below : k < n = at_below mine k x h in same k (apart k t (omega arith) (omega arith))
+            ⊎_elim (λ (h : get_elem? mine k ≡ some x). let below : k < n = at_below mine k x h in
+            same k (apart k t (omega arith) (omega arith))
             ∙ r.answers k x le h)
             (λ (h : (k ≡ length mine) × (a ≡ x)). let k_is : k ≡ t = h.0 ∙ sym t_is in ap at' k_is
             ∙ (here ∙ ap (λ (z : Answered). some (some (Some (Answer z)))) h.1)) (at_end mine a k x y);
-        requests = λ k m le y. let below : k < length (messages c) = at_below (messages c) k m y in let le' : length (mine ++ a ∷ []) + byes + 0 ≤ k = le in
-            same k (apart' t k (omega arith) (omega arith)) ∙ r.requests k m (let g : length mine + byes + count_of held ≤ k = omega arith in g) y;
+        requests = λ k m le y. let below : k < length (messages c) = at_below (messages c) k m y in
+            let le' : length (mine ++ a ∷ []) + byes + 0 ≤ k = le in
+            same k (apart' t k (omega arith) (omega arith))
+            ∙ r.requests k m (let g : length mine + byes + count_of held ≤ k = omega arith in g) y;
         waits = λ k p y. let below : k < length c.put = at_below c.put k p y in
-            same (length (messages c) + k) (apart' t (length (messages c) + k) (omega arith) (omega arith)) ∙ r.waits k p y;
+            same (length (messages c) + k) (apart' t (length (messages c) + k) (omega arith) (omega arith))
+            ∙ r.waits k p y;
         frees = λ k le near other. let le' : length (messages c) + length c.put ≤ k = le in
             let near' : k < b + 64 = near in same k (apart' t k (omega arith) (omega arith)) ∙ r.frees k le near other;
       }
@@ -482,7 +565,8 @@ module _ (c : WorkerState) (mine told : List Answered) (byes : ℕ) (held : mayb
     done_is = refl;
     told_is = starts_self mine;
     order = (
-      let o : posted ≡ length (messages c) = r.posted_is in let h : length mine + byes + count_of held ≤ length (messages c) = r.behind in
+      let o : posted ≡ length (messages c) = r.posted_is in
+          let h : length mine + byes + count_of held ≤ length (messages c) = r.behind in
           let g : length mine + byes ≤ posted = omega arith in g,
       let o : posted ≤ done + 64 = r.order.1 in let d : done ≡ length told + byes = r.done_is in
           let g : posted ≤ length mine + byes + 64 = omega arith in g,
@@ -504,10 +588,14 @@ module _ (c : WorkerState) (mine told : List Answered) (byes : ℕ) (held : mayb
   }
 
   -- the store of done, after a Bye
-  pub settles_bye : (at' : At) → held ≡ some Bye → Else at at' (length mine + byes) → LaneOk c mine told (suc byes) none posted (suc (length mine + byes)) at'
-  settles_bye at' held_ same = let t : ℕ = length mine + byes in let n : ℕ = length mine in let b : ℕ = length c.back in let low : b ≤ n = back_below in
-      let item : get_elem? (messages c) t ≡ some Bye = r.open_is Bye held_ in let below_ : t < length (messages c) = at_below (messages c) t Bye item in
-      let last = bye_at c.sent c.said_bye t item in let all_back : b ≡ length c.sent = r.quiet last.0 in let high : n ≤ length c.sent = r.answered in
+  pub settles_bye : (at' : At) → held ≡ some Bye → Else at at' (length mine + byes)
+      → LaneOk c mine told (suc byes) none posted (suc (length mine + byes)) at'
+  settles_bye at' held_ same = let t : ℕ = length mine + byes in let n : ℕ = length mine in let b : ℕ = length c.back in
+      let low : b ≤ n = back_below in
+      let item : get_elem? (messages c) t ≡ some Bye = r.open_is Bye held_ in
+      let below_ : t < length (messages c) = at_below (messages c) t Bye item in
+      let last = bye_at c.sent c.said_bye t item in let all_back : b ≡ length c.sent = r.quiet last.0 in
+      let high : n ≤ length c.sent = r.answered in
       let low' : b ≤ length told = back_told in let told_low : length told ≤ n = told_below in
       let room : length (messages c) + length c.put ≤ b + 64 = r.within in
       let one_ : count_of held ≡ 1 = ap count_of held_ in record {
@@ -518,7 +606,8 @@ module _ (c : WorkerState) (mine told : List Answered) (byes : ℕ) (held : mayb
           let o : posted ≡ length (messages c) = r.posted_is in
               let h : length mine + byes + count_of held ≤ length (messages c) = r.behind in
               let g : suc (n + byes) ≤ posted = omega arith in g,
-          let o : posted ≤ done + 64 = r.order.1 in let d : done ≡ length told + byes = r.done_is in let g : posted ≤ suc (n + byes) + 64 = omega arith in g,
+          let o : posted ≤ done + 64 = r.order.1 in let d : done ≡ length told + byes = r.done_is in
+              let g : posted ≤ suc (n + byes) + 64 = omega arith in g,
         );
         asked_is = r.asked_is;
         answered = r.answered;
@@ -531,11 +620,15 @@ module _ (c : WorkerState) (mine told : List Answered) (byes : ℕ) (held : mayb
         slot_held_is = r.slot_held_is;
         within = r.within;
         answers = λ k x le y. let le' : b ≤ k = le in
-            let below : k < n = at_below mine k x y in same k (apart k t (omega arith) (omega arith)) ∙ r.answers k x le y;
-        requests = λ k m le y. let below : k < length (messages c) = at_below (messages c) k m y in let le' : length mine + suc byes + 0 ≤ k = le in
-            same k (apart' t k (omega arith) (omega arith)) ∙ r.requests k m (let g : length mine + byes + count_of held ≤ k = omega arith in g) y;
+            let below : k < n = at_below mine k x y in
+            same k (apart k t (omega arith) (omega arith)) ∙ r.answers k x le y;
+        requests = λ k m le y. let below : k < length (messages c) = at_below (messages c) k m y in
+            let le' : length mine + suc byes + 0 ≤ k = le in
+            same k (apart' t k (omega arith) (omega arith))
+            ∙ r.requests k m (let g : length mine + byes + count_of held ≤ k = omega arith in g) y;
         waits = λ k p y. let below : k < length c.put = at_below c.put k p y in
-            same (length (messages c) + k) (apart' t (length (messages c) + k) (omega arith) (omega arith)) ∙ r.waits k p y;
+            same (length (messages c) + k) (apart' t (length (messages c) + k) (omega arith) (omega arith))
+            ∙ r.waits k p y;
         frees = λ k le near other. let le' : length (messages c) + length c.put ≤ k = le in
             let near' : k < b + 64 = near in same k (apart' t k (omega arith) (omega arith)) ∙ r.frees k le near other;
       }

@@ -14,18 +14,21 @@ module _ {A : Type 0} where
   at_below (x ∷ l) (suc k) a e = let h = at_below l k a e in omega arith
 
   -- of a list with one more, each is one of the old or the last
-  pub at_end : (l : List A) (x : A) (k : ℕ) (a : A) → get_elem? (l ++ x ∷ []) k ≡ some a → (get_elem? l k ≡ some a) ⊎ ((k ≡ length l) × (x ≡ a))
+  pub at_end : (l : List A) (x : A) (k : ℕ) (a : A) → get_elem? (l ++ x ∷ []) k ≡ some a
+      → (get_elem? l k ≡ some a) ⊎ ((k ≡ length l) × (x ≡ a))
   at_end [] x zero a e = inr (refl, some-injective x a e)
   at_end [] x (suc k) a e = absurd (some-ne-none a (sym e))
   at_end (y ∷ l) x zero a e = inl e
-  at_end (y ∷ l) x (suc k) a e = ⊎_elim (λ h. inl h) (λ (h : (k ≡ length l) × (x ≡ a)). inr (ap suc h.0, h.1)) (at_end l x k a e)
+  at_end (y ∷ l) x (suc k) a e = ⊎_elim (λ h. inl h) (λ (h : (k ≡ length l) × (x ≡ a)). inr (ap suc h.0, h.1))
+      (at_end l x k a e)
 
   -- what stands in two lists one after the other stands in one of them
   pub at_either : (l m : List A) (k : ℕ) (a : A) → get_elem? (l ++ m) k ≡ some a → (get_elem? l k ≡ some a)
       ⊎ ((j : ℕ) × (k ≡ length l + j) × (get_elem? m j ≡ some a))
   at_either [] m k a e = inr (k, omega arith, e)
   at_either (y ∷ l) m zero a e = inl e
-  at_either (y ∷ l) m (suc k) a e = ⊎_elim (λ h. inl h) (λ (h : (j : ℕ) × (k ≡ length l + j) × (get_elem? m j ≡ some a)). let at : k ≡ length l + h.0 = h.1 in
+  at_either (y ∷ l) m (suc k) a e = ⊎_elim (λ h. inl h)
+      (λ (h : (j : ℕ) × (k ≡ length l + j) × (get_elem? m j ≡ some a)). let at : k ≡ length l + h.0 = h.1 in
       inr (h.0, omega arith, h.2)) (at_either l m k a e)
 
   -- below the length something is there
@@ -41,8 +44,10 @@ module _ {A : Type 0} where
   next_of (y ∷ l) m a e = let h = next_of l m a e in (h.0, λ i. y ∷ h.1 i)
 
   -- a beginning with the next element is one
-  pub starts_more : (l m : List A) (a : A) → StartsWith l m → get_elem? l (length m) ≡ some a → StartsWith l (m ++ a ∷ [])
-  starts_more l m a h e = let t = next_of m h.0 a (subst (λ z. get_elem? z (length m) ≡ some a) h.1 e) in (t.0, h.1 ∙ t.1)
+  pub starts_more : (l m : List A) (a : A) → StartsWith l m → get_elem? l (length m) ≡ some a
+      → StartsWith l (m ++ a ∷ [])
+  starts_more l m a h e = let t = next_of m h.0 a (subst (λ z. get_elem? z (length m) ≡ some a) h.1 e) in
+      (t.0, h.1 ∙ t.1)
 
   -- a beginning of a list is one of a longer list
   pub starts_longer : (l m n : List A) → StartsWith l m → StartsWith (l ++ n) m

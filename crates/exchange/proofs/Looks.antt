@@ -15,6 +15,7 @@ use Rattle.proto.specs.Counts.{times}
 use Rattle.exchange.specs.Beginnings.{StartsWith}
 use Rattle.exchange.specs.Ends.{StorageView, looked, lanes_of, lanes_in_turn, done_in, FoundNone, LookedOnce, IsNextMessage, with_taken, LooksAt, FindsNone}
 use Rattle.exchange.specs.Ends.{FindsOne}
+use Rattle.proto.proofs.CountLemmas.{one_more_time, no_more_time, times-append, range_more_from, range_more}
 
 -- looks: lanes, each with its posted word
 abbrev Pairs : Type 0
@@ -22,11 +23,13 @@ Pairs = List (ℕ × ℕ)
 
 -- one look at this lane
 one_here : (w n : ℕ) → looked ((w, n) ∷ []) w ≡ n ∷ []
-one_here w n = ap (λ (b : Bool). let l : Pairs = cond b ((w, n) ∷ []) [] in map (λ (x : ℕ × ℕ). x.1) l) (eq-eqb w w refl)
+one_here w n = ap (λ (b : Bool). let l : Pairs = cond b ((w, n) ∷ []) [] in map (λ (x : ℕ × ℕ). x.1) l)
+    (eq-eqb w w refl)
 
 -- one look at another lane
 one_else : (w n v : ℕ) → w ≢ v → looked ((w, n) ∷ []) v ≡ []
-one_else w n v e = ap (λ (b : Bool). let l : Pairs = cond b ((w, n) ∷ []) [] in map (λ (x : ℕ × ℕ). x.1) l) (ne_eqb w v e)
+one_else w n v e = ap (λ (b : Bool). let l : Pairs = cond b ((w, n) ∷ []) [] in map (λ (x : ℕ × ℕ). x.1) l)
+    (ne_eqb w v e)
 
 -- the words read in both lists of looks
 pub looked-append : (xs ys : Pairs) (w : ℕ) → looked (xs ++ ys) w ≡ looked xs w ++ looked ys w
@@ -39,7 +42,8 @@ looked_here xs w n = looked-append xs ((w, n) ∷ []) w ∙ ap (λ (l : List ℕ
 
 -- one more look at another lane changes nothing here
 pub looked_else : (xs : Pairs) (w n v : ℕ) → w ≢ v → looked (xs ++ (w, n) ∷ []) v ≡ looked xs v
-looked_else xs w n v e = looked-append xs ((w, n) ∷ []) v ∙ (ap (λ (l : List ℕ). looked xs v ++ l) (one_else w n v e) ∙ append-nil (looked xs v))
+looked_else xs w n v e = looked-append xs ((w, n) ∷ []) v
+    ∙ (ap (λ (l : List ℕ). looked xs v ++ l) (one_else w n v e) ∙ append-nil (looked xs v))
 
 -- Looks, at these lanes, which found no message that isn't done
 pub record InVain (old now : StorageView) (lanes : List ℕ) : Type 0 where
@@ -67,7 +71,8 @@ module _ (old now : StorageView) (lanes : List ℕ) (r : InVain old now lanes) w
   done_same w = ap (λ (z : StorageView). done_in z w) r.now_is
 
   -- one more look in vain
-  pub look_more : (new : StorageView) (w n : ℕ) → n ≤ done_in now w → new ≡ record now { looks = now.looks ++ (w, n) ∷ [] } → InVain old new (lanes ++ w ∷ [])
+  pub look_more : (new : StorageView) (w n : ℕ) → n ≤ done_in now w
+      → new ≡ record now { looks = now.looks ++ (w, n) ∷ [] } → InVain old new (lanes ++ w ∷ [])
   look_more new w n small is = record {
     looks = r.looks ++ (w, n) ∷ [];
     lanes_are = lanes_more r.looks w n ∙ ap (λ (l : List ℕ). l ++ w ∷ []) r.lanes_are;
@@ -79,25 +84,30 @@ module _ (old now : StorageView) (lanes : List ℕ) (r : InVain old now lanes) w
   }
 
   -- a look that found a message
-  pub look_found : (new : StorageView) (w : ℕ) (t : Taken) → w < old.workers → StartsWith (lanes_in_turn old.workers old.last) (lanes ++ w ∷ [])
+  pub look_found : (new : StorageView) (w : ℕ) (t : Taken) → w < old.workers
+      → StartsWith (lanes_in_turn old.workers old.last) (lanes ++ w ∷ [])
       → LooksAt now w (Some t) new → FindsOne old new t
   look_found new w t inside turn l = let n : ℕ = l.0 in record {
     lane = w;
     posted = n;
     before = r.looks;
     inside = inside;
-    in_turn = subst (StartsWith (lanes_in_turn old.workers old.last)) (sym (lanes_more r.looks w n ∙ ap (λ (k : List ℕ). k ++ w ∷ []) r.lanes_are)) turn;
+    in_turn = subst (StartsWith (lanes_in_turn old.workers old.last))
+        (sym (lanes_more r.looks w n ∙ ap (λ (k : List ℕ). k ++ w ∷ []) r.lanes_are)) turn;
     none_before = r.found_none;
     found = subst (λ (z : ℕ). z < n) (done_same w) l.1.0;
     is_next = same_next t l.1.1;
-    after = l.1.2 ∙ (λ i. let z : StorageView = r.now_is i in record (with_taken z w t) { looks = z.looks ++ (w, n) ∷ [] })
-        ∙ (taken_looks n t ∙ ap (λ (k : Pairs). record (with_taken old w t) { looks = k }) (append_assoc old.looks r.looks ((w, n) ∷ [])));
+    after = l.1.2 ∙ (λ i. let z : StorageView = r.now_is i in
+        record (with_taken z w t) { looks = z.looks ++ (w, n) ∷ [] })
+        ∙ (taken_looks n t ∙ ap (λ (k : Pairs). record (with_taken old w t) { looks = k })
+        (append_assoc old.looks r.looks ((w, n) ∷ [])));
   }
     where
       same_next : (u : Taken) → IsNextMessage now w u → IsNextMessage old w u
       same_next u h = next_of u (subst (λ (z : StorageView). IsNextMessage z w u) r.now_is h)
         where
-          next_of : (u : Taken) → IsNextMessage (record old { looks = old.looks ++ r.looks }) w u → IsNextMessage old w u
+          next_of : (u : Taken) → IsNextMessage (record old { looks = old.looks ++ r.looks }) w u
+              → IsNextMessage old w u
           next_of (Asked v p) h = h
           next_of (Bye v) h = h
 
@@ -114,39 +124,29 @@ module _ (old now : StorageView) (lanes : List ℕ) (r : InVain old now lanes) w
 
 -- how often a lane is looked at
 
--- one more time
-one_more_time : (w x : ℕ) (xs : List ℕ) → x ≡ w → times w (x ∷ xs) ≡ suc (times w xs)
-one_more_time w x xs e = ap (λ (b : Bool). cond b 1 0 + times w xs) (eq-eqb x w e) ∙ (omega arith)
-
--- not one more time
-no_more_time : (w x : ℕ) (xs : List ℕ) → x ≢ w → times w (x ∷ xs) ≡ times w xs
-no_more_time w x xs e = ap (λ (b : Bool). cond b 1 0 + times w xs) (ne_eqb x w e) ∙ (omega arith)
-
--- so often as in both lists
-times-append : (w : ℕ) (xs ys : List ℕ) → times w (xs ++ ys) ≡ times w xs + times w ys
-times-append w [] ys = let e : times w ys ≡ 0 + times w ys = omega arith in e
-times-append w (x ∷ xs) ys = let e = times-append w xs ys in dite (ℕ_discrete x w)
-    (λ same. let a = one_more_time w x (xs ++ ys) same in let b = one_more_time w x xs same in omega (arith, e, a, b))
-    (λ other. let a = no_more_time w x (xs ++ ys) other in let b = no_more_time w x xs other in omega (arith, e, a, b))
-
 -- a number outside a range is not in it
 times_range_out : (w a n : ℕ) → (w < a) ⊎ (a + n ≤ w) → times w (range_with_len a n) ≡ 0
 times_range_out w a zero h = refl
-times_range_out w a (suc n) h = no_more_time w a (range_with_len (a + 1) n) (λ e. ⊎_elim (λ (l : w < a). omega arith) (λ (l : a + suc n ≤ w). omega arith) h) ∙
+times_range_out w a (suc n) h = no_more_time w a (range_with_len (a + 1) n)
+    (λ e. ⊎_elim (λ (l : w < a). omega arith) (λ (l : a + suc n ≤ w). omega arith) h) ∙
     times_range_out w (a + 1) n
-    (⊎_elim (λ (l : w < a). let g : w < a + 1 = omega arith in inl g) (λ (l : a + suc n ≤ w). let g : a + 1 + n ≤ w = omega arith in inr g) h)
+    (⊎_elim (λ (l : w < a). let g : w < a + 1 = omega arith in inl g)
+    (λ (l : a + suc n ≤ w). let g : a + 1 + n ≤ w = omega arith in inr g) h)
 
 -- a number inside a range is in it once
 times_range_in : (w a n : ℕ) → a ≤ w → w < a + n → times w (range_with_len a n) ≡ 1
 times_range_in w a zero low high = let low' : a ≤ w = low in let high' : w < a + 0 = high in absurd (omega arith)
-times_range_in w a (suc n) low high = let low' : a ≤ w = low in let high' : w < a + suc n = high in dite (ℕ_discrete a w)
+times_range_in w a (suc n) low high = let low' : a ≤ w = low in let high' : w < a + suc n = high in
+    dite (ℕ_discrete a w)
     (λ e. one_more_time w a (range_with_len (a + 1) n) e
     ∙ ap suc (times_range_out w (a + 1) n (inl (let e' : a ≡ w = e in let g : w < a + 1 = omega arith in g))))
-    (λ ne. let ne' : a ≢ w = ne in no_more_time w a (range_with_len (a + 1) n) ne ∙ times_range_in w (a + 1) n (omega arith) (omega arith))
+    (λ ne. let ne' : a ≢ w = ne in no_more_time w a (range_with_len (a + 1) n) ne
+    ∙ times_range_in w (a + 1) n (omega arith) (omega arith))
 
 -- each lane comes once in a turn
 once_in_turn : (workers last w : ℕ) → last < workers → w < workers → times w (lanes_in_turn workers last) ≡ 1
-once_in_turn workers last w inside small = times-append w (range_with_len (last + 1) (workers - (last + 1))) (range_with_len 0 (last + 1))
+once_in_turn workers last w inside small =
+    times-append w (range_with_len (last + 1) (workers - (last + 1))) (range_with_len 0 (last + 1))
     ∙ dite (dec_le w last)
     (λ le. let a = times_range_out w (last + 1) (workers - (last + 1)) (inl (omega arith)) in
     let b = times_range_in w 0 (last + 1) (omega arith) (omega arith) in omega (arith, a, b))
@@ -158,81 +158,91 @@ none_there : (looks : Pairs) (w : ℕ) → times w (lanes_of looks) ≡ 0 → lo
 none_there [] w e = refl
 none_there (x ∷ looks) w e = dite (ℕ_discrete x.0 w)
     (λ same. absurd (let one = one_more_time w x.0 (lanes_of looks) same in omega (arith, one)))
-    (λ other. ap (λ (b : Bool). let l : Pairs = cond b (x ∷ filter (λ (y : ℕ × ℕ). y.0 == w) looks) (filter (λ (y : ℕ × ℕ). y.0 == w) looks) in
+    (λ other. ap (λ (b : Bool). let l : Pairs = cond b (x ∷ filter (λ (y : ℕ × ℕ). y.0 == w) looks)
+    (filter (λ (y : ℕ × ℕ). y.0 == w) looks) in
     map (λ (y : ℕ × ℕ). y.1) l) (ne_eqb x.0 w other) ∙
     none_there looks w (sym (no_more_time w x.0 (lanes_of looks) other) ∙ e))
 
 -- one word of a lane that was looked at once
-one_there : (P : ℕ × ℕ → Type 0) (looks : Pairs) (w : ℕ) → times w (lanes_of looks) ≡ 1 → All P looks → (n : ℕ) × P (w, n) × (looked looks w ≡ n ∷ [])
+one_there : (P : ℕ × ℕ → Type 0) (looks : Pairs) (w : ℕ) → times w (lanes_of looks) ≡ 1 → All P looks
+    → (n : ℕ) × P (w, n) × (looked looks w ≡ n ∷ [])
 one_there P [] w e all = absurd (omega arith)
 one_there P (x ∷ looks) w e all = dite (ℕ_discrete x.0 w)
     (λ same. (
       x.1,
       subst (λ (z : ℕ). P (z, x.1)) same (All-head P x looks all),
-      ap (λ (b : Bool). let l : Pairs = cond b (x ∷ filter (λ (y : ℕ × ℕ). y.0 == w) looks) (filter (λ (y : ℕ × ℕ). y.0 == w) looks) in
+      ap (λ (b : Bool). let l : Pairs = cond b (x ∷ filter (λ (y : ℕ × ℕ). y.0 == w) looks)
+          (filter (λ (y : ℕ × ℕ). y.0 == w) looks) in
           map (λ (y : ℕ × ℕ). y.1) l) (eq-eqb x.0 w same) ∙
-          ap (λ (l : List ℕ). x.1 ∷ l) (none_there looks w (let one = one_more_time w x.0 (lanes_of looks) same in omega (arith, one))),
+          ap (λ (l : List ℕ). x.1 ∷ l) (none_there looks w
+          (let one = one_more_time w x.0 (lanes_of looks) same in omega (arith, one))),
     ))
-    (λ other. let rest = one_there P looks w (sym (no_more_time w x.0 (lanes_of looks) other) ∙ e) (All-tail P x looks all) in (
+    (λ other. let rest = one_there P looks w (sym (no_more_time w x.0 (lanes_of looks) other) ∙ e)
+    (All-tail P x looks all) in (
       rest.0,
       rest.1,
-      ap (λ (b : Bool). let l : Pairs = cond b (x ∷ filter (λ (y : ℕ × ℕ). y.0 == w) looks) (filter (λ (y : ℕ × ℕ). y.0 == w) looks) in
+      ap (λ (b : Bool). let l : Pairs = cond b (x ∷ filter (λ (y : ℕ × ℕ). y.0 == w) looks)
+          (filter (λ (y : ℕ × ℕ). y.0 == w) looks) in
           map (λ (y : ℕ × ℕ). y.1) l) (ne_eqb x.0 w other) ∙ rest.2,
     ))
 
 -- a call that found nothing looked once at each lane
-pub each_once : (old new : StorageView) (w : ℕ) → old.last < old.workers → w < old.workers → FindsNone old new → LookedOnce old new w
+pub each_once : (old new : StorageView) (w : ℕ) → old.last < old.workers → w < old.workers → FindsNone old new
+    → LookedOnce old new w
 each_once old new w inside small f = let one = one_there (λ (x : ℕ × ℕ). x.1 ≤ done_in old x.0) f.0 w
-    (ap (times w) f.1 ∙ once_in_turn old.workers old.last w inside small) f.2 in
-    (one.0, one.1, ap (λ (z : StorageView). looked z.looks w) f.3 ∙ (looked-append old.looks f.0 w ∙ ap (λ (l : List ℕ). looked old.looks w ++ l) one.2))
+    (ap (times w) f.1 ∙ once_in_turn old.workers old.last w inside small) f.2 in (
+      one.0,
+      one.1,
+      ap (λ (z : StorageView). looked z.looks w) f.3
+          ∙ (looked-append old.looks f.0 w ∙ ap (λ (l : List ℕ). looked old.looks w ++ l) one.2),
+    )
 
 -- the next lane in turn
 
--- a range of one more, from its front
-range_suc : (a k : ℕ) → range_with_len a (suc k) ≡ range_with_len a k ++ (a + k) ∷ []
-range_suc a zero = ap (λ (z : ℕ). z ∷ []) (let e : a ≡ a + 0 = omega arith in e)
-range_suc a (suc k) = ap (λ (l : List ℕ). a ∷ l)
-    (range_suc (a + 1) k ∙ ap (λ (z : ℕ). range_with_len (a + 1) k ++ z ∷ []) (let e : a + 1 + k ≡ a + suc k = omega arith in e))
-
 -- a range of one more, at its end
 range_end : (a k : ℕ) → range_with_len a (k + 1) ≡ range_with_len a k ++ (a + k) ∷ []
-range_end a k = ap (range_with_len a) (let e : k + 1 ≡ suc k = omega arith in e) ∙ range_suc a k
+range_end a k = ap (range_with_len a) (let e : k + 1 ≡ suc k = omega arith in e) ∙ range_more_from a k
 
 -- a range in two parts
 range_split : (a k m : ℕ) → range_with_len a (k + m) ≡ range_with_len a k ++ range_with_len (a + k) m
-range_split a zero m = ap (range_with_len a) (let e : 0 + m ≡ m = omega arith in e) ∙ ap (λ (z : ℕ). range_with_len z m) (let e : a ≡ a + 0 = omega arith in e)
+range_split a zero m = ap (range_with_len a) (let e : 0 + m ≡ m = omega arith in e)
+    ∙ ap (λ (z : ℕ). range_with_len z m) (let e : a ≡ a + 0 = omega arith in e)
 range_split a (suc k) m = ap (range_with_len a) (let e : suc k + m ≡ suc (k + m) = omega arith in e) ∙
     ap (λ (l : List ℕ). a ∷ l)
-    (range_split (a + 1) k m ∙ ap (λ (z : ℕ). range_with_len (a + 1) k ++ range_with_len z m) (let e : a + 1 + k ≡ a + suc k = omega arith in e))
+    (range_split (a + 1) k m ∙ ap (λ (z : ℕ). range_with_len (a + 1) k ++ range_with_len z m)
+    (let e : a + 1 + k ≡ a + suc k = omega arith in e))
 
 -- the lane after so many looks behind the last one
-pub turn_above : (workers last k : ℕ) → last + 1 + k < workers → StartsWith (lanes_in_turn workers last) (range_with_len (last + 1) k ++ (last + 1 + k) ∷ [])
-turn_above workers last k small = let small' : last + 1 + k < workers = small in let rest : ℕ = workers - (last + 1) - (k + 1) in
+pub turn_above : (workers last k : ℕ) → last + 1 + k < workers
+    → StartsWith (lanes_in_turn workers last) (range_with_len (last + 1) k ++ (last + 1 + k) ∷ [])
+turn_above workers last k small = let small' : last + 1 + k < workers = small in
+    let rest : ℕ = workers - (last + 1) - (k + 1) in
     let all : workers - (last + 1) ≡ k + 1 + rest = omega arith in (
       range_with_len (last + 1 + (k + 1)) rest ++ range_with_len 0 (last + 1),
       ap (λ (z : ℕ). range_with_len (last + 1) z ++ range_with_len 0 (last + 1)) all
           ∙ (ap (λ (l : List ℕ). l ++ range_with_len 0 (last + 1))
-          (range_split (last + 1) (k + 1) rest ∙ ap (λ (l : List ℕ). l ++ range_with_len (last + 1 + (k + 1)) rest) (range_end (last + 1) k))
-          ∙ append_assoc (range_with_len (last + 1) k ++ (last + 1 + k) ∷ []) (range_with_len (last + 1 + (k + 1)) rest) (range_with_len 0 (last + 1))),
+          (range_split (last + 1) (k + 1) rest
+          ∙ ap (λ (l : List ℕ). l ++ range_with_len (last + 1 + (k + 1)) rest) (range_end (last + 1) k))
+          ∙ append_assoc (range_with_len (last + 1) k ++ (last + 1 + k) ∷ []) (range_with_len (last + 1 + (k + 1)) rest)
+          (range_with_len 0 (last + 1))),
     )
 
 -- the lanes behind the last one and the first k
 abbrev pub up_to : ℕ → ℕ → ℕ → List ℕ
 up_to workers last k = range_with_len (last + 1) (workers - (last + 1)) ++ range_with_len 0 k
 
--- a low range is a beginning
-range_low : (k : ℕ) → range_with_len 0 (k + 1) ≡ range_with_len 0 k ++ k ∷ []
-range_low k = range_end 0 k ∙ ap (λ (z : ℕ). range_with_len 0 k ++ z ∷ []) (let e : 0 + k ≡ k = omega arith in e)
-
 -- one more lane of the first part
 pub more_below : (workers last k : ℕ) → up_to workers last k ++ k ∷ [] ≡ up_to workers last (k + 1)
-more_below workers last k = let high : List ℕ = range_with_len (last + 1) (workers - (last + 1)) in append_assoc high (range_with_len 0 k) (k ∷ [])
-    ∙ ap (λ (l : List ℕ). high ++ l) (sym (range_low k))
+more_below workers last k = let high : List ℕ = range_with_len (last + 1) (workers - (last + 1)) in
+    append_assoc high (range_with_len 0 k) (k ∷ [])
+    ∙ ap (λ (l : List ℕ). high ++ l) (sym (range_more k))
 
 -- the turn, up to a lane of the second part
-pub turn_below : (workers last k : ℕ) → k < last + 1 → StartsWith (lanes_in_turn workers last) (up_to workers last k ++ k ∷ [])
+pub turn_below : (workers last k : ℕ) → k < last + 1
+    → StartsWith (lanes_in_turn workers last) (up_to workers last k ++ k ∷ [])
 turn_below workers last k small = let small' : k < last + 1 = small in let rest : ℕ = last + 1 - (k + 1) in
-    let all : last + 1 ≡ k + 1 + rest = omega arith in let high : List ℕ = range_with_len (last + 1) (workers - (last + 1)) in (
+    let all : last + 1 ≡ k + 1 + rest = omega arith in
+    let high : List ℕ = range_with_len (last + 1) (workers - (last + 1)) in (
       range_with_len (0 + (k + 1)) rest,
       ap (λ (z : ℕ). high ++ range_with_len 0 z) all ∙ (ap (λ (l : List ℕ). high ++ l) (range_split 0 (k + 1) rest)
           ∙ (sym (append_assoc high (range_with_len 0 (k + 1)) (range_with_len (0 + (k + 1)) rest))
@@ -245,25 +255,31 @@ more_above last k = sym (range_end (last + 1) k)
 
 -- the first part, whole
 pub all_above : (workers last k : ℕ) → last + 1 + k ≡ workers → range_with_len (last + 1) k ≡ up_to workers last 0
-all_above workers last k e = ap (range_with_len (last + 1)) (let e' : last + 1 + k ≡ workers = e in let h : k ≡ workers - (last + 1) = omega arith in h)
+all_above workers last k e = ap (range_with_len (last + 1))
+    (let e' : last + 1 + k ≡ workers = e in let h : k ≡ workers - (last + 1) = omega arith in h)
     ∙ sym (append-nil (range_with_len (last + 1) (workers - (last + 1))))
 
 -- a look of each of the two loops of `next`, whose variables are those of the end
-module _ (old now new : StorageView) (workers last lane : ℕ) (workers_is : workers ≡ old.workers) (last_is : last ≡ old.last) where
+module _ (old now new : StorageView) (workers last lane : ℕ) (workers_is : workers ≡ old.workers)
+    (last_is : last ≡ old.last) where
   -- the turn depends on the last lane alone
-  same_turn : (l : List ℕ) → StartsWith (lanes_in_turn workers last) l → StartsWith (lanes_in_turn old.workers old.last) l
+  same_turn : (l : List ℕ) → StartsWith (lanes_in_turn workers last) l
+      → StartsWith (lanes_in_turn old.workers old.last) l
   same_turn l h = subst (λ (z : ℕ × ℕ). StartsWith (lanes_in_turn z.0 z.1) l) (λ i. (workers_is i, last_is i)) h
 
   -- a message found in the first part
-  pub found_above : (k : ℕ) (t : Taken) → last + 1 + k ≡ lane → lane < workers → InVain old now (range_with_len (last + 1) k)
+  pub found_above : (k : ℕ) (t : Taken) → last + 1 + k ≡ lane → lane < workers
+      → InVain old now (range_with_len (last + 1) k)
       → LooksAt now lane (Some t) new → FindsOne old new t
-  found_above k t e small r l = look_found old now (range_with_len (last + 1) k) r new lane t (subst (λ (z : ℕ). lane < z) workers_is small)
+  found_above k t e small r l = look_found old now (range_with_len (last + 1) k) r new lane t
+      (subst (λ (z : ℕ). lane < z) workers_is small)
       (same_turn (range_with_len (last + 1) k ++ lane ∷ [])
       (subst (λ (z : ℕ). StartsWith (lanes_in_turn workers last) (range_with_len (last + 1) k ++ z ∷ [])) e
       (turn_above workers last k (subst (λ (z : ℕ). z < workers) (sym e) small)))) l
 
   -- a message found in the second part
-  pub found_below : (t : Taken) → lane < last + 1 → last < workers → InVain old now (up_to workers last lane) → LooksAt now lane (Some t) new
+  pub found_below : (t : Taken) → lane < last + 1 → last < workers → InVain old now (up_to workers last lane)
+      → LooksAt now lane (Some t) new
       → FindsOne old new t
   found_below t small inside r l = let small' : lane < last + 1 = small in let inside' : last < workers = inside in
       let w_is : workers ≡ old.workers = workers_is in
@@ -271,20 +287,25 @@ module _ (old now new : StorageView) (workers last lane : ℕ) (workers_is : wor
       (same_turn (up_to workers last lane ++ lane ∷ []) (turn_below workers last lane small)) l
 
   -- a look in vain in the first part
-  pub vain_above : (k n : ℕ) → last + 1 + k ≡ lane → n ≤ done_in now lane → new ≡ record now { looks = now.looks ++ (lane, n) ∷ [] }
+  pub vain_above : (k n : ℕ) → last + 1 + k ≡ lane → n ≤ done_in now lane
+      → new ≡ record now { looks = now.looks ++ (lane, n) ∷ [] }
       → InVain old now (range_with_len (last + 1) k) → InVain old new (range_with_len (last + 1) (k + 1))
-  vain_above k n e small is r = subst (InVain old new) (ap (λ (z : ℕ). range_with_len (last + 1) k ++ z ∷ []) (sym e) ∙ more_above last k)
+  vain_above k n e small is r = subst (InVain old new)
+      (ap (λ (z : ℕ). range_with_len (last + 1) k ++ z ∷ []) (sym e) ∙ more_above last k)
       (look_more old now (range_with_len (last + 1) k) r new lane n small is)
 
   -- a look in vain in the second part
-  pub vain_below : (n : ℕ) → n ≤ done_in now lane → new ≡ record now { looks = now.looks ++ (lane, n) ∷ [] } → InVain old now (up_to workers last lane)
+  pub vain_below : (n : ℕ) → n ≤ done_in now lane → new ≡ record now { looks = now.looks ++ (lane, n) ∷ [] }
+      → InVain old now (up_to workers last lane)
       → InVain old new (up_to workers last (lane + 1))
-  vain_below n small is r = subst (InVain old new) (more_below workers last lane) (look_more old now (up_to workers last lane) r new lane n small is)
+  vain_below n small is r = subst (InVain old new) (more_below workers last lane)
+      (look_more old now (up_to workers last lane) r new lane n small is)
 
   -- where all looks were in vain, each lane was looked at once
   pub all_looked : lane ≤ last + 1 → last + 1 ≤ lane → InVain old now (up_to workers last lane) → FindsNone old now
   all_looked low high r = looked_all old now (up_to workers last lane) r
-      ((let low' : lane ≤ last + 1 = low in let high' : last + 1 ≤ lane = high in let e : lane ≡ last + 1 = omega arith in ap (up_to workers last) e)
+      ((let low' : lane ≤ last + 1 = low in let high' : last + 1 ≤ lane = high in
+      let e : lane ≡ last + 1 = omega arith in ap (up_to workers last) e)
       ∙ (λ i. lanes_in_turn (workers_is i) (last_is i)))
 
 -- taking a message leaves the history as it was
@@ -293,6 +314,7 @@ taken_history v w (Asked worker posted) = refl
 taken_history v w (Bye worker) = refl
 
 -- a look changes no answer
-pub next_history : (old new : StorageView) (result : Option Taken) → MatchOption result (FindsNone old new) (FindsOne old new) → new.history ≡ old.history
+pub next_history : (old new : StorageView) (result : Option Taken)
+    → MatchOption result (FindsNone old new) (FindsOne old new) → new.history ≡ old.history
 next_history old new None f = ap (λ (z : StorageView). z.history) f.3
 next_history old new (Some t) f = ap (λ (z : StorageView). z.history) f.after ∙ taken_history old f.lane t

@@ -14,15 +14,9 @@ only_mine a w e = ap (λ (b : Bool). let l : List Answered = cond b (a ∷ []) [
 only_other : (a : Answered) (w : ℕ) → a.worker ≢ w → worker_share (a ∷ []) w ≡ []
 only_other a w e = ap (λ (b : Bool). let l : List Answered = cond b (a ∷ []) [] in l) (ne_eqb a.worker w e)
 
--- one more entry in this worker's share
-pub share_mine : (h : List Answered) (a : Answered) (w : ℕ) → a.worker ≡ w → worker_share (h ++ a ∷ []) w ≡ worker_share h w ++ a ∷ []
-share_mine h a w e = filter-append (is_of_worker w) h (a ∷ []) ∙ ap (λ (l : List Answered). worker_share h w ++ l) (only_mine a w e)
-
--- the share of another worker stays
-pub share_other : (h : List Answered) (a : Answered) (w : ℕ) → a.worker ≢ w → worker_share (h ++ a ∷ []) w ≡ worker_share h w
-share_other h a w e = filter-append (is_of_worker w) h (a ∷ []) ∙ (ap (λ (l : List Answered). worker_share h w ++ l) (only_other a w e)
-    ∙ append-nil (worker_share h w))
-
 -- a worker's entries in a beginning are the first of its entries
 pub share_starts : (h g : List Answered) (w : ℕ) → StartsWith h g → StartsWith (worker_share h w) (worker_share g w)
-share_starts h g w s = (worker_share s.0 w, ap (λ (z : List Answered). worker_share z w) s.1 ∙ filter-append (is_of_worker w) g s.0)
+share_starts h g w s = (
+  worker_share s.0 w,
+  ap (λ (z : List Answered). worker_share z w) s.1 ∙ filter-append (is_of_worker w) g s.0,
+)

@@ -17,7 +17,7 @@ use Rattle.exchange.specs.declared.views.LaneView.{LaneView}
 use Rattle.exchange.specs.declared.views.LaneView.TheVariants.{Nobody, Worker, Storage, Comparing}
 use Rattle.exchange.specs.Beginnings.{StartsWith}
 use Rattle.proto.specs.History.{worker_share, Legal}
-use Rattle.exchange.specs.Lanes.{Homes, messages, open_at, slot_of, At, at_home, LaneOk, LaneIs, Fits, LanesHold}
+use Rattle.exchange.specs.Lanes.{Homes, messages, open_at, lane_slot, At, at_home, LaneOk, LaneIs, Fits, LanesHold}
 use Rattle.proto.specs.Counts.{times}
 use Rattle.exchange.proofs.Lists.{at_below, starts_trans}
 use Rattle.exchange.proofs.Lane.{Else}
@@ -57,37 +57,40 @@ pub below_64 : (k : ℕ) → k % 64 < 64
 below_64 k = mod-lt k (omega arith)
 
 -- the slots of a lane are in the table
-pub slot_below : (n w k : ℕ) → w < n → slot_of w k < 64 * n
+pub slot_below : (n w k : ℕ) → w < n → lane_slot w k < 64 * n
 slot_below n w k h = let b = below_64 k in omega arith
 
 -- two lanes have no slot in common
-pub slots_apart : (w j k i : ℕ) → j ≢ w → slot_of j k ≢ slot_of w i
-slots_apart w j k i other e = let a = below_64 k in let b = below_64 i in let e' : 64 * j + k % 64 ≡ 64 * w + i % 64 = e in other (omega arith)
+pub slots_apart : (w j k i : ℕ) → j ≢ w → lane_slot j k ≢ lane_slot w i
+slots_apart w j k i other e = let a = below_64 k in let b = below_64 i in
+    let e' : 64 * j + k % 64 ≡ 64 * w + i % 64 = e in other (omega arith)
 
 -- two messages of one window have different slots
-pub slots_of_one : (w k i : ℕ) → k % 64 ≢ i % 64 → slot_of w k ≢ slot_of w i
+pub slots_of_one : (w k i : ℕ) → k % 64 ≢ i % 64 → lane_slot w k ≢ lane_slot w i
 slots_of_one w k i other e = let e' : 64 * w + k % 64 ≡ 64 * w + i % 64 = e in other (omega arith)
 
 module _ (homes : Homes) (w i : ℕ) (v : maybe.Option (Option LaneMessage)) where
   -- another message's slot stays
-  pub slot_else : Else (at_home homes w) (at_home (set homes (slot_of w i) v) w) i
-  slot_else k other = set_else homes (slot_of w i) (slot_of w k) v (slots_of_one w k i other)
+  pub slot_else : Else (at_home homes w) (at_home (set homes (lane_slot w i) v) w) i
+  slot_else k other = set_else homes (lane_slot w i) (lane_slot w k) v (slots_of_one w k i other)
 
   -- the message's slot has the value
-  pub slot_here : slot_of w i < length homes → at_home (set homes (slot_of w i) v) w i ≡ some v
-  slot_here h = set_here homes (slot_of w i) v h
+  pub slot_here : lane_slot w i < length homes → at_home (set homes (lane_slot w i) v) w i ≡ some v
+  slot_here h = set_here homes (lane_slot w i) v h
 
   -- the slots of other lanes stay
-  pub slot_other : (j k : ℕ) → j ≢ w → at_home (set homes (slot_of w i) v) j k ≡ at_home homes j k
-  slot_other j k other = set_else homes (slot_of w i) (slot_of j k) v (slots_apart w j k i other)
+  pub slot_other : (j k : ℕ) → j ≢ w → at_home (set homes (lane_slot w i) v) j k ≡ at_home homes j k
+  slot_other j k other = set_else homes (lane_slot w i) (lane_slot j k) v (slots_apart w j k i other)
 
 -- a lane over equal posts_last
-pub lane_same : (c : WorkerState) (mine mine' told told' : List Answered) (byes gone' : ℕ) (held held' : maybe.Option LaneMessage) (p p' d d' : ℕ) (at at' : At)
+pub lane_same : (c : WorkerState) (mine mine' told told' : List Answered) (byes gone' : ℕ)
+    (held held' : maybe.Option LaneMessage) (p p' d d' : ℕ) (at at' : At)
     → mine' ≡ mine → told' ≡ told → gone' ≡ byes → held' ≡ held → p' ≡ p → d' ≡ d → ((k : ℕ) → at' k ≡ at k)
     → LaneOk c mine told byes held p d at → LaneOk c mine' told' gone' held' p' d' at'
 lane_same c mine mine' told told' byes gone' held held' p p' d d' at at' e₀ f₀ e₁ e₂ e₃ e₄ e₅ ok =
     let Seven : Type 0 = List Answered × List Answered × ℕ × maybe.Option LaneMessage × ℕ × ℕ × At in
-    subst (λ (z : Seven). LaneOk c z.0 z.1 z.2 z.3 z.4 z.5 z.6) (λ i. (sym e₀ i, sym f₀ i, sym e₁ i, sym e₂ i, sym e₃ i, sym e₄ i, λ k. sym (e₅ k) i)) ok
+    subst (λ (z : Seven). LaneOk c z.0 z.1 z.2 z.3 z.4 z.5 z.6)
+    (λ i. (sym e₀ i, sym f₀ i, sym e₁ i, sym e₂ i, sym e₃ i, sym e₄ i, λ k. sym (e₅ k) i)) ok
 
 -- the state of the table
 abbrev pub St : Type 0
@@ -95,7 +98,8 @@ St = State (Option LaneMessage) LaneView
 
 -- the lane j stands as it was
 abbrev pub Stands : St → List ℕ → Homes → ℕ → Type 0
-Stands s words' homes' j = (get_or words' (16 * j) 0 ≡ get_or s.words (16 * j) 0) × (get_or words' (16 * j + 8) 0 ≡ get_or s.words (16 * j + 8) 0)
+Stands s words' homes' j = (get_or words' (16 * j) 0 ≡ get_or s.words (16 * j) 0)
+    × (get_or words' (16 * j + 8) 0 ≡ get_or s.words (16 * j + 8) 0)
     × ((k : ℕ) → at_home homes' j k ≡ at_home s.homes j k)
 
 module _ (key : LaneKey) (s : St) (r : LanesHold key s) where
@@ -105,16 +109,22 @@ module _ (key : LaneKey) (s : St) (r : LanesHold key s) where
   worker_of id v c at is = r.each_view id (Worker c) (at ∙ ap (λ (z : LaneView). some z) is)
 
   -- its lane is in order
-  pub lane_of : (c : WorkerState) → r.states c.worker ≡ c → c.worker < key.workers → LaneIs s.words s.homes r.storage_state c c.worker
-  lane_of c is inside = subst (λ (z : WorkerState). LaneIs s.words s.homes r.storage_state z c.worker) is (r.each_lane c.worker inside)
+  pub lane_of : (c : WorkerState) → r.states c.worker ≡ c → c.worker < key.workers
+      → LaneIs s.words s.homes r.storage_state c c.worker
+  lane_of c is inside = subst (λ (z : WorkerState). LaneIs s.words s.homes r.storage_state z c.worker) is
+      (r.each_lane c.worker inside)
 
   -- a step of a worker
-  pub worker_moves : (id : ℕ) (c c' : WorkerState) (words' : List ℕ) (homes' : Homes) → get_elem? s.views id ≡ some (Worker c) → c'.worker ≡ c.worker
-      → c'.geometry ≡ c.geometry → length (messages c) ≤ length (messages c') → length words' ≡ length s.words → length homes' ≡ length s.homes
-      → ((j : ℕ) → j ≢ c.worker → Stands s words' homes' j) → LaneIs words' homes' r.storage_state c' c.worker → StartsWith r.storage_state.told c'.seen
+  pub worker_moves : (id : ℕ) (c c' : WorkerState) (words' : List ℕ) (homes' : Homes)
+      → get_elem? s.views id ≡ some (Worker c) → c'.worker ≡ c.worker
+      → c'.geometry ≡ c.geometry → length (messages c) ≤ length (messages c') → length words' ≡ length s.words
+      → length homes' ≡ length s.homes
+      → ((j : ℕ) → j ≢ c.worker → Stands s words' homes' j) → LaneIs words' homes' r.storage_state c' c.worker
+      → StartsWith r.storage_state.told c'.seen
       → LanesHold key record { words = words'; homes = homes'; views = set s.views id (Worker c') }
   worker_moves id c c' words' homes' at same geometry more wide deep others lane seen =
-      let f = r.each_view id (Worker c) at in let w : ℕ = c.worker in let states' : ℕ → WorkerState = put r.states w c' in let was = r.each_seen w f.2 in
+      let f = r.each_view id (Worker c) at in let w : ℕ = c.worker in
+      let states' : ℕ → WorkerState = put r.states w c' in let was = r.each_seen w f.2 in
       let below : id < length s.views = at_below s.views id (Worker c) at in let id_is : id ≡ suc w = f.0 in
       let made : length s.views ≡ suc r.storage_state.made = r.count in record {
         states = states';
@@ -128,49 +138,65 @@ module _ (key : LaneKey) (s : St) (r : LanesHold key s) where
         each_lane = λ j l. dite (ℕ_discrete j w)
             (λ e. subst (λ (z : ℕ × WorkerState). LaneIs words' homes' r.storage_state z.1 z.0)
             (λ i. (sym e i, (sym (put_here r.states w c') ∙ ap states' (sym e)) i)) lane)
-            (λ other. let st = others j other in subst (λ (z : WorkerState). LaneIs words' homes' r.storage_state z j) (sym (put_else r.states w c' j other))
-            (lane_same (r.states j) _ _ _ _ _ _ _ _ _ _ _ _ (at_home s.homes j) (at_home homes' j) refl refl refl refl st.0 st.1 st.2 (r.each_lane j l)));
+            (λ other. let st = others j other in subst (λ (z : WorkerState). LaneIs words' homes' r.storage_state z j)
+            (sym (put_else r.states w c' j other))
+            (lane_same (r.states j) _ _ _ _ _ _ _ _ _ _ _ _ (at_home s.homes j)
+            (at_home homes' j) refl refl refl refl st.0 st.1 st.2 (r.each_lane j l)));
         each_seen = λ j l. dite (ℕ_discrete j w)
-            (λ e. subst (λ (z : ℕ × WorkerState). StartsWith r.storage_state.told z.1.seen × (z.1.geometry ≡ key.geometry)
+            (λ e. subst (λ (z : ℕ × WorkerState). StartsWith r.storage_state.told z.1.seen
+            × (z.1.geometry ≡ key.geometry)
             × (z.1.worker ≡ z.0)) (λ i. (sym e i, (sym (put_here r.states w c') ∙ ap states' (sym e)) i))
             (seen, geometry ∙ (ap (λ (z : WorkerState). z.geometry) (sym f.1) ∙ was.1), same))
             (λ other. subst (λ (z : WorkerState). StartsWith r.storage_state.told z.seen × (z.geometry ≡ key.geometry)
             × (z.worker ≡ j)) (sym (put_else r.states w c' j other)) (r.each_seen j l));
         each_view = λ j v e. ⊎_elim
-            (λ (x : (j ≡ id) × (Worker c' ≡ v)). subst (λ (z : ℕ × LaneView). Fits key states' r.storage_state z.0 z.1) (λ i. (sym x.0 i, x.1 i))
-            (id_is ∙ ap suc (sym same), ap states' same ∙ put_here r.states w c', subst (λ (z : ℕ). z < key.workers) (sym same) f.2))
-            (λ (x : (j ≢ id) × (get_elem? s.views j ≡ some v)). stay states' j v (λ e. x.0 (e ∙ sym id_is)) (r.each_view j v x.1))
+            (λ (x : (j ≡ id) × (Worker c' ≡ v)). subst (λ (z : ℕ × LaneView). Fits key states' r.storage_state z.0 z.1)
+            (λ i. (sym x.0 i, x.1 i)) (
+              id_is ∙ ap suc (sym same),
+              ap states' same ∙ put_here r.states w c',
+              subst (λ (z : ℕ). z < key.workers) (sym same) f.2,
+            ))
+            (λ (x : (j ≢ id) × (get_elem? s.views j ≡ some v)). stay states' j v (λ e. x.0 (e ∙ sym id_is))
+            (r.each_view j v x.1))
             (at_set s.views id j (Worker c') v e);
         count = length-set s.views id (Worker c') ∙ r.count;
         looked = λ k j n e l. let was_ = r.looked k j n e l in dite (ℕ_discrete j w)
-            (λ (same : j ≡ w). let low : n ≤ length (messages c) = subst (λ (z : WorkerState). n ≤ length (messages z)) (ap r.states same ∙ f.1) was_ in
+            (λ (same : j ≡ w). let low : n ≤ length (messages c) = subst (λ (z : WorkerState). n ≤ length (messages z))
+            (ap r.states same ∙ f.1) was_ in
             let more' : length (messages c) ≤ length (messages c') = more in
             subst (λ (z : WorkerState). n ≤ length (messages z)) (sym (ap states' same ∙ put_here r.states w c'))
             (let g : n ≤ length (messages c') = omega arith in g))
             (λ other. subst (λ (z : WorkerState). n ≤ length (messages z)) (sym (put_else r.states w c' j other)) was_);
-        later = λ j l. let l' : r.storage_state.made ≤ j = l in put_else r.states w c' j (λ e. let e' : j ≡ w = e in absurd (omega arith)) ∙ r.later j l;
+        later = λ j l. let l' : r.storage_state.made ≤ j = l in
+            put_else r.states w c' j (λ e. let e' : j ≡ w = e in absurd (omega arith)) ∙ r.later j l;
       }
     where
-      stay : (states' : ℕ → WorkerState) (j : ℕ) (v : LaneView) → j ≢ suc c.worker → Fits key r.states r.storage_state j v
+      stay : (states' : ℕ → WorkerState) (j : ℕ) (v : LaneView) → j ≢ suc c.worker
+          → Fits key r.states r.storage_state j v
           → Fits key (put r.states c.worker c') r.storage_state j v
       stay states' j Nobody other f = tt
-      stay states' j (Worker u) other f = (f.0, put_else r.states c.worker c' u.worker (λ e. other (f.0 ∙ ap suc e)) ∙ f.1, f.2)
+      stay states' j (Worker u) other f =
+          (f.0, put_else r.states c.worker c' u.worker (λ e. other (f.0 ∙ ap suc e)) ∙ f.1, f.2)
       stay states' j (Storage d) other f = f
       stay states' j (Comparing d u) other f = f
 
   -- a step of storage on the lane w
-  pub storage_moves : (id : ℕ) (d d' : StorageState) (w : ℕ) (words' : List ℕ) (homes' : Homes) → get_elem? s.views id ≡ some (Storage d)
+  pub storage_moves : (id : ℕ) (d d' : StorageState) (w : ℕ) (words' : List ℕ) (homes' : Homes)
+      → get_elem? s.views id ≡ some (Storage d)
       → d'.geometry ≡ d.geometry → d'.made ≡ d.made → Legal key.geometry d'.history → Legal key.geometry d'.told
       → StartsWith d'.history d'.told → StartsWith d'.told d.told
       → length words' ≡ length s.words → length homes' ≡ length s.homes
       → ((j : ℕ) → j ≢ w → Stands s words' homes' j)
-      → ((j : ℕ) → j ≢ w → (worker_share d'.history j ≡ worker_share d.history j) × (worker_share d'.told j ≡ worker_share d.told j)
+      → ((j : ℕ) → j ≢ w → (worker_share d'.history j ≡ worker_share d.history j)
+      × (worker_share d'.told j ≡ worker_share d.told j)
       × (times j d'.byes ≡ times j d.byes)
       × (open_at d'.holding j ≡ open_at d.holding j))
       → (w < key.workers → LaneIs words' homes' d' (r.states w) w)
-      → ((k j n : ℕ) → get_elem? d'.looks k ≡ some (j, n) → (get_elem? d.looks k ≡ some (j, n)) ⊎ (j < key.workers → n ≤ length (messages (r.states j))))
+      → ((k j n : ℕ) → get_elem? d'.looks k ≡ some (j, n)
+      → (get_elem? d.looks k ≡ some (j, n)) ⊎ (j < key.workers → n ≤ length (messages (r.states j))))
       → LanesHold key record { words = words'; homes = homes'; views = set s.views id (Storage d') }
-  storage_moves id d d' w words' homes' at geometry made legal legal_told first longer wide deep others apart lane looks =
+  storage_moves id d d' w words' homes' at geometry made legal legal_told first longer wide deep others apart
+      lane looks =
       let f = r.each_view id (Storage d) at in let is : r.storage_state ≡ d = f.1 in record {
         states = r.states;
         storage_state = d';
@@ -181,9 +207,11 @@ module _ (key : LaneKey) (s : St) (r : LanesHold key s) where
         wide = wide ∙ r.wide;
         deep = deep ∙ r.deep;
         each_lane = λ j l. dite (ℕ_discrete j w)
-            (λ e. subst (λ (z : ℕ). LaneIs words' homes' d' (r.states z) z) (sym e) (lane (subst (λ (z : ℕ). z < key.workers) e l)))
+            (λ e. subst (λ (z : ℕ). LaneIs words' homes' d' (r.states z) z) (sym e)
+            (lane (subst (λ (z : ℕ). z < key.workers) e l)))
             (λ other. let st = others j other in let ap' = apart j other in
-            lane_same (r.states j) _ _ _ _ _ _ _ _ _ _ _ _ (at_home s.homes j) (at_home homes' j) ap'.0 ap'.1 ap'.2 ap'.3 st.0 st.1 st.2
+            lane_same (r.states j) _ _ _ _ _ _ _ _ _ _ _ _ (at_home s.homes j)
+            (at_home homes' j) ap'.0 ap'.1 ap'.2 ap'.3 st.0 st.1 st.2
             (subst (λ (z : StorageState). LaneIs s.words s.homes z (r.states j) j) is (r.each_lane j l)));
         each_seen = λ j l. let was = r.each_seen j l in (
           starts_trans d'.told d.told (r.states j).seen longer
@@ -192,13 +220,16 @@ module _ (key : LaneKey) (s : St) (r : LanesHold key s) where
           was.2,
         );
         each_view = λ j v e. ⊎_elim
-            (λ (x : (j ≡ id) × (Storage d' ≡ v)). subst (λ (z : ℕ × LaneView). Fits key r.states d' z.0 z.1) (λ i. (sym x.0 i, x.1 i)) (f.0, refl))
+            (λ (x : (j ≡ id) × (Storage d' ≡ v)). subst (λ (z : ℕ × LaneView). Fits key r.states d' z.0 z.1)
+            (λ i. (sym x.0 i, x.1 i)) (f.0, refl))
             (λ (x : (j ≢ id) × (get_elem? s.views j ≡ some v)). stay j v (λ e. x.0 (e ∙ sym f.0)) (r.each_view j v x.1))
             (at_set s.views id j (Storage d') v e);
         looked = λ k j n e l. ⊎_elim (λ (h : get_elem? d.looks k ≡ some (j, n)).
-            r.looked k j n (subst (λ (z : StorageState). get_elem? z.looks k ≡ some (j, n)) (sym is) h) l) (λ (h : j < key.workers
+            r.looked k j n (subst (λ (z : StorageState). get_elem? z.looks k ≡ some (j, n)) (sym is) h) l)
+            (λ (h : j < key.workers
             → n ≤ length (messages (r.states j))). h l) (looks k j n e);
-        count = length-set s.views id (Storage d') ∙ (r.count ∙ ap (λ (z : StorageState). suc z.made) is ∙ ap suc (sym made));
+        count = length-set s.views id (Storage d')
+            ∙ (r.count ∙ ap (λ (z : StorageState). suc z.made) is ∙ ap suc (sym made));
         later = λ j l. r.later j (subst (λ (z : ℕ). z ≤ j) (made ∙ ap (λ (z : StorageState). z.made) (sym is)) l);
       }
     where

@@ -58,8 +58,17 @@ pub record StorageBatchView : Type 0 where
 
 -- a worker's end as it is made
 abbrev pub new_worker_view : TableId → Sizes → ℕ → WorkerView
-new_worker_view exchange geometry w =
-    record { exchange = exchange; worker = w; geometry = geometry; sent = []; said_bye = false; back = []; seen = []; loads = [] }
+new_worker_view exchange geometry worker =
+    record {
+      exchange = exchange;
+      worker = worker;
+      geometry = geometry;
+      sent = [];
+      said_bye = false;
+      back = [];
+      seen = [];
+      loads = [];
+    }
 
 -- storage's end as it is made; the first lane comes after the last one
 abbrev pub new_storage_view : TableId → Sizes → ℕ → StorageView
@@ -78,7 +87,8 @@ new_storage_view exchange geometry workers =
 
 -- an end for each worker, in their order
 abbrev pub AreNew : TableId → Sizes → List WorkerView → Type 0
-AreNew exchange geometry ends = (w : ℕ) (v : WorkerView) → get_elem? ends w ≡ some v → v ≡ new_worker_view exchange geometry w
+AreNew exchange geometry ends = (worker : ℕ) (view : WorkerView) → get_elem? ends worker ≡ some view
+    → view ≡ new_worker_view exchange geometry worker
 
 -- the ends as one call of `make` gives them
 abbrev pub AreMade : ℕ → Sizes → List WorkerView → StorageView → Type 0
@@ -97,59 +107,69 @@ max_posts = 2 ^ 62
 
 -- fewer than 64 requests are outstanding, the worker hasn't said bye, and it hasn't sent its last request
 abbrev pub CanPost : WorkerView → Type 0
-CanPost v = (length v.sent < length v.back + 64) × (v.said_bye ≡ false) × (length v.sent < max_posts)
+CanPost view = (length view.sent < length view.back + 64) × (view.said_bye ≡ false) × (length view.sent < max_posts)
 
--- What a worker is told where it reads that d of its messages are done: a legal history that begins with the
--- one that it had seen, in which its requests are the first d of those that it sent, or all of them where
--- its bye is one of the d.
-pub record IsToldDone (v : WorkerView) (d : ℕ) (told : List Answered) : Type 0 where
-  pub legal : Legal v.geometry told
-  pub later : StartsWith told v.seen
-  pub asked : asked_posted (worker_share told v.worker) ≡ take d v.sent
-  pub counted : (d ≡ length (worker_share told v.worker)) ⊎ ((v.said_bye ≡ true) × (d ≡ length v.sent + 1))
-  pub back : StartsWith (worker_share told v.worker) v.back
+-- What a worker is told where it reads how many of its messages are done: a legal history that begins with the
+-- one that it had seen, in which its requests are the first so many of those that it sent, or all of them where
+-- its bye is one of the messages that are done.
+pub record IsToldDone (view : WorkerView) (done : ℕ) (told : List Answered) : Type 0 where
+  pub legal : Legal view.geometry told
+  pub later : StartsWith told view.seen
+  pub asked : asked_posted (worker_share told view.worker) ≡ take done view.sent
+  pub counted : (done ≡ length (worker_share told view.worker))
+      ⊎ ((view.said_bye ≡ true) × (done ≡ length view.sent + 1))
+  pub back : StartsWith (worker_share told view.worker) view.back
 
 -- told of a history, without an answer
 abbrev pub told_of : WorkerView → ℕ → List Answered → WorkerView
-told_of v d told = record v { seen = told; loads = v.loads ++ d ∷ [] }
+told_of view done told = record view { seen = told; loads = view.loads ++ done ∷ [] }
 
 -- told of a history, with an answer of it
-abbrev pub given : WorkerView → ℕ → List Answered → Answered → WorkerView
-given v d told a = record v { seen = told; loads = v.loads ++ d ∷ []; back = v.back ++ a ∷ [] }
+abbrev pub given_answer : WorkerView → ℕ → List Answered → Answered → WorkerView
+given_answer view done told answered = record view {
+  seen = told;
+  loads = view.loads ++ done ∷ [];
+  back = view.back
+      ++ answered ∷ [];
+}
 
 -- What a `take` tells: the worker is told of a history. An answer is the next one of its entries there; none
 -- comes exactly where it took all of them back before.
 abbrev pub TakesAnswer : WorkerView → Option Answered → WorkerView → Type 0
-TakesAnswer old result new = (d : ℕ) × (told : List Answered) × IsToldDone old d told × MatchOption result
-    ((old.back ≡ worker_share told old.worker) × (new ≡ told_of old d told))
-    (λ a. (get_elem? (worker_share told old.worker) (length old.back) ≡ some a) × (new ≡ given old d told a))
+TakesAnswer old result new = (done : ℕ) × (told : List Answered) × IsToldDone old done told × MatchOption result
+    ((old.back ≡ worker_share told old.worker) × (new ≡ told_of old done told))
+    (λ answered. (get_elem? (worker_share told old.worker) (length old.back) ≡ some answered)
+    × (new ≡ given_answer old done told answered))
 
 -- what is known of a history that a worker was told of
-pub record WasTold (v : WorkerView) : Type 0 where
-  pub legal : Legal v.geometry v.seen
-  pub asked : asked_posted (worker_share v.seen v.worker) ≡ take (length (worker_share v.seen v.worker)) v.sent
-  pub back : StartsWith (worker_share v.seen v.worker) v.back
+pub record WasTold (view : WorkerView) : Type 0 where
+  pub legal : Legal view.geometry view.seen
+  pub asked : asked_posted (worker_share view.seen view.worker)
+      ≡ take (length (worker_share view.seen view.worker)) view.sent
+  pub back : StartsWith (worker_share view.seen view.worker) view.back
 
 -- What a `take_seen` tells: an answer is the next one of the worker's entries in the history that it was told of
 -- last; none comes exactly where it took all of them back before.
 abbrev pub TakesSeen : WorkerView → Option Answered → WorkerView → Type 0
 TakesSeen old result new = WasTold old × MatchOption result
     ((old.back ≡ worker_share old.seen old.worker) × (new ≡ old))
-    (λ a. (get_elem? (worker_share old.seen old.worker) (length old.back) ≡ some a) × (new ≡ record old { back = old.back ++ a ∷ [] }))
+    (λ answered. (get_elem? (worker_share old.seen old.worker) (length old.back) ≡ some answered)
+    × (new ≡ record old { back = old.back ++ answered ∷ [] }))
 
 -- fewer than 64 requests are outstanding or put, the worker hasn't said bye, and it hasn't put its last request
 abbrev pub CanPut : WorkerBatchView → Type 0
-CanPut v = (length v.end.sent + length v.put < length v.end.back + 64) × (v.end.said_bye ≡ false) × (length v.end.sent + length v.put < max_posts)
+CanPut view = (length view.end.sent + length view.put < length view.end.back + 64) × (view.end.said_bye ≡ false)
+    × (length view.end.sent + length view.put < max_posts)
 
 -- with all that was put sent, in order
 abbrev pub flushed : WorkerBatchView → WorkerBatchView
-flushed v = record { end = record v.end { sent = v.end.sent ++ v.put }; put = [] }
+flushed view = record { end = record view.end { sent = view.end.sent ++ view.put }; put = [] }
 
 -- Storage's calls
 
 -- so many messages of the lane are done
 abbrev pub done_in : StorageView → ℕ → ℕ
-done_in v w = length (worker_share v.history w) + times w v.byes
+done_in view lane = length (worker_share view.history lane) + times lane view.byes
 
 -- the lanes in turn: those after the one that was taken from last, then those from the first one up to it
 abbrev pub lanes_in_turn : ℕ → ℕ → List ℕ
@@ -157,36 +177,43 @@ lanes_in_turn workers last = range_with_len (last + 1) (workers - (last + 1)) ++
 
 -- the lanes of some looks
 abbrev pub lanes_of : List (ℕ × ℕ) → List ℕ
-lanes_of looks = map (λ (x : ℕ × ℕ). x.0) looks
+lanes_of looks = map (λ (look : ℕ × ℕ). look.0) looks
 
--- the counts of posted messages that storage read in lane w
+-- the counts of posted messages that storage read in this lane
 abbrev pub looked : List (ℕ × ℕ) → ℕ → List ℕ
-looked looks w = map (λ (x : ℕ × ℕ). x.1) (filter (λ (x : ℕ × ℕ). x.0 == w) looks)
+looked looks lane = map (λ (look : ℕ × ℕ). look.1) (filter (λ (look : ℕ × ℕ). look.0 == lane) looks)
 
 -- no look found a message that isn't done
 abbrev pub FoundNone : StorageView → List (ℕ × ℕ) → Type 0
-FoundNone v looks = All (λ (x : ℕ × ℕ). x.1 ≤ done_in v x.0) looks
+FoundNone view looks = All (λ (look : ℕ × ℕ). look.1 ≤ done_in view look.0) looks
 
--- one more look at lane w, which found no message that isn't done
+-- one more look at this lane, which found no message that isn't done
 abbrev pub LookedOnce : StorageView → StorageView → ℕ → Type 0
-LookedOnce old new w = (n : ℕ) × (n ≤ done_in old w) × (looked new.looks w ≡ looked old.looks w ++ n ∷ [])
+LookedOnce old new lane = (count : ℕ) × (count ≤ done_in old lane)
+    × (looked new.looks lane ≡ looked old.looks lane ++ count ∷ [])
 
--- The next message of lane w: no bye of it came before, and a request has the number after that of the
+-- The next message of this lane: no bye of it came before, and a request has the number after that of the
 -- worker's last entry.
 abbrev pub IsNextMessage : StorageView → ℕ → Taken → Type 0
-IsNextMessage v w (Asked worker posted) = (worker ≡ w) × (times w v.byes ≡ 0) × (posted.number ≡ length (worker_share v.history w) + 1)
-IsNextMessage v w (Bye worker) = (worker ≡ w) × (times w v.byes ≡ 0)
+IsNextMessage view lane (Asked worker posted) =
+    (worker ≡ lane) × (times lane view.byes ≡ 0) × (posted.number ≡ length (worker_share view.history lane) + 1)
+IsNextMessage view lane (Bye worker) = (worker ≡ lane) × (times lane view.byes ≡ 0)
 
--- what taking a message from lane w changes: a request is open, a bye is done
+-- what taking a message from this lane changes: a request is open, a bye is done
 abbrev pub with_taken : StorageView → ℕ → Taken → StorageView
-with_taken v w (Asked worker posted) = record v { taken = v.taken ++ (w, posted) ∷ []; open_request = Some (w, posted); last = w }
-with_taken v w (Bye worker) = record v { byes = w ∷ v.byes; last = w }
+with_taken view lane (Asked worker posted) = record view {
+  taken = view.taken ++ (lane, posted) ∷ [];
+  open_request = Some (lane, posted);
+  last = lane;
+}
+with_taken view lane (Bye worker) = record view { byes = lane ∷ view.byes; last = lane }
 
--- what one look at lane w tells: there is no message that isn't done, or the next one is taken
+-- what one look at this lane tells: there is no message that isn't done, or the next one is taken
 abbrev pub LooksAt : StorageView → ℕ → Option Taken → StorageView → Type 0
-LooksAt old w result new = (n : ℕ) × MatchOption result
-    ((n ≤ done_in old w) × (new ≡ record old { looks = old.looks ++ (w, n) ∷ [] }))
-    (λ t. (done_in old w < n) × IsNextMessage old w t × (new ≡ record (with_taken old w t) { looks = old.looks ++ (w, n) ∷ [] }))
+LooksAt old lane result new = (count : ℕ) × MatchOption result
+    ((count ≤ done_in old lane) × (new ≡ record old { looks = old.looks ++ (lane, count) ∷ [] }))
+    (λ message. (done_in old lane < count) × IsNextMessage old lane message
+    × (new ≡ record (with_taken old lane message) { looks = old.looks ++ (lane, count) ∷ [] }))
 
 -- Where `next` finds none, it looked at all lanes in turn and found none there.
 abbrev pub FindsNone : StorageView → StorageView → Type 0
@@ -194,7 +221,7 @@ FindsNone old new = (looks : List (ℕ × ℕ)) × (lanes_of looks ≡ lanes_in_
     × (new ≡ record old { looks = old.looks ++ looks })
 
 -- Else it looked at the lanes in turn up to the first one with a message that isn't done, and takes that one.
-pub record FindsOne (old new : StorageView) (t : Taken) : Type 0 where
+pub record FindsOne (old new : StorageView) (message : Taken) : Type 0 where
   pub lane : ℕ
   pub posted : ℕ
   pub before : List (ℕ × ℕ)
@@ -202,50 +229,56 @@ pub record FindsOne (old new : StorageView) (t : Taken) : Type 0 where
   pub in_turn : StartsWith (lanes_in_turn old.workers old.last) (lanes_of (before ++ (lane, posted) ∷ []))
   pub none_before : FoundNone old before
   pub found : done_in old lane < posted
-  pub is_next : IsNextMessage old lane t
-  pub after : new ≡ record (with_taken old lane t) { looks = old.looks ++ (before ++ (lane, posted) ∷ []) }
+  pub is_next : IsNextMessage old lane message
+  pub after : new ≡ record (with_taken old lane message) { looks = old.looks ++ (before ++ (lane, posted) ∷ []) }
 
--- the look that came last was at lane w, and found the count n of posted messages
+-- the look that came last was at this lane, and found this count of posted messages
 abbrev pub LastLook : List (ℕ × ℕ) → ℕ → ℕ → Type 0
-LastLook looks w n = (before : List (ℕ × ℕ)) × (looks ≡ before ++ (w, n) ∷ [])
+LastLook looks lane count = (before : List (ℕ × ℕ)) × (looks ≡ before ++ (lane, count) ∷ [])
 
 -- What a `next_seen` tells: it takes the next message of the lane that was looked at last; none comes exactly where
 -- the count that was found there names no message that isn't done.
 abbrev pub SeesNext : StorageView → Option Taken → StorageView → Type 0
 SeesNext old result new = MatchOption result
-    (((w n : ℕ) → LastLook old.looks w n → n ≤ done_in old w) × (new ≡ old))
-    (λ t. (w : ℕ) × (n : ℕ) × LastLook old.looks w n × (w < old.workers) × (done_in old w < n) × IsNextMessage old w t × (new ≡ with_taken old w t))
+    (((lane count : ℕ) → LastLook old.looks lane count → count ≤ done_in old lane) × (new ≡ old))
+    (λ message. (lane : ℕ) × (count : ℕ) × LastLook old.looks lane count × (lane < old.workers)
+    × (done_in old lane < count) × IsNextMessage old lane message
+    × (new ≡ with_taken old lane message))
 
 -- what an answer to the open request changes
 abbrev pub with_answer : StorageView → Answered → StorageView
-with_answer v a = record v { history = v.history ++ a ∷ []; open_request = None }
+with_answer view answered = record view { history = view.history ++ answered ∷ []; open_request = None }
 
 -- Gathering
 
 -- the ends are of one exchange, and no two are of one worker
 pub record AreTogether (ends : List WorkerView) (storage : StorageView) : Type 0 where
-  pub exchange : (i : ℕ) (v : WorkerView) → get_elem? ends i ≡ some v → v.exchange ≡ storage.exchange
-  pub apart : (i j : ℕ) (v u : WorkerView) → get_elem? ends i ≡ some v → get_elem? ends j ≡ some u → v.worker ≡ u.worker → i ≡ j
+  pub exchange : (place : ℕ) (view : WorkerView) → get_elem? ends place ≡ some view → view.exchange ≡ storage.exchange
+  pub apart : (place other_place : ℕ) (view other : WorkerView) → get_elem? ends place ≡ some view
+      → get_elem? ends other_place ≡ some other
+      → view.worker ≡ other.worker → place ≡ other_place
 
 -- the open request, where it is the worker's
 abbrev pub open_of : Option (ℕ × Posted) → ℕ → List Posted
-open_of None w = []
-open_of (Some x) w = if x.0 == w then x.1 ∷ [] else []
+open_of None worker = []
+open_of (Some open_now) worker = if open_now.0 == worker then open_now.1 ∷ [] else []
 
 -- What storage and a worker find where their ends come together. A bye that storage took of the worker, the
 -- worker said.
-pub record AreCompared (s : StorageView) (v : WorkerView) : Type 0 where
-  pub inside : v.worker < s.workers
-  pub geometry : v.geometry ≡ s.geometry
-  pub legal : Legal s.geometry s.history
-  pub seen : StartsWith s.history v.seen
-  pub back : StartsWith (worker_share s.history v.worker) v.back
-  pub sent : StartsWith v.sent (asked_posted (worker_share s.history v.worker) ++ open_of s.open_request v.worker)
-  pub all : v.said_bye ≡ true → (v.back ≡ worker_share s.history v.worker) × (asked_posted (worker_share s.history v.worker) ≡ v.sent)
-  pub bye : 0 < times v.worker s.byes → v.said_bye ≡ true
+pub record AreCompared (storage : StorageView) (view : WorkerView) : Type 0 where
+  pub inside : view.worker < storage.workers
+  pub geometry : view.geometry ≡ storage.geometry
+  pub legal : Legal storage.geometry storage.history
+  pub seen : StartsWith storage.history view.seen
+  pub back : StartsWith (worker_share storage.history view.worker) view.back
+  pub sent : StartsWith view.sent (asked_posted (worker_share storage.history view.worker)
+      ++ open_of storage.open_request view.worker)
+  pub all : view.said_bye ≡ true → (view.back ≡ worker_share storage.history view.worker)
+      × (asked_posted (worker_share storage.history view.worker) ≡ view.sent)
+  pub bye : 0 < times view.worker storage.byes → view.said_bye ≡ true
 
 -- the numbers of requests and of answers of a worker
-pub record AreCounted (s : StorageView) (v : WorkerView) (sent back : ℕ) : Type 0 where
-  pub compared : AreCompared s v
-  pub sent_is : sent ≡ length v.sent
-  pub back_is : back ≡ length v.back
+pub record AreCounted (storage : StorageView) (view : WorkerView) (sent back : ℕ) : Type 0 where
+  pub compared : AreCompared storage view
+  pub sent_is : sent ≡ length view.sent
+  pub back_is : back ≡ length view.back

@@ -1,7 +1,7 @@
 -- The rule of the lanes, and what each step tells.
--- Lane w has the words 16 w (posted) and 16 w + 8 (done), and the slots from 64 w on. The words that are used
--- lie 64 bytes apart, so that no two share a cache line. The message with the number k, from 0 on, uses the
--- slot 64 w + k % 64.
+-- A lane has the words 16 * lane (posted) and 16 * lane + 8 (done), and the slots from 64 * lane on. The words that
+-- are used lie 64 bytes apart, so that no two share a cache line. A message uses the slot
+-- 64 * lane + number % 64, where the numbers begin at 0.
 use Rattle.std.specs.Prelude.{◌≡◌, ◌≢◌, ℕ, suc, ◌+◌, ◌*◌, ◌%◌, ◌<◌, ◌≤◌, List, [], ◌∷◌, ◌++◌, map, length, take, slice_index, Option, Some, None, Bool}
 use Rattle.std.specs.Prelude.{true, false, ◌==◌, if◌then◌else◌}
 use mathlib.Core.Option.{none, some}
@@ -26,9 +26,18 @@ use Rattle.proto.specs.History.{worker_share, asked_posted, Legal}
 abbrev pub Homes : Type 0
 Homes = List (maybe.Option (Option LaneMessage))
 
--- what a seat knows, and the slots that it holds
+-- What a seat knows, and the slots that it holds, each with what stands there. It stays a pair, since the rules of
+-- atomic_table, which the rule of the lanes is given to, speak of seats by this type of theirs.
 abbrev pub SeatState : Type 0
 SeatState = Me (Option LaneMessage) LaneView
+
+-- what a seat knows
+abbrev pub known_by : SeatState → LaneView
+known_by me = me.0
+
+-- the slots that a seat holds, the one that it took last as the first
+abbrev pub slots_of : SeatState → List (ℕ × Option LaneMessage)
+slots_of me = me.1
 
 -- a bye, where it was said
 abbrev pub bye_at_end : Bool → List LaneMessage
@@ -37,28 +46,28 @@ bye_at_end false = []
 
 -- a worker's messages: its requests, and its bye as the last one
 abbrev pub messages : WorkerState → List LaneMessage
-messages c = map Ask c.sent ++ bye_at_end c.said_bye
+messages worker = map Ask worker.sent ++ bye_at_end worker.said_bye
 
--- the message of lane w that the storage thread holds
+-- the message of this lane that the storage thread holds
 abbrev pub open_at : Option (ℕ × LaneMessage) → ℕ → maybe.Option LaneMessage
-open_at None w = none
-open_at (Some x) w = if x.0 == w then some x.1 else none
+open_at None lane = none
+open_at (Some held) lane = if held.0 == lane then some held.1 else none
 
 -- 1 where there is a message, else 0
 abbrev pub count_of : maybe.Option LaneMessage → ℕ
 count_of none = 0
-count_of (some m) = 1
+count_of (some message) = 1
 
--- the slot of the message k of lane w
-abbrev pub slot_of : ℕ → ℕ → ℕ
-slot_of w k = 64 * w + k % 64
+-- the slot of the message with this number of the lane
+abbrev pub lane_slot : ℕ → ℕ → ℕ
+lane_slot lane number = 64 * lane + number % 64
 
 -- for each message number what stands in its slot, unless a seat holds that slot
 abbrev pub At : Type 0
 At = ℕ → maybe.Option (maybe.Option (Option LaneMessage))
 
 abbrev pub at_home : Homes → ℕ → At
-at_home homes w = λ k. get_elem? homes (slot_of w k)
+at_home homes lane = λ number. get_elem? homes (lane_slot lane number)
 
 -- One lane at any moment, over what the worker knows, its share of what was answered, the first of that share that
 -- it can know of, how many byes of it were taken, the message that storage holds of it, its two words, and what
@@ -67,77 +76,115 @@ at_home homes w = λ k. get_elem? homes (slot_of w k)
 -- of the entries. The answers that weren't taken back stand in their slots, and so do the messages that storage
 -- hasn't taken, and behind the messages the requests that the worker put and hasn't sent. All other slots of the
 -- window are empty, but for the one that the worker holds.
-pub record LaneOk (c : WorkerState) (mine told : List Answered) (byes : ℕ) (held : maybe.Option LaneMessage) (posted done : ℕ) (at : At) : Type 0 where
-  pub posted_is : posted ≡ length (messages c)
+pub record LaneOk (worker : WorkerState) (mine told : List Answered) (byes : ℕ) (held : maybe.Option LaneMessage)
+    (posted done : ℕ) (at : At) : Type 0 where
+  pub posted_is : posted ≡ length (messages worker)
   pub done_is : done ≡ length told + byes
   pub told_is : StartsWith mine told
   pub order : (done ≤ posted) × (posted ≤ done + 64)
-  pub asked_is : asked_posted mine ≡ take (length mine) c.sent
-  pub answered : length mine ≤ length c.sent
-  pub known : StartsWith told c.back
-  pub numbered : (k : ℕ) (p : Posted) → get_elem? (c.sent ++ c.put) k ≡ some p → p.number ≡ suc k
-  pub leaves : 0 < byes → (c.said_bye ≡ true)
-  pub quiet : c.said_bye ≡ true → length c.back ≡ length c.sent
-  pub behind : length mine + byes + count_of held ≤ length (messages c)
-  pub open_is : (m : LaneMessage) → held ≡ some m → get_elem? (messages c) (length mine + byes) ≡ some m
-  pub slot_held_is : 0 < c.slot_held → (length (messages c) + length c.put < c.slot_held) × (c.slot_held ≤ length c.back + 64)
-  pub within : length (messages c) + length c.put ≤ length c.back + 64
-  pub answers : (k : ℕ) (a : Answered) → length c.back ≤ k → get_elem? mine k ≡ some a → at k ≡ some (some (Some (Answer a)))
-  pub requests : (k : ℕ) (m : LaneMessage) → length mine + byes + count_of held ≤ k → get_elem? (messages c) k ≡ some m → at k ≡ some (some (Some m))
-  pub waits : (k : ℕ) (p : Posted) → get_elem? c.put k ≡ some p → at (length (messages c) + k) ≡ some (some (Some (Ask p)))
-  pub frees : (k : ℕ) → length (messages c) + length c.put ≤ k → k < length c.back + 64 → suc k ≢ c.slot_held → at k ≡ some (some None)
+  pub asked_is : asked_posted mine ≡ take (length mine) worker.sent
+  pub answered : length mine ≤ length worker.sent
+  pub known : StartsWith told worker.back
+  pub numbered : (number : ℕ) (request : Posted) → get_elem? (worker.sent ++ worker.put) number ≡ some request
+      → request.number ≡ suc number
+  pub leaves : 0 < byes → (worker.said_bye ≡ true)
+  pub quiet : worker.said_bye ≡ true → length worker.back ≡ length worker.sent
+  pub behind : length mine + byes + count_of held ≤ length (messages worker)
+  pub open_is : (message : LaneMessage) → held ≡ some message
+      → get_elem? (messages worker) (length mine + byes) ≡ some message
+  pub slot_held_is : 0 < worker.slot_held → (length (messages worker) + length worker.put < worker.slot_held)
+      × (worker.slot_held ≤ length worker.back + 64)
+  pub within : length (messages worker) + length worker.put ≤ length worker.back + 64
+  pub answers : (number : ℕ) (answer : Answered) → length worker.back ≤ number → get_elem? mine number ≡ some answer
+      → at number ≡ some (some (Some (Answer answer)))
+  pub requests : (number : ℕ) (message : LaneMessage) → length mine + byes + count_of held ≤ number
+      → get_elem? (messages worker) number ≡ some message
+      → at number ≡ some (some (Some message))
+  pub waits : (number : ℕ) (request : Posted) → get_elem? worker.put number ≡ some request
+      → at (length (messages worker) + number) ≡ some (some (Some (Ask request)))
+  pub frees : (number : ℕ) → length (messages worker) + length worker.put ≤ number → number < length worker.back + 64
+      → suc number ≢ worker.slot_held
+      → at number ≡ some (some None)
 
--- lane w of the table
+-- this lane of the table
 abbrev pub LaneIs : List ℕ → Homes → StorageState → WorkerState → ℕ → Type 0
-LaneIs words homes d c w = LaneOk c (worker_share d.history w) (worker_share d.told w) (times w d.byes) (open_at d.holding w) (slice_index words (16 * w))
-    (slice_index words (16 * w + 8)) (at_home homes w)
+LaneIs words homes storage worker lane =
+    LaneOk worker (worker_share storage.history lane) (worker_share storage.told lane) (times lane storage.byes)
+    (open_at storage.holding lane) (slice_index words (16 * lane)) (slice_index words (16 * lane + 8))
+    (at_home homes lane)
 
 -- What storage and a worker find where their ends come together
-pub record Agree (d : StorageState) (c : WorkerState) : Type 0 where
-  pub legal : Legal d.geometry d.history
-  pub judged : c.geometry ≡ d.geometry
-  pub told : StartsWith d.history c.seen
-  pub back : StartsWith (worker_share d.history c.worker) c.back
-  pub sent : asked_posted (worker_share d.history c.worker) ≡ take (length (worker_share d.history c.worker)) c.sent
-  pub answered : length (worker_share d.history c.worker) ≤ length c.sent
-  pub held : (p : Posted) → d.holding ≡ Some (c.worker, Ask p) → get_elem? c.sent (length (worker_share d.history c.worker)) ≡ some p
-  pub all_back : c.said_bye ≡ true → length c.back ≡ length c.sent
-  pub leaves : 0 < times c.worker d.byes → c.said_bye ≡ true
+pub record Agree (storage : StorageState) (worker : WorkerState) : Type 0 where
+  pub legal : Legal storage.geometry storage.history
+  pub judged : worker.geometry ≡ storage.geometry
+  pub told : StartsWith storage.history worker.seen
+  pub back : StartsWith (worker_share storage.history worker.worker) worker.back
+  pub sent : asked_posted (worker_share storage.history worker.worker)
+      ≡ take (length (worker_share storage.history worker.worker)) worker.sent
+  pub answered : length (worker_share storage.history worker.worker) ≤ length worker.sent
+  pub held : (request : Posted) → storage.holding ≡ Some (worker.worker, Ask request)
+      → get_elem? worker.sent (length (worker_share storage.history worker.worker)) ≡ some request
+  pub all_back : worker.said_bye ≡ true → length worker.back ≡ length worker.sent
+  pub leaves : 0 < times worker.worker storage.byes → worker.said_bye ≡ true
 
 -- The view of each seat is what the states say: the first seat is storage's, and then come the workers'.
 module _ (key : LaneKey) (states : ℕ → WorkerState) (storage_state : StorageState) where
   abbrev pub Fits : ℕ → LaneView → Type 0
-  Fits j Nobody = Unit {0}
-  Fits j (Worker c) = (j ≡ suc c.worker) × (states c.worker ≡ c) × (c.worker < key.workers)
-  Fits j (Storage d) = (j ≡ 0) × (storage_state ≡ d)
-  Fits j (Comparing d c) = (j ≡ 0) × (storage_state ≡ d) × Agree d c
+  Fits seat Nobody = Unit {0}
+  Fits seat (Worker worker) = (seat ≡ suc worker.worker) × (states worker.worker ≡ worker)
+      × (worker.worker < key.workers)
+  Fits seat (Storage storage) = (seat ≡ 0) × (storage_state ≡ storage)
+  Fits seat (Comparing storage worker) = (seat ≡ 0) × (storage_state ≡ storage) × Agree storage worker
 
 -- what a worker knows at first
 abbrev pub first_worker_state : Sizes → ℕ → WorkerState
-first_worker_state g w = record { worker = w; geometry = g; sent = []; put = []; said_bye = false; back = []; seen = []; loads = []; slot_held = 0 }
+first_worker_state geometry worker = record {
+  worker = worker;
+  geometry = geometry;
+  sent = [];
+  put = [];
+  said_bye = false;
+  back = [];
+  seen = [];
+  loads = [];
+  slot_held = 0;
+}
 
 -- what storage knows at first
 abbrev pub first_storage_state : Sizes → StorageState
-first_storage_state g = record { geometry = g; made = 0; taken = []; history = []; told = []; byes = []; holding = None; looks = [] }
+first_storage_state geometry = record {
+  geometry = geometry;
+  made = 0;
+  taken = [];
+  history = [];
+  told = [];
+  byes = [];
+  holding = None;
+  looks = [];
+}
 
 -- The rule, at every moment and over all words, slots and views: the history is legal, each lane is in order,
 -- each worker has seen a beginning of the history, and the views are what was counted here.
-pub record LanesHold (key : LaneKey) (s : State (Option LaneMessage) LaneView) : Type 0 where
+pub record LanesHold (key : LaneKey) (table : State (Option LaneMessage) LaneView) : Type 0 where
   pub states : ℕ → WorkerState
   pub storage_state : StorageState
   pub legal : Legal key.geometry storage_state.history
   pub legal_told : Legal key.geometry storage_state.told
   pub told_first : StartsWith storage_state.history storage_state.told
   pub judged : storage_state.geometry ≡ key.geometry
-  pub wide : length s.words ≡ 16 * key.workers
-  pub deep : length s.homes ≡ 64 * key.workers
-  pub each_lane : (w : ℕ) → w < key.workers → LaneIs s.words s.homes storage_state (states w) w
-  pub each_seen : (w : ℕ) → w < key.workers → StartsWith storage_state.told (states w).seen × ((states w).geometry ≡ key.geometry) × ((states w).worker ≡ w)
-  pub each_view : (j : ℕ) (v : LaneView) → get_elem? s.views j ≡ some v → Fits key states storage_state j v
-  pub count : length s.views ≡ suc storage_state.made
-  pub looked : (k w n : ℕ) → get_elem? storage_state.looks k ≡ some (w, n) → w < key.workers → n ≤ length (messages (states w))
-  pub later : (w : ℕ) → storage_state.made ≤ w → states w ≡ first_worker_state key.geometry w
+  pub wide : length table.words ≡ 16 * key.workers
+  pub deep : length table.homes ≡ 64 * key.workers
+  pub each_lane : (lane : ℕ) → lane < key.workers → LaneIs table.words table.homes storage_state (states lane) lane
+  pub each_seen : (lane : ℕ) → lane < key.workers
+      → StartsWith storage_state.told (states lane).seen × ((states lane).geometry ≡ key.geometry)
+      × ((states lane).worker ≡ lane)
+  pub each_view : (seat : ℕ) (view : LaneView) → get_elem? table.views seat ≡ some view
+      → Fits key states storage_state seat view
+  pub count : length table.views ≡ suc storage_state.made
+  pub looked : (place lane posted : ℕ) → get_elem? storage_state.looks place ≡ some (lane, posted) → lane < key.workers
+      → posted ≤ length (messages (states lane))
+  pub later : (lane : ℕ) → storage_state.made ≤ lane → states lane ≡ first_worker_state key.geometry lane
 
 -- the view of the first seat
 abbrev pub opening_view : LaneKey → LaneView
-opening_view t = Storage (first_storage_state t.geometry)
+opening_view key = Storage (first_storage_state key.geometry)

@@ -18,7 +18,7 @@ use Rattle.exchange.specs.declared.views.WorkerState.{WorkerState}
 use Rattle.exchange.specs.declared.views.StorageState.{StorageState}
 use Rattle.exchange.specs.declared.views.LaneView.{LaneView}
 use Rattle.exchange.specs.declared.views.LaneView.TheVariants.{Nobody, Worker, Storage, Comparing}
-use Rattle.exchange.specs.Lanes.{SeatState, slot_of, first_worker_state, first_storage_state}
+use Rattle.exchange.specs.Lanes.{SeatState, known_by, slots_of, lane_slot, first_worker_state, first_storage_state}
 use Rattle.exchange.specs.Steps.{placed, learnt_of, settled, Learnt, looked_at, with_opened, IsSent}
 use Rattle.exchange.specs.Ends.{WorkerView, WorkerBatchView, StorageView, StorageBatchView, max_posts, LastLook}
 
@@ -26,42 +26,54 @@ use Rattle.exchange.specs.Ends.{WorkerView, WorkerBatchView, StorageView, Storag
 
 -- what a contract sees of a worker's end
 abbrev pub worker_view : TableId → WorkerState → WorkerView
-worker_view z c =
-    record { exchange = z; worker = c.worker; geometry = c.geometry; sent = c.sent; said_bye = c.said_bye; back = c.back; seen = c.seen; loads = c.loads }
+worker_view table worker =
+    record {
+      exchange = table;
+      worker = worker.worker;
+      geometry = worker.geometry;
+      sent = worker.sent;
+      said_bye = worker.said_bye;
+      back = worker.back;
+      seen = worker.seen;
+      loads = worker.loads;
+    }
 
 -- what a contract sees of a worker's end that sends in batches
 abbrev pub worker_batch_view : TableId → WorkerState → WorkerBatchView
-worker_batch_view z c = record { end = worker_view z c; put = c.put }
+worker_batch_view table worker = record { end = worker_view table worker; put = worker.put }
 
--- the request that a message of worker w is
+-- the request that a message of this worker is
 abbrev pub lane_request : ℕ → LaneMessage → Option (ℕ × Posted)
-lane_request w (Ask p) = Some (w, p)
-lane_request w Bye = None
-lane_request w (Answer a) = None
+lane_request lane (Ask posted) = Some (lane, posted)
+lane_request lane Bye = None
+lane_request lane (Answer answer) = None
 
 -- the request that storage holds
 abbrev pub open_in : Option (ℕ × LaneMessage) → Option (ℕ × Posted)
 open_in None = None
-open_in (Some x) = lane_request x.0 x.1
+open_in (Some held) = lane_request held.0 held.1
 
 -- what a contract sees of storage's end
 abbrev pub storage_view : TableId → ℕ → ℕ → StorageState → StorageView
-storage_view z workers last d =
+storage_view table workers last storage =
     record {
-      exchange = z;
+      exchange = table;
       workers = workers;
-      geometry = d.geometry;
-      taken = d.taken;
-      open_request = open_in d.holding;
-      history = d.history;
-      byes = d.byes;
-      looks = d.looks;
+      geometry = storage.geometry;
+      taken = storage.taken;
+      open_request = open_in storage.holding;
+      history = storage.history;
+      byes = storage.byes;
+      looks = storage.looks;
       last = last;
     }
 
 -- what a contract sees of storage's end that tells of its answers in batches
 abbrev pub storage_batch_view : TableId → ℕ → ℕ → StorageState → StorageBatchView
-storage_batch_view z workers last d = record { end = storage_view z workers last d; told = d.told }
+storage_batch_view table workers last storage = record {
+  end = storage_view table workers last storage;
+  told = storage.told;
+}
 
 -- some sizes, for views that aren't a worker's or storage's
 abbrev pub any_geometry : Sizes
@@ -69,27 +81,35 @@ any_geometry = record { segment_size = 4096; segments = 8 }
 
 -- what the view of a worker's seat says
 abbrev pub worker_state_in : LaneView → WorkerState
-worker_state_in (Worker c) = c
+worker_state_in (Worker worker) = worker
 worker_state_in Nobody = first_worker_state any_geometry 0
-worker_state_in (Storage d) = first_worker_state any_geometry 0
-worker_state_in (Comparing d c) = c
+worker_state_in (Storage storage) = first_worker_state any_geometry 0
+worker_state_in (Comparing storage worker) = worker
 
 -- what the view of storage's seat says
 abbrev pub storage_state_in : LaneView → StorageState
-storage_state_in (Storage d) = d
+storage_state_in (Storage storage) = storage
 storage_state_in Nobody = first_storage_state any_geometry
-storage_state_in (Worker c) = first_storage_state any_geometry
-storage_state_in (Comparing d c) = d
+storage_state_in (Worker worker) = first_storage_state any_geometry
+storage_state_in (Comparing storage worker) = storage
+
+-- what the worker knows whose seat this is
+abbrev pub worker_at : SeatState → WorkerState
+worker_at me = worker_state_in (known_by me)
+
+-- what storage knows whose seat this is
+abbrev pub storage_at : SeatState → StorageState
+storage_at me = storage_state_in (known_by me)
 
 -- The table
 
--- the table has the words and slots of n lanes
+-- the table has the words and slots of so many lanes
 abbrev pub IsTableSized : TableId → ℕ → Type 0
-IsTableSized z n = (z.words ≡ 16 * n) × (z.slots ≡ 64 * n)
+IsTableSized table workers = (table.words ≡ 16 * workers) × (table.slots ≡ 64 * workers)
 
 -- the words and slots of this worker's lane are in the table
 abbrev pub IsLane : TableId → ℕ → Type 0
-IsLane z w = (16 * w + 8 < z.words) × (64 * w + 63 < z.slots) × (w < 8)
+IsLane table lane = (16 * lane + 8 < table.words) × (64 * lane + 63 < table.slots) × (lane < 8)
 
 -- a seat at the table
 abbrev pub LaneSeat : Type 0
@@ -101,119 +121,149 @@ SameSeat old new = (new.table_id ≡ old.table_id) × (new.id ≡ old.id)
 
 -- the slot that the seat took last, and what stands there
 abbrev pub HoldsSlot : SeatState → ℕ → Option LaneMessage → Type 0
-HoldsSlot me q x = me.1 ≡ (q, x) ∷ rest me.1
+HoldsSlot me slot content = slots_of me ≡ (slot, content) ∷ rest (slots_of me)
 
 -- with another content in the slot that it took last
 abbrev pub exchanged_to : SeatState → ℕ → Option LaneMessage → SeatState
-exchanged_to me q x = (me.0, (q, x) ∷ rest me.1)
+exchanged_to me slot content = (known_by me, (slot, content) ∷ rest (slots_of me))
 
 -- A worker's end
 
 -- The history that a worker saw: it is legal, its requests there are the first of those that it sent, so many as
 -- the number says, and the answers that it took back are the first of its entries there
-pub record HasToldOf (c : WorkerState) (known : ℕ) : Type 0 where
-  pub legal : Legal c.geometry c.seen
-  pub asked : asked_posted (worker_share c.seen c.worker) ≡ take known c.sent
-  pub known_is : length (worker_share c.seen c.worker) ≡ known
-  pub back : StartsWith (worker_share c.seen c.worker) c.back
+pub record HasToldOf (worker : WorkerState) (known : ℕ) : Type 0 where
+  pub legal : Legal worker.geometry worker.seen
+  pub asked : asked_posted (worker_share worker.seen worker.worker) ≡ take known worker.sent
+  pub known_is : length (worker_share worker.seen worker.worker) ≡ known
+  pub back : StartsWith (worker_share worker.seen worker.worker) worker.back
 
 -- The fields of a worker's end agree with what its seat knows, and no slot is out with it
 pub record WorkerAgrees (me : SeatState) (worker sent put back known : ℕ) (said_bye : Bool) : Type 0 where
-  pub seated : me ≡ (Worker (worker_state_in me.0), [])
-  pub worker_is : (worker_state_in me.0).worker ≡ worker
-  pub sent_is : length (worker_state_in me.0).sent ≡ sent
-  pub put_is : length (worker_state_in me.0).put ≡ put
-  pub back_is : length (worker_state_in me.0).back ≡ back
-  pub bye_is : (worker_state_in me.0).said_bye ≡ said_bye
-  pub idle : (worker_state_in me.0).slot_held ≡ 0
+  pub seated : me ≡ (Worker (worker_at me), [])
+  pub worker_is : (worker_at me).worker ≡ worker
+  pub sent_is : length (worker_at me).sent ≡ sent
+  pub put_is : length (worker_at me).put ≡ put
+  pub back_is : length (worker_at me).back ≡ back
+  pub bye_is : (worker_at me).said_bye ≡ said_bye
+  pub idle : (worker_at me).slot_held ≡ 0
   pub order : (back ≤ known) × (known ≤ sent) × (sent + put ≤ back + 64) × (sent + put ≤ max_posts)
   pub quiet : said_bye ≡ true → (back ≡ sent) × (put ≡ 0)
-  pub told : HasToldOf (worker_state_in me.0) known
+  pub told : HasToldOf (worker_at me) known
 
 -- the seat is this worker's, has sent or put this many requests, and may put one more message
 abbrev pub MayPost : SeatState → ℕ → ℕ → Type 0
-MayPost me w n = (me ≡ (Worker (worker_state_in me.0), [])) × ((worker_state_in me.0).worker ≡ w) × (placed (worker_state_in me.0) ≡ n)
-    × ((worker_state_in me.0).slot_held ≡ 0) × ((worker_state_in me.0).said_bye ≡ false)
-    × (placed (worker_state_in me.0) < length (worker_state_in me.0).back + 64) × (n < 2 ^ 63)
+MayPost me worker count = (me ≡ (Worker (worker_at me), [])) × ((worker_at me).worker ≡ worker)
+    × (placed (worker_at me) ≡ count)
+    × ((worker_at me).slot_held ≡ 0) × ((worker_at me).said_bye ≡ false)
+    × (placed (worker_at me) < length (worker_at me).back + 64) × (count < 2 ^ 63)
 
 -- the seat is this worker's, has sent or put this many requests, and holds no slot
-abbrev pub MaySend : SeatState → ℕ → ℕ → Type 0
-MaySend me w n = (me ≡ (Worker (worker_state_in me.0), [])) × ((worker_state_in me.0).worker ≡ w) × (placed (worker_state_in me.0) ≡ n)
-    × ((worker_state_in me.0).slot_held ≡ 0) × ((worker_state_in me.0).said_bye ≡ false)
+abbrev pub MayPut : SeatState → ℕ → ℕ → Type 0
+MayPut me worker count = (me ≡ (Worker (worker_at me), [])) × ((worker_at me).worker ≡ worker)
+    × (placed (worker_at me) ≡ count)
+    × ((worker_at me).slot_held ≡ 0) × ((worker_at me).said_bye ≡ false)
 
 -- the seat is this worker's, has taken back so many, holds no slot, and saw a further answer
 abbrev pub HasSeen : SeatState → ℕ → ℕ → Type 0
-HasSeen me w back = (me ≡ (Worker (worker_state_in me.0), [])) × ((worker_state_in me.0).worker ≡ w) × (length (worker_state_in me.0).back ≡ back)
-    × ((worker_state_in me.0).slot_held ≡ 0)
-    × (length (worker_state_in me.0).back < length (worker_share (worker_state_in me.0).seen (worker_state_in me.0).worker))
+HasSeen me worker back = (me ≡ (Worker (worker_at me), [])) × ((worker_at me).worker ≡ worker)
+    × (length (worker_at me).back ≡ back)
+    × ((worker_at me).slot_held ≡ 0)
+    × (length (worker_at me).back
+    < length (worker_share (worker_at me).seen (worker_at me).worker))
 
 -- the seat is this worker's, has sent and taken back so many, and holds no slot
 abbrev pub MayTake : SeatState → ℕ → ℕ → ℕ → Type 0
-MayTake me w sent back = (me ≡ (Worker (worker_state_in me.0), [])) × ((worker_state_in me.0).worker ≡ w) × (length (worker_state_in me.0).sent ≡ sent)
-    × (length (worker_state_in me.0).back ≡ back) × ((worker_state_in me.0).slot_held ≡ 0)
+MayTake me worker sent back = (me ≡ (Worker (worker_at me), [])) × ((worker_at me).worker ≡ worker)
+    × (length (worker_at me).sent ≡ sent)
+    × (length (worker_at me).back ≡ back) × ((worker_at me).slot_held ≡ 0)
 
--- told of the history g by the done word d, with the answer a added to what it took back
+-- told of this history by the done word, with the answer added to what it took back
 abbrev pub took_back : WorkerState → List Answered → ℕ → Answered → WorkerState
-took_back c g d a = record c { seen = g; loads = c.loads ++ d ∷ []; back = c.back ++ a ∷ [] }
+took_back worker told done answer = record worker {
+  seen = told;
+  loads = worker.loads ++ done ∷ [];
+  back = worker.back
+      ++ answer ∷ [];
+}
 
--- What a take tells: it read the done word d and was told of the history g. An answer is the next one of g.
--- There is none where all answers of g were taken before
+-- What a take tells: it read the done word and was told of a history. An answer is the next one of that history.
+-- There is none where all answers there were taken before
 abbrev pub StateTakes : WorkerState → ℕ → Option Answered → WorkerState → Type 0
-StateTakes c d result c' = (g : List Answered) × Learnt c d g
-    × MatchOption result ((c.back ≡ worker_share g c.worker) × (c' ≡ learnt_of c g d)) (λ a. (get_elem? (worker_share g c.worker) (length c.back) ≡ some a)
-    × (c' ≡ took_back c g d a))
+StateTakes worker done result after = (told : List Answered) × Learnt worker done told
+    × MatchOption result ((worker.back ≡ worker_share told worker.worker) × (after ≡ learnt_of worker told done))
+    (λ answer. (get_elem? (worker_share told worker.worker) (length worker.back) ≡ some answer)
+    × (after ≡ took_back worker told done answer))
 
 -- Storage's end
 
 -- storage's seat holds no slot, and has settled so many messages of the lane
 abbrev pub MayLook : SeatState → ℕ → ℕ → Type 0
-MayLook me w count = (me ≡ (Storage (storage_state_in me.0), [])) × (settled (storage_state_in me.0) w ≡ count) × ((storage_state_in me.0).holding ≡ None)
+MayLook me lane count = (me ≡ (Storage (storage_at me), [])) × (settled (storage_at me) lane ≡ count)
+    × ((storage_at me).holding ≡ None)
 
 -- the same, and an earlier look at the lane named a message that isn't settled
 abbrev pub HasSeenMessage : SeatState → ℕ → ℕ → Type 0
-HasSeenMessage me w count = MayLook me w count × ((k p : ℕ) × (get_elem? (storage_state_in me.0).looks k ≡ some (w, p))
-    × (settled (storage_state_in me.0) w < p))
+HasSeenMessage me lane count = MayLook me lane count × ((place posted : ℕ)
+    × (get_elem? (storage_at me).looks place ≡ some (lane, posted))
+    × (settled (storage_at me) lane < posted))
 
 -- The look that came last is one at this lane which found this posted word, or there was none
 abbrev pub IsNamed : StorageState → ℕ → ℕ → ℕ → Type 0
-IsNamed d lane named workers = (((d.looks ≡ []) × (named ≡ 0)) ⊎ LastLook d.looks lane named) × (lane < workers)
+IsNamed storage lane named workers = (((storage.looks ≡ []) × (named ≡ 0)) ⊎ LastLook storage.looks lane named)
+    × (lane < workers)
 
--- What a look at a lane tells: the posted word n names no message beyond those settled, or the next message is out
+-- What a look at a lane tells: the posted word names no message beyond those settled, or the next message is out
 abbrev pub Looks : StorageState → ℕ → ℕ → Option LaneMessage → SeatState → Type 0
-Looks d w n result me = (n < 2 ^ 64) × MatchOption result ((n ≤ settled d w) × (me ≡ (Storage (looked_at d w n), []))) (λ x. (settled d w < n) × IsSent d w x
-    × (me ≡ (Storage (with_opened d w n x), (slot_of w (settled d w), None) ∷ [])))
+Looks storage lane posted result me = (posted < 2 ^ 64) × MatchOption result ((posted ≤ settled storage lane)
+    × (me ≡ (Storage (looked_at storage lane posted), [])))
+    (λ message. (settled storage lane < posted) × IsSent storage lane message
+    × (me ≡ (Storage (with_opened storage lane posted message), (lane_slot lane (settled storage lane), None) ∷ [])))
 
--- storage's seat holds the slot of this message of lane w, of which so many were settled before
+-- storage's seat holds the slot of this message of the lane, of which so many were settled before
 abbrev pub HoldsTaken : SeatState → ℕ → ℕ → LaneMessage → Type 0
-HoldsTaken me w count x = (me ≡ (Storage (storage_state_in me.0), (slot_of w count, None) ∷ [])) × (settled (storage_state_in me.0) w ≡ count)
-    × ((storage_state_in me.0).holding ≡ Some (w, x)) × (count + 1 < 2 ^ 64)
+HoldsTaken me lane count message = (me ≡ (Storage (storage_at me), (lane_slot lane count, None) ∷ []))
+    × (settled (storage_at me) lane ≡ count)
+    × ((storage_at me).holding ≡ Some (lane, message)) × (count + 1 < 2 ^ 64)
 
--- storage's seat has settled so many messages of lane w, and the answers that weren't told of are all of it
+-- storage's seat has settled so many messages of this lane, and the answers that weren't told of are all of it
 abbrev pub MayTell : SeatState → ℕ → ℕ → Type 0
-MayTell me w count = (me.0 ≡ Storage (storage_state_in me.0)) × (settled (storage_state_in me.0) w ≡ count)
-    × ((j : ℕ) → j ≢ w → worker_share (storage_state_in me.0).history j ≡ worker_share (storage_state_in me.0).told j)
+MayTell me lane count = (known_by me ≡ Storage (storage_at me)) × (settled (storage_at me) lane ≡ count)
+    × ((other : ℕ) → other ≢ lane → worker_share (storage_at me).history other
+    ≡ worker_share (storage_at me).told other)
 
 -- The answers that weren't told of are all of this lane, and there are none where nothing waits
-pub record IsWaiting (d : StorageState) (waiting : Bool) (lane workers : ℕ) : Type 0 where
-  pub none_waits : waiting ≡ false → d.told ≡ d.history
-  pub others : (j : ℕ) → j ≢ lane → worker_share d.history j ≡ worker_share d.told j
+pub record IsWaiting (storage : StorageState) (waiting : Bool) (lane workers : ℕ) : Type 0 where
+  pub none_waits : waiting ≡ false → storage.told ≡ storage.history
+  pub others : (other : ℕ) → other ≢ lane → worker_share storage.history other ≡ worker_share storage.told other
   pub inside : lane < workers
 
 -- the slot that storage holds
 abbrev pub carried_by : StorageState → Option (ℕ × LaneMessage) → List (ℕ × Option LaneMessage)
-carried_by d None = []
-carried_by d (Some x) = (slot_of x.0 (settled d x.0), None) ∷ []
+carried_by storage None = []
+carried_by storage (Some held) = (lane_slot held.0 (settled storage held.0), None) ∷ []
 
 -- The fields of storage's end agree with what its seat knows
 pub record StorageAgrees (me : SeatState) (workers last : ℕ) (counts : List ℕ) (open_now : Bool) : Type 0 where
-  pub seated : me ≡ (Storage (storage_state_in me.0), carried_by (storage_state_in me.0) (storage_state_in me.0).holding)
+  pub seated : me ≡ (
+    Storage (storage_at me),
+    carried_by (storage_at me) (storage_at me).holding,
+  )
   pub few : (0 < workers) × (workers ≤ 8) × (last < workers)
   pub room : length counts ≡ 8
-  pub counts_are : (w : ℕ) → w < workers → slice_index counts w ≡ settled (storage_state_in me.0) w
-  pub open_is : open_now ≡ is_some (open_in (storage_state_in me.0).holding)
-  pub holds : (w : ℕ) (x : LaneMessage) → (storage_state_in me.0).holding ≡ Some (w, x)
-      → (w < workers) × (settled (storage_state_in me.0) w + 1 < 2 ^ 64) × ((p : Posted) × (x ≡ Ask p))
+  pub counts_are : (lane : ℕ) → lane < workers → slice_index counts lane ≡ settled (storage_at me) lane
+  pub open_is : open_now ≡ is_some (open_in (storage_at me).holding)
+  pub holds : (lane : ℕ) (message : LaneMessage) → (storage_at me).holding ≡ Some (lane, message)
+      → (lane < workers) × (settled (storage_at me) lane + 1 < 2 ^ 64) × ((posted : Posted) × (message ≡ Ask posted))
 
--- what storage knows once it has made n workers
+-- what storage knows once it has made so many workers
 abbrev pub made_storage_state : Sizes → ℕ → StorageState
-made_storage_state geometry n = record { geometry = geometry; made = n; taken = []; history = []; told = []; byes = []; holding = None; looks = [] }
+made_storage_state geometry made = record {
+  geometry = geometry;
+  made = made;
+  taken = [];
+  history = [];
+  told = [];
+  byes = [];
+  holding = None;
+  looks = [];
+}

@@ -1,5 +1,7 @@
 //! The rule of the table, and what each step tells.
-ghost use Rattle.exchange.specs.Steps.{begun, request_put, posted, seen_taken, bye_posted, done_loaded, slot_returned, posted_loaded, answered, told_done, seen_opened, settle_bye, with_one_more, new_worker, comparing, compared};
+ghost use Rattle.exchange.specs.Steps.{begun, request_put, posted, seen_taken, bye_posted, done_loaded, slot_returned};
+ghost use Rattle.exchange.specs.Steps.{posted_loaded, answered, told_done, seen_opened, settle_bye, with_one_more};
+ghost use Rattle.exchange.specs.Steps.{new_worker, comparing, compared};
 
 use crate::messages::{LaneKey, LaneMessage};
 use crate::views::LaneView;

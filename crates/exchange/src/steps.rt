@@ -6,9 +6,11 @@ ghost use Rattle.exchange.specs.Beginnings.{posted_of};
 ghost use mathlib.Core.Option.{some};
 ghost use lib.ListN.{get_elem?};
 ghost use Rattle.proto.specs.History.{Legal, worker_share};
-ghost use Rattle.exchange.specs.Lanes.{slot_of};
-ghost use Rattle.exchange.specs.Steps.{put_on, all_sent, holding_slot, took_seen, with_bye, replied, all_told, bye_settled, reopened, settled, IsSent};
-ghost use Rattle.exchange.specs.Seats.{worker_state_in, storage_state_in, IsLane, SameSeat, MayPost, MaySend, MayTake, HasSeen, MayLook, HasSeenMessage, StateTakes, Looks, HoldsTaken, MayTell};
+ghost use Rattle.exchange.specs.Lanes.{slots_of, lane_slot};
+ghost use Rattle.exchange.specs.Steps.{put_on, all_sent, holding_slot, took_seen, with_bye, replied, all_told};
+ghost use Rattle.exchange.specs.Steps.{bye_settled, reopened, settled, IsSent};
+ghost use Rattle.exchange.specs.Seats.{worker_at, storage_at, IsLane, SameSeat, MayPost, MayPut, MayTake, HasSeen};
+ghost use Rattle.exchange.specs.Seats.{MayLook, HasSeenMessage, StateTakes, Looks, HoldsTaken, MayTell};
 
 use crate::messages::LaneMessage;
 use crate::rule::{
@@ -16,7 +18,7 @@ use crate::rule::{
     PutsRequest, ReturnsSlot, SettlesBye, TakesSeen, TellsDone,
 };
 use crate::slots::{put_in_answer, put_message, take_out_answer, take_out_message};
-use proto::history::{Answered, Posted};
+use proto::{Answered, Posted};
 
 /// Puts a request into its slot. It loads the worker's own word alone, which no other thread writes.
 pub(crate) fn put_request(
@@ -30,7 +32,7 @@ pub(crate) fn put_request(
     requires room { MayPost seat.old.me worker number }
     requires next { posted.number ≡ number + 1 }
     ensures table { SameSeat seat.old seat.new }
-    ensures put { seat.new.me ≡ (Worker (put_on (worker_state_in seat.old.me.0) posted), []) }
+    ensures put { seat.new.me ≡ (Worker (put_on (worker_at seat.old.me) posted), []) }
 {
     lane_table.shared.load::<Begins>(seat, 16 * worker);
     put_message(lane_table, seat, worker, number, LaneMessage::Ask(posted));
@@ -40,9 +42,9 @@ pub(crate) fn put_request(
 /// Stores posted for all requests that were put.
 pub(crate) fn send_put(lane_table: &LaneTable, seat: &mut LaneSeat, worker: usize, number: u64)
     requires table { (seat.old.table_id ≡ lane_table.now.shared.table_id) × IsLane seat.old.table_id worker }
-    requires idle { MaySend seat.old.me worker number }
+    requires idle { MayPut seat.old.me worker number }
     ensures table { SameSeat seat.old seat.new }
-    ensures sent { seat.new.me ≡ (Worker (all_sent (worker_state_in seat.old.me.0)), []) }
+    ensures sent { seat.new.me ≡ (Worker (all_sent (worker_at seat.old.me)), []) }
 {
     lane_table.shared.store::<Posts>(seat, 16 * worker, number);
 }
@@ -51,10 +53,10 @@ pub(crate) fn send_put(lane_table: &LaneTable, seat: &mut LaneSeat, worker: usiz
 pub(crate) fn put_bye(lane_table: &LaneTable, seat: &mut LaneSeat, worker: usize, number: u64)
     requires table { (seat.old.table_id ≡ lane_table.now.shared.table_id) × IsLane seat.old.table_id worker }
     requires room { MayPost seat.old.me worker number }
-    requires none_put { (worker_state_in seat.old.me.0).put ≡ [] }
-    requires quiet { length (worker_state_in seat.old.me.0).back ≡ length (worker_state_in seat.old.me.0).sent }
+    requires none_put { (worker_at seat.old.me).put ≡ [] }
+    requires quiet { length (worker_at seat.old.me).back ≡ length (worker_at seat.old.me).sent }
     ensures table { SameSeat seat.old seat.new }
-    ensures sent { seat.new.me ≡ (Worker (with_bye (worker_state_in seat.old.me.0)), []) }
+    ensures sent { seat.new.me ≡ (Worker (with_bye (worker_at seat.old.me)), []) }
 {
     lane_table.shared.load::<Begins>(seat, 16 * worker);
     put_message(lane_table, seat, worker, number, LaneMessage::Bye);
@@ -74,8 +76,8 @@ pub(crate) fn take_answer(
     requires table { (seat.old.table_id ≡ lane_table.now.shared.table_id) × IsLane seat.old.table_id worker }
     requires idle { MayTake seat.old.me worker sent back }
     ensures table { SameSeat seat.old seat.new }
-    ensures seat { seat.new.me ≡ (Worker (worker_state_in seat.new.me.0), []) }
-    ensures taken { StateTakes (worker_state_in seat.old.me.0) result.0 result.1 (worker_state_in seat.new.me.0) }
+    ensures seat { seat.new.me ≡ (Worker (worker_at seat.new.me), []) }
+    ensures taken { StateTakes (worker_at seat.old.me) result.0 result.1 (worker_at seat.new.me) }
 {
     let done = lane_table.shared.load::<LoadsDone>(seat, 16 * worker + 8);
     if done <= back || sent <= back {
@@ -97,8 +99,9 @@ pub(crate) fn take_seen_answer(
     requires table { (seat.old.table_id ≡ lane_table.now.shared.table_id) × IsLane seat.old.table_id worker }
     requires seen { HasSeen seat.old.me worker back }
     ensures table { SameSeat seat.old seat.new }
-    ensures next { get_elem? (worker_share (worker_state_in seat.old.me.0).seen (worker_state_in seat.old.me.0).worker) (length (worker_state_in seat.old.me.0).back) ≡ some result }
-    ensures taken { seat.new.me ≡ (Worker (holding_slot (took_seen (worker_state_in seat.old.me.0) result) 0), []) }
+    ensures next { get_elem? (worker_share (worker_at seat.old.me).seen (worker_at seat.old.me).worker)
+        (length (worker_at seat.old.me).back) ≡ some result }
+    ensures taken { seat.new.me ≡ (Worker (holding_slot (took_seen (worker_at seat.old.me) result) 0), []) }
 {
     lane_table.shared.load::<TakesSeen>(seat, 16 * worker);
     let answered = take_out_answer(lane_table, seat, worker, back);
@@ -113,10 +116,11 @@ pub(crate) fn take_message(
     lane: usize,
     count: u64,
 ) -> (u64, Option<LaneMessage>)
-    requires table { (seat.old.table_id ≡ lane_table.now.shared.table_id) × IsLane seat.old.table_id lane × (lane < lane_table.now.shared.key.workers) }
+    requires table { (seat.old.table_id ≡ lane_table.now.shared.table_id) × IsLane seat.old.table_id lane
+        × (lane < lane_table.now.shared.key.workers) }
     requires idle { MayLook seat.old.me lane count }
     ensures table { SameSeat seat.old seat.new }
-    ensures looked { Looks (storage_state_in seat.old.me.0) lane result.0 result.1 seat.new.me }
+    ensures looked { Looks (storage_at seat.old.me) lane result.0 result.1 seat.new.me }
 {
     let posted = lane_table.shared.load::<LoadsPosted>(seat, 16 * lane);
     if posted <= count {
@@ -134,11 +138,15 @@ pub(crate) fn take_seen_message(
     lane: usize,
     count: u64,
 ) -> LaneMessage
-    requires table { (seat.old.table_id ≡ lane_table.now.shared.table_id) × IsLane seat.old.table_id lane × (lane < lane_table.now.shared.key.workers) }
+    requires table { (seat.old.table_id ≡ lane_table.now.shared.table_id) × IsLane seat.old.table_id lane
+        × (lane < lane_table.now.shared.key.workers) }
     requires seen { HasSeenMessage seat.old.me lane count }
     ensures table { SameSeat seat.old seat.new }
-    ensures sent { IsSent (storage_state_in seat.old.me.0) lane result }
-    ensures opened { seat.new.me ≡ (Storage (reopened (storage_state_in seat.old.me.0) lane result), (slot_of lane (settled (storage_state_in seat.old.me.0) lane), None) ∷ []) }
+    ensures sent { IsSent (storage_at seat.old.me) lane result }
+    ensures opened { seat.new.me ≡ (
+      Storage (reopened (storage_at seat.old.me) lane result),
+      (lane_slot lane (settled (storage_at seat.old.me) lane), None) ∷ [],
+    ) }
 {
     lane_table.shared.load::<OpensSeen>(seat, 16 * lane + 8);
     take_out_message(lane_table, seat, lane, count)
@@ -151,11 +159,12 @@ pub(crate) fn put_answer(
     count: u64,
     answered: Answered,
 )
-    requires table { (seat.old.table_id ≡ lane_table.now.shared.table_id) × IsLane seat.old.table_id answered.worker × (answered.worker < lane_table.now.shared.key.workers) }
+    requires table { (seat.old.table_id ≡ lane_table.now.shared.table_id) × IsLane seat.old.table_id answered.worker
+        × (answered.worker < lane_table.now.shared.key.workers) }
     requires held { HoldsTaken seat.old.me answered.worker count (Ask (posted_of answered)) }
-    requires legal { Legal (storage_state_in seat.old.me.0).geometry ((storage_state_in seat.old.me.0).history ++ answered ∷ []) }
+    requires legal { Legal (storage_at seat.old.me).geometry ((storage_at seat.old.me).history ++ answered ∷ []) }
     ensures table { SameSeat seat.old seat.new }
-    ensures answered { seat.new.me ≡ (Storage (replied (storage_state_in seat.old.me.0) answered), []) }
+    ensures answered { seat.new.me ≡ (Storage (replied (storage_at seat.old.me) answered), []) }
 {
     let lane = answered.worker;
     put_in_answer(lane_table, seat, lane, count, answered);
@@ -164,10 +173,11 @@ pub(crate) fn put_answer(
 
 /// Stores done for all answers of the lane.
 pub(crate) fn tell_answers(lane_table: &LaneTable, seat: &mut LaneSeat, lane: usize, count: u64)
-    requires table { (seat.old.table_id ≡ lane_table.now.shared.table_id) × IsLane seat.old.table_id lane × (lane < lane_table.now.shared.key.workers) }
+    requires table { (seat.old.table_id ≡ lane_table.now.shared.table_id) × IsLane seat.old.table_id lane
+        × (lane < lane_table.now.shared.key.workers) }
     requires ready { MayTell seat.old.me lane count }
     ensures table { SameSeat seat.old seat.new }
-    ensures told { seat.new.me ≡ (Storage (all_told (storage_state_in seat.old.me.0)), seat.old.me.1) }
+    ensures told { seat.new.me ≡ (Storage (all_told (storage_at seat.old.me)), slots_of seat.old.me) }
 {
     lane_table
         .shared
@@ -176,10 +186,11 @@ pub(crate) fn tell_answers(lane_table: &LaneTable, seat: &mut LaneSeat, lane: us
 
 /// Gives the slot of a Bye back, and stores done.
 pub(crate) fn settle_bye(lane_table: &LaneTable, seat: &mut LaneSeat, lane: usize, count: u64)
-    requires table { (seat.old.table_id ≡ lane_table.now.shared.table_id) × IsLane seat.old.table_id lane × (lane < lane_table.now.shared.key.workers) }
+    requires table { (seat.old.table_id ≡ lane_table.now.shared.table_id) × IsLane seat.old.table_id lane
+        × (lane < lane_table.now.shared.key.workers) }
     requires held { HoldsTaken seat.old.me lane count Bye }
     ensures table { SameSeat seat.old seat.new }
-    ensures byes { seat.new.me ≡ (Storage (bye_settled (storage_state_in seat.old.me.0) lane), []) }
+    ensures byes { seat.new.me ≡ (Storage (bye_settled (storage_at seat.old.me) lane), []) }
 {
     lane_table
         .shared

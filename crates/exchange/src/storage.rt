@@ -4,7 +4,7 @@ use crate::messages::Taken;
 use crate::rule::{LaneSeat, LaneTable};
 use crate::storage_batch::StorageBatch;
 use crate::worker::WorkerEnd;
-use proto::history::Answered;
+use proto::Answered;
 use std::alloc::Global;
 use std::marker::Model;
 use std::sync::Arc;
@@ -27,14 +27,16 @@ impl Model for StorageEnd {
 }
 
 impl StorageEnd {
-    ghost use Rattle.std.specs.Prelude.{◌≡◌, ℕ, ◌+◌, ◌-◌, ◌*◌, ◌<◌, ◌≤◌, ◌++◌, ◌∷◌, [], length, None, Some, is_some, MatchOption, IsOk};
+    ghost use Rattle.std.specs.Prelude.{◌≡◌, ℕ, ◌+◌, ◌-◌, ◌*◌, ◌<◌, ◌≤◌, ◌++◌, ◌∷◌, [], length, None, Some, is_some};
+    ghost use Rattle.std.specs.Prelude.{MatchOption, IsOk};
     ghost use Rattle.std.specs.Option.{IfNone};
     ghost use Rattle.std.specs.Arc.{arc_value};
     ghost use Rattle.proto.specs.Sizes.{Sizes};
     ghost use Rattle.proto.specs.History.{Legal};
     ghost use Rattle.exchange.specs.declared.views.LaneView.TheVariants.{Storage};
     ghost use Rattle.exchange.specs.Beginnings.{posted_of};
-    ghost use Rattle.exchange.specs.Ends.{IsCount, new_storage_view, LooksAt, FindsNone, FindsOne, LookedOnce, with_answer, AreCompared};
+    ghost use Rattle.exchange.specs.Ends.{IsCount, new_storage_view, LooksAt, FindsNone, FindsOne, LookedOnce};
+    ghost use Rattle.exchange.specs.Ends.{with_answer, AreCompared};
     ghost use Rattle.exchange.specs.Seats.{IsTableSized, made_storage_state};
 
     pub(crate) fn over(
@@ -42,9 +44,12 @@ impl StorageEnd {
         seat: LaneSeat,
         workers: usize,
     ) -> StorageEnd
-        requires table { (seat.table_id ≡ (arc_value lane_table).shared.table_id) × IsTableSized seat.table_id workers × ((arc_value lane_table).shared.key.workers ≡ workers) × (0 < workers) × (workers ≤ 8) }
+        requires table { (seat.table_id ≡ (arc_value lane_table).shared.table_id)
+            × IsTableSized seat.table_id workers × ((arc_value lane_table).shared.key.workers ≡ workers)
+            × (0 < workers) × (workers ≤ 8) }
         requires fresh { (g : Sizes) × (seat.me ≡ (Storage (made_storage_state g workers), [])) }
-        ensures { (g : Sizes) → seat.me ≡ (Storage (made_storage_state g workers), []) → result ≡ new_storage_view seat.table_id g workers }
+        ensures { (g : Sizes) → seat.me ≡ (Storage (made_storage_state g workers), [])
+            → result ≡ new_storage_view seat.table_id g workers }
     {
         StorageEnd {
             batch: StorageBatch::over(lane_table, seat, workers),

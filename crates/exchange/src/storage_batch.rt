@@ -5,7 +5,7 @@ use crate::rule::{Compares, JoinsWorker, LaneSeat, LaneTable};
 use crate::steps::{put_answer, settle_bye, take_message, take_seen_message, tell_answers};
 use crate::storage::StorageEnd;
 use crate::worker::WorkerEnd;
-use proto::history::Answered;
+use proto::Answered;
 use std::alloc::Global;
 use std::marker::Model;
 use std::sync::Arc;
@@ -35,24 +35,32 @@ impl Model for StorageBatch {
     ghost use Rattle.std.specs.Prelude.{◌≡◌, ℕ, ◌+◌, ◌*◌, ◌<◌, ◌≤◌};
     ghost use Rattle.std.specs.Arc.{arc_value};
     ghost use Rattle.exchange.specs.Ends.{StorageBatchView};
-    ghost use Rattle.exchange.specs.Seats.{StorageAgrees, IsWaiting, IsNamed, IsTableSized, storage_batch_view, storage_state_in};
+    ghost use Rattle.exchange.specs.Seats.{StorageAgrees, IsWaiting, IsNamed, IsTableSized, storage_batch_view};
+    ghost use Rattle.exchange.specs.Seats.{storage_at};
 
     ghost Value = { StorageBatchView };
 
-    ghost view = { λ e. storage_batch_view e.seat.table_id e.workers e.last (storage_state_in e.seat.me.0) };
+    ghost view = { λ inside. storage_batch_view inside.seat.table_id inside.workers inside.last (storage_at inside.seat.me) };
 
-    ghost invariant = { λ e. (e.seat.table_id ≡ (arc_value e.lane_table).shared.table_id) × IsTableSized e.seat.table_id e.workers × ((arc_value e.lane_table).shared.key.workers ≡ e.workers) × StorageAgrees e.seat.me e.workers e.last e.counts e.open_now × IsWaiting (storage_state_in e.seat.me.0) e.waiting e.waiting_lane e.workers × IsNamed (storage_state_in e.seat.me.0) e.looked_lane e.named e.workers };
+    ghost invariant = { λ inside. (inside.seat.table_id ≡ (arc_value inside.lane_table).shared.table_id)
+        × IsTableSized inside.seat.table_id inside.workers
+        × ((arc_value inside.lane_table).shared.key.workers ≡ inside.workers)
+        × StorageAgrees inside.seat.me inside.workers inside.last inside.counts inside.open_now
+        × IsWaiting (storage_at inside.seat.me) inside.waiting inside.waiting_lane inside.workers
+        × IsNamed (storage_at inside.seat.me) inside.looked_lane inside.named inside.workers };
 }
 
 impl StorageBatch {
-    ghost use Rattle.std.specs.Prelude.{◌≡◌, ◌≢◌, ◌⊎◌, ℕ, ◌+◌, ◌-◌, ◌*◌, ◌<◌, ◌≤◌, ◌++◌, ◌∷◌, [], length, None, Some, is_some, MatchOption, IsOk};
+    ghost use Rattle.std.specs.Prelude.{◌≡◌, ◌≢◌, ◌⊎◌, ℕ, ◌+◌, ◌-◌, ◌*◌, ◌<◌, ◌≤◌, ◌++◌, ◌∷◌, [], length, None, Some};
+    ghost use Rattle.std.specs.Prelude.{is_some, MatchOption, IsOk};
     ghost use Rattle.std.specs.Option.{IfNone};
     ghost use Rattle.std.specs.Arc.{arc_value};
     ghost use Rattle.proto.specs.Sizes.{Sizes};
     ghost use Rattle.proto.specs.History.{Legal, worker_share};
     ghost use Rattle.exchange.specs.declared.views.LaneView.TheVariants.{Storage};
     ghost use Rattle.exchange.specs.Beginnings.{posted_of};
-    ghost use Rattle.exchange.specs.Ends.{IsCount, new_storage_view, LooksAt, FindsNone, FindsOne, LookedOnce, SeesNext, with_answer, AreCompared};
+    ghost use Rattle.exchange.specs.Ends.{IsCount, new_storage_view, LooksAt, FindsNone, FindsOne, LookedOnce};
+    ghost use Rattle.exchange.specs.Ends.{SeesNext, with_answer, AreCompared};
     ghost use Rattle.exchange.specs.Seats.{IsTableSized, made_storage_state};
 
     pub(crate) fn over(
@@ -60,9 +68,12 @@ impl StorageBatch {
         seat: LaneSeat,
         workers: usize,
     ) -> StorageBatch
-        requires table { (seat.table_id ≡ (arc_value lane_table).shared.table_id) × IsTableSized seat.table_id workers × ((arc_value lane_table).shared.key.workers ≡ workers) × (0 < workers) × (workers ≤ 8) }
-        requires fresh { (g : Sizes) × (seat.me ≡ (Storage (made_storage_state g workers), [])) }
-        ensures { (g : Sizes) → seat.me ≡ (Storage (made_storage_state g workers), []) → result ≡ record { end = new_storage_view seat.table_id g workers; told = [] } }
+        requires table { (seat.table_id ≡ (arc_value lane_table).shared.table_id)
+            × IsTableSized seat.table_id workers × ((arc_value lane_table).shared.key.workers ≡ workers)
+            × (0 < workers) × (workers ≤ 8) }
+        requires fresh { (geometry : Sizes) × (seat.me ≡ (Storage (made_storage_state geometry workers), [])) }
+        ensures { (geometry : Sizes) → seat.me ≡ (Storage (made_storage_state geometry workers), [])
+            → result ≡ record { end = new_storage_view seat.table_id geometry workers; told = [] } }
     {
         StorageBatch {
             lane_table,

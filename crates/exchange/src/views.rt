@@ -1,7 +1,6 @@
 //! What the seats at the table know. No value of these is made.
 use crate::messages::LaneMessage;
-use proto::geometry::Geometry;
-use proto::history::{Answered, Posted};
+use proto::{Answered, Geometry, Posted};
 use std::collections::LinkedList;
 
 /// What a worker knows.

@@ -2,7 +2,7 @@
 
 use crate::rule::{LaneSeat, LaneTable};
 use crate::worker_batch::WorkerBatch;
-use proto::history::{Answered, Posted};
+use proto::{Answered, Posted};
 use std::alloc::Global;
 use std::marker::Model;
 use std::snapshot::Snapshot;
@@ -26,7 +26,8 @@ impl Model for WorkerEnd {
 }
 
 impl WorkerEnd {
-    ghost use Rattle.std.specs.Prelude.{◌≡◌, ℕ, ◌+◌, ◌*◌, ◌^◌, ◌<◌, ◌≤◌, ◌++◌, ◌∷◌, [], length, true, false, MatchResult, IfSome};
+    ghost use Rattle.std.specs.Prelude.{◌≡◌, ℕ, ◌+◌, ◌*◌, ◌^◌, ◌<◌, ◌≤◌, ◌++◌, ◌∷◌, [], length, true, false};
+    ghost use Rattle.std.specs.Prelude.{MatchResult, IfSome};
     ghost use Rattle.std.specs.Arc.{arc_value};
     ghost use Rattle.proto.specs.Sizes.{Sizes};
     ghost use mathlib.Core.Option.{some};
@@ -46,7 +47,8 @@ impl WorkerEnd {
     ) -> WorkerEnd
         requires table { (seat.table_id ≡ (arc_value lane_table).shared.table_id) × IsLane seat.table_id worker }
         requires fresh { (g : Sizes) × (seat.me ≡ (Worker (first_worker_state g worker), [])) }
-        ensures { (g : Sizes) → seat.me ≡ (Worker (first_worker_state g worker), []) → result ≡ new_worker_view seat.table_id g worker }
+        ensures { (g : Sizes) → seat.me ≡ (Worker (first_worker_state g worker), [])
+            → result ≡ new_worker_view seat.table_id g worker }
     {
         WorkerEnd {
             batch: WorkerBatch::over(lane_table, seat, worker),
@@ -122,7 +124,8 @@ impl WorkerEnd {
     /// memory.
     pub fn take(&mut self) -> Option<Answered>
         ensures taken { TakesAnswer self.old result self.new }
-        ensures own { IfSome result (λ a. (a.worker ≡ self.old.worker) × (get_elem? self.old.sent (length self.old.back) ≡ some (posted_of a))) }
+        ensures own { IfSome result (λ a. (a.worker ≡ self.old.worker)
+            × (get_elem? self.old.sent (length self.old.back) ≡ some (posted_of a))) }
         ensures in_order { IfSome result (λ a. a.number ≡ length self.old.back + 1) }
         ensures back { StartsWith (worker_share self.new.seen self.old.worker) self.new.back }
     {
@@ -133,7 +136,8 @@ impl WorkerEnd {
     /// ones. Waits for nobody and takes no memory.
     pub fn take_seen(&mut self) -> Option<Answered>
         ensures taken { TakesSeen self.old result self.new }
-        ensures own { IfSome result (λ a. (a.worker ≡ self.old.worker) × (get_elem? self.old.sent (length self.old.back) ≡ some (posted_of a))) }
+        ensures own { IfSome result (λ a. (a.worker ≡ self.old.worker)
+            × (get_elem? self.old.sent (length self.old.back) ≡ some (posted_of a))) }
         ensures in_order { IfSome result (λ a. a.number ≡ length self.old.back + 1) }
     {
         self.batch.take_seen()

@@ -3,8 +3,7 @@
 use crate::rule::{LaneSeat, LaneTable};
 use crate::steps::{put_bye, put_request, send_put, take_answer, take_seen_answer};
 use crate::worker::WorkerEnd;
-use proto::history::{Answered, Posted};
-use proto::limits::{MAX_POSTS, WINDOW};
+use proto::{Answered, MAX_POSTS, Posted, WINDOW};
 use std::alloc::Global;
 use std::marker::Model;
 use std::sync::Arc;
@@ -29,17 +28,20 @@ impl Model for WorkerBatch {
     ghost use Rattle.std.specs.Prelude.{◌≡◌, ℕ, ◌+◌, ◌*◌, ◌<◌, ◌≤◌};
     ghost use Rattle.std.specs.Arc.{arc_value};
     ghost use Rattle.exchange.specs.Ends.{WorkerBatchView};
-    ghost use Rattle.exchange.specs.Seats.{WorkerAgrees, IsLane, worker_batch_view, worker_state_in};
+    ghost use Rattle.exchange.specs.Seats.{WorkerAgrees, IsLane, worker_batch_view, worker_at};
 
     ghost Value = { WorkerBatchView };
 
-    ghost view = { λ e. worker_batch_view e.seat.table_id (worker_state_in e.seat.me.0) };
+    ghost view = { λ inside. worker_batch_view inside.seat.table_id (worker_at inside.seat.me) };
 
-    ghost invariant = { λ e. (e.seat.table_id ≡ (arc_value e.lane_table).shared.table_id) × IsLane e.seat.table_id e.worker × WorkerAgrees e.seat.me e.worker e.sent e.put e.back e.known e.said_bye };
+    ghost invariant = { λ inside. (inside.seat.table_id ≡ (arc_value inside.lane_table).shared.table_id)
+        × IsLane inside.seat.table_id inside.worker
+        × WorkerAgrees inside.seat.me inside.worker inside.sent inside.put inside.back inside.known inside.said_bye };
 }
 
 impl WorkerBatch {
-    ghost use Rattle.std.specs.Prelude.{◌≡◌, ℕ, ◌+◌, ◌*◌, ◌^◌, ◌<◌, ◌≤◌, ◌++◌, ◌∷◌, [], length, true, false, MatchResult, IfSome};
+    ghost use Rattle.std.specs.Prelude.{◌≡◌, ℕ, ◌+◌, ◌*◌, ◌^◌, ◌<◌, ◌≤◌, ◌++◌, ◌∷◌, [], length, true, false};
+    ghost use Rattle.std.specs.Prelude.{MatchResult, IfSome};
     ghost use Rattle.std.specs.Arc.{arc_value};
     ghost use Rattle.proto.specs.Sizes.{Sizes};
     ghost use mathlib.Core.Option.{some};
@@ -58,8 +60,9 @@ impl WorkerBatch {
         worker: usize,
     ) -> WorkerBatch
         requires table { (seat.table_id ≡ (arc_value lane_table).shared.table_id) × IsLane seat.table_id worker }
-        requires fresh { (g : Sizes) × (seat.me ≡ (Worker (first_worker_state g worker), [])) }
-        ensures { (g : Sizes) → seat.me ≡ (Worker (first_worker_state g worker), []) → result ≡ record { end = new_worker_view seat.table_id g worker; put = [] } }
+        requires fresh { (geometry : Sizes) × (seat.me ≡ (Worker (first_worker_state geometry worker), [])) }
+        ensures { (geometry : Sizes) → seat.me ≡ (Worker (first_worker_state geometry worker), [])
+            → result ≡ record { end = new_worker_view seat.table_id geometry worker; put = [] } }
     {
         WorkerBatch {
             lane_table,
@@ -170,7 +173,8 @@ impl WorkerBatch {
     pub fn take(&mut self) -> Option<Answered>
         ensures taken { TakesAnswer self.old.end result self.new.end }
         ensures put { self.new.put ≡ self.old.put }
-        ensures own { IfSome result (λ a. (a.worker ≡ self.old.end.worker) × (get_elem? self.old.end.sent (length self.old.end.back) ≡ some (posted_of a))) }
+        ensures own { IfSome result (λ a. (a.worker ≡ self.old.end.worker)
+            × (get_elem? self.old.end.sent (length self.old.end.back) ≡ some (posted_of a))) }
         ensures in_order { IfSome result (λ a. a.number ≡ length self.old.end.back + 1) }
         ensures back { StartsWith (worker_share self.new.end.seen self.old.end.worker) self.new.end.back }
     {
@@ -193,7 +197,8 @@ impl WorkerBatch {
     pub fn take_seen(&mut self) -> Option<Answered>
         ensures taken { TakesSeen self.old.end result self.new.end }
         ensures put { self.new.put ≡ self.old.put }
-        ensures own { IfSome result (λ a. (a.worker ≡ self.old.end.worker) × (get_elem? self.old.end.sent (length self.old.end.back) ≡ some (posted_of a))) }
+        ensures own { IfSome result (λ a. (a.worker ≡ self.old.end.worker)
+            × (get_elem? self.old.end.sent (length self.old.end.back) ≡ some (posted_of a))) }
         ensures in_order { IfSome result (λ a. a.number ≡ length self.old.end.back + 1) }
     {
         if self.known <= self.back {

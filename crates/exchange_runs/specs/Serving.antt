@@ -4,7 +4,8 @@ use Rattle.queue_exchange.specs.Queues.{StorageQueues}
 
 -- the queues of the same exchange
 abbrev pub IsSameQueues : StorageQueues → StorageQueues → Type 0
-IsSameQueues old new = (new.requests ≡ old.requests) × (new.room ≡ old.room) × (new.replies ≡ old.replies) × (new.geometry ≡ old.geometry)
+IsSameQueues old new = (new.requests ≡ old.requests) × (new.room ≡ old.room) × (new.replies ≡ old.replies)
+    × (new.geometry ≡ old.geometry)
 
 -- an end of which nothing was taken
 abbrev pub HasTakenNothing : StorageQueues → Type 0

@@ -1,13 +1,7 @@
 //! A worker that calls either exchange, the lanes with single requests or with batches.
 
 use parking::ParkingWord;
-use proto::byte_string::ByteString;
-use proto::history::{Answered, Posted};
-use proto::keys::Keys;
-use proto::message::{Put, Request};
-use proto::no_memory::NoMemory;
-use proto::show::show_reply;
-use proto::words::Words;
+use proto::{Answered, ByteString, Keys, NoMemory, Posted, Put, Request, Words, show_reply};
 use std::alloc::{AllocError, Global};
 use std::sync::Wait;
 use std::thread;
@@ -17,8 +11,8 @@ pub trait Caller {
     /// How many requests were asked, and how many of them weren't taken back.
     fn counts(&self) -> (u64, u64);
 
-    /// Asks the next request, and says whether there was room for it.
-    fn ask<R: Wait>(&mut self, rt: &R, request: Request) -> bool;
+    /// Asks the next request, or hands it back where there is no room for it.
+    fn ask<R: Wait>(&mut self, rt: &R, request: Request) -> Result<(), Posted>;
 
     /// The next answer.
     fn answer<R: Wait>(&mut self, rt: &R) -> Option<Answered>;
@@ -32,13 +26,13 @@ impl Caller for exchange::WorkerEnd {
         (self.sent(), self.outstanding())
     }
 
-    fn ask<R: Wait>(&mut self, _rt: &R, request: Request) -> bool {
+    fn ask<R: Wait>(&mut self, _rt: &R, request: Request) -> Result<(), Posted> {
         let posted = Posted {
             session: 1,
             number: self.sent() + 1,
             request,
         };
-        self.post(posted).is_ok()
+        self.post(posted)
     }
 
     fn answer<R: Wait>(&mut self, _rt: &R) -> Option<Answered> {
@@ -57,23 +51,24 @@ impl Caller for exchange::WorkerBatch {
         (self.sent() + self.waiting(), self.outstanding())
     }
 
-    fn ask<R: Wait>(&mut self, _rt: &R, request: Request) -> bool {
+    fn ask<R: Wait>(&mut self, _rt: &R, request: Request) -> Result<(), Posted> {
         let posted = Posted {
             session: 1,
             number: self.sent() + self.waiting() + 1,
             request,
         };
-        self.put(posted).is_ok()
+        self.put(posted)
     }
 
     /// Where no answer is left that was seen, the requests asked so far are sent, and then it looks for answers.
     fn answer<R: Wait>(&mut self, _rt: &R) -> Option<Answered> {
-        let seen = self.take_seen();
-        if seen.is_some() {
-            return seen;
+        match self.take_seen() {
+            Some(answered) => Some(answered),
+            None => {
+                self.flush();
+                self.take()
+            }
         }
-        self.flush();
-        self.take()
     }
 
     fn finish<R: Wait>(&mut self, _rt: &R) {
@@ -88,13 +83,13 @@ impl Caller for queue_exchange::WorkerEnd {
         (self.sent(), self.outstanding())
     }
 
-    fn ask<R: Wait>(&mut self, rt: &R, request: Request) -> bool {
+    fn ask<R: Wait>(&mut self, rt: &R, request: Request) -> Result<(), Posted> {
         let posted = Posted {
             session: 1,
             number: self.sent() + 1,
             request,
         };
-        self.post(rt, posted).is_ok()
+        self.post(rt, posted)
     }
 
     fn answer<R: Wait>(&mut self, rt: &R) -> Option<Answered> {
@@ -191,7 +186,13 @@ impl<C: Caller + Drop> CallingWorker<C> {
         let (sent, outstanding) = self.end.counts();
         if sent < self.load.each && outstanding < self.load.window {
             let request = self.request(sent)?;
-            return Ok(self.end.ask(rt, request));
+            return match self.end.ask(rt, request) {
+                Ok(()) => Ok(true),
+                Err(back) => {
+                    drop(back);
+                    Ok(false)
+                }
+            };
         }
         let Some(answered) = self.end.answer(rt) else {
             return Ok(false);

@@ -7,5 +7,5 @@ mod runs;
 mod serving;
 
 pub use caller::{CallingWorker, Workload};
-pub use runs::{Run, run_batches, run_lanes, run_queues};
-pub use serving::{execute, serve_queues};
+pub use runs::{Run, Stopped, run_batches, run_lanes, run_queues};
+pub use serving::{Served, serve_next, serve_queues};

@@ -9,19 +9,18 @@ use crate::caller::{Caller, CallingWorker, Workload};
 use crate::serving::serve_queues;
 use parking::ParkingWord;
 use plain_store::Store;
-use proto::geometry::Geometry;
+use proto::Geometry;
 use queue_exchange::StorageEnd;
 use std::alloc::{AllocError, Global};
 use std::sync::Wait;
 use std::thread::Threads;
 use std::time::{Duration, Instant};
 use std::{thread, time};
-use storage_thread::clock::Clock;
-use storage_thread::serving::run_storage;
+use storage_thread::{Clock, run_storage};
 
-/// Answers 0 always.
+/// A clock that stands still: it answers 0 always.
 #[derive(Drop)]
-struct Stopped;
+pub struct Stopped;
 
 impl Clock for Stopped {
     ghost use Rattle.std.specs.Prelude.{⊤, None};
@@ -39,11 +38,15 @@ impl Clock for Stopped {
     }
 }
 
-/// The players of a run once all have had their answers, and how long that took.
+/// The players of a run once all have had their answers, and how long that took, if the clock said so.
 #[derive(Drop)]
 pub struct Run<C: Caller + Drop> {
     pub players: Vec<CallingWorker<C>>,
-    pub elapsed: Duration,
+    pub elapsed: Option<Duration>,
+}
+
+fn elapsed<R: time::Clock>(rt: &R, start: Option<Instant>) -> Option<Duration> {
+    start?.elapsed(rt).ok()
 }
 
 fn players<C: Caller + Drop>(
@@ -58,17 +61,19 @@ fn players<C: Caller + Drop>(
     Ok(players)
 }
 
-// The players, each in a thread, beside the storage thread's loop.
-fn play_lanes<R: Threads + Wait + Sync, C: Caller + Drop + Send>(
+// The players, each in a thread, beside the storage thread's loop over an empty store.
+fn play_lanes<R: Threads + Wait + time::Clock + Sync, C: Caller + Drop + Send>(
     rt: &R,
-    players: &mut [CallingWorker<C>],
     store: Store,
+    players: Vec<CallingWorker<C>>,
     storage: exchange::StorageEnd,
-)
+) -> Run<C>
     requires empty { (store.cache ≡ empty_cache 0) × (store.moment ≡ 0) }
     requires sizes { store.sizes ≡ storage.geometry }
     requires unused { IsUnused storage }
 {
+    let mut players = players;
+    let start = Instant::now(rt).ok();
     let word = ParkingWord::new();
     let parking = &word;
     thread::join(
@@ -76,14 +81,16 @@ fn play_lanes<R: Threads + Wait + Sync, C: Caller + Drop + Send>(
         move || run_storage(rt, store, Stopped, storage, parking),
         || thread::for_each_mut(
             rt,
-            players,
+            players.as_mut_slice(),
             8,
             &|_, player: &mut CallingWorker<C>| player.play(rt, parking),
         ),
     );
+    let elapsed = elapsed(rt, start);
+    Run { players, elapsed }
 }
 
-/// The load through the lanes, each request posted by itself. None where memory or a clock is wanting.
+/// The load through the lanes, each request posted by itself. None where memory is wanting.
 pub fn run_lanes<R: Threads + Wait + time::Clock + Sync>(
     rt: &R,
     alloc: Global,
@@ -92,12 +99,8 @@ pub fn run_lanes<R: Threads + Wait + time::Clock + Sync>(
 ) -> Option<Run<exchange::WorkerEnd>> {
     let geometry = Geometry::new(4096, 8).ok()?;
     let (ends, storage) = exchange::make(alloc, workers, geometry).ok()?;
-    let mut players = players(alloc, ends, load).ok()?;
-    let store = Store::new(alloc, geometry);
-    let start = Instant::now(rt).ok()?;
-    play_lanes(rt, players.as_mut_slice(), store, storage);
-    let elapsed = start.elapsed(rt).ok()?;
-    Some(Run { players, elapsed })
+    let players = players(alloc, ends, load).ok()?;
+    Some(play_lanes(rt, Store::new(alloc, geometry), players, storage))
 }
 
 fn batched(
@@ -111,7 +114,7 @@ fn batched(
     Ok(batches)
 }
 
-/// The load through the lanes, the requests sent in batches. None where memory or a clock is wanting.
+/// The load through the lanes, the requests sent in batches. None where memory is wanting.
 pub fn run_batches<R: Threads + Wait + time::Clock + Sync>(
     rt: &R,
     alloc: Global,
@@ -121,39 +124,39 @@ pub fn run_batches<R: Threads + Wait + time::Clock + Sync>(
     let geometry = Geometry::new(4096, 8).ok()?;
     let (ends, storage) = exchange::make(alloc, workers, geometry).ok()?;
     let ends = batched(alloc, ends).ok()?;
-    let mut players = players(alloc, ends, load).ok()?;
-    let store = Store::new(alloc, geometry);
-    let start = Instant::now(rt).ok()?;
-    play_lanes(rt, players.as_mut_slice(), store, storage);
-    let elapsed = start.elapsed(rt).ok()?;
-    Some(Run { players, elapsed })
+    let players = players(alloc, ends, load).ok()?;
+    Some(play_lanes(rt, Store::new(alloc, geometry), players, storage))
 }
 
-// The players, each in a thread, beside the storage loop.
-fn play_queues<R: Threads + Wait + Sync>(
+// The players, each in a thread, beside the storage loop of the queues.
+fn play_queues<R: Threads + Wait + time::Clock + Sync>(
     rt: &R,
-    players: &mut [CallingWorker<queue_exchange::WorkerEnd>],
     store: Store,
+    players: Vec<CallingWorker<queue_exchange::WorkerEnd>>,
     storage: StorageEnd,
-)
+) -> Run<queue_exchange::WorkerEnd>
     requires empty { (store.cache ≡ empty_cache 0) × (store.moment ≡ 0) }
     requires sizes { store.sizes ≡ storage.geometry }
     requires unused { HasTakenNothing storage }
 {
+    let mut players = players;
+    let start = Instant::now(rt).ok();
     let parking = ParkingWord::new();
     thread::join(
         rt,
         move || serve_queues(rt, store, storage),
         || thread::for_each_mut(
             rt,
-            players,
+            players.as_mut_slice(),
             8,
             &|_, player: &mut CallingWorker<queue_exchange::WorkerEnd>| player.play(rt, &parking),
         ),
     );
+    let elapsed = elapsed(rt, start);
+    Run { players, elapsed }
 }
 
-/// The load through the queues. None where memory or a clock is wanting.
+/// The load through the queues. None where memory is wanting.
 pub fn run_queues<R: Threads + Wait + time::Clock + Sync>(
     rt: &R,
     alloc: Global,
@@ -162,10 +165,6 @@ pub fn run_queues<R: Threads + Wait + time::Clock + Sync>(
 ) -> Option<Run<queue_exchange::WorkerEnd>> {
     let geometry = Geometry::new(4096, 8).ok()?;
     let (ends, storage) = queue_exchange::make(alloc, workers, geometry).ok()?;
-    let mut players = players(alloc, ends, load).ok()?;
-    let store = Store::new(alloc, geometry);
-    let start = Instant::now(rt).ok()?;
-    play_queues(rt, players.as_mut_slice(), store, storage);
-    let elapsed = start.elapsed(rt).ok()?;
-    Some(Run { players, elapsed })
+    let players = players(alloc, ends, load).ok()?;
+    Some(play_queues(rt, Store::new(alloc, geometry), players, storage))
 }

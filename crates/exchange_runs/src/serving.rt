@@ -30,8 +30,8 @@ fn answer_when_room<R: Wait>(rt: &R, end: &mut StorageEnd, answered: Answered)
     unreachable!()
 }
 
-/// Executes the open request at the store's last moment, and answers it.
-pub fn execute<R: Wait, S: StorageEngine>(
+// Executes the open request at the store's last moment, and answers it.
+fn execute<R: Wait, S: StorageEngine>(
     rt: &R,
     store: &mut S,
     end: &mut StorageEnd,
@@ -65,6 +65,34 @@ pub fn execute<R: Wait, S: StorageEngine>(
     answer_when_room(rt, end, answered);
 }
 
+/// What a turn of storage's found in the queue of requests.
+#[derive(Clone, Copy)]
+pub enum Served {
+    Request,
+    Bye,
+    Nothing,
+}
+
+/// Takes the next message, and executes and answers it, if it is a request.
+pub fn serve_next<R: Wait, S: StorageEngine>(rt: &R, store: &mut S, end: &mut StorageEnd) -> Served
+    requires reaches { Reaches end.old.geometry end.old.history (S.cache store.old) (S.moment store.old) }
+    requires sizes { S.sizes store.old ≡ end.old.geometry }
+    requires shut { end.old.open_request ≡ None }
+    ensures reaches { Reaches end.new.geometry end.new.history (S.cache store.new) (S.moment store.new) }
+    ensures sizes { S.sizes store.new ≡ S.sizes store.old }
+    ensures same { IsSameQueues end.old end.new }
+    ensures shut { end.new.open_request ≡ None }
+{
+    match end.next(rt) {
+        Some(Taken::Asked { worker, posted }) => {
+            execute(rt, store, end, worker, posted);
+            Served::Request
+        }
+        Some(Taken::Bye { worker: _ }) => Served::Bye,
+        None => Served::Nothing,
+    }
+}
+
 /// Serves until as many byes were taken as there are workers. The store is empty, and
 /// nothing was taken from the end.
 pub fn serve_queues<R: Wait, S: StorageEngine + Drop>(
@@ -84,12 +112,10 @@ pub fn serve_queues<R: Wait, S: StorageEngine + Drop>(
         if left == 0 {
             return end;
         }
-        match end.next(rt) {
-            Some(Taken::Asked { worker, posted }) => {
-                execute(rt, &mut store, &mut end, worker, posted);
-            }
-            Some(Taken::Bye { worker: _ }) => left = left.saturating_sub(1),
-            None => thread::yield_now(),
+        match serve_next(rt, &mut store, &mut end) {
+            Served::Request => {}
+            Served::Bye => left = left.saturating_sub(1),
+            Served::Nothing => thread::yield_now(),
         }
     }
     unreachable!()

@@ -5,8 +5,8 @@ ghost use Rattle.faults.specs.declared.fault.Fault.TheVariants.{NoMemory};
 ghost use Rattle.faults.specs.Faults.{fault_of};
 
 use group::GroupFault;
-use proto::no_memory::NoMemory;
-use script::fault::ScriptFault;
+use proto::NoMemory;
+use script::ScriptFault;
 use std::alloc::{AllocError, AllocFailed};
 use thiserror::Error;
 

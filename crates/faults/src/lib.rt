@@ -1,4 +1,6 @@
 //! Why the program failed.
 #![tactic(auto)]
 
-pub mod fault;
+mod fault;
+
+pub use fault::Fault;

@@ -4,7 +4,7 @@ ghost use Rattle.std.specs.Prelude.{◌≡◌, ◌≢◌, ◌≤◌, true};
 
 use std::sync::atomic::{AtomicBool, AtomicU64, Ordering};
 use std::thread;
-use worker::gate::Gate;
+use worker::Gate;
 
 /// How many yields and refusals there may be before the gate opens for good.
 const PATIENCE: u64 = 1_000_000;

@@ -2,7 +2,7 @@
 
 ghost use Rattle.std.specs.Prelude.{◌≡◌, true};
 
-use worker::gate::Gate;
+use worker::Gate;
 
 /// Lets every request pass.
 #[derive(Clone, Copy, Debug)]

@@ -15,30 +15,36 @@ module _ {A : Type 0} (P : A → Type 0) where
   first_of_all ys x xs is h = cut x xs (subst (All P) is h)
 
 -- lists that go together still do with one more in each
-pub each_more : {A B : Type 0} (P : A → B → Type 0) → (xs : List A) (ys : List B) (x : A) (y : B) → AreEach P xs ys → P x y
+pub each_more : {A B : Type 0} (P : A → B → Type 0) → (xs : List A) (ys : List B) (x : A) (y : B)
+    → AreEach P xs ys → P x y
     → AreEach P (xs ++ x ∷ []) (ys ++ y ∷ [])
 each_more {A} {B} P xs ys x y old new = (
   length-append xs (x ∷ []) ∙ ap (λ n. n + 1) old.0 ∙ sym (length-append ys (y ∷ [])),
   λ w a b left right.
       ⊎_elim
       (λ (l : get_elem? xs w ≡ some a). ⊎_elim (λ (r : get_elem? ys w ≡ some b). old.1 w a b l r)
-      (λ (r : (w ≡ length ys) × (y ≡ b)). let low : w < length xs = at_below xs w a l in let high : length ys ≡ w = sym r.0 in
+      (λ (r : (w ≡ length ys) × (y ≡ b)). let low : w < length xs = at_below xs w a l in
+      let high : length ys ≡ w = sym r.0 in
       absurd (omega (arith, low, high, old.0))) (at_end ys y w b right))
       (λ (l : (w ≡ length xs) × (x ≡ a)). ⊎_elim
-      (λ (r : get_elem? ys w ≡ some b). let low : w < length ys = at_below ys w b r in let high : length xs ≡ w = sym l.0 in
+      (λ (r : get_elem? ys w ≡ some b). let low : w < length ys = at_below ys w b r in
+      let high : length xs ≡ w = sym l.0 in
       absurd (omega (arith, low, high, old.0)))
-      (λ (r : (w ≡ length ys) × (y ≡ b)). subst (λ (p : A × B). P p.0 p.1) (λ i. (l.1 i, r.1 i)) new) (at_end ys y w b right))
+      (λ (r : (w ≡ length ys) × (y ≡ b)). subst (λ (p : A × B). P p.0 p.1) (λ i. (l.1 i, r.1 i)) new)
+      (at_end ys y w b right))
       (at_end xs x w a left),
 )
 
 -- an element of the images is the image of the one at its place
-pub at_map : {A B : Type 0} (f : A → B) → (xs : List A) (w : ℕ) (a : A) → get_elem? xs w ≡ some a → get_elem? (map f xs) w ≡ some (f a)
+pub at_map : {A B : Type 0} (f : A → B) → (xs : List A) (w : ℕ) (a : A) → get_elem? xs w ≡ some a
+    → get_elem? (map f xs) w ≡ some (f a)
 at_map f [] w a e = absurd (some-ne-none a (sym e))
 at_map f (x ∷ xs) zero a e = λ i. some (f (some-injective x a e i))
 at_map f (x ∷ xs) (suc w) a e = at_map f xs w a e
 
 -- what stands in a mapped list came of what stands in the list
-pub at_mapped : {A B : Type 0} (f : A → B) → (xs : List A) (w : ℕ) (b : B) → get_elem? (map f xs) w ≡ some b → (a : A) × (get_elem? xs w ≡ some a) × (f a ≡ b)
+pub at_mapped : {A B : Type 0} (f : A → B) → (xs : List A) (w : ℕ) (b : B) → get_elem? (map f xs) w ≡ some b
+    → (a : A) × (get_elem? xs w ≡ some a) × (f a ≡ b)
 at_mapped f [] w b e = absurd (some-ne-none b (sym e))
 at_mapped f (x ∷ xs) zero b e = (x, refl, some-injective (f x) b e)
 at_mapped f (x ∷ xs) (suc w) b e = at_mapped f xs w b e
@@ -48,10 +54,5 @@ pub all_more : {A : Type 0} (P : A → Type 0) → (xs : List A) (x : A) → All
 all_more P [] x all one zero d lt = one
 all_more P [] x all one (suc k) d lt = absurd (omega arith)
 all_more P (y ∷ xs) x all one zero d lt = all 0 d (omega arith)
-all_more P (y ∷ xs) x all one (suc k) d lt = all_more P xs x (λ j e below. all (suc j) e (omega arith)) one k d (omega arith)
-
--- the element at a place
-pub at_or : {A : Type 0} (l : List A) (k : ℕ) (d : A) → k < length l → get_elem? l k ≡ some (get_or l k d)
-at_or [] k d low = absurd (omega arith)
-at_or (x ∷ l) zero d low = refl
-at_or (x ∷ l) (suc k) d low = at_or l k d (omega arith)
+all_more P (y ∷ xs) x all one (suc k) d lt =
+    all_more P xs x (λ j e below. all (suc j) e (omega arith)) one k d (omega arith)

@@ -19,7 +19,8 @@ use Rattle.worker.specs.Reports.{IsReported, IsSessionAnswered}
 use Rattle.group.specs.declared.report.GroupReport.{GroupReport}
 use Rattle.group.specs.Threads.{AreJoined, AreEach, HasSentNothing, IsLeftByStorage, KeepsWorker, KeepsStorage, ends_of, worker_of, workers_of}
 use Rattle.group.specs.Headline.{AreAnsweredIn, IsWorkerOf, IsRun}
-use Rattle.group.proofs.Places.{at_map, at_mapped, at_or}
+use Rattle.group.proofs.Places.{at_map, at_mapped}
+use Rattle.storage_thread.proofs.Callers.{or_at}
 
 module _ {P : Type 0} (told : P → Option PortStory) (leads_to : P → P → Type 0) where
   module _ (sizes : Sizes) (storage : StorageView) (ports : List P) (reports : List (WorkerReport P))
@@ -29,7 +30,8 @@ module _ {P : Type 0} (told : P → Option PortStory) (leads_to : P → P → Ty
         × KeepsWorker told leads_to port (new_worker_view storage.exchange sizes w) r
     kept_at w r at =
         let low : w < length reports = at_below reports w r at in
-        let there = at_some ports w (subst (λ n. w < n) joined.one_each low) in (there.0, joined.each w there.0 r there.1 at)
+        let there = at_some ports w (subst (λ n. w < n) joined.one_each low) in
+        (there.0, joined.each w there.0 r there.1 at)
 
     pub together : AreTogether (ends_of reports) storage
     together = record {
@@ -44,8 +46,10 @@ module _ {P : Type 0} (told : P → Option PortStory) (leads_to : P → P → Ty
   -- the reports of threads that were given the ports and the ends as they were made
   pub joined : {H : Type 0} (port_of : H → P) (end_of : H → WorkerView) (n : ℕ) (g : Sizes) (ends : List WorkerView)
       (s t : StorageView) → AreMade n g ends s → t.exchange ≡ s.exchange
-      → (ports : List P) (handles : List H) (reports : List (WorkerReport P)) → map port_of handles ≡ ports → map end_of handles ≡ ends
-      → AreEach (λ h r. KeepsWorker told leads_to (port_of h) (end_of h) r) handles reports → AreJoined told leads_to g t ports reports
+      → (ports : List P) (handles : List H) (reports : List (WorkerReport P)) → map port_of handles ≡ ports
+      → map end_of handles ≡ ends
+      → AreEach (λ h r. KeepsWorker told leads_to (port_of h) (end_of h) r) handles reports
+      → AreJoined told leads_to g t ports reports
   joined {H} port_of end_of n g ends s t made same ports handles reports ports_are ends_are kept = record {
     one_each = sym kept.0 ∙ sym (length-map handles port_of) ∙ ap length ports_are;
     each = λ w port report there at.
@@ -57,22 +61,30 @@ module _ {P : Type 0} (told : P → Option PortStory) (leads_to : P → P → Ty
   }
 
   -- a list at one of its elements
-  split_at : {A : Type 0} (xs : List A) (k : ℕ) (d : A) → k < length xs → (before : List A) × (after : List A) × (xs ≡ before ++ slice_index_or xs k d ∷ after)
+  split_at : {A : Type 0} (xs : List A) (k : ℕ) (d : A) → k < length xs
+      → (before : List A) × (after : List A) × (xs ≡ before ++ slice_index_or xs k d ∷ after)
   split_at [] k d low = absurd (omega arith)
   split_at (y ∷ xs) zero d low = ([], xs, refl)
   split_at (y ∷ xs) (suc k) d low = let t = split_at xs k d (omega arith) in (y ∷ t.0, t.1, λ i. y ∷ t.2 i)
 
-  asked_split : (share : List Answered) (e : Answered) → Contains share e → (before : List Posted) × (after : List Posted)
+  asked_split : (share : List Answered) (e : Answered) → Contains share e
+      → (before : List Posted) × (after : List Posted)
       × (asked_posted share ≡ before ++ record { session = e.session; number = e.number; request = e.request } ∷ after)
   asked_split share e has =
-      let as_posted = λ (a : Answered). let p : Posted = record { session = a.session; number = a.number; request = a.request } in p in
-      let t = split_at share has.0 e has.1 in
-      (map as_posted t.0, map as_posted t.1, ap asked_posted (t.2 ∙ ap (λ (a : Answered). t.0 ++ a ∷ t.1) has.2) ∙ map-append as_posted t.0 (e ∷ t.1))
+      let as_posted = λ (a : Answered). let p : Posted =
+      record { session = a.session; number = a.number; request = a.request } in p in
+      let t = split_at share has.0 e has.1 in (
+        map as_posted t.0,
+        map as_posted t.1,
+        ap asked_posted (t.2 ∙ ap (λ (a : Answered). t.0 ++ a ∷ t.1) has.2) ∙ map-append as_posted t.0 (e ∷ t.1),
+      )
 
   -- what a worker reports of itself holds in each history that has its requests and its answers
   pub served : (h : List Answered) (w : ℕ) (r : WorkerReport P) → r.worker_end.worker ≡ w
-      → r.worker_end.back ≡ worker_share h r.worker_end.worker → asked_posted (worker_share h r.worker_end.worker) ≡ r.worker_end.sent
-      → (story : PortStory) → IsReported story.events r.worker_end r.sessions.items r.unopened → AreAnsweredIn story.events h w r.sessions.items r.unopened
+      → r.worker_end.back ≡ worker_share h r.worker_end.worker
+      → asked_posted (worker_share h r.worker_end.worker) ≡ r.worker_end.sent
+      → (story : PortStory) → IsReported story.events r.worker_end r.sessions.items r.unopened
+      → AreAnsweredIn story.events h w r.sessions.items r.unopened
   served h w r is back sent story told = record {
     ended = told.ended;
     once = told.once;
@@ -86,7 +98,8 @@ module _ {P : Type 0} (told : P → Option PortStory) (leads_to : P → P → Ty
         told.placed (record { session = e.session; number = e.number; request = e.request }) t.0 t.1
         (sym sent ∙ ap (λ n. asked_posted (worker_share h n)) is ∙ t.2);
     answered = λ s cause found messages rest reads.
-        subst (λ n. IsSessionAnswered story.events h n s cause messages) is (told.answered s cause found h (sym back) sent messages rest reads);
+        subst (λ n. IsSessionAnswered story.events h n s cause messages) is
+        (told.answered s cause found h (sym back) sent messages rest reads);
   }
 
   pub worker_holds : (sizes : Sizes) (s : StorageView) (g : Gathered) (port : P) (w : ℕ) (r : WorkerReport P)
@@ -104,47 +117,64 @@ module _ {P : Type 0} (told : P → Option PortStory) (leads_to : P → P → Ty
         back = subst (λ n. slice_index g.back n ≡ length r.worker_end.sent) is
             (counted.back_is
             ∙ sym (length-map r.worker_end.back
-            (λ (a : Answered). let p : Posted = record { session = a.session; number = a.number; request = a.request } in p))
+            (λ (a : Answered). let p : Posted = record {
+              session = a.session;
+              number = a.number;
+              request = a.request;
+            } in p))
             ∙ ap length kept.over.all_back);
         strangers = kept.strangers;
         served = λ story tells. served s.history w r is all.0 sent story (kept.reported story tells);
       }
 
   -- the report of a storage thread that was given the clock and the end as it was made
-  pub stored : {C : Type 0} (clock_told : C → Option (List ℕ)) (clock_leads : C → C → Type 0) (keeps : Type 0) (n : ℕ) (g : Sizes)
+  pub stored : {C : Type 0} (clock_told : C → Option (List ℕ)) (clock_leads : C → C → Type 0) (keeps : Type 0) (n : ℕ)
+      (g : Sizes)
       (ends : List WorkerView) (s : StorageView) → AreMade n g ends s → (ports : List P) → n ≡ length ports
-      → (clock c₀ : C) (e₀ : StorageView) (report : StorageReport C) → c₀ ≡ clock → e₀ ≡ s → KeepsStorage clock_told clock_leads keeps c₀ e₀ report
+      → (clock c₀ : C) (e₀ : StorageView) (report : StorageReport C) → c₀ ≡ clock → e₀ ≡ s
+      → KeepsStorage clock_told clock_leads keeps c₀ e₀ report
       → IsLeftByStorage clock_told clock_leads keeps g ports clock report
   stored {C} clock_told clock_leads keeps n g ends s made ports count clock c₀ e₀ report clock_is end_is kept =
       let k : KeepsStorage clock_told clock_leads keeps clock s report = subst
-      (λ (z : C × StorageView). KeepsStorage clock_told clock_leads keeps z.0 z.1 report) (λ i. (clock_is i, end_is i)) kept in
-      subst (λ (z : StorageView). KeepsStorage clock_told clock_leads keeps clock z report) (made.2 ∙ (λ i. new_storage_view (sym k.same.0 i) g (count i))) k
+      (λ (z : C × StorageView). KeepsStorage clock_told clock_leads keeps z.0 z.1 report)
+      (λ i. (clock_is i, end_is i)) kept in
+      subst (λ (z : StorageView). KeepsStorage clock_told clock_leads keeps clock z report)
+      (made.2 ∙ (λ i. new_storage_view (sym k.same.0 i) g (count i))) k
 
-  pub run : {C : Type 0} (clock_told : C → Option (List ℕ)) (clock_leads : C → C → Type 0) (keeps : Type 0) (sizes : Sizes)
-      (ports : List P) (clock : C) (reports : List (WorkerReport P)) (storage : StorageReport C) (report : GroupReport P C)
-      → IsLeftByStorage clock_told clock_leads keeps sizes ports clock storage → AreJoined told leads_to sizes storage.storage_end ports reports
+  pub run : {C : Type 0} (clock_told : C → Option (List ℕ)) (clock_leads : C → C → Type 0) (keeps : Type 0)
+      (sizes : Sizes)
+      (ports : List P) (clock : C) (reports : List (WorkerReport P)) (storage : StorageReport C)
+      (report : GroupReport P C)
+      → IsLeftByStorage clock_told clock_leads keeps sizes ports clock storage
+      → AreJoined told leads_to sizes storage.storage_end ports reports
       → report.workers.items ≡ workers_of reports → report.clock ≡ storage.clock → report.executed ≡ storage.executed
       → ((i : ℕ) (v : WorkerView) → get_elem? (ends_of reports) i ≡ some v
-      → AreCounted storage.storage_end v (slice_index report.gathered.sent v.worker) (slice_index report.gathered.back v.worker))
-      → ((w : ℕ) → storage.storage_end.workers ≤ w → (slice_index report.gathered.sent w ≡ 0) × (slice_index report.gathered.back w ≡ 0))
+      → AreCounted storage.storage_end v (slice_index report.gathered.sent v.worker)
+      (slice_index report.gathered.back v.worker))
+      → ((w : ℕ) → storage.storage_end.workers ≤ w
+      → (slice_index report.gathered.sent w ≡ 0) × (slice_index report.gathered.back w ≡ 0))
       → IsRun told leads_to clock_told clock_leads keeps sizes ports clock report
-  run {C} clock_told clock_leads keeps sizes ports clock reports storage report stored joined workers_are clock_is executed_is counted beyond = record {
-    history = storage.storage_end.history;
-    legal = stored.legal;
-    inside = stored.inside;
-    executed = executed_is ∙ stored.executed;
-    one_each = ap length workers_are ∙ length-map reports worker_of ∙ joined.one_each;
-    each = λ w port worker there at.
-        let q = at_mapped worker_of reports w worker (subst (λ l. get_elem? l w ≡ some worker) workers_are at) in
-        subst (IsWorkerOf told leads_to storage.storage_end.history report.gathered port w) q.2
-        (worker_holds sizes storage.storage_end report.gathered port w q.0 (joined.each w port q.0 there q.1)
-        (counted w q.0.worker_end (at_map (λ (r : WorkerReport P). r.worker_end) reports w q.0 q.1)));
-    none_beyond = λ w le. beyond w (subst (λ n. n ≤ w) (sym stored.same.1) le);
-    leads = subst (clock_leads clock) (sym clock_is) stored.leads;
-    moments = subst (λ (c : C). IsTimed (clock_told clock) (clock_told c) storage.storage_end.history) (sym clock_is) stored.moments;
-    bounded = stored.bounded;
-  }
+  run {C} clock_told clock_leads keeps sizes ports clock reports storage report stored joined workers_are clock_is
+      executed_is counted beyond = record {
+        history = storage.storage_end.history;
+        legal = stored.legal;
+        inside = stored.inside;
+        executed = executed_is ∙ stored.executed;
+        one_each = ap length workers_are ∙ length-map reports worker_of ∙ joined.one_each;
+        each = λ w port worker there at.
+            let q = at_mapped worker_of reports w worker (subst (λ l. get_elem? l w ≡ some worker) workers_are at) in
+            subst (IsWorkerOf told leads_to storage.storage_end.history report.gathered port w) q.2
+            (worker_holds sizes storage.storage_end report.gathered port w q.0 (joined.each w port q.0 there q.1)
+            (counted w q.0.worker_end (at_map (λ (r : WorkerReport P). r.worker_end) reports w q.0 q.1)));
+        none_beyond = λ w le. beyond w (subst (λ n. n ≤ w) (sym stored.same.1) le);
+        leads = subst (clock_leads clock) (sym clock_is) stored.leads;
+        moments = subst (λ (c : C). IsTimed (clock_told clock) (clock_told c) storage.storage_end.history)
+            (sym clock_is) stored.moments;
+        bounded = stored.bounded;
+      }
 
 -- ends as they are made have sent nothing
-pub fresh_ends : (n : ℕ) (g : Sizes) (ends : List WorkerView) (s : StorageView) → AreMade n g ends s → All HasSentNothing ends
-fresh_ends n g ends s made k d low = subst HasSentNothing (sym (made.1 k (slice_index_or ends k d) (at_or ends k d low))) (refl, refl, refl)
+pub fresh_ends : (n : ℕ) (g : Sizes) (ends : List WorkerView) (s : StorageView) → AreMade n g ends s
+    → All HasSentNothing ends
+fresh_ends n g ends s made k d low = subst HasSentNothing
+    (sym (made.1 k (slice_index_or ends k d) (or_at ends k d low))) (refl, refl, refl)

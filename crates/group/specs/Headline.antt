@@ -26,7 +26,8 @@ use Rattle.group.specs.declared.report.GroupReport.{GroupReport}
 -- of the history is of a session in the report; and each session's requests in the history are the first of those that
 -- its bytes spell, and what it was given a beginning of their answers there, complete after drain, quit or a fatal
 -- line, and its cause is one of it.
-pub record AreAnsweredIn (events : List PortRecord) (history : List Answered) (w : ℕ) (sessions : List (ℕ × EndCause)) (unopened : ℕ) : Type 0 where
+pub record AreAnsweredIn (events : List PortRecord) (history : List Answered) (w : ℕ) (sessions : List (ℕ × EndCause))
+    (unopened : ℕ) : Type 0 where
   pub ended : has_ended events ≡ true
   pub once : Rises sessions
   pub opened : (s : ℕ) → IsSome (cause_of sessions s) → was_opened s events ≡ true
@@ -36,7 +37,8 @@ pub record AreAnsweredIn (events : List PortRecord) (history : List Answered) (w
   pub no_stranger : (s : ℕ) → cause_of sessions s ≡ None → given s events ≡ []
   pub placed : (e : Answered) → Contains (worker_share history w) e → IsSome (cause_of sessions e.session)
   pub answered : (s : ℕ) (cause : EndCause) → cause_of sessions s ≡ Some cause
-      → (messages : List Message) (rest : List ℕ) → Reads (fed s events) messages rest → IsSessionAnswered events history w s cause messages
+      → (messages : List Message) (rest : List ℕ) → Reads (fed s events) messages rest
+      → IsSessionAnswered events history w s cause messages
 
 -- What a group says of worker w, whose port this was: the history holds exactly the requests that it sent, once each
 -- and in its order, and as many came back; the port is what the one handed in became; and its sessions were answered,
@@ -49,22 +51,27 @@ pub record IsWorkerOf {P : Type 0} (told : P → Option PortStory) (leads_to : P
   pub sent : slice_index gathered.sent w ≡ length worker.sent
   pub back : slice_index gathered.back w ≡ length worker.sent
   pub strangers : worker.strangers ≡ 0
-  pub served : (story : PortStory) → told worker.port ≡ Some story → AreAnsweredIn story.events history w worker.sessions.items worker.unopened
+  pub served : (story : PortStory) → told worker.port ≡ Some story
+      → AreAnsweredIn story.events history w worker.sessions.items worker.unopened
 
 -- The headline. Some legal history holds exactly the requests sent, each worker's once and in its order, and no other;
 -- each worker's sessions were answered in it; and its moments are the clock's. The clock is what the one handed in
 -- became. And over a store that keeps what it stores, it may be read as a history that forgets nothing, where no request sets
 -- a deadline and little is stored.
-pub record IsRun {P C : Type 0} (told : P → Option PortStory) (leads_to : P → P → Type 0) (clock_told : C → Option (List ℕ))
-    (clock_leads : C → C → Type 0) (keeps : Type 0) (sizes : Sizes) (ports : List P) (clock : C) (report : GroupReport P C) : Type 0 where
+pub record IsRun {P C : Type 0} (told : P → Option PortStory) (leads_to : P → P → Type 0)
+    (clock_told : C → Option (List ℕ))
+    (clock_leads : C → C → Type 0) (keeps : Type 0) (sizes : Sizes) (ports : List P) (clock : C)
+    (report : GroupReport P C) : Type 0 where
   pub history : List Answered
   pub legal : Legal sizes history
   pub inside : All (λ (e : Answered). e.worker < length ports) history
   pub executed : report.executed ≡ min (length history) (2 ^ 64 - 1)
   pub one_each : length report.workers.items ≡ length ports
-  pub each : (w : ℕ) (port : P) (worker : GroupWorker P) → get_elem? ports w ≡ some port → get_elem? report.workers.items w ≡ some worker
+  pub each : (w : ℕ) (port : P) (worker : GroupWorker P) → get_elem? ports w ≡ some port
+      → get_elem? report.workers.items w ≡ some worker
       → IsWorkerOf told leads_to history report.gathered port w worker
-  pub none_beyond : (w : ℕ) → length ports ≤ w → (slice_index report.gathered.sent w ≡ 0) × (slice_index report.gathered.back w ≡ 0)
+  pub none_beyond : (w : ℕ) → length ports ≤ w
+      → (slice_index report.gathered.sent w ≡ 0) × (slice_index report.gathered.back w ≡ 0)
   pub leads : clock_leads clock report.clock
   pub moments : IsTimed (clock_told clock) (clock_told report.clock) history
   pub bounded : keeps → MayForgetNothing sizes history

@@ -16,17 +16,20 @@ use Rattle.group.specs.declared.start.Finished.{Finished}
 use Rattle.group.specs.declared.report.GroupWorker.{GroupWorker}
 
 -- what a worker's thread leaves of the port and the end that it was given
-pub record KeepsWorker {P : Type 0} (told : P → Option PortStory) (leads_to : P → P → Type 0) (port : P) (end : WorkerView)
+pub record KeepsWorker {P : Type 0} (told : P → Option PortStory) (leads_to : P → P → Type 0) (port : P)
+    (end : WorkerView)
     (report : WorkerReport P) : Type 0 where
   pub leads : leads_to port report.port
   pub tells : is_some (told report.port) ≡ is_some (told port)
   pub over : IsOver end report.worker_end
   pub strangers : report.strangers ≡ 0
-  pub reported : (story : PortStory) → told report.port ≡ Some story → IsReported story.events report.worker_end report.sessions.items report.unopened
+  pub reported : (story : PortStory) → told report.port ≡ Some story
+      → IsReported story.events report.worker_end report.sessions.items report.unopened
 
 -- what the storage thread leaves of the clock and the end that it was given, over a store that keeps what it stores where
 -- `keeps` says so
-pub record KeepsStorage {C : Type 0} (told : C → Option (List ℕ)) (leads_to : C → C → Type 0) (keeps : Type 0) (clock : C)
+pub record KeepsStorage {C : Type 0} (told : C → Option (List ℕ)) (leads_to : C → C → Type 0) (keeps : Type 0)
+    (clock : C)
     (end : StorageView) (report : StorageReport C) : Type 0 where
   pub same : IsSameExchange end report.storage_end
   pub legal : Legal end.geometry report.storage_end.history
@@ -62,19 +65,28 @@ ends_of reports = map (λ r. r.worker_end) reports
 
 -- what the group says of each worker, by its report
 abbrev pub worker_of : {P : Type 0} → WorkerReport P → GroupWorker P
-worker_of r = record { port = r.port; sent = r.worker_end.sent; sessions = r.sessions; unopened = r.unopened; strangers = r.strangers }
+worker_of r = record {
+  port = r.port;
+  sent = r.worker_end.sent;
+  sessions = r.sessions;
+  unopened = r.unopened;
+  strangers = r.strangers;
+}
 
 abbrev pub workers_of : {P : Type 0} → List (WorkerReport P) → List (GroupWorker P)
 workers_of reports = map worker_of reports
 
 -- What all workers' threads left, which were given these ports and the ends of storage's exchange.
-pub record AreJoined {P : Type 0} (told : P → Option PortStory) (leads_to : P → P → Type 0) (sizes : Sizes) (storage : StorageView)
+pub record AreJoined {P : Type 0} (told : P → Option PortStory) (leads_to : P → P → Type 0) (sizes : Sizes)
+    (storage : StorageView)
     (ports : List P) (reports : List (WorkerReport P)) : Type 0 where
   pub one_each : length reports ≡ length ports
-  pub each : (w : ℕ) (port : P) (report : WorkerReport P) → get_elem? ports w ≡ some port → get_elem? reports w ≡ some report
+  pub each : (w : ℕ) (port : P) (report : WorkerReport P) → get_elem? ports w ≡ some port
+      → get_elem? reports w ≡ some report
       → KeepsWorker told leads_to port (new_worker_view storage.exchange sizes w) report
 
 -- what the storage thread left, which was given this clock and its end of the exchange that was made for these ports
-abbrev pub IsLeftByStorage : {P C : Type 0} → (C → Option (List ℕ)) → (C → C → Type 0) → Type 0 → Sizes → List P → C → StorageReport C → Type 0
+abbrev pub IsLeftByStorage : {P C : Type 0} → (C → Option (List ℕ)) → (C → C → Type 0) → Type 0 → Sizes → List P → C
+    → StorageReport C → Type 0
 IsLeftByStorage told leads_to keeps sizes ports clock report =
     KeepsStorage told leads_to keeps clock (new_storage_view report.storage_end.exchange sizes (length ports)) report

@@ -1,8 +1,8 @@
 //! What a group is given, and what it leaves.
 
 use exchange::{Gathered, SentList};
-use proto::geometry::Geometry;
-use session_book::causes::EndCause;
+use proto::Geometry;
+use session_book::EndCause;
 
 /// What a group runs for.
 #[derive(Clone, Copy, Debug)]

@@ -18,11 +18,8 @@ use std::alloc::Global;
 use std::sync::{OnceLock, Wait};
 use std::thread;
 use std::thread::{Scope, Threads};
-use storage_thread::clock::Clock;
-use storage_thread::serving::StorageReport;
-use worker::gate::Gate;
-use worker::port::Port;
-use worker::report::WorkerReport;
+use storage_thread::{Clock, StorageReport};
+use worker::{Gate, Port, WorkerReport};
 
 /// The most workers of a group.
 pub const MAX_WORKERS: usize = 8;
@@ -68,7 +65,10 @@ fn finish<P: Port, E: StorageEngine, C: Clock>(
     requires workers { (workers.items ≡ []) × (vec_len reports ≤ vec_capacity workers) }
     requires ends { (ends.items ≡ []) × (vec_len reports ≤ vec_capacity ends) }
     requires together { AreTogether (ends_of reports.items) storage.storage_end }
-    ensures { (store : E) (sizes : Sizes) (ports : List P) (clock : C) → IsLeftByStorage C.told C.leads_to (E.keeps store []) sizes ports clock storage → AreJoined P.told P.leads_to sizes storage.storage_end ports reports.items → IsRun P.told P.leads_to C.told C.leads_to (E.keeps store []) sizes ports clock result }
+    ensures { (store : E) (sizes : Sizes) (ports : List P) (clock : C)
+        → IsLeftByStorage C.told C.leads_to (E.keeps store []) sizes ports clock storage
+        → AreJoined P.told P.leads_to sizes storage.storage_end ports reports.items
+        → IsRun P.told P.leads_to C.told C.leads_to (E.keeps store []) sizes ports clock result }
 {
     let (workers, ends) = part(reports, workers, ends);
     let StorageReport {
@@ -165,7 +165,8 @@ pub fn run_group<
     requires empty { (E.cache store ≡ empty_cache 0) × (E.moment store ≡ 0) }
     requires sizes { E.sizes store ≡ config.geometry }
     ensures run { IfOk result (λ report. IsRun P.told P.leads_to C.told C.leads_to (E.keeps store []) (E.sizes store) ports.items clock report) }
-    ensures count { MatchResult result (λ _. IsCount (vec_len ports)) (λ fault. (IsCount (vec_len ports) × (fault ≢ BadConfig)) ⊎ ((¬ (IsCount (vec_len ports))) × (fault ≡ BadConfig))) }
+    ensures count { MatchResult result (λ _. IsCount (vec_len ports)) (λ fault. (IsCount (vec_len ports) × (fault ≢ BadConfig))
+        ⊎ ((¬ (IsCount (vec_len ports))) × (fault ≡ BadConfig))) }
 {
     if ports.is_empty() || ports.len() > MAX_WORKERS {
         return Err(GroupFault::BadConfig);

@@ -16,12 +16,8 @@ use std::alloc::Global;
 use std::snapshot::Snapshot;
 use std::sync::{OnceLock, OnceToken, Wait};
 use std::thread::{Promise, PromisedHandle, Scope, Threads};
-use storage_thread::clock::Clock;
-use storage_thread::serving::{StorageReport, run_storage};
-use worker::gate::Gate;
-use worker::port::Port;
-use worker::report::WorkerReport;
-use worker::run::run_worker;
+use storage_thread::{Clock, StorageReport, run_storage};
+use worker::{Gate, Port, WorkerReport, run_worker};
 
 /// What a worker's thread promises: what it leaves of the port and the end that it was given, if it was told to begin.
 #[derive(Drop)]
@@ -128,7 +124,8 @@ pub fn start_storage<
     requires unused { IsUnused end }
     ensures fault { IfErr result (λ fault. fault ≡ NoThread) }
     ensures start { IfOk result (λ h. h.promise.start.now.id ≡ start.now.id) }
-    ensures given { IfOk result (λ h. (h.promise.store.value ≡ store) × (h.promise.clock.value ≡ clock) × (h.promise.end.value ≡ end)) }
+    ensures given { IfOk result (λ h. (h.promise.store.value ≡ store) × (h.promise.clock.value ≡ clock)
+        × (h.promise.end.value ≡ end)) }
 {
     let promise = StoragePromise {
         start,

@@ -2,8 +2,8 @@
 
 use std::sync::atomic::{AtomicBool, AtomicU64, Ordering};
 use std::thread;
-use storage_thread::clock::Clock;
-use worker::gate::Gate;
+use storage_thread::Clock;
+use worker::Gate;
 
 /// How often a stay yields before it gives up.
 const PATIENCE: u64 = 1_000_000;

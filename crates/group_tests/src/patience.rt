@@ -1,7 +1,7 @@
 //! When a gate that holds workers opens for good.
 
 use gates::HoldGate;
-use worker::gate::Gate;
+use worker::Gate;
 
 /// As many refusals as there may be, less one.
 const REFUSALS: u64 = 999_999;

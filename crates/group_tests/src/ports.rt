@@ -3,8 +3,8 @@
 use bytes::Bytes;
 use std::alloc::Global;
 use std::sync::atomic::{AtomicU64, Ordering};
-use storage_thread::clock::Clock;
-use worker::port::{Gone, Port, PortEvent};
+use storage_thread::Clock;
+use worker::{Gone, Port, PortEvent};
 
 /// How often the ports and the clock of a run were asked.
 #[derive(Drop)]

@@ -4,15 +4,15 @@ use crate::ports::{Counters, TestPort};
 use bytes::Bytes;
 use group::{Config, GroupFault, GroupReport, GroupWorker, run_group};
 use plain_store::Store;
-use proto::geometry::Geometry;
-use session_book::causes::EndCause;
+use proto::Geometry;
+use session_book::EndCause;
 use std::alloc::Global;
 use std::process::Abort;
 use std::sync::Wait;
 use std::thread::Threads;
 use std::time;
-use storage_thread::clock::Clock;
-use worker::gate::Gate;
+use storage_thread::Clock;
+use worker::Gate;
 
 /// Stores one byte under the key `a` and asks for it.
 pub(crate) const INPUT: &[u8] = b"set a 0 0 1\r\nx\r\nget a\r\n";

@@ -1,7 +1,7 @@
 //! A gate that lets worker 1 wait for worker 0.
 
 use std::sync::atomic::{AtomicBool, Ordering};
-use worker::gate::Gate;
+use worker::Gate;
 
 /// Refuses each request of worker 1 until request 1 of worker 0 was answered.
 #[derive(Drop)]

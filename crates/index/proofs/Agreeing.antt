@@ -13,11 +13,13 @@ abbrev Agree : KeysOf → KeysOf → List Slot → Type 0
 Agree before after slots = (i : ℕ) → i < length slots → is_used (slot_at slots i) ≡ true
     → after (place_of (slot_at slots i)) ≡ before (place_of (slot_at slots i))
 
-module _ (h : Hashing) (before after : KeysOf) (slots : List Slot) (agree : Agree before after slots) (indexed : AreIndexed h before slots) where
+module _ (h : Hashing) (before after : KeysOf) (slots : List Slot) (agree : Agree before after slots)
+    (indexed : AreIndexed h before slots) where
   agreed_indexed : AreIndexed h after slots
   agreed_indexed =
       record {
-        each = λ i r u. (let f = indexed.each i r u in (f.0, record { of_key = agree i r u ∙ f.1.of_key; tag = f.1.tag; up_to = f.1.up_to }));
+        each = λ i r u. (let f = indexed.each i r u in
+            (f.0, record { of_key = agree i r u ∙ f.1.of_key; tag = f.1.tag; up_to = f.1.up_to }));
         once = λ i j r s u v same. indexed.once i j r s u v (sym (agree i r u) ∙ same ∙ agree j s v);
       }
 
@@ -44,13 +46,16 @@ module _ (h : Hashing) (before after : KeysOf) (slots : List Slot) (agree : Agre
   agreed_places : places_in after slots ≡ places_in before slots
   agreed_places =
       same_places after slots (places_in before slots)
-      (λ q p st. (let was = agreed_to q p st in get_from_stands before slots q p was (λ r. stands_once h before slots indexed q p r was)))
+      (λ q p st. (let was = agreed_to q p st in
+      get_from_stands before slots q p was (λ r. stands_once h before slots indexed q p r was)))
       (λ q p is. agreed_from q p (stands_from_get before slots q p is))
 
 -- where the places in a table keep their keys, the table stays an index of the same map
-pub keys_agree : (before after : KeysOf) (t : Table) → IsIndex before t → ((p : Place) → HasPlace t p → after p ≡ before p) → IsMap after t (places before t)
+pub keys_agree : (before after : KeysOf) (t : Table) → IsIndex before t
+    → ((p : Place) → HasPlace t p → after p ≡ before p) → IsMap after t (places before t)
 keys_agree before after t index agree =
-    let each : Agree before after t.slots = λ i r u. agree (place_of (slot_at t.slots i)) record { at = i; in_range = r; used = u; place_is = refl } in
+    let each : Agree before after t.slots =
+    λ i r u. agree (place_of (slot_at t.slots i)) record { at = i; in_range = r; used = u; place_is = refl } in
     record {
       index = agreed_indexed _ before after t.slots each index;
       places_are = agreed_places _ before after t.slots each index;

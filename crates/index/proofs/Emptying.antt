@@ -23,10 +23,12 @@ true_false : true ≡ false → ⊥
 true_false e = cc
 
 -- a place that is found, but for the hole on its way, where it stands at or behind the slot that is looked at next
-pub record IsNearlyFound (h : Hashing) (keys : KeysOf) (n : ℕ) (slots : List Slot) (hole next i : ℕ) (key : List ℕ) : Type 0 where
+pub record IsNearlyFound (h : Hashing) (keys : KeysOf) (n : ℕ) (slots : List Slot) (hole next i : ℕ)
+    (key : List ℕ) : Type 0 where
   pub of_key : keys (place_of (slot_at slots i)) ≡ Some key
   pub tag : (slot_at slots i).tag ≡ h.tag key
-  pub up_to : (x : ℕ) → x < n → x ≢ hole → distance n (h.home key) x < distance n (h.home key) i → is_used (slot_at slots x) ≡ true
+  pub up_to : (x : ℕ) → x < n → x ≢ hole → distance n (h.home key) x < distance n (h.home key) i
+      → is_used (slot_at slots x) ≡ true
   pub through : distance n (h.home key) hole < distance n (h.home key) i → distance n hole next ≤ distance n hole i
 
 -- an empty slot that isn't the hole, ahead of the slot that is looked at next
@@ -38,14 +40,17 @@ pub record IsGapAhead (n : ℕ) (slots : List Slot) (start hole next gap : ℕ) 
   pub from_start : distance n start next ≤ distance n start gap
 
 -- what stands in the slots, with the hole empty
-pub record IsClosing (h : Hashing) (keys : KeysOf) (old slots : List Slot) (start hole next : ℕ) (key : List ℕ) : Type 0 where
+pub record IsClosing (h : Hashing) (keys : KeysOf) (old slots : List Slot) (start hole next : ℕ)
+    (key : List ℕ) : Type 0 where
   pub len : length slots ≡ length old
   pub start_range : start < length old
   pub hole_range : hole < length old
   pub next_range : next < length old
   pub hole_empty : is_used (slot_at slots hole) ≡ false
-  pub each : (i : ℕ) → i < length old → is_used (slot_at slots i) ≡ true → (k : List ℕ) × IsNearlyFound h keys (length old) slots hole next i k
-  pub once : (i j : ℕ) → i < length old → j < length old → is_used (slot_at slots i) ≡ true → is_used (slot_at slots j) ≡ true
+  pub each : (i : ℕ) → i < length old → is_used (slot_at slots i) ≡ true
+      → (k : List ℕ) × IsNearlyFound h keys (length old) slots hole next i k
+  pub once : (i j : ℕ) → i < length old → j < length old → is_used (slot_at slots i) ≡ true
+      → is_used (slot_at slots j) ≡ true
       → keys (place_of (slot_at slots i)) ≡ keys (place_of (slot_at slots j)) → i ≡ j
   pub gap : (e : ℕ) × IsGapAhead (length old) slots start hole next e
   pub ahead : next ≢ hole
@@ -54,11 +59,13 @@ pub record IsClosing (h : Hashing) (keys : KeysOf) (old slots : List Slot) (star
   pub count : used_in slots + 1 ≡ used_in old
 
 -- a slot is emptied
-emptied_here : (slots : List Slot) (at : ℕ) → at < length slots → is_used (slot_at (slice_set slots at empty_slot) at) ≡ false
+emptied_here : (slots : List Slot) (at : ℕ) → at < length slots
+    → is_used (slot_at (slice_set slots at empty_slot) at) ≡ false
 emptied_here slots at r = ap is_used (get_or-set_same slots at empty_slot empty_slot r)
 
 -- where a slot is emptied, the others stay as they are
-pub emptied_others : (slots : List Slot) (at x : ℕ) → x ≢ at → slot_at (slice_set slots at empty_slot) x ≡ slot_at slots x
+pub emptied_others : (slots : List Slot) (at x : ℕ) → x ≢ at
+    → slot_at (slice_set slots at empty_slot) x ≡ slot_at slots x
 emptied_others slots at x differ = get_or-set_other slots at x empty_slot empty_slot differ
 
 -- a used slot and an empty one aren't the same slot
@@ -73,12 +80,16 @@ set_count slots at s r = sum_by-set (λ (x : Slot). cond (is_used x) 1 0) slots 
 module _ (h : Hashing) (keys : KeysOf) (old : List Slot) (in_row : (k : List ℕ) → h.home k < length old) where
   -- ---- the first hole
 
-  begin_stands : (start : ℕ) (key : List ℕ) → start < length old → is_used (slot_at old start) ≡ true → keys (place_of (slot_at old start)) ≡ Some key
-      → AreIndexed h keys old → (q : List ℕ) (p : Place) → Stands keys (slice_set old start empty_slot) q p → (q ≢ key) × Stands keys old q p
+  begin_stands : (start : ℕ) (key : List ℕ) → start < length old → is_used (slot_at old start) ≡ true
+      → keys (place_of (slot_at old start)) ≡ Some key
+      → AreIndexed h keys old → (q : List ℕ) (p : Place) → Stands keys (slice_set old start empty_slot) q p
+      → (q ≢ key) × Stands keys old q p
   begin_stands start key r u key_is indexed q p st =
-      let apart : st.at ≢ start = not_at (slice_set old start empty_slot) st.at start st.used (emptied_here old start r) in
+      let apart : st.at ≢ start = not_at (slice_set old start empty_slot) st.at start st.used
+      (emptied_here old start r) in
       let same = emptied_others old start st.at apart in
-      let in_old : st.at < length old = (let l = length-set old start empty_slot in let i = st.in_range in omega (arith, l, i)) in
+      let in_old : st.at < length old =
+      (let l = length-set old start empty_slot in let i = st.in_range in omega (arith, l, i)) in
       let used : is_used (slot_at old st.at) ≡ true = ap is_used (sym same) ∙ st.used in
       let place_was : place_of (slot_at old st.at) ≡ p = ap place_of (sym same) ∙ st.place_is in
       let had : keys (place_of (slot_at old st.at)) ≡ Some q = ap keys place_was ∙ st.key_is in (
@@ -91,7 +102,8 @@ module _ (h : Hashing) (keys : KeysOf) (old : List Slot) (in_row : (k : List ℕ
   begin_there start key r key_is q p differ st =
       let had : keys (place_of (slot_at old st.at)) ≡ Some q = ap keys st.place_is ∙ st.key_is in
       let apart : st.at ≢ start = λ same.
-      (let e : Some q ≡ Some key = sym had ∙ ap (λ (k : ℕ). keys (place_of (slot_at old k))) same ∙ key_is in differ cc) in
+      (let e : Some q ≡ Some key = sym had ∙ ap (λ (k : ℕ). keys (place_of (slot_at old k))) same ∙ key_is in
+      differ cc) in
       let same = emptied_others old start st.at apart in
       record {
         at = st.at;
@@ -101,7 +113,8 @@ module _ (h : Hashing) (keys : KeysOf) (old : List Slot) (in_row : (k : List ℕ
         key_is = st.key_is;
       }
 
-  pub begins : (start : ℕ) (key : List ℕ) → start < length old → is_used (slot_at old start) ≡ true → keys (place_of (slot_at old start)) ≡ Some key
+  pub begins : (start : ℕ) (key : List ℕ) → start < length old → is_used (slot_at old start) ≡ true
+      → keys (place_of (slot_at old start)) ≡ Some key
       → AreIndexed h keys old → used_in old < length old
       → IsClosing h keys old (slice_set old start empty_slot) start start (behind (length old) start) key
   begins start key r u key_is indexed less =
@@ -111,7 +124,8 @@ module _ (h : Hashing) (keys : KeysOf) (old : List Slot) (in_row : (k : List ℕ
       let gap = some_gap old less in
       let e = gap.0 in
       let e_in = gap.1.in_range in
-      let apart : e ≢ start = λ same. true_false (sym u ∙ ap (λ (k : ℕ). is_used (slot_at old k)) (sym same) ∙ gap.1.empty) in
+      let apart : e ≢ start = λ same. true_false
+      (sym u ∙ ap (λ (k : ℕ). is_used (slot_at old k)) (sym same) ∙ gap.1.empty) in
       let zero_far = distance_itself n start in
       let far = distance_apart n start e r e_in apart in
       let step = distance_behind n start start e r r e_in (omega (arith, zero_far, far)) in
@@ -154,7 +168,8 @@ module _ (h : Hashing) (keys : KeysOf) (old : List Slot) (in_row : (k : List ℕ
         ahead = λ same. (let d = ap (distance n start) same in omega (arith, d, step, zero_far));
         only = begin_stands start key r u key_is indexed;
         there = begin_there start key r key_is;
-        count = (let c = set_count old start empty_slot r in let one : ◌≡◌ {A = ℕ} (cond (is_used (slot_at old start)) 1 0) 1 = ap
+        count = (let c = set_count old start empty_slot r in
+            let one : ◌≡◌ {A = ℕ} (cond (is_used (slot_at old start)) 1 0) 1 = ap
             (λ b. cond b 1 0) u in omega (arith, c, one));
       }
 
@@ -169,7 +184,8 @@ module _ (h : Hashing) (keys : KeysOf) (old : List Slot) (in_row : (k : List ℕ
     hole_to_gap : distance (length old) hole next < distance (length old) hole c.gap.0
     hole_to_gap =
         elim (leb_tells (distance (length old) hole c.gap.0) (distance (length old) hole next)) [
-          | inl y ↦ absurd (gap_apart (distance_once (length old) hole c.gap.0 next c.hole_range c.gap.1.in_range c.next_range
+          | inl y ↦ absurd (gap_apart (distance_once
+              (length old) hole c.gap.0 next c.hole_range c.gap.1.in_range c.next_range
               (let f = c.gap.1.from_hole in omega (arith, y, f))))
           | inr y ↦ y.1
         ]
@@ -177,7 +193,8 @@ module _ (h : Hashing) (keys : KeysOf) (old : List Slot) (in_row : (k : List ℕ
     start_to_gap : distance (length old) start next < distance (length old) start c.gap.0
     start_to_gap =
         elim (leb_tells (distance (length old) start c.gap.0) (distance (length old) start next)) [
-          | inl y ↦ absurd (gap_apart (distance_once (length old) start c.gap.0 next c.start_range c.gap.1.in_range c.next_range
+          | inl y ↦ absurd (gap_apart (distance_once
+              (length old) start c.gap.0 next c.start_range c.gap.1.in_range c.next_range
               (let f = c.gap.1.from_start in omega (arith, y, f))))
           | inr y ↦ y.1
         ]
@@ -186,9 +203,11 @@ module _ (h : Hashing) (keys : KeysOf) (old : List Slot) (in_row : (k : List ℕ
     hole_step = distance_behind (length old) hole next c.gap.0 c.hole_range c.next_range c.gap.1.in_range hole_to_gap
 
     start_step : distance (length old) start (behind (length old) next) ≡ distance (length old) start next + 1
-    start_step = distance_behind (length old) start next c.gap.0 c.start_range c.next_range c.gap.1.in_range start_to_gap
+    start_step = distance_behind (length old) start next c.gap.0 c.start_range c.next_range c.gap.1.in_range
+        start_to_gap
 
-    pub closing_shortens : length old - distance (length old) start (behind (length old) next) < length old - distance (length old) start next
+    pub closing_shortens : length old - distance (length old) start (behind (length old) next)
+        < length old - distance (length old) start next
     closing_shortens =
         let b = distance_below (length old) start c.gap.0 c.start_range c.gap.1.in_range in
         let s = start_step in
@@ -201,7 +220,8 @@ module _ (h : Hashing) (keys : KeysOf) (old : List Slot) (in_row : (k : List ℕ
         (stays : distance (length old) (h.home k) next < distance (length old) hole next) where
       not_through : distance (length old) (h.home k) hole < distance (length old) (h.home k) next → ⊥
       not_through lt =
-          let s = distance_add (length old) (h.home k) hole next (in_row k) c.hole_range c.next_range (omega (arith, lt)) in
+          let s = distance_add (length old) (h.home k) hole next (in_row k) c.hole_range c.next_range
+          (omega (arith, lt)) in
           omega (arith, s, stays)
 
       pub stayed : IsClosing h keys old slots start hole (behind (length old) next) key
@@ -224,12 +244,17 @@ module _ (h : Hashing) (keys : KeysOf) (old : List Slot) (in_row : (k : List ℕ
                         let s = hole_step in
                         elim (leb_tells (distance (length old) hole i) (distance (length old) hole next)) [
                           | inl y ↦
-                              let same : i ≡ next = distance_once (length old) hole i next c.hole_range i_in c.next_range (omega (arith, y, le)) in
-                              let e : Some f.0 ≡ Some k = sym f.1.of_key ∙ ap (λ (x : ℕ). keys (place_of (slot_at slots x))) same ∙ k_is in
+                              let same : i ≡ next = distance_once
+                              (length old) hole i next c.hole_range i_in c.next_range (omega (arith, y, le)) in
+                              let e : Some f.0 ≡ Some k =
+                              sym f.1.of_key ∙ ap (λ (x : ℕ). keys (place_of (slot_at slots x))) same ∙ k_is in
                               let f_is : f.0 ≡ k = cc in
-                              let to_next : distance (length old) (h.home f.0) hole < distance (length old) (h.home f.0) next =
-                              subst (λ (x : ℕ). distance (length old) (h.home f.0) hole < distance (length old) (h.home f.0) x) same lt in
-                              absurd (not_through (subst (λ (x : List ℕ). distance (length old) (h.home x) hole < distance (length old)
+                              let to_next : distance (length old) (h.home f.0) hole
+                              < distance (length old) (h.home f.0) next =
+                              subst (λ (x : ℕ). distance (length old) (h.home f.0) hole
+                              < distance (length old) (h.home f.0) x) same lt in
+                              absurd (not_through
+                              (subst (λ (x : List ℕ). distance (length old) (h.home x) hole < distance (length old)
                               (h.home x) next) f_is to_next))
                           | inr y ↦ omega (arith, y, s)
                         ];
@@ -246,7 +271,8 @@ module _ (h : Hashing) (keys : KeysOf) (old : List Slot) (in_row : (k : List ℕ
                 from_start = (let s = start_step in let g = start_to_gap in omega (arith, s, g));
               },
             );
-            ahead = λ same. (let d = ap (distance (length old) hole) same in let s = hole_step in let z = distance_itself (length old) hole in omega
+            ahead = λ same. (let d = ap (distance (length old) hole) same in let s = hole_step in
+                let z = distance_itself (length old) hole in omega
                 (arith, d, s, z));
             only = c.only;
             there = c.there;
@@ -262,10 +288,12 @@ module _ (h : Hashing) (keys : KeysOf) (old : List Slot) (in_row : (k : List ℕ
       hole_in = (let l = c.len in let r = c.hole_range in omega (arith, l, r))
 
       next_in : next < length (slice_set slots hole (slot_at slots next))
-      next_in = (let l = c.len in let r = c.next_range in let m = length-set slots hole (slot_at slots next) in omega (arith, l, r, m))
+      next_in = (let l = c.len in let r = c.next_range in let m = length-set slots hole (slot_at slots next) in
+          omega (arith, l, r, m))
 
       new_len : length new ≡ length old
-      new_len = ap length new_is ∙ length-set (slice_set slots hole (slot_at slots next)) next empty_slot ∙ length-set slots hole (slot_at slots next) ∙ c.len
+      new_len = ap length new_is ∙ length-set (slice_set slots hole (slot_at slots next)) next empty_slot
+          ∙ length-set slots hole (slot_at slots next) ∙ c.len
 
       new_others : (x : ℕ) → x ≢ hole → x ≢ next → slot_at new x ≡ slot_at slots x
       new_others x a b =
@@ -276,7 +304,8 @@ module _ (h : Hashing) (keys : KeysOf) (old : List Slot) (in_row : (k : List ℕ
       new_hole : slot_at new hole ≡ slot_at slots next
       new_hole =
           ap (λ (l : List Slot). slot_at l hole) new_is
-          ∙ get_or-set_other (slice_set slots hole (slot_at slots next)) next hole empty_slot empty_slot (λ same. c.ahead (sym same))
+          ∙ get_or-set_other (slice_set slots hole (slot_at slots next)) next hole empty_slot empty_slot
+          (λ same. c.ahead (sym same))
           ∙ get_or-set_same slots hole (slot_at slots next) empty_slot hole_in
 
       new_next : is_used (slot_at new next) ≡ false
@@ -285,7 +314,8 @@ module _ (h : Hashing) (keys : KeysOf) (old : List Slot) (in_row : (k : List ℕ
           ∙ ap is_used (get_or-set_same (slice_set slots hole (slot_at slots next)) next empty_slot empty_slot next_in)
 
       -- the hole was on the way to the place that goes there
-      nearer : distance (length old) (h.home k) next ≡ distance (length old) (h.home k) hole + distance (length old) hole next
+      nearer : distance (length old) (h.home k) next
+          ≡ distance (length old) (h.home k) hole + distance (length old) hole next
       nearer = distance_within (length old) (h.home k) hole next (in_row k) c.hole_range c.next_range goes
 
       apart_far : 0 < distance (length old) hole next
@@ -295,7 +325,8 @@ module _ (h : Hashing) (keys : KeysOf) (old : List Slot) (in_row : (k : List ℕ
           → (key : List ℕ) × IsNearlyFound h keys (length old) new next (behind (length old) next) i key
       each_found i i_in used =
           elim (eqb_tells i hole) [
-            | inl y ↦ subst (λ (j : ℕ). (key : List ℕ) × IsNearlyFound h keys (length old) new next (behind (length old) next) j key) (sym y.1) in_hole
+            | inl y ↦ subst (λ (j : ℕ). (key : List ℕ)
+                × IsNearlyFound h keys (length old) new next (behind (length old) next) j key) (sym y.1) in_hole
             | inr y ↦
                 let b : i ≢ next = not_at new i next used new_next in
                 let same = new_others i y.1 b in
@@ -313,7 +344,8 @@ module _ (h : Hashing) (keys : KeysOf) (old : List Slot) (in_row : (k : List ℕ
                 )
           ]
         where
-          one_step : (i : ℕ) → i < length old → i ≢ next → distance (length old) next (behind (length old) next) ≤ distance (length old) next i
+          one_step : (i : ℕ) → i < length old → i ≢ next
+              → distance (length old) next (behind (length old) next) ≤ distance (length old) next i
           one_step i i_in differ =
               let n = length old in
               let d = distance_apart n next i c.next_range i_in differ in
@@ -335,7 +367,8 @@ module _ (h : Hashing) (keys : KeysOf) (old : List Slot) (in_row : (k : List ℕ
                   up_to = λ x x_in other lt.
                       let near = nearer in
                       let far = apart_far in
-                      let not_hole : x ≢ hole = λ same. (let d = ap (distance (length old) (h.home k)) same in omega (arith, d, lt)) in
+                      let not_hole : x ≢ hole =
+                      λ same. (let d = ap (distance (length old) (h.home k)) same in omega (arith, d, lt)) in
                       ap is_used (new_others x not_hole other) ∙ g.up_to x x_in not_hole (omega (arith, lt, near));
                   through = λ lt. (let near = nearer in absurd (omega (arith, lt, near)));
                 },
@@ -354,7 +387,8 @@ module _ (h : Hashing) (keys : KeysOf) (old : List Slot) (in_row : (k : List ℕ
                 (i, i_in, ap is_used (sym same) ∙ used, same, inr (y.1, refl))
           ]
 
-      once_still : (i j : ℕ) → i < length old → j < length old → is_used (slot_at new i) ≡ true → is_used (slot_at new j) ≡ true
+      once_still : (i j : ℕ) → i < length old → j < length old → is_used (slot_at new i) ≡ true
+          → is_used (slot_at new j) ≡ true
           → keys (place_of (slot_at new i)) ≡ keys (place_of (slot_at new j)) → i ≡ j
       once_still i j i_in j_in a b same =
           let p = was_at i i_in a in
@@ -451,7 +485,8 @@ module _ (h : Hashing) (keys : KeysOf) (old : List Slot) (in_row : (k : List ℕ
   module _ (slots : List Slot) (start hole next : ℕ) (key : List ℕ) (c : IsClosing h keys old slots start hole next key)
       (ended : is_used (slot_at slots next) ≡ false) where
     -- no place is found through the hole, since behind it there is an empty slot
-    none_through : (i : ℕ) (k : List ℕ) → i < length old → is_used (slot_at slots i) ≡ true → IsNearlyFound h keys (length old) slots hole next i k
+    none_through : (i : ℕ) (k : List ℕ) → i < length old → is_used (slot_at slots i) ≡ true
+        → IsNearlyFound h keys (length old) slots hole next i k
         → distance (length old) (h.home k) hole < distance (length old) (h.home k) i → ⊥
     none_through i k i_in used f lt =
         let n = length old in
@@ -459,21 +494,25 @@ module _ (h : Hashing) (keys : KeysOf) (old : List Slot) (in_row : (k : List ℕ
         let whole = distance_add n (h.home k) hole i (in_row k) c.hole_range i_in (omega (arith, lt)) in
         let below = distance_below n (h.home k) i (in_row k) i_in in
         let differ : i ≢ next = not_at slots i next used ended in
-        let less : distance n hole next < distance n hole i = elim (leb_tells (distance n hole i) (distance n hole next)) [
+        let less : distance n hole next < distance n hole i =
+        elim (leb_tells (distance n hole i) (distance n hole next)) [
           | inl y ↦ absurd (differ (distance_once n hole i next c.hole_range i_in c.next_range (omega (arith, y, le))))
           | inr y ↦ y.1
         ] in
-        let to_next = distance_sum n (h.home k) hole next (in_row k) c.hole_range c.next_range (omega (arith, whole, below, less)) in
+        let to_next = distance_sum n (h.home k) hole next (in_row k) c.hole_range c.next_range
+        (omega (arith, whole, below, less)) in
         true_false (sym (f.up_to next c.next_range c.ahead (omega (arith, to_next, whole, less))) ∙ ended)
 
-    end_used : (i : ℕ) (k : List ℕ) → i < length old → is_used (slot_at slots i) ≡ true → IsNearlyFound h keys (length old) slots hole next i k
+    end_used : (i : ℕ) (k : List ℕ) → i < length old → is_used (slot_at slots i) ≡ true
+        → IsNearlyFound h keys (length old) slots hole next i k
         → AreUsedUpTo slots (h.home k) i
     end_used i k i_in used f x x_in lt =
         let n = length old in
         let in_old : x < n = (let l = c.len in omega (arith, l, x_in)) in
         let less : distance n (h.home k) x < distance n (h.home k) i = rw c.len at lt in
         elim (eqb_tells x hole) [
-          | inl y ↦ absurd (none_through i k i_in used f (subst (λ (j : ℕ). distance n (h.home k) j < distance n (h.home k) i) y.1 less))
+          | inl y ↦ absurd (none_through i k i_in used f
+              (subst (λ (j : ℕ). distance n (h.home k) j < distance n (h.home k) i) y.1 less))
           | inr y ↦ f.up_to x in_old y.1 less
         ]
 
@@ -492,6 +531,7 @@ module _ (h : Hashing) (keys : KeysOf) (old : List Slot) (in_row : (k : List ℕ
         }
 
 -- the home of each key is one of the slots
-pub homes_in_row : (count : ℕ) (layout : Layout) (hasher : FoldHasher) → 1 ≤ count → (k : List ℕ) → (hashing count layout hasher).home k < count
+pub homes_in_row : (count : ℕ) (layout : Layout) (hasher : FoldHasher) → 1 ≤ count → (k : List ℕ)
+    → (hashing count layout hasher).home k < count
 unfolding home_of
 homes_in_row count layout hasher some k = (let b = and_le_r (hash_of hasher k) (count - 1) in omega (arith, b))

@@ -59,7 +59,8 @@ gap_ahead slots from at gap f way is used =
     ]
 
 -- where some slot isn't used, a search at a used slot may go on to the next: it has passed only used ones there, too
-pub way_goes_on : (slots : List Slot) (from at : ℕ) → from < length slots → used_in slots < length slots → IsOnWay slots from at
+pub way_goes_on : (slots : List Slot) (from at : ℕ) → from < length slots → used_in slots < length slots
+    → IsOnWay slots from at
     → is_used (slot_at slots at) ≡ true → IsOnWay slots from (behind (length slots) at)
 way_goes_on slots from at f less way used =
     let n = length slots in
@@ -74,9 +75,11 @@ way_goes_on slots from at f less way used =
     }
 
 -- where some slot isn't used, a search that goes on from a used slot has fewer slots left to look at
-pub way_shortens : (slots : List Slot) (from at : ℕ) → from < length slots → used_in slots < length slots → IsOnWay slots from at
+pub way_shortens : (slots : List Slot) (from at : ℕ) → from < length slots → used_in slots < length slots
+    → IsOnWay slots from at
     → is_used (slot_at slots at) ≡ true
-    → length slots - distance (length slots) from (behind (length slots) at) < length slots - distance (length slots) from at
+    → length slots - distance (length slots) from (behind (length slots) at)
+    < length slots - distance (length slots) from at
 way_shortens slots from at f less way used =
     let n = length slots in
     let gap = some_gap slots less in
@@ -86,10 +89,12 @@ way_shortens slots from at f less way used =
     omega (arith, step, below, ahead)
 
 -- what holds of the slots that a search has passed, and of this one, holds of those up to the next
-pub way_keeps : (P : ℕ → Type 0) (slots : List Slot) (from at : ℕ) → from < length slots → used_in slots < length slots → IsOnWay slots from at
+pub way_keeps : (P : ℕ → Type 0) (slots : List Slot) (from at : ℕ) → from < length slots → used_in slots < length slots
+    → IsOnWay slots from at
     → is_used (slot_at slots at) ≡ true
     → ((x : ℕ) → x < length slots → distance (length slots) from x < distance (length slots) from at → P x) → P at
-    → (x : ℕ) → x < length slots → distance (length slots) from x < distance (length slots) from (behind (length slots) at) → P x
+    → (x : ℕ) → x < length slots → distance (length slots) from x
+    < distance (length slots) from (behind (length slots) at) → P x
 way_keeps P slots from at f less way used passed here x i upto =
     let n = length slots in
     let gap = some_gap slots less in
@@ -108,13 +113,16 @@ same_place : (p : Place) → (eqb p.segment p.segment && eqb p.offset p.offset) 
 same_place p = grind (arith, nat_tests)
 
 -- what a comparison of places says
-pub other_place : (p q : Place) (b : Bool) → b ≡ (eqb p.segment q.segment && eqb p.offset q.offset) → b ≡ false → ¬ (p ≡ q)
+pub other_place : (p q : Place) (b : Bool) → b ≡ (eqb p.segment q.segment && eqb p.offset q.offset) → b ≡ false
+    → ¬ (p ≡ q)
 other_place p q b compared differ same =
-    let e : b ≡ true = compared ∙ ap (λ (r : Place). eqb r.segment q.segment && eqb r.offset q.offset) same ∙ same_place q in
+    let e : b ≡ true = compared ∙ ap (λ (r : Place). eqb r.segment q.segment && eqb r.offset q.offset) same
+    ∙ same_place q in
     true_false (sym e ∙ differ)
 
 -- where a comparison says that the key that is there differs from another one, the other one isn't there
-pub other_key : (k q : List ℕ) (o : Option (List ℕ)) (b : Bool) → o ≡ Some k → b ≡ bytes_eq k q → b ≡ false → ¬ (o ≡ Some q)
+pub other_key : (k q : List ℕ) (o : Option (List ℕ)) (b : Bool) → o ≡ Some k → b ≡ bytes_eq k q → b ≡ false
+    → ¬ (o ≡ Some q)
 other_key k q o b is compared differ same =
     let e : k ≡ q = cc in
     true_false (sym ((bytes_eq-Decides k q).1 e) ∙ sym compared ∙ differ)

@@ -20,12 +20,15 @@ use Rattle.index.specs.Table.{Table, IsIndex, HasPlace, IsSameSize, places_in, p
 use Rattle.index.specs.Following.{IsFollowed, forget_place, forget_segment, forget_lost}
 use Rattle.index.proofs.Mapping.{Stands, stands_from_get, get_from_stands, stands_once, get-remove}
 use Rattle.index.proofs.Agreeing.{keys_agree}
+use Rattle.proto.proofs.Options.{value_there}
 
 -- ---- one key taken out
 
 -- where one key is taken out, its place is forgotten
-pub forgotten : (keys : KeysOf) (slots : List Slot) (key : List ℕ) (place : Place) → keys place ≡ Some key → map.get (places_in keys slots) key ≡ Some place
-    → (q : List ℕ) → map.get (map.remove (places_in keys slots) key) q ≡ option_and_then (forget_place place) (map.get (places_in keys slots) q)
+pub forgotten : (keys : KeysOf) (slots : List Slot) (key : List ℕ) (place : Place) → keys place ≡ Some key
+    → map.get (places_in keys slots) key ≡ Some place
+    → (q : List ℕ) → map.get (map.remove (places_in keys slots) key) q
+    ≡ option_and_then (forget_place place) (map.get (places_in keys slots) q)
 forgotten keys slots key place is held q =
     elim (cases_Bool (bytes_eq q key)) [
       | inl same ↦
@@ -33,13 +36,15 @@ forgotten keys slots key place is held q =
           let here : map.get (places_in keys slots) q ≡ Some place = ap (map.get (places_in keys slots)) q_is ∙ held in
           let itself = same_place_itself place in
           let gone : forget_place place place ≡ None = rw itself refl in
-          get-remove (places_in keys slots) key q ∙ rw same (sym (ap (option_and_then (forget_place place)) here ∙ gone))
+          get-remove (places_in keys slots) key q
+          ∙ rw same (sym (ap (option_and_then (forget_place place)) here ∙ gone))
       | inr apart ↦
           let differ : q ≢ key = λ e. false≢true (sym apart ∙ (bytes_eq-Decides q key).1 e) in
           get-remove (places_in keys slots) key q ∙ rw apart (other (map.get (places_in keys slots) q) refl differ)
     ]
   where
-    other : (o : Option Place) → map.get (places_in keys slots) q ≡ o → q ≢ key → o ≡ option_and_then (forget_place place) o
+    other : (o : Option Place) → map.get (places_in keys slots) q ≡ o → q ≢ key
+        → o ≡ option_and_then (forget_place place) o
     other None e differ = refl
     other (Some p) e differ =
         elim (cases_Bool (same_place place p)) [
@@ -51,8 +56,10 @@ forgotten keys slots key place is held q =
         ]
 
 -- where a key doesn't have the place, none does
-pub unforgotten : (keys : KeysOf) (slots : List Slot) (key : List ℕ) (place : Place) → keys place ≡ Some key → (Stands keys slots key place → ⊥)
-    → (q : List ℕ) → map.get (places_in keys slots) q ≡ option_and_then (forget_place place) (map.get (places_in keys slots) q)
+pub unforgotten : (keys : KeysOf) (slots : List Slot) (key : List ℕ) (place : Place) → keys place ≡ Some key
+    → (Stands keys slots key place → ⊥)
+    → (q : List ℕ) → map.get (places_in keys slots) q
+    ≡ option_and_then (forget_place place) (map.get (places_in keys slots) q)
 unforgotten keys slots key place is none q = by (map.get (places_in keys slots) q) refl
   where
     by : (o : Option Place) → map.get (places_in keys slots) q ≡ o → o ≡ option_and_then (forget_place place) o
@@ -64,7 +71,8 @@ unforgotten keys slots key place is none q = by (map.get (places_in keys slots) 
               let p_is = sym (same_place_is place p t) in
               let both : Some q ≡ Some key = sym st.key_is ∙ ap keys p_is ∙ is in
               let q_is : q ≡ key = cc in
-              absurd (none (subst (λ (k : List ℕ). Stands keys slots k place) q_is (subst (λ (r : Place). Stands keys slots q r) p_is st)))
+              absurd (none (subst (λ (k : List ℕ). Stands keys slots k place) q_is
+              (subst (λ (r : Place). Stands keys slots q r) p_is st)))
           | inr f ↦ rw f refl
         ]
 
@@ -72,12 +80,15 @@ unforgotten keys slots key place is none q = by (map.get (places_in keys slots) 
 
 -- a key's place is held
 pub held_at : (keys : KeysOf) (t : Table) (key : List ℕ) (p : Place) → place_at keys t key ≡ Some p → HasPlace t p
-held_at keys t key p e = let st = stands_from_get keys t.slots key p e in record { at = st.at; in_range = st.in_range; used = st.used; place_is = st.place_is }
+held_at keys t key p e = let st = stands_from_get keys t.slots key p e in
+    record { at = st.at; in_range = st.in_range; used = st.used; place_is = st.place_is }
 
 -- a held place is that of its key
-pub at_held : (keys : KeysOf) (t : Table) (key : List ℕ) (p : Place) → IsIndex keys t → HasPlace t p → keys p ≡ Some key → place_at keys t key ≡ Some p
+pub at_held : (keys : KeysOf) (t : Table) (key : List ℕ) (p : Place) → IsIndex keys t → HasPlace t p → keys p ≡ Some key
+    → place_at keys t key ≡ Some p
 at_held keys t key p index h e =
-    let st : Stands keys t.slots key p = record { at = h.at; in_range = h.in_range; used = h.used; place_is = h.place_is; key_is = e } in
+    let st : Stands keys t.slots key p =
+    record { at = h.at; in_range = h.in_range; used = h.used; place_is = h.place_is; key_is = e } in
     get_from_stands keys t.slots key p st (λ r. stands_once _ keys t.slots index key p r st)
 
 -- a table that has the sizes of a second one, which has those of a first, has the sizes of the first
@@ -85,7 +96,8 @@ pub same_size : (a b c : Table) → IsSameSize a b → IsSameSize b c → IsSame
 same_size a b c h k = record { count = k.count ∙ h.count; hasher = k.hasher ∙ h.hasher; layout = k.layout ∙ h.layout }
 
 -- it is enough to say where held places go
-pub retargeted : (before after : KeysOf) (f g : Place → Option Place) (old new : Table) → IsFollowed before after f old new
+pub retargeted : (before after : KeysOf) (f g : Place → Option Place) (old new : Table)
+    → IsFollowed before after f old new
     → ((p : Place) → HasPlace old p → f p ≡ g p) → IsFollowed before after g old new
 retargeted before after f g old new h same =
     record { index = h.index; places = λ key. h.places key ∙ by key (place_at before old key) refl }
@@ -95,21 +107,32 @@ retargeted before after f g old new h same =
     by key (Some p) e = same p (held_at before old key p e)
 
 -- two changes are one
-pub composed : (a b c : KeysOf) (f g h : Place → Option Place) (t u v : Table) → IsFollowed a b f t u → IsFollowed b c g u v
+pub composed : (a b c : KeysOf) (f g h : Place → Option Place) (t u v : Table) → IsFollowed a b f t u
+    → IsFollowed b c g u v
     → ((p : Place) → HasPlace t p → option_and_then g (f p) ≡ h p) → IsFollowed a c h t v
 composed a b c f g h t u v first second same =
-    record { index = second.index; places = λ key. second.places key ∙ ap (option_and_then g) (first.places key) ∙ by key (place_at a t key) refl }
+    record {
+      index = second.index;
+      places = λ key. second.places key ∙ ap (option_and_then g) (first.places key)
+          ∙ by key (place_at a t key) refl;
+    }
   where
-    by : (key : List ℕ) (o : Option Place) → place_at a t key ≡ o → option_and_then g (option_and_then f o) ≡ option_and_then h o
+    by : (key : List ℕ) (o : Option Place) → place_at a t key ≡ o
+        → option_and_then g (option_and_then f o) ≡ option_and_then h o
     by key None e = refl
     by key (Some p) e = same p (held_at a t key p e)
 
 -- where held places keep their keys, nothing moves
-pub followed_itself : (before after : KeysOf) (f : Place → Option Place) (t : Table) → IsIndex before t → ((p : Place) → HasPlace t p → after p ≡ before p)
+pub followed_itself : (before after : KeysOf) (f : Place → Option Place) (t : Table) → IsIndex before t
+    → ((p : Place) → HasPlace t p → after p ≡ before p)
     → ((p : Place) → HasPlace t p → f p ≡ Some p) → IsFollowed before after f t t
 followed_itself before after f t index agree same =
     let m = keys_agree before after t index agree in
-    record { index = m.index; places = λ key. ap (λ (ps : _). map.get ps key) m.places_are ∙ by key (place_at before t key) refl }
+    record {
+      index = m.index;
+      places = λ key. ap (λ (ps : _). map.get ps key) m.places_are
+          ∙ by key (place_at before t key) refl;
+    }
   where
     by : (key : List ℕ) (o : Option Place) → place_at before t key ≡ o → o ≡ option_and_then f o
     by key None e = refl
@@ -121,17 +144,13 @@ followed_itself before after f t index agree same =
 abbrev pub forget_listed : List Standing → Place → Option Place
 forget_listed left p = if list_any (λ s. same_place s.place p) left then None else Some p
 
--- where an item is there, it can be named
-some_item : (o : Option Item) → IsSome o → (i : Item) × (o ≡ Some i)
-some_item None h = cc
-some_item (Some i) h = (i, refl)
-
 -- the items of a segment are those whose places are in it
-pub listed_all : (p : PoolState) (n : ℕ) (q : Place) → IsSome (item_in p q) → forget_listed (standing p n) q ≡ forget_segment n q
+pub listed_all : (p : PoolState) (n : ℕ) (q : Place) → IsSome (item_in p q)
+    → forget_listed (standing p n) q ≡ forget_segment n q
 listed_all p n q some =
     elim (cases_eq q.segment n) [
       | inl e ↦
-          let i = some_item (item_in p q) some in
+          let i = value_there (item_in p q) some in
           let w = standing_by q.segment 0 (items_of (segment_at p q.segment)) q.offset i.0 i.1 in
           let d : Standing = record { place = record { segment = q.segment; offset = 0 }; item = i.0 } in
           let zero_plus : 0 + q.offset ≡ q.offset = omega arith in
@@ -149,7 +168,8 @@ listed_all p n q some =
           let none : list_any (λ s. same_place s.place q) (standing p n) ≡ false =
           list_any_none (λ (s : Standing). same_place s.place q) (standing p n)
           (λ k d lt. elim (cases_Bool (same_place (get_or (standing p n) k d).place q)) [
-            | inl t ↦ absurd (e (sym (ap (λ (r : Place). r.segment) (same_place_is (get_or (standing p n) k d).place q t))
+            | inl t ↦ absurd (e (sym (ap (λ (r : Place). r.segment)
+                (same_place_is (get_or (standing p n) k d).place q t))
                 ∙ in_segment n 0 (items_of (segment_at p n)) k d lt))
             | inr f ↦ f
           ]) in
@@ -157,7 +177,8 @@ listed_all p n q some =
     ]
 
 -- one of these places is forgotten, and then the others
-pub listed_step : (s : Standing) (left : List Standing) (p : Place) → option_and_then (forget_listed left) (forget_place s.place p) ≡ forget_listed
+pub listed_step : (s : Standing) (left : List Standing) (p : Place)
+    → option_and_then (forget_listed left) (forget_place s.place p) ≡ forget_listed
     (s ∷ left) p
 listed_step s left p =
     elim (cases_Bool (same_place s.place p)) [
@@ -178,34 +199,40 @@ lost_step m moves p e =
     ]
 
 -- a move that has a target adds no place to those that are forgotten
-pub kept_step : (m : Move) (moves : List Move) (p : Place) → is_some m.target ≡ true → forget_lost moves p ≡ forget_lost (m ∷ moves) p
+pub kept_step : (m : Move) (moves : List Move) (p : Place) → is_some m.target ≡ true
+    → forget_lost moves p ≡ forget_lost (m ∷ moves) p
 kept_step m moves p some = rw some refl
 
 -- what is kept while the places are taken out at which moves start that forget their items
 pub record IsLosing (keys : KeysOf) (moves rest : List Move) (start t : Table) : Type 0 where
   pub index : IsIndex keys t
   pub size : IsSameSize start t
-  pub ends : (end : Table) → IsFollowed keys keys (forget_lost rest) t end → IsFollowed keys keys (forget_lost moves) start end
+  pub ends : (end : Table) → IsFollowed keys keys (forget_lost rest) t end
+      → IsFollowed keys keys (forget_lost moves) start end
 
 -- one of these places is taken out
-pub loses : (keys : KeysOf) (moves : List Move) (m : Move) (rest : List Move) (start t u : Table) → IsLosing keys moves (m ∷ rest) start t
+pub loses : (keys : KeysOf) (moves : List Move) (m : Move) (rest : List Move) (start t u : Table)
+    → IsLosing keys moves (m ∷ rest) start t
     → is_some m.target ≡ false
     → IsFollowed keys keys (forget_place m.source) t u → IsSameSize t u → IsLosing keys moves rest start u
 loses keys moves m rest start t u h none taken size =
     record {
       index = taken.index;
       size = same_size start t u h.size size;
-      ends = λ end k. h.ends end (composed keys keys keys (forget_place m.source) (forget_lost rest) (forget_lost (m ∷ rest)) t u end taken k
+      ends = λ end k. h.ends end (composed keys keys keys (forget_place m.source) (forget_lost rest)
+          (forget_lost (m ∷ rest)) t u end taken k
           (λ p held. lost_step m rest p none));
     }
 
 -- a move that keeps its item is passed
-pub passes : (keys : KeysOf) (moves : List Move) (m : Move) (rest : List Move) (start t : Table) → IsLosing keys moves (m ∷ rest) start t
+pub passes : (keys : KeysOf) (moves : List Move) (m : Move) (rest : List Move) (start t : Table)
+    → IsLosing keys moves (m ∷ rest) start t
     → is_some m.target ≡ true
     → IsLosing keys moves rest start t
 passes keys moves m rest start t h some =
     record {
       index = h.index;
       size = h.size;
-      ends = λ end k. h.ends end (retargeted keys keys (forget_lost rest) (forget_lost (m ∷ rest)) t end k (λ p held. kept_step m rest p some));
+      ends = λ end k. h.ends end (retargeted keys keys (forget_lost rest) (forget_lost (m ∷ rest)) t end k
+          (λ p held. kept_step m rest p some));
     }

@@ -3,7 +3,7 @@ use Rattle.std.proofs.Common.{◌≡◌, ℕ, ◌+◌, ◌-◌, ◌*◌, ◌/◌
 use Rattle.std.proofs.lemmas.Bool.{cases_eq, cases_lt}
 use Rattle.std.proofs.lemmas.Nat.{mul-le}
 use Rattle.segments.specs.declared.place.Place.{Place}
-use Rattle.segments.specs.Items.{Item, item_size, item_at}
+use Rattle.segments.specs.Items.{Item, size_of_item, item_at}
 use Rattle.segments.specs.Pools.{PoolState, IsPool, items_of, segment_at, item_in}
 use Rattle.segments.proofs.Places.{at_within, at_behind, item_ends, item_large, item_storable, mark_within}
 use Rattle.segments.specs.Places.{IsAppended}
@@ -23,31 +23,35 @@ aligned (k ∷ items) x i e =
     elim (cases_eq x 0) [
       | inl z ↦ rw z refl
       | inr z ↦
-          elim (cases_lt x (item_size k)) [
+          elim (cases_lt x (size_of_item k)) [
             | inl within ↦ (let gone : None ≡ Some i = sym (at_within k items x z within) ∙ e in cc)
             | inr after ↦
-                behind_one x ((24 + length k.key + length k.value + 7) / 8) (item_size k) after refl
-                (aligned items (x - item_size k) i (sym (at_behind k items x after) ∙ e))
+                behind_one x ((24 + length k.key + length k.value + 7) / 8) (size_of_item k) after refl
+                (aligned items (x - size_of_item k) i (sym (at_behind k items x after) ∙ e))
           ]
     ]
 
 -- a place of a pool in the numbers of the pool's sizes
-in_sizes : (segment offset segments size offsets places : ℕ) → segment < segments → offset + 32 ≤ size → size ≤ 8 * offsets → segments * offsets ≤ places
+in_sizes : (segment offset segments size offsets places : ℕ) → segment < segments → offset + 32 ≤ size
+    → size ≤ 8 * offsets → segments * offsets ≤ places
     → (offset / 8 < offsets) × (segment * offsets + offset / 8 + 1 < places)
 in_sizes segment offset segments size offsets places lt ends fits all =
     let step : offset / 8 + 4 ≤ offsets = omega (arith, ends, fits) in
-    let h : (segment + 1) * offsets ≤ segments * offsets = mul-le (segment + 1) offsets segments offsets (omega (arith, lt)) (omega arith) in
+    let h : (segment + 1) * offsets ≤ segments * offsets =
+    mul-le (segment + 1) offsets segments offsets (omega (arith, lt)) (omega arith) in
     let f : (segment + 1) * offsets ≡ segment * offsets + offsets = omega arith in
     (omega (arith, step), omega (arith, step, h, f, all))
 
 -- a place where an item of the pool begins
-pub place_in_layout : (p : PoolState) (l : Layout) (q : Place) (i : Item) → IsPool p → IsLayoutOf p.sizes l → item_in p q ≡ Some i → IsInLayout l q
+pub place_in_layout : (p : PoolState) (l : Layout) (q : Place) (i : Item) → IsPool p → IsLayoutOf p.sizes l
+    → item_in p q ≡ Some i → IsInLayout l q
 place_in_layout p l q i k of e =
     let large = item_large (item_limit p.sizes) i (item_storable p q i k e) in
     let ends = item_ends p q i k e in
     let within = (mark_within p q i k e).0 in
     let most = k.geometry.most in
-    let n = in_sizes q.segment q.offset p.sizes.segments p.sizes.segment_size (2 ^ l.offset_bits) (2 ^ l.place_bits) within (omega (arith, large, ends))
+    let n = in_sizes q.segment q.offset p.sizes.segments p.sizes.segment_size (2 ^ l.offset_bits)
+    (2 ^ l.place_bits) within (omega (arith, large, ends))
     of.offsets of.places in
     record {
       segment = omega (arith, within, most);
@@ -57,7 +61,8 @@ place_in_layout p l q i k of e =
     }
 
 -- a place to which an item was appended
-pub appended_in_layout : (p after : PoolState) (bucket t : ℕ) (i : Item) (place : Place) (l : Layout) → IsPool after → IsAppended p bucket t i after place
+pub appended_in_layout : (p after : PoolState) (bucket t : ℕ) (i : Item) (place : Place) (l : Layout) → IsPool after
+    → IsAppended p bucket t i after place
     → IsLayoutOf p.sizes l → IsInLayout l place
 appended_in_layout p after bucket t i place l k a of =
     let new : item_in after place ≡ Some i = a.items place ∙ (let z = same_place_itself place in rw z refl) in

@@ -50,7 +50,10 @@ slot_cases keys s =
     elim (cases_Bool (is_used s)) [
       | inl used ↦ elim (of_option (keys (place_of s))) [
         | inl k ↦ inl record { key = k.0; used = used; key_is = k.1; entry = rw (used, k.1) refl }
-        | inr none ↦ inr record { none = λ q u is. (let e : Some q ≡ None = sym is ∙ none in cc); entry = rw (used, none) refl }
+        | inr none ↦ inr record {
+          none = λ q u is. (let e : Some q ≡ None = sym is ∙ none in cc);
+          entry = rw (used, none) refl;
+        }
       ]
       | inr free ↦ inr record { none = λ q u is. true_false (sym u ∙ free); entry = rw free refl }
     ]
@@ -60,9 +63,16 @@ abbrev found : KeysOf → List Slot → List ℕ → Option Place
 found keys slots q = map.find (slice_cmp nat_cmp) q (filter_map (slot_entry keys) slots)
 
 -- where a slot has a place of a key, one has it with another slot put in front, too
-shifted : (keys : KeysOf) (s : Slot) (slots : List Slot) (q : List ℕ) (p : Place) → Stands keys slots q p → Stands keys (s ∷ slots) q p
+shifted : (keys : KeysOf) (s : Slot) (slots : List Slot) (q : List ℕ) (p : Place) → Stands keys slots q p
+    → Stands keys (s ∷ slots) q p
 shifted keys s slots q p h =
-    record { at = suc h.at; in_range = (let r = h.in_range in omega (arith, r)); used = h.used; place_is = h.place_is; key_is = h.key_is }
+    record {
+      at = suc h.at;
+      in_range = (let r = h.in_range in omega (arith, r));
+      used = h.used;
+      place_is = h.place_is;
+      key_is = h.key_is;
+    }
 
 -- either the place of the key that comes first stands in a slot, or there is none and no slot has a place of the key
 Found : KeysOf → List Slot → List ℕ → Type 0
@@ -74,9 +84,11 @@ passed : (keys : KeysOf) (s : Slot) (slots : List Slot) (q : List ℕ) → found
     → (is_used s ≡ true → keys (place_of s) ≡ Some q → ⊥) → Found keys slots q → Found keys (s ∷ slots) q
 unfolding Found
 passed keys s slots q same other (inl h) = inl (h.0, same ∙ h.1, shifted keys s slots q h.0 h.2)
-passed keys s slots q same other (inr h) = inr (same ∙ h.0, λ p st. first st.at p st.in_range st.used st.place_is st.key_is)
+passed keys s slots q same other (inr h) =
+    inr (same ∙ h.0, λ p st. first st.at p st.in_range st.used st.place_is st.key_is)
   where
-    first : (at : ℕ) (p : Place) → at < length (s ∷ slots) → is_used (slot_at (s ∷ slots) at) ≡ true → place_of (slot_at (s ∷ slots) at) ≡ p
+    first : (at : ℕ) (p : Place) → at < length (s ∷ slots) → is_used (slot_at (s ∷ slots) at) ≡ true
+        → place_of (slot_at (s ∷ slots) at) ≡ p
         → keys p ≡ Some q → ⊥
     first zero p r u i k = other u (ap keys i ∙ k)
     first (suc at) p r u i k = h.1 p record { at = at; in_range = omega (arith, r); used = u; place_is = i; key_is = k }
@@ -89,11 +101,23 @@ found_in keys (s ∷ slots) q =
     elim (slot_cases keys s) [
       | inl k ↦ elim (cases_Bool (bytes_eq q k.key)) [
         | inl same ↦
-            let here : found keys (s ∷ slots) q ≡ Some (place_of s) = rw (k.entry, is_eq-slice_cmp q k.key, same) refl in
+            let here : found keys (s ∷ slots) q ≡ Some (place_of s) =
+            rw (k.entry, is_eq-slice_cmp q k.key, same) refl in
             let q_is : q ≡ k.key = (bytes_eq-Decides q k.key).0 same in
-            inl (place_of s, here, record { at = 0; in_range = omega arith; used = k.used; place_is = refl; key_is = k.key_is ∙ ap Some (sym q_is) })
+            inl (
+              place_of s,
+              here,
+              record {
+                at = 0;
+                in_range = omega arith;
+                used = k.used;
+                place_is = refl;
+                key_is = k.key_is ∙ ap Some (sym q_is);
+              },
+            )
         | inr other ↦
-            let skips : found keys (s ∷ slots) q ≡ found keys slots q = rw (k.entry, is_eq-slice_cmp q k.key, other) refl in
+            let skips : found keys (s ∷ slots) q ≡ found keys slots q =
+            rw (k.entry, is_eq-slice_cmp q k.key, other) refl in
             passed keys s slots q skips (λ u is. (let e : k.key ≡ q = (let f = sym k.key_is ∙ is in cc) in true_false
             (sym ((bytes_eq-Decides q k.key).1 (sym e)) ∙ other))) (found_in keys slots q)
       ]
@@ -107,7 +131,8 @@ unfolding places_in
 get-places keys slots q = map.get-from_entries nat_list_cmp_total (filter_map (slot_entry keys) slots) q
 
 -- what the map has at a key stands in a slot
-pub stands_from_get : (keys : KeysOf) (slots : List Slot) (q : List ℕ) (p : Place) → map.get (places_in keys slots) q ≡ Some p → Stands keys slots q p
+pub stands_from_get : (keys : KeysOf) (slots : List Slot) (q : List ℕ) (p : Place)
+    → map.get (places_in keys slots) q ≡ Some p → Stands keys slots q p
 unfolding Found
 stands_from_get keys slots q p is =
     let f : found keys slots q ≡ Some p = sym (get-places keys slots q) ∙ is in
@@ -127,7 +152,8 @@ get_from_stands keys slots q p st once =
     ]
 
 -- where no slot has a place of a key, the map has nothing at the key
-pub get_none : (keys : KeysOf) (slots : List Slot) (q : List ℕ) → ((p : Place) → Stands keys slots q p → ⊥) → map.get (places_in keys slots) q ≡ None
+pub get_none : (keys : KeysOf) (slots : List Slot) (q : List ℕ) → ((p : Place) → Stands keys slots q p → ⊥)
+    → map.get (places_in keys slots) q ≡ None
 unfolding Found
 get_none keys slots q none =
     elim (found_in keys slots q) [
@@ -136,7 +162,8 @@ get_none keys slots q none =
     ]
 
 -- where the map has nothing at a key, no slot has a place of the key
-pub none_stands : (keys : KeysOf) (slots : List Slot) (q : List ℕ) → map.get (places_in keys slots) q ≡ None → (p : Place) → Stands keys slots q p → ⊥
+pub none_stands : (keys : KeysOf) (slots : List Slot) (q : List ℕ) → map.get (places_in keys slots) q ≡ None
+    → (p : Place) → Stands keys slots q p → ⊥
 unfolding Found
 none_stands keys slots q none p st =
     elim (found_in keys slots q) [
@@ -161,25 +188,31 @@ same_places keys slots m to from =
     nothing (Some p) none = absurd (none p refl)
 
 -- of indexed slots only one has a place of a key
-pub stands_once : (h : Hashing) (keys : KeysOf) (slots : List Slot) → AreIndexed h keys slots → (q : List ℕ) (p r : Place)
+pub stands_once : (h : Hashing) (keys : KeysOf) (slots : List Slot) → AreIndexed h keys slots
+    → (q : List ℕ) (p r : Place)
     → Stands keys slots q p → Stands keys slots q r → r ≡ p
 stands_once h keys slots indexed q p r a b =
-    let same : keys (place_of (slot_at slots b.at)) ≡ keys (place_of (slot_at slots a.at)) = ap keys b.place_is ∙ b.key_is ∙ sym a.key_is
+    let same : keys (place_of (slot_at slots b.at)) ≡ keys (place_of (slot_at slots a.at)) =
+    ap keys b.place_is ∙ b.key_is ∙ sym a.key_is
     ∙ ap keys (sym a.place_is) in
     let one : b.at ≡ a.at = indexed.once b.at a.at b.in_range a.in_range b.used a.used same in
     sym b.place_is ∙ ap (λ (i : ℕ). place_of (slot_at slots i)) one ∙ a.place_is
 
 -- a map with one key written has the new place at this key, and at the others what it had
-pub get-insert : (m : Places) (key : List ℕ) (p : Place) (q : List ℕ) → map.get (map.insert m key p) q ≡ cond (bytes_eq q key) (Some p) (map.get m q)
-get-insert m key p q = map.get-insert nat_list_cmp_total m key p q ∙ ap (λ (b : Bool). cond b (Some p) (map.get m q)) (is_eq-slice_cmp q key)
+pub get-insert : (m : Places) (key : List ℕ) (p : Place) (q : List ℕ)
+    → map.get (map.insert m key p) q ≡ cond (bytes_eq q key) (Some p) (map.get m q)
+get-insert m key p q = map.get-insert nat_list_cmp_total m key p q
+    ∙ ap (λ (b : Bool). cond b (Some p) (map.get m q)) (is_eq-slice_cmp q key)
 
 -- a map with one key taken out has nothing at this key, and at the others what it had
 pub get-remove : (m : Places) (key q : List ℕ) → map.get (map.remove m key) q ≡ cond (bytes_eq q key) None (map.get m q)
-get-remove m key q = map.get-remove nat_list_cmp_total m key q ∙ ap (λ (b : Bool). cond b None (map.get m q)) (is_eq-slice_cmp q key)
+get-remove m key q = map.get-remove nat_list_cmp_total m key q
+    ∙ ap (λ (b : Bool). cond b None (map.get m q)) (is_eq-slice_cmp q key)
 
 -- The places are those of a map with one key written, where the key has its place and the other keys theirs.
 pub inserted_places : (before after : KeysOf) (old new : List Slot) (key : List ℕ) (place : Place)
-    → ((q : List ℕ) (p : Place) → Stands after new q p → ((q ≡ key) × (p ≡ place)) ⊎ ((q ≢ key) × Stands before old q p))
+    → ((q : List ℕ) (p : Place) → Stands after new q p
+    → ((q ≡ key) × (p ≡ place)) ⊎ ((q ≢ key) × Stands before old q p))
     → Stands after new key place
     → ((q : List ℕ) (p : Place) → q ≢ key → Stands before old q p → Stands after new q p)
     → ((q : List ℕ) (p r : Place) → Stands before old q p → Stands before old q r → r ≡ p)
@@ -187,32 +220,40 @@ pub inserted_places : (before after : KeysOf) (old new : List Slot) (key : List 
 inserted_places before after old new key place only here there once =
     same_places after new (map.insert (places_in before old) key place) to from
   where
-    to : (q : List ℕ) (p : Place) → Stands after new q p → map.get (map.insert (places_in before old) key place) q ≡ Some p
+    to : (q : List ℕ) (p : Place) → Stands after new q p
+        → map.get (map.insert (places_in before old) key place) q ≡ Some p
     to q p st =
         elim (only q p st) [
-          | inl is ↦ get-insert (places_in before old) key place q ∙ rw ((bytes_eq-Decides q key).1 is.0) (ap Some (sym is.1))
-          | inr is ↦ get-insert (places_in before old) key place q ∙ other q p is.0 (get_from_stands before old q p is.1 (λ r. once q p r is.1))
+          | inl is ↦ get-insert (places_in before old) key place q
+              ∙ rw ((bytes_eq-Decides q key).1 is.0) (ap Some (sym is.1))
+          | inr is ↦ get-insert (places_in before old) key place q
+              ∙ other q p is.0 (get_from_stands before old q p is.1 (λ r. once q p r is.1))
               (cases_Bool (bytes_eq q key))
         ]
       where
-        other : (q : List ℕ) (p : Place) → q ≢ key → map.get (places_in before old) q ≡ Some p → (bytes_eq q key ≡ true) ⊎ (bytes_eq q key ≡ false)
+        other : (q : List ℕ) (p : Place) → q ≢ key → map.get (places_in before old) q ≡ Some p
+            → (bytes_eq q key ≡ true) ⊎ (bytes_eq q key ≡ false)
             → cond (bytes_eq q key) (Some place) (map.get (places_in before old) q) ≡ Some p
         other q p differ is (inl same) = absurd (differ ((bytes_eq-Decides q key).0 same))
         other q p differ is (inr apart) = rw apart is
 
-    from : (q : List ℕ) (p : Place) → map.get (map.insert (places_in before old) key place) q ≡ Some p → Stands after new q p
+    from : (q : List ℕ) (p : Place) → map.get (map.insert (places_in before old) key place) q ≡ Some p
+        → Stands after new q p
     from q p is = by (cases_Bool (bytes_eq q key)) (sym (get-insert (places_in before old) key place q) ∙ is)
       where
-        by : (bytes_eq q key ≡ true) ⊎ (bytes_eq q key ≡ false) → cond (bytes_eq q key) (Some place) (map.get (places_in before old) q) ≡ Some p
+        by : (bytes_eq q key ≡ true) ⊎ (bytes_eq q key ≡ false)
+            → cond (bytes_eq q key) (Some place) (map.get (places_in before old) q) ≡ Some p
             → Stands after new q p
         by (inl same) e =
             let q_is : q ≡ key = (bytes_eq-Decides q key).0 same in
             let f : Some place ≡ Some p = rw same at e in
             let p_is : place ≡ p = cc in
-            subst (λ (r : Place). Stands after new q r) p_is (subst (λ (k : List ℕ). Stands after new k place) (sym q_is) here)
+            subst (λ (r : Place). Stands after new q r) p_is
+            (subst (λ (k : List ℕ). Stands after new k place) (sym q_is) here)
         by (inr apart) e =
             let f : map.get (places_in before old) q ≡ Some p = rw apart at e in
-            there q p (λ same. true_false (sym ((bytes_eq-Decides q key).1 same) ∙ apart)) (stands_from_get before old q p f)
+            there q p (λ same. true_false (sym ((bytes_eq-Decides q key).1 same) ∙ apart))
+            (stands_from_get before old q p f)
 
 -- likewise with one key taken out
 pub removed_places : (keys : KeysOf) (old new : List Slot) (key : List ℕ)
@@ -226,7 +267,8 @@ removed_places keys old new key only there once =
     to : (q : List ℕ) (p : Place) → Stands keys new q p → map.get (map.remove (places_in keys old) key) q ≡ Some p
     to q p st =
         let is = only q p st in
-        get-remove (places_in keys old) key q ∙ other (get_from_stands keys old q p is.1 (λ r. once q p r is.1)) (cases_Bool (bytes_eq q key))
+        get-remove (places_in keys old) key q
+        ∙ other (get_from_stands keys old q p is.1 (λ r. once q p r is.1)) (cases_Bool (bytes_eq q key))
       where
         other : map.get (places_in keys old) q ≡ Some p → (bytes_eq q key ≡ true) ⊎ (bytes_eq q key ≡ false)
             → cond (bytes_eq q key) None (map.get (places_in keys old) q) ≡ Some p
@@ -236,8 +278,10 @@ removed_places keys old new key only there once =
     from : (q : List ℕ) (p : Place) → map.get (map.remove (places_in keys old) key) q ≡ Some p → Stands keys new q p
     from q p is = by (cases_Bool (bytes_eq q key)) (sym (get-remove (places_in keys old) key q) ∙ is)
       where
-        by : (bytes_eq q key ≡ true) ⊎ (bytes_eq q key ≡ false) → cond (bytes_eq q key) None (map.get (places_in keys old) q) ≡ Some p → Stands keys new q p
+        by : (bytes_eq q key ≡ true) ⊎ (bytes_eq q key ≡ false)
+            → cond (bytes_eq q key) None (map.get (places_in keys old) q) ≡ Some p → Stands keys new q p
         by (inl same) e = (let f : None ≡ Some p = rw same at e in cc)
         by (inr apart) e =
             let f : map.get (places_in keys old) q ≡ Some p = rw apart at e in
-            there q p (λ same. true_false (sym ((bytes_eq-Decides q key).1 same) ∙ apart)) (stands_from_get keys old q p f)
+            there q p (λ same. true_false (sym ((bytes_eq-Decides q key).1 same) ∙ apart))
+            (stands_from_get keys old q p f)

@@ -6,21 +6,22 @@ use Rattle.std.proofs.lemmas.Bool.{cases_Bool}
 use Rattle.std.proofs.lemmas.Bool.Decides.{leb_tells, eqb_tells}
 use Rattle.std.proofs.Math.ListN.{get_or-eq_default}
 use Rattle.segments.specs.declared.place.Place.{Place}
-use Rattle.segments.specs.Items.{Item, item_at, item_size}
+use Rattle.segments.specs.Items.{Item, item_at, size_of_item}
 use Rattle.segments.specs.Pools.{PoolState, Used, segment_at, items_of, item_in, IsPool}
 use Rattle.segments.specs.Changes.{with_segment, with_item, IsAddedToTail, IsAddedToFree}
 use Rattle.segments.proofs.WalkLemmas.{item_behind}
 use Rattle.index.specs.Keys.{key_at, IsKeyAdded}
 
 -- an item stays where it is when one is put behind all
-item_at-append : (items : List Item) (offset : ℕ) (more : List Item) → IsSome (item_at items offset) → item_at (items ++ more) offset ≡ item_at items offset
+item_at-append : (items : List Item) (offset : ℕ) (more : List Item) → IsSome (item_at items offset)
+    → item_at (items ++ more) offset ≡ item_at items offset
 item_at-append [] offset more some = cc
 item_at-append (i ∷ items) offset more some =
     elim (eqb_tells offset 0) [
       | inl y ↦ rw y.0 refl
-      | inr y ↦ elim (cases_Bool (nat_lt offset (item_size i))) [
+      | inr y ↦ elim (cases_Bool (nat_lt offset (size_of_item i))) [
         | inl z ↦ rw (y.0, z) refl
-        | inr z ↦ rw (y.0, z) (item_at-append items (offset - item_size i) more (rw (y.0, z) at some))
+        | inr z ↦ rw (y.0, z) (item_at-append items (offset - size_of_item i) more (rw (y.0, z) at some))
       ]
     ]
 
@@ -50,13 +51,15 @@ others : (p : PoolState) (n m : ℕ) (s : Option Used) → m ≢ n → segment_a
 others p n m s differ = get_or-set_other p.segments n m s None differ
 
 -- where an item goes behind those of its bucket's tail, its place gets its key, and every other place with a key keeps it
-to_tail : (p after : PoolState) (bucket t : ℕ) (i : Item) (place : Place) → IsPool p → IsAddedToTail p bucket t i after place → IsKeyAdded p after place i.key
+to_tail : (p after : PoolState) (bucket t : ℕ) (i : Item) (place : Place) → IsPool p
+    → IsAddedToTail p bucket t i after place → IsKeyAdded p after place i.key
 unfolding key_at
 to_tail p after bucket t i place pool h =
     let n = place.segment in
     let s = h.segment in
     let r = in_range p.segments n s h.is_tail in
-    let at : segment_at after n ≡ Some (with_item i s) = ap (λ (q : PoolState). segment_at q n) h.after_is ∙ written p n (Some (with_item i s)) r in
+    let at : segment_at after n ≡ Some (with_item i s) =
+    ap (λ (q : PoolState). segment_at q n) h.after_is ∙ written p n (Some (with_item i s)) r in
     record {
       new = rw (at, h.offset, item_behind s.items i []) refl;
       kept = λ q some. elim (eqb_tells q.segment n) [
@@ -65,14 +68,16 @@ to_tail p after bucket t i place pool h =
             rw (y.1, at, h.is_tail, item_at-append s.items q.offset (i ∷ []) was) refl
         | inr y ↦
             let same : segment_at after q.segment ≡ segment_at p q.segment =
-            ap (λ (r : PoolState). segment_at r q.segment) h.after_is ∙ others p n q.segment (Some (with_item i s)) y.1 in
+            ap (λ (r : PoolState). segment_at r q.segment) h.after_is
+            ∙ others p n q.segment (Some (with_item i s)) y.1 in
             rw same refl
       ];
       segment = (let c = pool.count in let g = pool.geometry.most in omega (arith, r, c, g));
     }
 
 -- where a free segment is opened for an item, its place gets its key, and every other place with a key keeps it
-to_free : (p after : PoolState) (bucket t : ℕ) (i : Item) (place : Place) → IsPool p → IsAddedToFree p bucket t i after place → IsKeyAdded p after place i.key
+to_free : (p after : PoolState) (bucket t : ℕ) (i : Item) (place : Place) → IsPool p
+    → IsAddedToFree p bucket t i after place → IsKeyAdded p after place i.key
 unfolding key_at
 to_free p after bucket t i place pool h =
     let n = place.segment in

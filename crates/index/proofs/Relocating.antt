@@ -19,6 +19,8 @@ use Rattle.index.specs.Following.{IsFollowed, CanFollow}
 use Rattle.index.proofs.Mapping.{stands_from_get, get-insert}
 use Rattle.index.proofs.Agreeing.{held_key}
 use Rattle.index.proofs.FollowingLemmas.{held_at, at_held, same_size, retargeted}
+use Rattle.proto.proofs.Options.{value_there}
+use Rattle.segments.proofs.MovedPlaces.{if_some_map}
 
 -- the keys, with one at a place
 abbrev pub rekeyed : KeysOf → Place → List ℕ → KeysOf
@@ -32,7 +34,8 @@ pub record IsRelocating (before after : KeysOf) (moves rest : List Move) (start 
   pub lost : All (λ m. m.target ≡ None → HasPlace t m.source → ⊥) rest
   pub same : All (λ m. IsSome m.target → keys m.source ≡ before m.source) rest
   pub size : IsSameSize start t
-  pub ends : (end : Table) → IsFollowed keys after (moved_by rest) t end → IsFollowed before after (moved_by moves) start end
+  pub ends : (end : Table) → IsFollowed keys after (moved_by rest) t end
+      → IsFollowed before after (moved_by moves) start end
 
 -- places that differ aren't the same
 apart : (a b : Place) → a ≢ b → same_place a b ≡ false
@@ -41,16 +44,6 @@ apart a b differ =
       | inl t ↦ absurd (differ (same_place_is a b t))
       | inr f ↦ f
     ]
-
--- where a key is there, it can be named
-some_key : (o : Option (List ℕ)) → IsSome o → (q : List ℕ) × (o ≡ Some q)
-some_key None h = cc
-some_key (Some q) h = (q, refl)
-
--- what follows for every place follows for a place that may be missing, too
-if_some_map : {A B : Place → Type 0} (o : Option Place) → IfSome o A → ((r : Place) → A r → B r) → IfSome o B
-if_some_map None h f = tt
-if_some_map (Some r) h f = f r h
 
 -- a move that forgets its item is passed
 pub skips : (before after : KeysOf) (moves : List Move) (m : Move) (rest : List Move) (start t : Table)
@@ -73,10 +66,12 @@ skips before after moves m rest start t h none =
       lost = All-tail (λ (l : Move). l.target ≡ None → HasPlace t l.source → ⊥) m rest h.lost;
       same = All-tail (λ (l : Move). IsSome l.target → h.keys l.source ≡ before l.source) m rest h.same;
       size = h.size;
-      ends = λ end k. h.ends end (retargeted h.keys after (moved_by rest) (moved_by (m ∷ rest)) t end k (λ p held. let f = other p held in rw f refl));
+      ends = λ end k. h.ends end (retargeted h.keys after (moved_by rest) (moved_by (m ∷ rest)) t end k
+          (λ p held. let f = other p held in rw f refl));
     }
 
-module _ (before after : KeysOf) (moves : List Move) (m : Move) (rest : List Move) (start t : Table) (h : IsRelocating before after moves (m ∷ rest) start t)
+module _ (before after : KeysOf) (moves : List Move) (m : Move) (rest : List Move) (start t : Table)
+    (h : IsRelocating before after moves (m ∷ rest) start t)
     (target : Place) (is : m.target ≡ Some target) (key : List ℕ) (own : h.keys m.source ≡ Some key) where
   held_source : HasPlace t m.source
   held_source = All-head (λ (l : Move). IsSome l.target → HasPlace t l.source) m rest h.can.held (rw is refl)
@@ -107,7 +102,8 @@ module _ (before after : KeysOf) (moves : List Move) (m : Move) (rest : List Mov
             let p_is : target ≡ p = same_place_is target p y in
             let f = apart m.source p (λ e. differ (sym e)) in
             let rest_none : list_any (λ l. same_place l.source p) rest ≡ false =
-            list_any_none (λ (l : Move). same_place l.source p) rest (λ k d lt. apart (get_or rest k d).source p (λ e. later_target k d lt (p_is ∙ sym e))) in
+            list_any_none (λ (l : Move). same_place l.source p) rest
+            (λ k d lt. apart (get_or rest k d).source p (λ e. later_target k d lt (p_is ∙ sym e))) in
             let none : list_any (λ l. same_place l.source p) (m ∷ rest) ≡ false = rw f rest_none in
             let kept : h.keys p ≡ Some key = sym (h.can.others p held none) ∙ ap after (sym p_is) ∙ target_key in
             rw y (sym kept)
@@ -124,14 +120,17 @@ module _ (before after : KeysOf) (moves : List Move) (m : Move) (rest : List Mov
 
   module _ (u : Table) (put : IsMap (rekeyed h.keys target key) u (map.insert (places h.keys t) key target)) where
     -- where a key is behind the move
-    place_put : (q : List ℕ) → place_at (rekeyed h.keys target key) u q ≡ cond (bytes_eq q key) (Some target) (place_at h.keys t q)
+    place_put : (q : List ℕ) → place_at (rekeyed h.keys target key) u q
+        ≡ cond (bytes_eq q key) (Some target) (place_at h.keys t q)
     place_put q = ap (λ ps. map.get ps q) put.places_are ∙ get-insert (places h.keys t) key target q
 
     -- a place that is held behind the move is the target, or was held by another key
-    put_cases : (p : Place) → HasPlace u p → (p ≡ target) ⊎ ((q : List ℕ) × (q ≢ key) × (place_at h.keys t q ≡ Some p) × (rekeyed h.keys target key p ≡ Some q))
+    put_cases : (p : Place) → HasPlace u p → (p ≡ target)
+        ⊎ ((q : List ℕ) × (q ≢ key) × (place_at h.keys t q ≡ Some p) × (rekeyed h.keys target key p ≡ Some q))
     put_cases p held =
-        let k = some_key (rekeyed h.keys target key p) (held_key (rekeyed h.keys target key) u put.index p held) in
-        let at : place_at (rekeyed h.keys target key) u k.0 ≡ Some p = at_held (rekeyed h.keys target key) u k.0 p put.index held k.1 in
+        let k = value_there (rekeyed h.keys target key p) (held_key (rekeyed h.keys target key) u put.index p held) in
+        let at : place_at (rekeyed h.keys target key) u k.0 ≡ Some p =
+        at_held (rekeyed h.keys target key) u k.0 p put.index held k.1 in
         elim (cases_Bool (bytes_eq k.0 key)) [
           | inl same ↦ (let e : Some target ≡ Some p = rw same at (sym (place_put k.0) ∙ at) in inl cc)
           | inr other ↦
@@ -142,25 +141,29 @@ module _ (before after : KeysOf) (moves : List Move) (m : Move) (rest : List Mov
     -- other places are held still
     still_held : (p : Place) → HasPlace t p → m.source ≢ p → HasPlace u p
     still_held p held differ =
-        let k = some_key (h.keys p) (held_key h.keys t h.index p held) in
+        let k = value_there (h.keys p) (held_key h.keys t h.index p held) in
         let at : place_at h.keys t k.0 ≡ Some p = at_held h.keys t k.0 p h.index held k.1 in
-        let other : k.0 ≢ key = λ e. (let both : Some m.source ≡ Some p = sym key_held ∙ ap (place_at h.keys t) (sym e) ∙ at in differ cc) in
+        let other : k.0 ≢ key = λ e. (let both : Some m.source ≡ Some p = sym key_held ∙ ap (place_at h.keys t) (sym e)
+        ∙ at in differ cc) in
         elim (cases_Bool (bytes_eq k.0 key)) [
           | inl same ↦ absurd (other ((bytes_eq-Decides k.0 key).0 same))
           | inr f ↦ held_at (rekeyed h.keys target key) u k.0 p (place_put k.0 ∙ rw f at)
         ]
 
-    later_key : (k : ℕ) (d : Move) → k < length rest → rekeyed h.keys target key (get_or rest k d).source ≡ h.keys (get_or rest k d).source
+    later_key : (k : ℕ) (d : Move) → k < length rest
+        → rekeyed h.keys target key (get_or rest k d).source ≡ h.keys (get_or rest k d).source
     later_key k d lt = let f = apart target (get_or rest k d).source (later_target k d lt) in rw f refl
 
     -- places at which no later move starts have their keys
-    others_put : (p : Place) → HasPlace u p → list_any (λ l. same_place l.source p) rest ≡ false → after p ≡ rekeyed h.keys target key p
+    others_put : (p : Place) → HasPlace u p → list_any (λ l. same_place l.source p) rest ≡ false
+        → after p ≡ rekeyed h.keys target key p
     others_put p held none =
         elim (put_cases p held) [
           | inl e ↦ ap after e ∙ target_key ∙ sym (ap (rekeyed h.keys target key) e ∙ target_rekeyed)
           | inr other ↦
               let was = stands_from_get h.keys t.slots other.0 p other.2 in
-              let f = apart m.source p (λ e. other.1 (let both : Some other.0 ≡ Some key = sym was.key_is ∙ ap h.keys (sym e) ∙ own in cc)) in
+              let f = apart m.source p (λ e. other.1
+              (let both : Some other.0 ≡ Some key = sym was.key_is ∙ ap h.keys (sym e) ∙ own in cc)) in
               let all_none : list_any (λ l. same_place l.source p) (m ∷ rest) ≡ false = rw f none in
               h.can.others p (held_at h.keys t other.0 p other.2) all_none ∙ was.key_is ∙ sym other.3
         ]
@@ -172,7 +175,8 @@ module _ (before after : KeysOf) (moves : List Move) (m : Move) (rest : List Mov
         let f = apart l.source target (λ e. All-head (λ (x : Move). target ≢ x.source) l ms all (sym e)) in
         rw f (stays ms (All-tail (λ (x : Move). target ≢ x.source) l ms all))
 
-    leads_on : (q : List ℕ) → option_and_then (moved_by rest) (place_at (rekeyed h.keys target key) u q) ≡ option_and_then (moved_by (m ∷ rest))
+    leads_on : (q : List ℕ) → option_and_then (moved_by rest) (place_at (rekeyed h.keys target key) u q)
+        ≡ option_and_then (moved_by (m ∷ rest))
         (place_at h.keys t q)
     leads_on q =
         elim (cases_Bool (bytes_eq q key)) [
@@ -182,18 +186,22 @@ module _ (before after : KeysOf) (moves : List Move) (m : Move) (rest : List Mov
               let there : place_at (rekeyed h.keys target key) u q ≡ Some target = place_put q ∙ rw same refl in
               let y = same_place_itself m.source in
               let goes : moved_by (m ∷ rest) m.source ≡ Some target = rw y is in
-              ap (option_and_then (moved_by rest)) there ∙ stays rest later_target ∙ sym (ap (option_and_then (moved_by (m ∷ rest))) here ∙ goes)
+              ap (option_and_then (moved_by rest)) there ∙ stays rest later_target
+              ∙ sym (ap (option_and_then (moved_by (m ∷ rest))) here ∙ goes)
           | inr other ↦
-              let there : place_at (rekeyed h.keys target key) u q ≡ place_at h.keys t q = place_put q ∙ rw other refl in
+              let there : place_at (rekeyed h.keys target key) u q ≡ place_at h.keys t q =
+              place_put q ∙ rw other refl in
               ap (option_and_then (moved_by rest)) there
               ∙ by (place_at h.keys t q) refl (λ e. false≢true (sym other ∙ (bytes_eq-Decides q key).1 e))
         ]
       where
-        by : (o : Option Place) → place_at h.keys t q ≡ o → q ≢ key → option_and_then (moved_by rest) o ≡ option_and_then (moved_by (m ∷ rest)) o
+        by : (o : Option Place) → place_at h.keys t q ≡ o → q ≢ key
+            → option_and_then (moved_by rest) o ≡ option_and_then (moved_by (m ∷ rest)) o
         by None e differ = refl
         by (Some p) e differ =
             let was = stands_from_get h.keys t.slots q p e in
-            let f = apart m.source p (λ s. differ (let both : Some q ≡ Some key = sym was.key_is ∙ ap h.keys (sym s) ∙ own in cc)) in
+            let f = apart m.source p (λ s. differ
+            (let both : Some q ≡ Some key = sym was.key_is ∙ ap h.keys (sym s) ∙ own in cc)) in
             rw f refl
 
     -- one move is followed
@@ -204,12 +212,15 @@ module _ (before after : KeysOf) (moves : List Move) (m : Move) (rest : List Mov
           index = put.index;
           can = record {
             held = λ k d lt some. still_held (get_or rest k d).source (All-tail
-                (λ (l : Move). IsSome l.target → HasPlace t l.source) m rest h.can.held k d lt some) (later_source k d lt);
+                (λ (l : Move). IsSome l.target → HasPlace t l.source) m rest h.can.held k d lt some)
+                (later_source k d lt);
             in_turn = h.can.in_turn.1;
             moved = λ k d lt.
-                if_some_map {A = λ place. after place ≡ h.keys (get_or rest k d).source} {B = λ place. after place ≡ rekeyed h.keys target key
+                if_some_map {A = λ place. after place ≡ h.keys (get_or rest k d).source}
+                {B = λ place. after place ≡ rekeyed h.keys target key
                 (get_or rest k d).source} (get_or rest k d).target
-                (All-tail (λ (l : Move). IfSome l.target (λ place. after place ≡ h.keys l.source)) m rest h.can.moved k d lt)
+                (All-tail (λ (l : Move). IfSome l.target (λ place. after place ≡ h.keys l.source)) m rest
+                h.can.moved k d lt)
                 (λ place e. e ∙ sym (later_key k d lt));
             inside = subst (λ (y : Layout). All (λ (l : Move). IfSome l.target (IsInLayout y)) rest) (sym size.layout)
                 (All-tail (λ (l : Move). IfSome l.target (IsInLayout t.layout)) m rest h.can.inside);
@@ -218,10 +229,12 @@ module _ (before after : KeysOf) (moves : List Move) (m : Move) (rest : List Mov
           lost = λ k d lt none held.
               elim (put_cases (get_or rest k d).source held) [
                 | inl e ↦ later_target k d lt (sym e)
-                | inr other ↦ All-tail (λ (l : Move). l.target ≡ None → HasPlace t l.source → ⊥) m rest h.lost k d lt none
+                | inr other ↦ All-tail (λ (l : Move). l.target ≡ None → HasPlace t l.source → ⊥) m rest h.lost k
+                    d lt none
                     (held_at h.keys t other.0 (get_or rest k d).source other.2)
               ];
-          same = λ k d lt some. later_key k d lt ∙ All-tail (λ (l : Move). IsSome l.target → h.keys l.source ≡ before l.source) m rest h.same k d lt some;
+          same = λ k d lt some. later_key k d lt
+              ∙ All-tail (λ (l : Move). IsSome l.target → h.keys l.source ≡ before l.source) m rest h.same k d lt some;
           size = same_size start t u h.size size;
           ends = λ end k. h.ends end record { index = k.index; places = λ q. k.places q ∙ leads_on q };
         }

@@ -6,7 +6,7 @@ use Rattle.std.proofs.lemmas.Bool.{cases_Bool}
 use Rattle.index.specs.declared.slot.Slot.{Slot}
 use Rattle.index.specs.declared.layout.Layout.{Layout}
 use Rattle.index.specs.Slots.{empty_slot}
-use Rattle.index.specs.Layouts.{Row, row_of, slot_of}
+use Rattle.index.specs.Layouts.{Row, slots_in_row, slot_of}
 
 -- the row of these slots, kept in this layout
 abbrev row_with : Layout → List Slot → Row
@@ -14,12 +14,14 @@ row_with l s = record { slots = s; layout = l }
 
 -- a number written into the list that is used
 pub narrow_set : (l : Layout) (narrow wide : List ℕ) (i w : ℕ) → nat_le l.place_bits 32 ≡ true
-    → row_of l (slice_set narrow i w) wide ≡ record { slots = slice_set (row_of l narrow wide).slots i (slot_of l w); layout = l }
+    → slots_in_row l (slice_set narrow i w) wide
+    ≡ record { slots = slice_set (slots_in_row l narrow wide).slots i (slot_of l w); layout = l }
 narrow_set l narrow wide i w e = rw e (ap (λ (s : List Slot). row_with l s) (map-set (slot_of l) narrow i w))
 
 -- likewise where the list of the wide numbers is the one that is used
 pub wide_set : (l : Layout) (narrow wide : List ℕ) (i w : ℕ) → nat_le l.place_bits 32 ≡ false
-    → row_of l narrow (slice_set wide i w) ≡ record { slots = slice_set (row_of l narrow wide).slots i (slot_of l w); layout = l }
+    → slots_in_row l narrow (slice_set wide i w)
+    ≡ record { slots = slice_set (slots_in_row l narrow wide).slots i (slot_of l w); layout = l }
 wide_set l narrow wide i w e = rw e (ap (λ (s : List Slot). row_with l s) (map-set (slot_of l) wide i w))
 
 -- the number 0 is an empty slot
@@ -33,8 +35,12 @@ zeros_empty l zero = refl
 zeros_empty l (suc n) = rw (zero_empty l, zeros_empty l n) refl
 
 -- a row of zeros alone
-pub cleared : (l : Layout) (narrow wide : List ℕ) (n w : List ℕ) → n ≡ replicate (length narrow) 0 → w ≡ replicate (length wide) 0
-    → row_of l n w ≡ record { slots = replicate (length (row_of l narrow wide).slots) empty_slot; layout = l }
+pub cleared : (l : Layout) (narrow wide : List ℕ) (n w : List ℕ) → n ≡ replicate (length narrow) 0
+    → w ≡ replicate (length wide) 0
+    → slots_in_row l n w ≡ record {
+      slots = replicate (length (slots_in_row l narrow wide).slots) empty_slot;
+      layout = l;
+    }
 cleared l narrow wide n w e f =
     elim (cases_Bool (nat_le l.place_bits 32)) [
       | inl y ↦ rw (y, e, length-map narrow (slot_of l), zeros_empty l (length narrow)) refl
@@ -43,9 +49,10 @@ cleared l narrow wide n w e f =
 
 -- a new row: all of its slots are in the list that is used
 pub made : (l : Layout) (count some : ℕ) (n w : List ℕ) → n ≡ replicate some 0 → w ≡ replicate (count - some) 0
-    → some ≡ (if nat_le l.place_bits 32 then count else 0) → (row_of l n w).slots ≡ replicate count empty_slot
+    → some ≡ (if nat_le l.place_bits 32 then count else 0) → (slots_in_row l n w).slots ≡ replicate count empty_slot
 made l count some n w e f is =
     elim (cases_Bool (nat_le l.place_bits 32)) [
       | inl y ↦ (let s : some ≡ count = rw y at is in rw (y, e, s) (zeros_empty l count))
-      | inr y ↦ (let s : some ≡ 0 = rw y at is in let whole : count - some ≡ count = omega (arith, s) in rw (y, f, whole) (zeros_empty l count))
+      | inr y ↦ (let s : some ≡ 0 = rw y at is in let whole : count - some ≡ count = omega (arith, s) in
+          rw (y, f, whole) (zeros_empty l count))
     ]

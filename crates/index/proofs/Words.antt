@@ -27,7 +27,8 @@ below a b m k h lt = omega (arith, h, lt)
 pub word_below : (l : Layout) (s : Slot) → CanHold l s → word_of l s < word_limit l
 unfolding word_of
 word_below l s c =
-    below ((s.tag - 1) * 2 ^ l.place_bits) (s.segment * 2 ^ l.offset_bits + s.offset / 8 + 1) (2 ^ l.place_bits) (word_limit l) c.tag c.place.number
+    below ((s.tag - 1) * 2 ^ l.place_bits) (s.segment * 2 ^ l.offset_bits + s.offset / 8 + 1) (2 ^ l.place_bits)
+    (word_limit l) c.tag c.place.number
 
 -- slots with equal tags, segments and offsets are equal
 same_slot : (t u g h o p : ℕ) → t ≡ u → g ≡ h → o ≡ p
@@ -53,14 +54,16 @@ word_slot l s c =
     let number = s.segment * offsets + step in
     let word = high * places + (number + 1) in
     let over : word / places ≡ high = div-mul-add high places (number + 1) c.place.number in
-    let under : word % places - 1 ≡ number = ap (λ n. n - 1) (mod-mul-add high places (number + 1) c.place.number) ∙ less_one number in
+    let under : word % places - 1 ≡ number =
+    ap (λ n. n - 1) (mod-mul-add high places (number + 1) c.place.number) ∙ less_one number in
     let segment : (word % places - 1) / offsets % 2 ^ 16 ≡ s.segment = ap (λ n. n / offsets % 2 ^ 16) under
     ∙ ap (λ n. n % 2 ^ 16) (div-mul-add s.segment offsets step c.place.offset) ∙ mod-eq_of_lt c.place.segment in
     let offset : 8 * ((word % places - 1) % offsets) ≡ s.offset = ap (λ n. 8 * (n % offsets)) under
     ∙ ap (λ n. 8 * n) (mod-mul-add s.segment offsets step c.place.offset) ∙ c.place.aligned in
     elim (eqb_tells word 0) [
       | inl y ↦ absurd (let e = y.1 in omega (arith, e))
-      | inr y ↦ rw y.0 (same_slot (word / places + 1) s.tag _ s.segment _ s.offset (ap (λ n. n + 1) over ∙ one_more s.tag c.some) segment offset)
+      | inr y ↦ rw y.0 (same_slot (word / places + 1) s.tag _ s.segment _ s.offset
+          (ap (λ n. n + 1) over ∙ one_more s.tag c.some) segment offset)
     ]
 
 -- of 2^j stretches of m numbers each, counted from 0, every one ends within the whole
@@ -72,7 +75,8 @@ full_row x r j m e lt =
     rw g (omega (arith, h, f, e))
 
 -- the tag of a hash goes into the bits beside a place
-pub tag_room : (l : Layout) (hash : ℕ) → IsLayout l → hash < 2 ^ 64 → (tag_of l hash - 1) * 2 ^ l.place_bits + 2 ^ l.place_bits ≤ word_limit l
+pub tag_room : (l : Layout) (hash : ℕ) → IsLayout l → hash < 2 ^ 64
+    → (tag_of l hash - 1) * 2 ^ l.place_bits + 2 ^ l.place_bits ≤ word_limit l
 unfolding tag_of
 tag_room l hash k lt =
     let upper : hash / 2 ^ 32 < 2 ^ 32 = div_below hash (2 ^ 32) (2 ^ 32) (omega arith) (omega (arith, lt)) in
@@ -83,7 +87,8 @@ tag_room l hash k lt =
           let j = 32 - l.place_bits in
           let sum : j + l.place_bits ≡ 32 = omega (arith, few) in
           let whole : 2 ^ 32 ≡ 2 ^ j * 2 ^ l.place_bits = ap (λ n. 2 ^ n) (sym sum) ∙ pow-add 2 j l.place_bits in
-          let high : hash / 2 ^ 32 / 2 ^ l.place_bits < 2 ^ j = shr_below (hash / 2 ^ 32) j l.place_bits (subst (λ n. hash / 2 ^ 32 < 2 ^ n) (sym sum) upper) in
+          let high : hash / 2 ^ 32 / 2 ^ l.place_bits < 2 ^ j =
+          shr_below (hash / 2 ^ 32) j l.place_bits (subst (λ n. hash / 2 ^ 32 < 2 ^ n) (sym sum) upper) in
           rw y.0 (full_row (hash / 2 ^ 32 / 2 ^ l.place_bits) (2 ^ 32) j (2 ^ l.place_bits) whole high)
       | inr y ↦
           let many = y.1 in
@@ -102,7 +107,8 @@ unfolding tag_of
 some_tag l hash = omega arith
 
 -- a place in the layout may stand in a slot with the tag of a hash
-pub can_hold : (l : Layout) (hash : ℕ) (place : Place) → IsLayout l → hash < 2 ^ 64 → IsInLayout l place → CanHold l (slot_with (tag_of l hash) place)
+pub can_hold : (l : Layout) (hash : ℕ) (place : Place) → IsLayout l → hash < 2 ^ 64 → IsInLayout l place
+    → CanHold l (slot_with (tag_of l hash) place)
 can_hold l hash place k lt inside = record { place = inside; some = some_tag l hash; tag = tag_room l hash k lt }
 
 -- a mask of so many ones leaves what is below
@@ -121,7 +127,8 @@ pub tag_counts : (n k : ℕ) → 1 ≤ k → n < 2 ^ 64 → n / 2 ^ k + 1 < 2 ^ 
 tag_counts n k some lt =
     let two : 2 ^ 1 ≤ 2 ^ k = pow-le-pow_right (omega arith) some in
     let half : n / 2 ^ k < 2 ^ 63 = div_below n (2 ^ k) (2 ^ 63) (pow_pos k)
-    (let h : 2 ^ 63 * 2 ^ 1 ≤ 2 ^ 63 * 2 ^ k = mul-le (2 ^ 63) (2 ^ 1) (2 ^ 63) (2 ^ k) (omega arith) two in omega (arith, h, lt)) in
+    (let h : 2 ^ 63 * 2 ^ 1 ≤ 2 ^ 63 * 2 ^ k = mul-le (2 ^ 63) (2 ^ 1) (2 ^ 63) (2 ^ k) (omega arith) two in
+    omega (arith, h, lt)) in
     omega (arith, half)
 
 -- a shift to the left loses nothing where the number stays below its limit
@@ -130,7 +137,8 @@ shl_kept n k lt = mod-eq_of_lt lt
 
 -- the number of a slot, as shifts make it
 pub word_said : (l : Layout) (s : Slot) → CanHold l s
-    → (s.tag - 1) * 2 ^ l.place_bits % 2 ^ 64 + (s.segment * 2 ^ l.offset_bits % 2 ^ 64 + s.offset / 8 + 1) ≡ word_of l s
+    → (s.tag - 1) * 2 ^ l.place_bits % 2 ^ 64 + (s.segment * 2 ^ l.offset_bits % 2 ^ 64 + s.offset / 8 + 1)
+    ≡ word_of l s
 unfolding word_of
 word_said l s c =
     let limit = limit_whole l in

@@ -12,15 +12,19 @@ use Rattle.index.specs.Table.{Table, IsIndex, HasPlace, IsMap, places}
 -- where the places in the table keep their keys, the table stays an index of the same map
 abbrev pub KeysMayChangeElsewhere : Type 0
 KeysMayChangeElsewhere =
-    (before after : KeysOf) (t : Table) → IsIndex before t → ((p : Place) → HasPlace t p → after p ≡ before p) → IsMap after t (places before t)
+    (before after : KeysOf) (t : Table) → IsIndex before t → ((p : Place) → HasPlace t p → after p ≡ before p)
+    → IsMap after t (places before t)
 
 -- of the places that there are, each is in one slot at most
 abbrev pub EachPlaceOnce : Type 0
 EachPlaceOnce =
-    (keys : KeysOf) (t : Table) (all : List Place) → IsIndex keys t → ((p : Place) → HasPlace t p → Contains all p) → used_in t.slots ≤ length all
+    (keys : KeysOf) (t : Table) (all : List Place) → IsIndex keys t → ((p : Place) → HasPlace t p → Contains all p)
+    → used_in t.slots ≤ length all
 
 -- a table of the live items' places can follow the merge that was planned for them
 abbrev pub PlansCanBeFollowed : Type 0
 PlansCanBeFollowed =
-    (lives : Liveness) (p : PoolState) (plan : Plan) (t : Table) → IsPool p → IsPlan lives p plan → IsPool (carried_out (planned p plan) plan)
-    → IsLayoutOf p.sizes t.layout → IsIndex (key_at p) t → HoldsLive lives p t → CanFollow (key_at (planned p plan)) (keys_behind (planned p plan)) t plan.moves
+    (lives : Liveness) (p : PoolState) (plan : Plan) (t : Table) → IsPool p → IsPlan lives p plan
+    → IsPool (carried_out (planned p plan) plan)
+    → IsLayoutOf p.sizes t.layout → IsIndex (key_at p) t → HoldsLive lives p t
+    → CanFollow (key_at (planned p plan)) (keys_behind (planned p plan)) t plan.moves

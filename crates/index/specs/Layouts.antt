@@ -60,5 +60,8 @@ pub record Row : Type 0 where
   pub slots : List Slot
   pub layout : Layout
 
-abbrev pub row_of : Layout → List ℕ → List ℕ → Row
-row_of l narrow wide = record { slots = map (slot_of l) (if nat_le l.place_bits 32 then narrow else wide); layout = l }
+abbrev pub slots_in_row : Layout → List ℕ → List ℕ → Row
+slots_in_row l narrow wide = record {
+  slots = map (slot_of l) (if nat_le l.place_bits 32 then narrow else wide);
+  layout = l;
+}

@@ -1,6 +1,7 @@
 //! The index.
 
-ghost use Rattle.std.specs.Prelude.{◌≡◌, ◌≢◌, ◌+◌, ◌*◌, ◌<◌, ◌≤◌, List, ℕ, length, IfOk, Some, None, IsTrue, ◌↔◌, IfSome, IsSome, replicate};
+ghost use Rattle.std.specs.Prelude.{◌≡◌, ◌≢◌, ◌+◌, ◌*◌, ◌<◌, ◌≤◌, List, ℕ, length, IfOk, Some, None, IsTrue, ◌↔◌};
+ghost use Rattle.std.specs.Prelude.{IfSome, IsSome, replicate};
 ghost use Rattle.std.specs.FinMap as map;
 ghost use Rattle.segments.specs.declared.place.Place.{Place as Spot};
 ghost use Rattle.segments.specs.Pools.{item_in};
@@ -16,7 +17,7 @@ use crate::layout::Layout;
 use crate::search::{find_key, find_place, first_gap};
 use crate::slot::Slot;
 use crate::slots::Slots;
-use proto::no_memory::NoMemory;
+use proto::NoMemory;
 use segments::{Place, Pool};
 use std::alloc::Global;
 use std::hash::FoldHasher;
@@ -38,7 +39,11 @@ impl Model for Index {
 
     ghost view = { λ a. record { slots = a.slots.slots; hasher = a.hasher; layout = a.slots.layout } };
 
-    ghost invariant = { λ a. AreSlotsCounted (record { slots = a.slots.slots; hasher = a.hasher; layout = a.slots.layout }) a.used };
+    ghost invariant = { λ a. AreSlotsCounted (record {
+      slots = a.slots.slots;
+      hasher = a.hasher;
+      layout = a.slots.layout;
+    }) a.used };
 }
 
 impl Index {

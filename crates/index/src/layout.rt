@@ -4,7 +4,7 @@ ghost use Rattle.std.specs.Prelude.{◌≡◌, ◌<◌, ◌≤◌, ◌^◌, nat_
 ghost use Rattle.index.specs.Layouts.{IsLayout, IsLayoutOf, CanHold, word_limit, tag_shift, tag_of, slot_of, word_of};
 
 use crate::slot::{EMPTY, Slot};
-use proto::geometry::Geometry;
+use proto::Geometry;
 
 /// How many bits an offset takes, counted in eight bytes, and how many a place takes. What these leave of a number's four
 /// bytes is the tag's; where they leave less than nothing, numbers have eight bytes.

@@ -4,13 +4,18 @@
 
 mod closing;
 mod follow;
-pub mod hash;
-pub mod index;
-pub mod keys;
-pub mod laws;
-pub mod layout;
+mod hash;
+mod index;
+mod keys;
+mod laws;
+mod layout;
 mod search;
-pub mod sizing;
-pub mod slot;
-pub mod slots;
-pub mod write;
+mod sizing;
+mod slot;
+mod slots;
+mod writing;
+
+pub use index::Index;
+pub use layout::layout_for;
+pub use sizing::slots_for;
+pub use writing::write;

@@ -4,7 +4,7 @@ ghost use Rattle.std.specs.Prelude.{◌*◌};
 ghost use Rattle.std.specs.Int.{IsNextPowerOfTwo};
 ghost use Rattle.index.specs.Sizing.{most_items};
 
-use proto::geometry::Geometry;
+use proto::Geometry;
 
 /// How many slots the index of a pool of these sizes has, of which the items of a full pool use half at most.
 pub fn slots_for(geometry: Geometry) -> usize

@@ -6,7 +6,7 @@ ghost use Rattle.index.specs.Layouts.{IsLayout, CanHold, slot_of, word_limit};
 
 use crate::layout::Layout;
 use crate::slot::Slot;
-use proto::no_memory::NoMemory;
+use proto::NoMemory;
 use std::alloc::Global;
 use std::marker::Model;
 
@@ -19,11 +19,11 @@ pub struct Slots {
 }
 
 impl Model for Slots {
-    ghost use Rattle.index.specs.Layouts.{Row, row_of, IsLayout};
+    ghost use Rattle.index.specs.Layouts.{Row, slots_in_row, IsLayout};
 
     ghost Value = { Row };
 
-    ghost view = { λ a. row_of a.layout a.narrow.items a.wide.items };
+    ghost view = { λ a. slots_in_row a.layout a.narrow.items a.wide.items };
 
     ghost invariant = { λ a. IsLayout a.layout };
 }

@@ -4,7 +4,7 @@
 
 use anyhow::Result;
 use index_tests::shelf::Shelf;
-use proto::geometry::Geometry;
+use proto::Geometry;
 use std::alloc::Global;
 use std::collections::HashMap;
 use std::env;

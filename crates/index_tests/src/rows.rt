@@ -2,7 +2,7 @@
 
 use crate::shelf::Shelf;
 use crate::small::Small;
-use proto::geometry::Geometry;
+use proto::Geometry;
 use std::collections::BTreeMap;
 use std::test::Fail;
 

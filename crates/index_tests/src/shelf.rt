@@ -1,11 +1,7 @@
 //! A pool and an index of the size that goes with it, as a map from keys to values.
 
-use index::index::Index;
-use index::layout::layout_for;
-use index::sizing::slots_for;
-use index::write::write;
-use proto::geometry::Geometry;
-use proto::no_memory::NoMemory;
+use index::{Index, layout_for, slots_for, write};
+use proto::{Geometry, NoMemory};
 use segments::{ItemRef, LASTING, Pool, size_of};
 use std::alloc::Global;
 use std::marker::Model;

@@ -1,9 +1,7 @@
 //! A pool and an index with few slots.
 
-use index::index::Index;
-use index::layout::layout_for;
-use proto::geometry::Geometry;
-use proto::no_memory::NoMemory;
+use index::{Index, layout_for};
+use proto::{Geometry, NoMemory};
 use segments::{ItemRef, LASTING, Pool, size_of};
 use std::alloc::Global;
 use std::marker::Model;

@@ -1,36 +1,16 @@
 //! A storage thread for which nothing comes.
 
 use exchange::make;
+use exchange_runs::Stopped;
 use parking::ParkingWord;
 use plain_store::Store;
-use proto::geometry::Geometry;
+use proto::Geometry;
 use std::alloc::Global;
 use std::sync::Wait;
 use std::thread::Threads;
 use std::time::Duration;
 use std::{thread, time};
-use storage_thread::clock::Clock;
-use storage_thread::serving::run_storage;
-
-/// Answers 0 always.
-#[derive(Drop)]
-struct Stopped;
-
-impl Clock for Stopped {
-    ghost use Rattle.std.specs.Prelude.{⊤, None};
-
-    ghost told = { λ _. None };
-
-    ghost leads_to = { λ _ _. ⊤ };
-
-    ghost leads_reflexive = { λ _. tt };
-
-    ghost leads_transitive = { λ _ _ _ _ _. tt };
-
-    fn now(&mut self) -> u64 {
-        0
-    }
-}
+use storage_thread::run_storage;
 
 /// Lets the storage thread wait so many seconds for a worker that posts nothing.
 pub fn wait<R: Threads + Wait + time::Clock + Sync>(

@@ -56,9 +56,9 @@ fn measure<R: Threads + Wait + time::Clock + Sync + AllocGlobal>(
         window,
         kept: false,
     };
-    let lanes = run_lanes(rt, rt.alloc(), workers, load).map(|run| run.elapsed);
-    let batches = run_batches(rt, rt.alloc(), workers, load).map(|run| run.elapsed);
-    let queues = run_queues(rt, rt.alloc(), workers, load).map(|run| run.elapsed);
+    let lanes = run_lanes(rt, rt.alloc(), workers, load).and_then(|run| run.elapsed);
+    let batches = run_batches(rt, rt.alloc(), workers, load).and_then(|run| run.elapsed);
+    let queues = run_queues(rt, rt.alloc(), workers, load).and_then(|run| run.elapsed);
     (
         per_second(requests, lanes),
         per_second(requests, batches),

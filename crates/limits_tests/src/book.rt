@@ -1,11 +1,7 @@
 //! Where a book stops, and one step before.
 
-use proto::history::Answered;
-use proto::hits::{HitRef, HitWriter};
-use proto::message::{Reply, Request};
-use proto::room::Room;
-use session_book::book::Book;
-use session_book::causes::{FeedFault, Settled};
+use proto::{Answered, HitRef, HitWriter, Reply, Request, Room};
+use session_book::{Book, FeedFault, Settled};
 use std::alloc::Global;
 use std::process::Abort;
 use std::test::Fail;

@@ -2,7 +2,7 @@
 
 use gates::HoldGate;
 use std::process::Abort;
-use worker::gate::Gate;
+use worker::Gate;
 
 /// The answer that is told, by worker and number; the worker whose request 2 comes then; whether it passes.
 const ROWS: [(usize, u64, usize, bool); 12] = [

@@ -6,11 +6,11 @@ use bytes::Bytes;
 use gates::OpenGate;
 use group::{Config, run_group};
 use plain_store::Store;
-use proto::geometry::Geometry;
+use proto::Geometry;
 use std::test::Fail;
 use std::thread;
 use std::time::{Clock, Duration, Instant};
-use worker::port::{Gone, Port, PortEvent};
+use worker::{Gone, Port, PortEvent};
 
 /// How many requests come.
 const REQUESTS: usize = 200;

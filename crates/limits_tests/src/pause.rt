@@ -5,12 +5,12 @@ ghost use Rattle.worker.specs.Ports.{IsOpenIn};
 ghost use Rattle.script_port.specs.States.{story_told};
 
 use bytes::Bytes;
-use script::event::ScriptEvent;
-use script_port::port::ScriptPort;
+use script::ScriptEvent;
+use script_port::ScriptPort;
 use std::alloc::Global;
 use std::process::Abort;
 use std::test::Fail;
-use worker::port::{Port, PortEvent};
+use worker::{Port, PortEvent};
 
 fn is_next(rt: &impl Abort, port: &mut ScriptPort, wanted: &str) {
     let event = port.next(false);

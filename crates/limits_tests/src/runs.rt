@@ -4,21 +4,19 @@ use crate::serving::serve;
 use crate::talk::{Shape, Talk, script_of, talk_of};
 use gates::OpenGate;
 use plain_store::Store;
-use proto::geometry::Geometry;
-use script::clock::ScriptClock;
-use script::reader::read_script;
-use script::worker_script::WorkerScript;
-use script_port::port::ScriptPort;
-use session_book::causes::EndCause;
+use proto::Geometry;
+use script::{ScriptClock, WorkerScript, read_script};
+use script_port::ScriptPort;
+use session_book::EndCause;
 use std::alloc::Global;
 use std::process::Abort;
 use std::sync::Wait;
 use std::test::Fail;
 use std::thread::Threads;
 use std::time;
-use storage_thread::clock::Clock;
-use straight::replay::replay_straight;
-use worker::report::WorkerReport;
+use storage_thread::Clock;
+use straight::replay_straight;
+use worker::WorkerReport;
 
 /// The size and the number of a store's segments; and the bytes of a value, how many keys stand in a line that asks
 /// for it, and how many such lines there are.

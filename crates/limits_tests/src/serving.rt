@@ -9,17 +9,14 @@ use crate::runs::SteadyClock;
 use exchange::{StorageEnd, WorkerEnd, make};
 use parking::ParkingWord;
 use plain_store::Store;
-use proto::geometry::Geometry;
+use proto::Geometry;
 use std::alloc::Global;
 use std::process::Abort;
 use std::sync::{Arc, Wait};
 use std::thread::Threads;
 use std::{thread, time};
-use storage_thread::serving::{StorageReport, run_storage};
-use worker::gate::Gate;
-use worker::port::Port;
-use worker::report::WorkerReport;
-use worker::run::run_worker;
+use storage_thread::{StorageReport, run_storage};
+use worker::{Gate, Port, WorkerReport, run_worker};
 
 /// The ends of an exchange of one worker, and an empty store.
 fn made<R: Abort>(rt: &R, alloc: Global, geometry: Geometry) -> (WorkerEnd, StorageEnd, Store)
@@ -53,7 +50,8 @@ where
     let child = thread::spawn(
         rt,
         move || -> StorageReport<SteadyClock>
-            requires { (store.cache ≡ empty_cache 0) × (store.moment ≡ 0) × (store.sizes ≡ storage_end.geometry) × IsUnused storage_end }
+            requires { (store.cache ≡ empty_cache 0) × (store.moment ≡ 0) × (store.sizes ≡ storage_end.geometry)
+                × IsUnused storage_end }
         { run_storage(&handle, store, SteadyClock, storage_end, &of_storage) },
     )
     .expect(rt, "a thread");

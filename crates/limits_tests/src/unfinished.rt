@@ -3,8 +3,8 @@
 use crate::serving::serve;
 use crate::talk::{Shape, talk_of};
 use bytes::Bytes;
-use proto::geometry::Geometry;
-use session_book::causes::EndCause;
+use proto::Geometry;
+use session_book::EndCause;
 use std::alloc::Global;
 use std::collections::VecDeque;
 use std::process::Abort;
@@ -13,8 +13,7 @@ use std::sync::atomic::{AtomicU64, Ordering};
 use std::test::Fail;
 use std::thread::Threads;
 use std::time::Clock;
-use worker::gate::Gate;
-use worker::port::{Gone, Port, PortEvent};
+use worker::{Gate, Gone, Port, PortEvent};
 
 /// The most bytes of one piece.
 const MAX_PIECE: usize = 16_384;

@@ -13,7 +13,7 @@ use std::alloc::Global;
 use std::net::Net;
 use std::sync::Wait;
 use std::time::{Clock, Duration};
-use worker::port::{Gone, Port, PortEvent};
+use worker::{Gone, Port, PortEvent};
 
 /// Events of one poll.
 const EVENTS: usize = 256;
@@ -150,7 +150,8 @@ impl<R: Wait + Clock + Drop> MioPort<R> {
 
     // An event that needs no poll: streams that wait in the hand come before what can be read.
     fn known_event(&mut self, may_wait: bool) -> Option<PortEvent>
-        ensures { MatchOption result (self.new.streams.last ≡ self.old.streams.last) (λ event. IsNextEvent self.old.streams.last self.new.streams.last event) }
+        ensures { MatchOption result (self.new.streams.last
+            ≡ self.old.streams.last) (λ event. IsNextEvent self.old.streams.last self.new.streams.last event) }
     {
         if let Some(event) = self.open_next() {
             return Some(event);
@@ -181,7 +182,8 @@ impl<R: Wait + Clock + Drop> MioPort<R> {
     }
 
     fn open_next(&mut self) -> Option<PortEvent>
-        ensures { MatchOption result (self.new.streams.last ≡ self.old.streams.last) (λ event. IsNextEvent self.old.streams.last self.new.streams.last event) }
+        ensures { MatchOption result (self.new.streams.last
+            ≡ self.old.streams.last) (λ event. IsNextEvent self.old.streams.last self.new.streams.last event) }
     {
         for _ in 0..EVENTS {
             if self.streams.is_full() {
@@ -196,7 +198,8 @@ impl<R: Wait + Clock + Drop> MioPort<R> {
     }
 
     fn read_ready(&mut self) -> Option<PortEvent>
-        ensures { MatchOption result (self.new.streams.last ≡ self.old.streams.last) (λ event. IsNextEvent self.old.streams.last self.new.streams.last event) }
+        ensures { MatchOption result (self.new.streams.last
+            ≡ self.old.streams.last) (λ event. IsNextEvent self.old.streams.last self.new.streams.last event) }
     {
         for _ in 0..EVENTS {
             let number = self.streams.next_ready()?;

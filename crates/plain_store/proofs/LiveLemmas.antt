@@ -14,6 +14,7 @@ use Rattle.std.proofs.lemmas.Slice.Eq.{bytes_eq-Decides}
 use Rattle.proto.specs.Cache.{Entry, no_entries, is_live, live}
 use Rattle.proto.proofs.CacheLemmas.{same_entries, get-insert, get-remove, get-no_entries, if_live, get-live}
 use Rattle.plain_store.specs.Live.{entries_of}
+use Rattle.proto.proofs.StepLemmas.{live-empty}
 
 -- keys that are byte vectors, in order
 abbrev key_cmp : Vec ℕ Global → Vec ℕ Global → Ordering
@@ -32,7 +33,8 @@ find-pairs (p ∷ pairs) q = ap (cond (is_eq (slice_cmp nat_cmp q p.0.items)) (S
 -- and so is what a map's pairs have for it
 pub get-entries_of : (pairs : List (Vec ℕ Global × Entry)) (q : List ℕ)
     → finite.get (entries_of pairs) q ≡ lookup (is_at (compare_to q)) pairs
-get-entries_of pairs q = finite.get-from_entries nat_list_cmp_total (map (λ p. (p.0.items, p.1)) pairs) q ∙ find-pairs pairs q
+get-entries_of pairs q = finite.get-from_entries nat_list_cmp_total (map (λ p. (p.0.items, p.1)) pairs) q
+    ∙ find-pairs pairs q
 
 -- what is live at a key
 pub get-live_of : (pairs : List (Vec ℕ Global × Entry)) (t : ℕ) (q : List ℕ)
@@ -51,42 +53,47 @@ if_live-dead t e gone = rw gone refl
 
 -- a key with a live entry is in the live entries
 pub live_where_live : (pairs : List (Vec ℕ Global × Entry)) (t : ℕ) (q : List ℕ) (e : Entry)
-    → Some e ≡ lookup (is_at (compare_to q)) pairs → is_live e t ≡ true → Some e ≡ finite.get (live (entries_of pairs) t) q
-live_where_live pairs t q e found waits = sym (get-live_of pairs t q ∙ ap (if_live t) (sym found) ∙ if_live-live t e waits)
+    → Some e ≡ lookup (is_at (compare_to q)) pairs → is_live e t ≡ true
+    → Some e ≡ finite.get (live (entries_of pairs) t) q
+live_where_live pairs t q e found waits =
+    sym (get-live_of pairs t q ∙ ap (if_live t) (sym found) ∙ if_live-live t e waits)
 
 -- one whose entry isn't live is not
 pub live_where_dead : (pairs : List (Vec ℕ Global × Entry)) (t : ℕ) (q : List ℕ) (e : Entry)
-    → Some e ≡ lookup (is_at (compare_to q)) pairs → is_live e t ≡ false → None ≡ finite.get (live (entries_of pairs) t) q
-live_where_dead pairs t q e found gone = sym (get-live_of pairs t q ∙ ap (if_live t) (sym found) ∙ if_live-dead t e gone)
+    → Some e ≡ lookup (is_at (compare_to q)) pairs → is_live e t ≡ false
+    → None ≡ finite.get (live (entries_of pairs) t) q
+live_where_dead pairs t q e found gone =
+    sym (get-live_of pairs t q ∙ ap (if_live t) (sym found) ∙ if_live-dead t e gone)
 
 -- nor is one without an entry
 pub live_where_none : (pairs : List (Vec ℕ Global × Entry)) (t : ℕ) (q : List ℕ)
     → None ≡ lookup (is_at (compare_to q)) pairs → None ≡ finite.get (live (entries_of pairs) t) q
 live_where_none pairs t q none = sym (get-live_of pairs t q ∙ ap (if_live t) (sym none))
 
--- of no entries none is live
-pub live-no_entries : (t : ℕ) → live no_entries t ≡ no_entries
-live-no_entries t = same_entries _ _ (λ q. get-live no_entries t q ∙ ap (if_live t) (get-no_entries q) ∙ sym (get-no_entries q))
-
 -- and none of no pairs
 pub live-of-nil : (pairs : List (Vec ℕ Global × Entry)) (t : ℕ) → pairs ≡ [] → live (entries_of pairs) t ≡ no_entries
-live-of-nil pairs t empty = ap (λ (ps : List (Vec ℕ Global × Entry)). live (entries_of ps) t) empty ∙ live-no_entries t
+live-of-nil pairs t empty = ap (λ (ps : List (Vec ℕ Global × Entry)). live (entries_of ps) t) empty ∙ live-empty t
 
 -- ---- a change at one key
 
 -- two keys that differ don't both compare equal with a third
-apart : (bs cs ks : List ℕ) → bytes_eq bs cs ≡ false → is_eq (slice_cmp nat_cmp bs ks) ≡ true → is_eq (slice_cmp nat_cmp cs ks) ≡ false
+apart : (bs cs ks : List ℕ) → bytes_eq bs cs ≡ false → is_eq (slice_cmp nat_cmp bs ks) ≡ true
+    → is_eq (slice_cmp nat_cmp cs ks) ≡ false
 apart bs cs ks other here =
-    is_eq-slice_cmp cs ks ∙ nat_list_eq_equiv.symm cs ks ∙ sym (nat_list_eq_equiv.congr bs ks cs (sym (is_eq-slice_cmp bs ks) ∙ here)) ∙ other
+    is_eq-slice_cmp cs ks ∙ nat_list_eq_equiv.symm cs ks
+    ∙ sym (nat_list_eq_equiv.congr bs ks cs (sym (is_eq-slice_cmp bs ks) ∙ here)) ∙ other
 
 -- what a change at one key leaves of the others
-keeps_others : (test : Vec ℕ Global → Bool) (old new : List (Vec ℕ Global × Entry)) → KeepsOthers (eq_by_cmp key_cmp) test old new
-    → (other : Vec ℕ Global → Bool) → IsKeyTest (eq_by_cmp key_cmp) other → AreApart test other → lookup other new ≡ lookup other old
+keeps_others : (test : Vec ℕ Global → Bool) (old new : List (Vec ℕ Global × Entry))
+    → KeepsOthers (eq_by_cmp key_cmp) test old new
+    → (other : Vec ℕ Global → Bool) → IsKeyTest (eq_by_cmp key_cmp) other → AreApart test other
+    → lookup other new ≡ lookup other old
 unfolding KeepsOthers
 keeps_others test old new h = h
 
 -- a map that was changed at one key, as entries
-updated : (bytes : List ℕ) (m n : BTreeMap (Vec ℕ Global) Entry) (w : Option Entry) → UpdatesBy key_cmp (compare_to bytes) m n w
+updated : (bytes : List ℕ) (m n : BTreeMap (Vec ℕ Global) Entry) (w : Option Entry)
+    → UpdatesBy key_cmp (compare_to bytes) m n w
     → (q : List ℕ) → get_by (compare_to q) n ≡ cond (bytes_eq q bytes) w (get_by (compare_to q) m)
 updated bytes m n w h q =
     elim (cases_Bool (bytes_eq q bytes)) [
@@ -95,7 +102,8 @@ updated bytes m n w h q =
           rw same (ap (λ (b : List ℕ). get_by (compare_to b) n) q-is ∙ h.1)
       | inr other ↦
           let turned : bytes_eq bytes q ≡ false = nat_list_eq_equiv.symm bytes q ∙ other in
-          rw other (keeps_others _ _ _ h.3 (is_at (compare_to q)) (λ x y. (eq_by_cmp_equiv nat_list_cmp_total).congr q x.items y.items)
+          rw other (keeps_others _ _ _ h.3 (is_at (compare_to q))
+          (λ x y. (eq_by_cmp_equiv nat_list_cmp_total).congr q x.items y.items)
           (λ k. apart bytes q k.items turned))
     ]
 
@@ -105,8 +113,10 @@ if_live-cond t true v w = refl
 if_live-cond t false v w = refl
 
 -- the live entries of a map that was changed at one key
-live-updated : (t : ℕ) (bytes : List ℕ) (m n : BTreeMap (Vec ℕ Global) Entry) (w : Option Entry) → UpdatesBy key_cmp (compare_to bytes) m n w
-    → (q : List ℕ) → finite.get (live (entries_of n.entries) t) q ≡ cond (bytes_eq q bytes) (if_live t w) (finite.get (live (entries_of m.entries) t) q)
+live-updated : (t : ℕ) (bytes : List ℕ) (m n : BTreeMap (Vec ℕ Global) Entry) (w : Option Entry)
+    → UpdatesBy key_cmp (compare_to bytes) m n w
+    → (q : List ℕ) → finite.get (live (entries_of n.entries) t) q
+    ≡ cond (bytes_eq q bytes) (if_live t w) (finite.get (live (entries_of m.entries) t) q)
 live-updated t bytes m n w h q =
     get-live_of n.entries t q
     ∙ ap (if_live t) (updated bytes m n w h q)
@@ -119,10 +129,13 @@ pub live-insert : (t : ℕ) (bytes : List ℕ) (m n : BTreeMap (Vec ℕ Global) 
     → live (entries_of n.entries) t ≡ finite.insert (live (entries_of m.entries) t) bytes e
 live-insert t bytes m n e waits h =
     same_entries _ _ (λ q. live-updated t bytes m n (Some e) h q
-    ∙ ap (λ (v : Option Entry). cond (bytes_eq q bytes) v (finite.get (live (entries_of m.entries) t) q)) (if_live-live t e waits)
+    ∙ ap (λ (v : Option Entry). cond (bytes_eq q bytes) v (finite.get (live (entries_of m.entries) t) q))
+    (if_live-live t e waits)
     ∙ sym (get-insert (live (entries_of m.entries) t) bytes e q))
 
 -- an entry, live or not, was taken out
-pub live-remove : (t : ℕ) (bytes : List ℕ) (m n : BTreeMap (Vec ℕ Global) Entry) → UpdatesBy key_cmp (compare_to bytes) m n None
+pub live-remove : (t : ℕ) (bytes : List ℕ) (m n : BTreeMap (Vec ℕ Global) Entry)
+    → UpdatesBy key_cmp (compare_to bytes) m n None
     → live (entries_of n.entries) t ≡ finite.remove (live (entries_of m.entries) t) bytes
-live-remove t bytes m n h = same_entries _ _ (λ q. live-updated t bytes m n None h q ∙ sym (get-remove (live (entries_of m.entries) t) bytes q))
+live-remove t bytes m n h = same_entries _ _
+    (λ q. live-updated t bytes m n None h q ∙ sym (get-remove (live (entries_of m.entries) t) bytes q))

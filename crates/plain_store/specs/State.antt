@@ -15,7 +15,8 @@ pub record State : Type 0 where
   pub moment : ℕ
 
 abbrev pub sizes_code : Coded Sizes
-sizes_code = code_by (ℕ × ℕ) (coded× coded_ℕ coded_ℕ) (λ s. (s.segment_size, s.segments)) (λ p. sizes_of p.0 p.1) (λ _. refl)
+sizes_code = code_by (ℕ × ℕ) (coded× coded_ℕ coded_ℕ) (λ s. (s.segment_size, s.segments)) (λ p. sizes_of p.0 p.1)
+    (λ _. refl)
 
 abbrev pub state_code : Coded State
 state_code =

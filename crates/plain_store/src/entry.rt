@@ -3,8 +3,8 @@
 ghost use Rattle.std.specs.Prelude.{◌≡◌, List, ℕ, Option, Some, None};
 ghost use Rattle.proto.specs.Cache.{is_live};
 
-use engine::deadline::has_arrived;
-use proto::byte_string::ByteString;
+use engine::has_arrived;
+use proto::ByteString;
 use std::marker::Model;
 
 /// What a cache has at a key.

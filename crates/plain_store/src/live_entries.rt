@@ -6,7 +6,7 @@ ghost use Rattle.std.specs.FinMap as map;
 ghost use Rattle.proto.specs.Cache.{no_entries, live, has_arrived};
 
 use crate::entry::Entry;
-use proto::no_memory::NoMemory;
+use proto::NoMemory;
 use std::alloc::Global;
 use std::collections::BTreeMap;
 use std::marker::Model;

@@ -2,13 +2,12 @@
 
 ghost use Rattle.std.specs.Prelude.{◌≡◌, ⊤, true};
 ghost use Rattle.proto.specs.Cache.{no_entries};
+ghost use Rattle.engine.specs.Shown.{entry_of};
 
 use crate::entry::Entry;
 use crate::live_entries::LiveEntries;
 use engine::{EntryRef, LiveMap};
-use proto::byte_string::ByteString;
-use proto::geometry::Geometry;
-use proto::no_memory::NoMemory;
+use proto::{ByteString, Geometry, NoMemory};
 use std::alloc::Global;
 
 /// A plain map of live entries. It is there to be compared with.
@@ -31,6 +30,18 @@ impl PlainMap {
             geometry,
             live: LiveEntries::new(alloc),
         }
+    }
+}
+
+/// The entry, lent.
+fn lent(entry: &Entry) -> EntryRef<'_>
+    ensures { entry_of result ≡ entry.now }
+{
+    EntryRef {
+        value: entry.value(),
+        flags: entry.flags(),
+        deadline: entry.deadline(),
+        cas: entry.cas(),
     }
 }
 
@@ -71,16 +82,11 @@ impl LiveMap for PlainMap {
     }
 
     fn get<'a>(&'a self, key: &[u8]) -> Option<(EntryRef<'a>, ())> {
-        let entry = self.live.get(key)?;
-        Some((
-            EntryRef {
-                value: entry.value(),
-                flags: entry.flags(),
-                deadline: entry.deadline(),
-                cas: entry.cas(),
-            },
-            (),
-        ))
+        Some((lent(self.live.get(key)?), ()))
+    }
+
+    fn entry_at<'a>(&'a self, key: &[u8], _place: ()) -> EntryRef<'a> {
+        lent(self.live.get(key).unwrap())
     }
 
     fn contains_key(&self, key: &[u8]) -> bool {

@@ -10,8 +10,7 @@ ghost use Rattle.plain_store.specs.Plain.{IsPlain};
 
 use crate::plain_map::PlainMap;
 use engine::{Engine, StorageEngine};
-use proto::geometry::Geometry;
-use proto::message::{Reply, Request};
+use proto::{Geometry, Reply, Request};
 use std::alloc::Global;
 use std::marker::Model;
 
@@ -78,7 +77,8 @@ impl Store {
 
         // where memory was refused, what was found stays; and only what stores or shows something needs any
         ensures refused { result ≡ Reply.NoMemory → self.new.cache ≡ found_at self.old.cache now }
-        ensures succeeds { needs_memory true (outcome_at self.old.sizes self.old.cache now request.old) ≡ false → result ≢ Reply.NoMemory }
+        ensures succeeds { needs_memory true (outcome_at self.old.sizes self.old.cache now request.old) ≡ false
+            → result ≢ Reply.NoMemory }
         ensures kept { KeepsAll (λ (s : State). s.sizes) (λ (s : State). s.cache) (λ (s : State) items. ⊤) self.old now request.old result self.new }
     {
         self.engine.execute_at(now, request)

@@ -21,7 +21,8 @@ use Rattle.proto.proofs.WordLists.{some_words, first_word-words_of, words_of_one
 -- ---- the first word
 
 -- the same of the words under another name
-parts_of : (line : List ℕ) (words : List (List ℕ)) → words_of line ≡ words → (args : List (List ℕ)) × (words_of line ≡ first_word line ∷ args)
+parts_of : (line : List ℕ) (words : List (List ℕ)) → words_of line ≡ words
+    → (args : List (List ℕ)) × (words_of line ≡ first_word line ∷ args)
 parts_of line [] e = let some = some_words line in let none = ap length e in absurd (omega (arith, some, none))
 parts_of line (word ∷ args) e = (args, e ∙ ap (λ (w : List ℕ). w ∷ args) (sym (first_word-words_of line word args e)))
 
@@ -30,7 +31,8 @@ pub words_parts : (line : List ℕ) → (args : List (List ℕ)) × (words_of li
 words_parts line = parts_of line (words_of line) refl
 
 -- nothing is taken where the first word isn't read
-pub taken_none : {A : Type 0} (read : List ℕ → Option A) (line : List ℕ) → read (first_word line) ≡ None → None ≡ taken read (words_of line)
+pub taken_none : {A : Type 0} (read : List ℕ → Option A) (line : List ℕ) → read (first_word line) ≡ None
+    → None ≡ taken read (words_of line)
 taken_none read line e = let parts = words_parts line in rw (parts.1, e) refl
 
 -- what the first word is read as is taken
@@ -48,7 +50,8 @@ first_word_space : (c : ℕ) (line : List ℕ) → is_space c ≡ true → first
 first_word_space c line here = rw here refl
 
 -- as many bytes pass in front of a line as in front of its first word, where a space doesn't pass
-pub prefix_first : (p : ℕ → Bool) → p space ≡ false → (line : List ℕ) → prefix_len p line ≡ prefix_len p (first_word line)
+pub prefix_first : (p : ℕ → Bool) → p space ≡ false → (line : List ℕ)
+    → prefix_len p line ≡ prefix_len p (first_word line)
 prefix_first p stops [] = refl
 prefix_first p stops (c ∷ line) =
     elim (cases_Bool (is_space c)) [
@@ -76,7 +79,8 @@ take_first p stops (c ∷ line) =
           rw (first_word_space c line here, fails) refl
       | inr other ↦
           rw (first_word_cons c line other)
-          (taken_cons c line (first_word line) (prefix_len p line) (prefix_len p (first_word line)) (p c) (take_first p stops line))
+          (taken_cons c line (first_word line) (prefix_len p line) (prefix_len p (first_word line)) (p c)
+          (take_first p stops line))
     ]
 
 -- the bytes in front that pass all pass
@@ -99,7 +103,8 @@ full_prefix p (x ∷ xs) h =
 -- ---- the end of a word
 
 -- the words of a line with a word in front and nothing behind it
-pub front_alone : (line front behind : List ℕ) (n : ℕ) → IsWord (take n line) → front ≡ take n line → behind ≡ drop n line → length behind ≡ 0
+pub front_alone : (line front behind : List ℕ) (n : ℕ) → IsWord (take n line) → front ≡ take n line
+    → behind ≡ drop n line → length behind ≡ 0
     → (front ≡ take n line) × (words_of line ≡ front ∷ [])
 front_alone line front [] n word front-is behind-is none =
     let whole : line ≡ take n line = sym (take-append-drop n line) ∙ rw (← behind-is) (append-nil (take n line)) in
@@ -112,11 +117,13 @@ pub front_spaced : (line front behind rest : List ℕ) (n c : ℕ) → IsWord (t
     → (front ≡ take n line) × (words_of line ≡ front ∷ words_of rest)
 front_spaced line front behind rest n c word front-is behind-is parts space-is =
     let whole : line ≡ take n line ++ 32 ∷ rest =
-    sym (take-append-drop n line) ∙ ap (λ (b : List ℕ). take n line ++ b) (sym behind-is ∙ parts ∙ ap (λ (x : ℕ). x ∷ rest) space-is) in
+    sym (take-append-drop n line) ∙ ap (λ (b : List ℕ). take n line ++ b)
+    (sym behind-is ∙ parts ∙ ap (λ (x : ℕ). x ∷ rest) space-is) in
     (front-is, rw front-is (ap words_of whole ∙ words_of_more (take n line) rest word))
 
 -- a first word is longer than a front of it
-longer : (front rest : List ℕ) (c : ℕ) → IsWord front → is_space c ≡ false → length front < length (first_word (front ++ c ∷ rest))
+longer : (front rest : List ℕ) (c : ℕ) → IsWord front → is_space c ≡ false
+    → length front < length (first_word (front ++ c ∷ rest))
 longer [] rest c word other = let more = first_word_cons c rest other in rw more (omega arith)
 longer (x ∷ front) rest c word other =
     let parts = or_parts (is_space x) (list_any is_space front) word in
@@ -129,7 +136,8 @@ pub front_longer : (line behind rest : List ℕ) (n c : ℕ) → n ≤ length li
     → behind ≡ c ∷ rest → (c ≡ 32 → ⊥)
     → n < length (first_word line)
 front_longer line behind rest n c within word behind-is parts other =
-    let whole : line ≡ take n line ++ c ∷ rest = sym (take-append-drop n line) ∙ ap (λ (b : List ℕ). take n line ++ b) (sym behind-is ∙ parts) in
+    let whole : line ≡ take n line ++ c ∷ rest =
+    sym (take-append-drop n line) ∙ ap (λ (b : List ℕ). take n line ++ b) (sym behind-is ∙ parts) in
     let len : length (take n line) ≡ n = length-take-le n line within in
     let more = longer (take n line) rest c word (ne_eqb c 32 other) in
     let same = ap (λ (l : List ℕ). length (first_word l)) whole in
@@ -139,14 +147,16 @@ front_longer line behind rest n c within word behind-is parts other =
 
 -- a first word that is a key is as long as the bytes in front that a key may have
 pub key_is : (line : List ℕ) → is_key (first_word line) ≡ true
-    → (prefix_len is_key_byte line ≡ length (first_word line)) × (1 ≤ prefix_len is_key_byte line) × (prefix_len is_key_byte line ≤ 250)
+    → (prefix_len is_key_byte line ≡ length (first_word line)) × (1 ≤ prefix_len is_key_byte line)
+    × (prefix_len is_key_byte line ≤ 250)
 key_is line h =
     let word = first_word line in
     let outer = and_parts (nat_le 1 (length word) && nat_le (length word) 250) (list_all is_key_byte word) h in
     let inner = and_parts (nat_le 1 (length word)) (nat_le (length word) 250) outer.0 in
     let low = leb-true 1 (length word) inner.0 in
     let high = leb-true (length word) 250 inner.1 in
-    let whole : prefix_len is_key_byte line ≡ length word = prefix_first is_key_byte refl line ∙ full_prefix is_key_byte word outer.1 in
+    let whole : prefix_len is_key_byte line ≡ length word =
+    prefix_first is_key_byte refl line ∙ full_prefix is_key_byte word outer.1 in
     (whole, omega (arith, low, whole), omega (arith, high, whole))
 
 -- a word that is no key is not read as one
@@ -159,11 +169,17 @@ pub no_key : (line : List ℕ) → (is_key (first_word line) ≡ true → ⊥) �
 no_key line never = taken_none key_in line (no_key_by (first_word line) (is_key (first_word line)) refl (λ e. never e))
 
 -- bytes that a key may have are one
-pub is_key_front : (line : List ℕ) → 1 ≤ prefix_len is_key_byte line → prefix_len is_key_byte line ≤ 250 → is_key (take_while is_key_byte line) ≡ true
+pub is_key_front : (line : List ℕ) → 1 ≤ prefix_len is_key_byte line → prefix_len is_key_byte line ≤ 250
+    → is_key (take_while is_key_byte line) ≡ true
 is_key_front line low high =
     let len : length (take_while is_key_byte line) ≡ prefix_len is_key_byte line =
     length-take-le (prefix_len is_key_byte line) line (prefix_len-le-length is_key_byte line) in
-    rw (len, le-leb 1 (prefix_len is_key_byte line) low, le-leb (prefix_len is_key_byte line) 250 high, all_prefix is_key_byte line) refl
+    rw (
+      len,
+      le-leb 1 (prefix_len is_key_byte line) low,
+      le-leb (prefix_len is_key_byte line) 250 high,
+      all_prefix is_key_byte line,
+    ) refl
 
 -- bytes that a key may have are no spaces
 pub key_front_word : (line : List ℕ) → IsWord (take_while is_key_byte line)
@@ -222,7 +238,8 @@ pub plain_number : (bound : ℕ) (ds : List ℕ) → bound ≤ 2 ^ 64 → AllDig
     → (get_or ds 0 0 ≡ 48 → length ds ≡ 1) → digits_value 10 ds < bound
     → Some (digits_value 10 ds) ≡ number_in bound ds
 plain_number bound ds small digits some plain below =
-    number_in_some bound (digits_value 10 ds) ds (omega arith) below (sym (decimal-digits_value own ds digits some plain (omega arith)))
+    number_in_some bound (digits_value 10 ds) ds (omega arith) below
+    (sym (decimal-digits_value own ds digits some plain (omega arith)))
 
 -- the same of digits that were read from the front
 pub read_plain : (most n : ℕ) (ds : List ℕ) → most < 2 ^ 64 → AllDigits 10 ds → n ≡ digits_value 10 ds → n ≤ most
@@ -255,7 +272,8 @@ decimal_plain ds n below e =
     let numeral = decimal_is_IsNumeral_wide n (omega arith) in
     let all : list_all is_ascii_digit ds ≡ true = ap (list_all is_ascii_digit) e ∙ digits_all (decimal n) numeral.0.1 in
     let whole = full_prefix is_ascii_digit ds all in
-    let same : take_while is_ascii_digit ds ≡ ds = ap (λ (k : ℕ). take k ds) whole ∙ take_all (length ds) ds (omega arith) in
+    let same : take_while is_ascii_digit ds ≡ ds =
+    ap (λ (k : ℕ). take k ds) whole ∙ take_all (length ds) ds (omega arith) in
     record {
       whole = whole;
       value = ap (digits_value 10) (same ∙ e) ∙ numeral.1;
@@ -264,32 +282,39 @@ decimal_plain ds n below e =
     }
 
 -- nothing is taken where the first word is the plain decimal of no number below the bound
-pub no_number : (bound : ℕ) (line : List ℕ) → ((n : ℕ) → n < bound → first_word line ≡ decimal n → ⊥) → None ≡ taken (number_in bound) (words_of line)
+pub no_number : (bound : ℕ) (line : List ℕ) → ((n : ℕ) → n < bound → first_word line ≡ decimal n → ⊥)
+    → None ≡ taken (number_in bound) (words_of line)
 no_number bound line never = taken_none (number_in bound) line (sym (number_in_none bound (first_word line) never))
 
 -- the digits in front of a line whose first word is a plain decimal
 pub first_plain : (line : List ℕ) (n : ℕ) → n < 2 ^ 64 → first_word line ≡ decimal n
-    → (prefix_len is_ascii_digit line ≡ length (first_word line)) × (digits_value 10 (take_while is_ascii_digit line) ≡ n) × IsPlainOf (first_word line) n
+    → (prefix_len is_ascii_digit line ≡ length (first_word line))
+    × (digits_value 10 (take_while is_ascii_digit line) ≡ n) × IsPlainOf (first_word line) n
 first_plain line n below e =
-    let plain = decimal_plain (first_word line) n below e in
-    (prefix_first is_ascii_digit refl line ∙ plain.whole, ap (digits_value 10) (take_first is_ascii_digit refl line) ∙ plain.value, plain)
+    let plain = decimal_plain (first_word line) n below e in (
+      prefix_first is_ascii_digit refl line ∙ plain.whole,
+      ap (digits_value 10) (take_first is_ascii_digit refl line) ∙ plain.value,
+      plain,
+    )
 
 -- ---- the loop over digits
 
 -- a number does not fall by further digits
-after_le : (n : ℕ) (ds : List ℕ) → n ≤ digits_value_after 10 n ds
+pub after_le : (n : ℕ) (ds : List ℕ) → n ≤ digits_value_after 10 n ds
 after_le n [] = omega arith
 after_le n (d ∷ ds) = let below = after_le (n * 10 + digit_value d) ds in omega (arith, below)
 
 -- one digit more
 pub digit_step : (n c : ℕ) (rest : List ℕ) → is_ascii_digit c ≡ true
-    → digits_value_after 10 n (take_while is_ascii_digit (c ∷ rest)) ≡ digits_value_after 10 (n * 10 + (c - 48)) (take_while is_ascii_digit rest)
+    → digits_value_after 10 n (take_while is_ascii_digit (c ∷ rest))
+    ≡ digits_value_after 10 (n * 10 + (c - 48)) (take_while is_ascii_digit rest)
 digit_step n c rest h =
     let value : digit_value c ≡ c - 48 = let v = (digit_of c h).0 in omega (arith, v) in
     rw (h, one-add) (ap (λ (d : ℕ). digits_value_after 10 (n * 10 + d) (take_while is_ascii_digit rest)) value)
 
 -- a digit that is one too many
-pub digit_overflows : (n c v : ℕ) (rest : List ℕ) → is_ascii_digit c ≡ true → digits_value_after 10 n (take_while is_ascii_digit (c ∷ rest)) ≡ v
+pub digit_overflows : (n c v : ℕ) (rest : List ℕ) → is_ascii_digit c ≡ true
+    → digits_value_after 10 n (take_while is_ascii_digit (c ∷ rest)) ≡ v
     → 2 ^ 64 ≤ n * 10 + (c - 48) → 2 ^ 64 ≤ v
 digit_overflows n c v rest h e large =
     let step = digit_step n c rest h in
@@ -297,7 +322,8 @@ digit_overflows n c v rest h e large =
     omega (arith, step, above, e, large)
 
 -- and is counted
-pub digit_counts : (c : ℕ) (rest : List ℕ) → is_ascii_digit c ≡ true → prefix_len is_ascii_digit (c ∷ rest) ≡ 1 + prefix_len is_ascii_digit rest
+pub digit_counts : (c : ℕ) (rest : List ℕ) → is_ascii_digit c ≡ true
+    → prefix_len is_ascii_digit (c ∷ rest) ≡ 1 + prefix_len is_ascii_digit rest
 digit_counts c rest h = rw h refl
 
 -- ---- signed numbers
@@ -322,23 +348,27 @@ tested words false n = refl
 
 -- a negative number by what its digits are read as
 negative_by : (words : List (List ℕ)) (o : Option ℕ)
-    → ((o >>= λ n. guarded (not (eqb n 0)) (Some (negsuc (n - 1)))) >>= with_words words) ≡ ((o >>= with_words words) >>= negative_pair)
+    → ((o >>= λ n. guarded (not (eqb n 0)) (Some (negsuc (n - 1)))) >>= with_words words)
+    ≡ ((o >>= with_words words) >>= negative_pair)
 negative_by words None = refl
 negative_by words (Some n) = tested words (not (eqb n 0)) n
 
 -- what a negative number is taken as, by its digits
-pub taken_negative : (bound : ℕ) (words : List (List ℕ)) → taken (negative_in bound) words ≡ (taken (number_in bound) words >>= negative_pair)
+pub taken_negative : (bound : ℕ) (words : List (List ℕ))
+    → taken (negative_in bound) words ≡ (taken (number_in bound) words >>= negative_pair)
 unfolding negative_in
 taken_negative bound [] = refl
 taken_negative bound (word ∷ words) = negative_by words (number_in bound word)
 
 -- a number without a sign by what its digits are read as
-plain_by : (words : List (List ℕ)) (o : Option ℕ) → ((o >>= λ n. Some (pos n)) >>= with_words words) ≡ ((o >>= with_words words) >>= plain_pair)
+plain_by : (words : List (List ℕ)) (o : Option ℕ)
+    → ((o >>= λ n. Some (pos n)) >>= with_words words) ≡ ((o >>= with_words words) >>= plain_pair)
 plain_by words None = refl
 plain_by words (Some n) = refl
 
 -- what a number without a sign is taken as
-pub taken_plain : (bound : ℕ) (words : List (List ℕ)) → taken (plain_in bound) words ≡ (taken (number_in bound) words >>= plain_pair)
+pub taken_plain : (bound : ℕ) (words : List (List ℕ))
+    → taken (plain_in bound) words ≡ (taken (number_in bound) words >>= plain_pair)
 unfolding plain_in
 taken_plain bound [] = refl
 taken_plain bound (word ∷ words) = plain_by words (number_in bound word)
@@ -366,7 +396,8 @@ negative_zero bound n words behind read zero-is =
 pub plain_some : (bound n : ℕ) (words behind : List (List ℕ)) (z : ℤ) → Some (n, behind) ≡ taken (number_in bound) words
     → z ≡ pos n → Some (z, behind) ≡ taken (plain_in bound) words
 plain_some bound n words behind z read is =
-    ap (with_words behind) is ∙ sym (taken_plain bound words ∙ ap (λ (o : Option (ℕ × List (List ℕ))). o >>= plain_pair) (sym read))
+    ap (with_words behind) is ∙ sym (taken_plain bound words
+    ∙ ap (λ (o : Option (ℕ × List (List ℕ))). o >>= plain_pair) (sym read))
 
 -- a number behind `-`
 pub signed_minus : (bound c : ℕ) (digits line : List ℕ) → line ≡ c ∷ digits → c ≡ 45
@@ -381,7 +412,8 @@ unfolding signed_in plain_in
 signed_no_minus bound c rest line small e other =
     let parts = words_parts rest in
     let nothing : None ≡ number_in bound [] =
-    number_in_none bound [] (λ n lt is. let plain = decimal_plain [] n (omega arith) is in let some = plain.some in omega (arith, some)) in
+    number_in_none bound [] (λ n lt is. let plain = decimal_plain [] n (omega arith) is in let some = plain.some in
+    omega (arith, some)) in
     elim (cases_Bool (is_space c)) [
       | inl here ↦ rw (e, here, ← nothing) refl
       | inr not_space ↦ rw (e, not_space, parts.1, ne_eqb c 45 other) refl
@@ -412,7 +444,8 @@ quiet_words : (line : List ℕ) (words : List (List ℕ)) → spaced words ≡ l
     → (words ≡ [] → ⊥) → None ≡ quiet_in words
 quiet_words line [] e other some = absurd (some refl)
 quiet_words line (word ∷ []) e other some =
-    let same : bytes_eq word (codes "noreply") ≡ false = ap (λ (w : List ℕ). bytes_eq w (codes "noreply")) e ∙ other in rw same refl
+    let same : bytes_eq word (codes "noreply") ≡ false = ap (λ (w : List ℕ). bytes_eq w (codes "noreply")) e ∙ other in
+    rw same refl
 quiet_words line (word ∷ next ∷ words) e other some = refl
 
 -- what is left of a line is no `noreply`

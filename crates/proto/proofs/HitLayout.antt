@@ -37,7 +37,8 @@ seen_in h rest is =
     let key_length = from_le_bytes-to_le_bytes_8 (length h.key) is.key in
     let value_length = from_le_bytes-to_le_bytes_8 (length h.value) is.value in
     let behind : drop (28 + length h.key) (hit_header h ++ (h.key ++ (h.value ++ rest))) ≡ h.value ++ rest =
-    drop-append-add (hit_header h) (h.key ++ (h.value ++ rest)) (length h.key) ∙ drop-append_seam h.key (h.value ++ rest) in
+    drop-append-add (hit_header h) (h.key ++ (h.value ++ rest)) (length h.key)
+    ∙ drop-append_seam h.key (h.value ++ rest) in
     same_hit h _ _ _ _
     (rw key_length (take-append_seam h.key (h.value ++ rest)))
     (from_le_bytes-to_le_bytes_4 h.flags is.flags)
@@ -49,12 +50,14 @@ pub first_seen : (h : Hit) (rest : List ℕ) → IsHit h → first_hit (packed_h
 first_seen h rest is = rw (first_parts h rest) (seen_in h rest is)
 
 -- the length of the key where it is read
-pub key_seen : (h : Hit) (rest : List ℕ) → IsHit h → from_le_bytes w64 (take 8 (drop 8 (packed_hit h ++ rest))) ≡ length h.key
+pub key_seen : (h : Hit) (rest : List ℕ) → IsHit h
+    → from_le_bytes w64 (take 8 (drop 8 (packed_hit h ++ rest))) ≡ length h.key
 unfolding packed_hit hit_header
 key_seen h rest is = from_le_bytes-to_le_bytes_8 (length h.key) is.key
 
 -- the length of the value where it is read
-pub value_seen : (h : Hit) (rest : List ℕ) → IsHit h → from_le_bytes w64 (take 8 (drop 16 (packed_hit h ++ rest))) ≡ length h.value
+pub value_seen : (h : Hit) (rest : List ℕ) → IsHit h
+    → from_le_bytes w64 (take 8 (drop 16 (packed_hit h ++ rest))) ≡ length h.value
 unfolding packed_hit hit_header
 value_seen h rest is = from_le_bytes-to_le_bytes_8 (length h.value) is.value
 
@@ -64,12 +67,14 @@ behind_first h rest = rw (sym (packed_length h)) (drop-append_seam (packed_hit h
 
 -- one hit and those behind it
 more_hits : (h : Hit) (rest : List ℕ) (n : ℕ) → hits_up_to (suc n) (packed_hit h ++ rest)
-    ≡ first_hit (packed_hit h ++ rest) ∷ hits_up_to n (drop (packed_size (first_hit (packed_hit h ++ rest))) (packed_hit h ++ rest))
+    ≡ first_hit (packed_hit h ++ rest) ∷ hits_up_to n
+    (drop (packed_size (first_hit (packed_hit h ++ rest))) (packed_hit h ++ rest))
 unfolding packed_hit hit_header
 more_hits h rest n = refl
 
 -- the hits that stand in the bytes of hits, where there are as many steps as bytes
-hits_back_up_to : (hits : List Hit) (n : ℕ) → AllByRecursion IsHit hits → length (packed hits) ≤ n → hits_up_to n (packed hits) ≡ hits
+hits_back_up_to : (hits : List Hit) (n : ℕ) → AllByRecursion IsHit hits → length (packed hits) ≤ n
+    → hits_up_to n (packed hits) ≡ hits
 hits_back_up_to [] zero s h = refl
 hits_back_up_to [] (suc n) s h = refl
 hits_back_up_to (i ∷ hits) zero s h =
@@ -155,9 +160,13 @@ pub record IsPushed (b after : List ℕ) (h : Hit) : Type 0 where
 -- bytes behind which one hit more was put are packed, and it is their last
 pub pushed : (b after : List ℕ) (h : Hit) → IsPacked b → IsHit h → after ≡ b ++ packed_hit h → IsPushed b after h
 pushed b after h p is e =
-    let are : after ≡ packed (hits_in b ++ h ∷ []) = e ∙ ap (λ x. x ++ packed_hit h) p.whole ∙ sym (one_more (hits_in b) h) in
+    let are : after ≡ packed (hits_in b ++ h ∷ []) =
+    e ∙ ap (λ x. x ++ packed_hit h) p.whole ∙ sym (one_more (hits_in b) h) in
     let all = all_hits (hits_in b) h p.hits is in
-    record { packing = rw are (packed_is (hits_in b ++ h ∷ []) all); hits = ap hits_in are ∙ hits_back (hits_in b ++ h ∷ []) all }
+    record {
+      packing = rw are (packed_is (hits_in b ++ h ∷ []) all);
+      hits = ap hits_in are ∙ hits_back (hits_in b ++ h ∷ []) all;
+    }
 
 -- what is put behind bytes part by part
 six_parts : (o a b c d k v : List ℕ) → o ++ a ++ b ++ c ++ d ++ k ++ v ≡ o ++ (a ++ b ++ c ++ d ++ k ++ v)
@@ -165,7 +174,8 @@ six_parts o a b c d k v = simp append_assoc refl
 
 -- the parts of a hit's bytes behind others
 pub put_together : (h : Hit) (old : List ℕ)
-    → old ++ to_le_bytes w64 h.cas ++ to_le_bytes w64 (length h.key) ++ to_le_bytes w64 (length h.value) ++ to_le_bytes w32 h.flags ++ h.key ++ h.value
+    → old ++ to_le_bytes w64 h.cas ++ to_le_bytes w64 (length h.key) ++ to_le_bytes w64 (length h.value)
+    ++ to_le_bytes w32 h.flags ++ h.key ++ h.value
     ≡ old ++ packed_hit h
 unfolding packed_hit hit_header
 put_together h old =

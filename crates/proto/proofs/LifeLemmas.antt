@@ -46,10 +46,12 @@ numbered cache t p none_left =
 
 -- what a put leaves: by whether its deadline has come
 abbrev dated : Cache → ℕ → Put → Bool → Outcome
-dated cache t p come = if come then leaving cache (map.remove cache.entries p.key) Stored else write cache p.key (entry_put t p) Stored
+dated cache t p come = if come then leaving cache (map.remove cache.entries p.key) Stored
+    else write cache p.key (entry_put t p) Stored
 
 -- a put that wants a cas number, and is answered as stored, has stored its entry
-sets_numbered : (cache : Cache) (t : ℕ) (p : Put) (b : Bool) → (numbered cache t p b).reply ≡ Stored → Sets (numbered cache t p b) t p
+sets_numbered : (cache : Cache) (t : ℕ) (p : Put) (b : Bool) → (numbered cache t p b).reply ≡ Stored
+    → Sets (numbered cache t p b) t p
 sets_numbered cache t p true is = absurd (cc is)
 sets_numbered cache t p false is =
     record {
@@ -63,13 +65,15 @@ sets_numbered cache t p false is =
     }
 
 -- a put whose deadline hasn't come, and that is answered as stored, has stored its entry
-sets_waiting : (cache : Cache) (t : ℕ) (p : Put) (b : Bool) → b ≡ false → (dated cache t p b).reply ≡ Stored → Sets (dated cache t p b) t p
+sets_waiting : (cache : Cache) (t : ℕ) (p : Put) (b : Bool) → b ≡ false → (dated cache t p b).reply ≡ Stored
+    → Sets (dated cache t p b) t p
 sets_waiting cache t p true waits is = absurd (cc waits)
 sets_waiting cache t p false waits is = sets_numbered cache t p (cache.last_cas == max_cas) is
 
 -- a set stores its entry: its item isn't too large, its deadline hasn't come, and a cas number is left
 sets_fitting : (cache : Cache) (t : ℕ) (p : Put) (b : Bool) → has_arrived (deadline_of p.exptime t) t ≡ false
-    → (if b then only_reply cache TooLarge else put cache t p).reply ≡ Stored → Sets (if b then only_reply cache TooLarge else put cache t p) t p
+    → (if b then only_reply cache TooLarge else put cache t p).reply ≡ Stored
+    → Sets (if b then only_reply cache TooLarge else put cache t p) t p
 sets_fitting cache t p true waits is = absurd (cc is)
 sets_fitting cache t p false waits is = sets_waiting cache t p (has_arrived (deadline_of p.exptime t) t) waits is
 
@@ -95,7 +99,8 @@ set_leaves sizes before after t p waits (inl x) =
     let found = found_at before t in
     let done = act (item_limit sizes) found t (Set p) in
     let s : Sets done t p = sets_fitting found t p (is_too_large (item_limit sizes) p) waits (sym x.reply_is) in
-    let d : IsDated t done.entries (Some p.key) x.dated = subst (λ (o : Option (List ℕ)). IsDated t done.entries o x.dated) s.stored x.is_dated in
+    let d : IsDated t done.entries (Some p.key) x.dated =
+    subst (λ (o : Option (List ℕ)). IsDated t done.entries o x.dated) s.stored x.is_dated in
     let e : Entry = record s.entry { deadline = d.0 } in
     let dated : x.dated ≡ map.insert s.old p.key e =
     d.2 ∙ ap (λ (m : Entries). with_deadline m p.key d.0) s.entries ∙ with_deadline-insert s.old p.key s.entry d.0 in
@@ -104,7 +109,8 @@ set_leaves sizes before after t p waits (inl x) =
     let other = others_forgotten sizes found.entries x.dated p.key x.forgotten
     (subst (λ (o : Option (List ℕ)). MayForget sizes found.entries x.dated o x.forgotten) s.stored x.may_forget) in
     let there : map.get (without x.dated x.forgotten) p.key ≡ Some e =
-    get-without x.dated x.forgotten p.key ∙ rw other (ap (λ (m : Entries). map.get m p.key) dated ∙ get-stored s.old p.key e) in
+    get-without x.dated x.forgotten p.key
+    ∙ rw other (ap (λ (m : Entries). map.get m p.key) dated ∙ get-stored s.old p.key e) in
     record {
       entry = e;
       there = ap (λ (m : Entries). map.get m p.key) x.entries ∙ there;
@@ -121,7 +127,8 @@ found_later : (after : Cache) (u : ℕ) (key : List ℕ) → has_arrived after.p
 found_later after u key waits = by_test (has_arrived after.pending u) waits
   where
     found : Bool → Cache
-    found b = if b then empty_cache after.last_cas else record { entries = live after.entries u; last_cas = after.last_cas; pending = after.pending }
+    found b = if b then empty_cache after.last_cas
+        else record { entries = live after.entries u; last_cas = after.last_cas; pending = after.pending }
 
     by_test : (b : Bool) → b ≡ false → map.get (found b).entries key ≡ if_live u (map.get after.entries key)
     by_test true is = absurd (cc is)
@@ -159,7 +166,8 @@ ends t life (Some d) some may =
       given_is = refl;
       later = may.later;
       not_after = may.not_after;
-      long_enough = subst (λ (x : ℕ). t + min x longest_life < d + 2 * width_of (bucket_of (Some x))) is may.long_enough;
+      long_enough = subst (λ (x : ℕ). t + min x longest_life < d + 2 * width_of (bucket_of (Some x))) is
+          may.long_enough;
     }
 
 -- a deadline hasn't come at a moment before it
@@ -174,7 +182,8 @@ gone_from given d u is h = ap (λ (o : Option ℕ). has_arrived o u) is ∙ le-l
 -- once they are over it isn't; no flush may have come, and a life above the longest counts as the longest
 pub lives_its_time : LivesItsTime
 lives_its_time sizes before after t life u p some asked step pending =
-    let waits : has_arrived (deadline_of p.exptime t) t ≡ false = waits_until (deadline_of p.exptime t) (t + life) t asked (omega arith) in
+    let waits : has_arrived (deadline_of p.exptime t) t ≡ false =
+    waits_until (deadline_of p.exptime t) (t + life) t asked (omega arith) in
     let s = set_leaves sizes before after t p waits step in
     let end = ends t life s.entry.deadline some (subst (λ (a : Option ℕ). MayLive t a s.entry.deadline) asked s.may) in
     let later = end.later in

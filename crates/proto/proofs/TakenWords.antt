@@ -27,7 +27,8 @@ is_taken {A} read (word ∷ words) rest a e =
     record { word = word; words_are = ap (λ (ws : List (List ℕ)). word ∷ ws) behind; read_is = rw (← first) found.1 }
 
 -- a storage line whose words are taken one after the other
-pub storage_taken : (tail : TailReader) (words w1 w2 w3 w4 : List (List ℕ)) (key : List ℕ) (f : ℕ) (e : ℤ) (n : ℕ) (t : StorageCommand × Bool)
+pub storage_taken : (tail : TailReader) (words w1 w2 w3 w4 : List (List ℕ)) (key : List ℕ) (f : ℕ) (e : ℤ) (n : ℕ)
+    (t : StorageCommand × Bool)
     → Some (key, w1) ≡ taken key_in words → Some (f, w2) ≡ taken (number_in (2 ^ 32)) w1
     → Some (e, w3) ≡ taken (signed_in (10 ^ 10)) w2 → Some (n, w4) ≡ taken (number_in (10 ^ 10)) w3
     → Some t ≡ tail w4 → Some (line_with key f e n t) ≡ storage_in tail words
@@ -41,5 +42,6 @@ storage_taken tail words w1 w2 w3 w4 key f e n t key_read flags_read exptime_rea
     let all : words ≡ a.word ∷ b.word ∷ c.word ∷ d.word ∷ w4 =
     a.words_are
     ∙ ap (λ (ws : List (List ℕ)). a.word ∷ ws)
-    (b.words_are ∙ ap (λ (ws : List (List ℕ)). b.word ∷ ws) (c.words_are ∙ ap (λ (ws : List (List ℕ)). c.word ∷ ws) d.words_are)) in
+    (b.words_are ∙ ap (λ (ws : List (List ℕ)). b.word ∷ ws)
+    (c.words_are ∙ ap (λ (ws : List (List ℕ)). c.word ∷ ws) d.words_are)) in
     rw (all, parts.0, b.read_is, c.read_is, d.read_is, ← tail_read, key_is) refl

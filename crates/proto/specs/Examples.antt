@@ -56,7 +56,10 @@ requests =
     ∷ (codes "set a 0 0 0\r\n\r\n", Ask (Set (put_with a 0 (pos 0) [])) false)
     ∷ (codes "set a 0 0 1 noreply\r\nx\r\n", Ask (Set (put_with a 0 (pos 0) (codes "x"))) true)
     ∷ (codes "set a 0 -1 1\r\nx\r\n", Ask (Set (put_with a 0 (negsuc 0) (codes "x"))) false)
-    ∷ (codes "set a 4294967295 9999999999 1\r\nx\r\n", Ask (Set (put_with a 4294967295 (pos 9999999999) (codes "x"))) false)
+    ∷ (
+      codes "set a 4294967295 9999999999 1\r\nx\r\n",
+      Ask (Set (put_with a 4294967295 (pos 9999999999) (codes "x"))) false,
+    )
     ∷ (codes "cas a 0 0 1 1\r\ny\r\n", Ask (Cas (put_with a 0 (pos 0) (codes "y")) 1) false)
     ∷ (codes "get a\r\n", Ask (Get (a ∷ []) false) false)
     ∷ (codes "gets a b\r\n", Ask (Get (a ∷ b ∷ []) true) false)
@@ -133,11 +136,14 @@ abbrev pub AnswersAre : Type 0
 AnswersAre =
     (answer (Ask (Set (put_with a 0 (pos 0) (codes "x"))) false) (Some reply.Stored) ≡ codes "STORED\r\n")
     × (answer (Ask (Set (put_with a 0 (pos 0) (codes "x"))) true) (Some reply.NoMemory) ≡ [])
-    × (answer (Ask (Get (a ∷ []) false) false) (Some (reply.Values (hit_with a 0 (codes "x") 1 ∷ []))) ≡ codes "VALUE a 0 1\r\nx\r\nEND\r\n")
-    × (answer (Ask (Get (a ∷ []) true) false) (Some (reply.Values (hit_with a 0 [] 1 ∷ []))) ≡ codes "VALUE a 0 0 1\r\n\r\nEND\r\n")
+    × (answer (Ask (Get (a ∷ []) false) false) (Some (reply.Values (hit_with a 0 (codes "x") 1 ∷ [])))
+    ≡ codes "VALUE a 0 1\r\nx\r\nEND\r\n")
+    × (answer (Ask (Get (a ∷ []) true) false) (Some (reply.Values (hit_with a 0 [] 1 ∷ [])))
+    ≡ codes "VALUE a 0 0 1\r\n\r\nEND\r\n")
     × (answer (Ask (Get (b ∷ []) false) false) (Some (reply.Values [])) ≡ codes "END\r\n")
     × (answer (Ask (Incr a 1) false) (Some (reply.Number 0)) ≡ codes "0\r\n")
-    × (answer (Ask (Incr a 1) false) (Some reply.NotNumber) ≡ codes "CLIENT_ERROR cannot increment or decrement non-numeric value\r\n")
+    × (answer (Ask (Incr a 1) false) (Some reply.NotNumber)
+    ≡ codes "CLIENT_ERROR cannot increment or decrement non-numeric value\r\n")
     × (answer (Wrong wrong.Unknown) None ≡ codes "ERROR\r\n")
     × (answer (Fatal fatal.LongLine) None ≡ codes "CLIENT_ERROR line too long\r\n")
     × (answer Quit None ≡ [])
@@ -146,8 +152,10 @@ AnswersAre =
 abbrev pub SaidAre : Type 0
 SaidAre =
     -- local answers stand in their places, before and behind a request's
-    (said (Wrong wrong.Unknown ∷ Wrong wrong.Unknown ∷ Ask (Get (a ∷ []) false) false ∷ []) (reply.Values [] ∷ []) ≡ codes "ERROR\r\nERROR\r\nEND\r\n")
-    × (said (Ask (Get (a ∷ []) false) false ∷ Wrong wrong.Unknown ∷ []) (reply.Values [] ∷ []) ≡ codes "END\r\nERROR\r\n")
+    (said (Wrong wrong.Unknown ∷ Wrong wrong.Unknown ∷ Ask (Get (a ∷ []) false) false ∷ []) (reply.Values [] ∷ [])
+    ≡ codes "ERROR\r\nERROR\r\nEND\r\n")
+    × (said (Ask (Get (a ∷ []) false) false ∷ Wrong wrong.Unknown ∷ []) (reply.Values [] ∷ [])
+    ≡ codes "END\r\nERROR\r\n")
     -- and none is given before an earlier request's
     × (said (Ask (Get (a ∷ []) false) false ∷ Wrong wrong.Unknown ∷ []) [] ≡ [])
     × (said (Fatal fatal.BadChunk ∷ []) [] ≡ codes "CLIENT_ERROR bad data chunk\r\n")
@@ -162,7 +170,8 @@ abbrev pub with_a : List ℕ → Entries
 with_a value = finite.insert no_entries a (entry_with value None 1)
 
 abbrev pub outcome_with : Entries → ℕ → Reply → Option (List ℕ) → Outcome
-outcome_with entries c answered stored = record { entries = entries; last_cas = c; pending = None; reply = answered; stored = stored }
+outcome_with entries c answered stored =
+    record { entries = entries; last_cas = c; pending = None; reply = answered; stored = stored }
 
 -- the cache that has `a` alone, and perhaps a flush pending
 abbrev pub cache_with : List ℕ → Option ℕ → Cache
@@ -179,14 +188,18 @@ abbrev pub CommandsDo : Type 0
 CommandsDo =
     -- `set` of a new key, with no deadline, with one from now on, and with one that has passed
     (act 8192 (empty_cache 0) 1000 (set_a (pos 0)) ≡ outcome_with (with_a (codes "x")) 1 reply.Stored (Some a))
-    × (act 8192 (empty_cache 0) 1000 (set_a (pos 5)) ≡ outcome_with (finite.insert no_entries a (entry_with (codes "x") (Some 1005) 1)) 1 reply.Stored (Some a))
+    × (act 8192 (empty_cache 0) 1000 (set_a (pos 5))
+    ≡ outcome_with (finite.insert no_entries a (entry_with (codes "x") (Some 1005) 1)) 1 reply.Stored (Some a))
     × (act 8192 (empty_cache 0) 1000 (set_a (negsuc 0)) ≡ outcome_with (finite.remove no_entries a) 0 reply.Stored None)
     × (act 8192 (empty_cache 0) 1000 (set_a (pos 2592001)) ≡ outcome_with
     (finite.insert no_entries a (entry_with (codes "x") (Some 2592001) 1)) 1 reply.Stored (Some a))
-    × (act 8192 (empty_cache 0) 2592002 (set_a (pos 2592001)) ≡ outcome_with (finite.remove no_entries a) 0 reply.Stored None)
+    × (act 8192 (empty_cache 0) 2592002 (set_a (pos 2592001))
+    ≡ outcome_with (finite.remove no_entries a) 0 reply.Stored None)
     -- the last cas number is spent
-    × (act 8192 (empty_cache 18446744073709551615) 1000 (set_a (pos 0)) ≡ outcome_with no_entries 18446744073709551615 reply.NoCas None)
-    × (act 8192 (empty_cache 18446744073709551615) 1000 (set_a (negsuc 0)) ≡ outcome_with (finite.remove no_entries a) 18446744073709551615 reply.Stored None)
+    × (act 8192 (empty_cache 18446744073709551615) 1000 (set_a (pos 0))
+    ≡ outcome_with no_entries 18446744073709551615 reply.NoCas None)
+    × (act 8192 (empty_cache 18446744073709551615) 1000 (set_a (negsuc 0))
+    ≡ outcome_with (finite.remove no_entries a) 18446744073709551615 reply.Stored None)
     -- an item of 512 bytes is the largest with segments of 4,096
     × ((act 512 (empty_cache 0) 1000 (Set (put_with a 0 (pos 0) (replicate 487 120)))).reply ≡ reply.Stored)
     × ((act 512 (empty_cache 0) 1000 (Set (put_with a 0 (pos 0) (replicate 488 120)))).reply ≡ reply.TooLarge)
@@ -197,7 +210,8 @@ CommandsDo =
 -- the replies to requests where `a` has a value
 abbrev pub RepliesAre : Type 0
 RepliesAre =
-    ((after_a (codes "x") (Get (a ∷ b ∷ a ∷ []) false)).reply ≡ reply.Values (hit_with a 0 (codes "x") 1 ∷ hit_with a 0 (codes "x") 1 ∷ []))
+    ((after_a (codes "x") (Get (a ∷ b ∷ a ∷ []) false)).reply
+    ≡ reply.Values (hit_with a 0 (codes "x") 1 ∷ hit_with a 0 (codes "x") 1 ∷ []))
     × ((after_a (codes "x") (Add (put_with a 0 (pos 0) []))).reply ≡ reply.NotStored)
     × ((after_a (codes "x") (Replace (put_with b 0 (pos 0) []))).reply ≡ reply.NotStored)
     × ((after_a (codes "x") (Cas (put_with a 0 (pos 0) []) 1)).reply ≡ reply.Stored)
@@ -216,7 +230,14 @@ RepliesAre =
 abbrev pub FlushesDo : Type 0
 FlushesDo =
     (after_a (codes "x") (FlushAll 0) ≡ outcome_with no_entries 1 reply.Flushed None)
-    × (after_a (codes "x") (FlushAll 10) ≡ record { entries = with_a (codes "x"); last_cas = 1; pending = Some 1010; reply = reply.Flushed; stored = None })
+    × (after_a (codes "x") (FlushAll 10)
+    ≡ record {
+      entries = with_a (codes "x");
+      last_cas = 1;
+      pending = Some 1010;
+      reply = reply.Flushed;
+      stored = None;
+    })
     × ((act 8192 (cache_with (codes "x") (Some 1010)) 1005 (FlushAll 20)).pending ≡ Some 1025)
     × ((act 8192 (cache_with (codes "x") (Some 1010)) 1005 (FlushAll 0)).pending ≡ None)
     × ((act 8192 (cache_with (codes "x") (Some 1010)) 1005 (Delete b)).pending ≡ Some 1010)
@@ -237,14 +258,22 @@ session_messages = Ask (set_a (pos 0)) false ∷ Ask (Get (a ∷ []) false) fals
 abbrev pub session_history : List Answered
 session_history =
     record { worker = 0; session = 1; number = 1; request = set_a (pos 0); moment = 1000; reply = reply.Stored }
-    ∷ record { worker = 0; session = 1; number = 2; request = Get (a ∷ []) false; moment = 1000; reply = reply.Values (hit_with a 0 (codes "x") 1 ∷ []) }
+    ∷ record {
+      worker = 0;
+      session = 1;
+      number = 2;
+      request = Get (a ∷ []) false;
+      moment = 1000;
+      reply = reply.Values (hit_with a 0 (codes "x") 1 ∷ []);
+    }
     ∷ []
 
 pub record SessionIs : Type 0 where
   pub reads : Reads session_input session_messages []
   pub legal : Legal (sizes_of 65536 64) session_history
   pub asked_in_order : asked (session_share session_history 0 1) ≡ asks session_messages
-  pub output : said session_messages (had (session_share session_history 0 1)) ≡ codes "STORED\r\nVALUE a 0 1\r\nx\r\nEND\r\n"
+  pub output : said session_messages (had (session_share session_history 0 1))
+      ≡ codes "STORED\r\nVALUE a 0 1\r\nx\r\nEND\r\n"
 
 -- ---- a session that ends
 
@@ -264,7 +293,14 @@ pub record QuitIs : Type 0 where
 
 abbrev pub get_a_again : ℕ → ℕ → List Hit → Answered
 get_a_again number moment hits =
-    record { worker = 0; session = 1; number = number; request = Get (a ∷ []) false; moment = moment; reply = reply.Values hits }
+    record {
+      worker = 0;
+      session = 1;
+      number = number;
+      request = Get (a ∷ []) false;
+      moment = moment;
+      reply = reply.Values hits;
+    }
 
 -- `a` is set at 1000, a flush is to come at 1015, and `a` is read before it and then
 abbrev pub flush_history : List Answered

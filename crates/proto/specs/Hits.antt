@@ -19,7 +19,8 @@ pub record IsHit (h : Hit) : Type 0 where
 -- cas number, the lengths of key and value, and flags, the least byte first
 unfoldable pub hit_header : Hit → List ℕ
 hit_header h =
-    to_le_bytes w64 h.cas ++ to_le_bytes w64 (length h.key) ++ to_le_bytes w64 (length h.value) ++ to_le_bytes w32 h.flags
+    to_le_bytes w64 h.cas ++ to_le_bytes w64 (length h.key) ++ to_le_bytes w64 (length h.value)
+    ++ to_le_bytes w32 h.flags
 
 -- the bytes that keep a hit
 unfoldable pub packed_hit : Hit → List ℕ

@@ -22,7 +22,8 @@ pub record HasPut (entries : Entries) (p : Put) : Type 0 where
 abbrev pub LivesItsTime : Type 0
 LivesItsTime =
     (sizes : Sizes) (before after : Cache) (t life u : ℕ) (p : Put)
-    → 1 ≤ life → deadline_of p.exptime t ≡ Some (t + life) → Step sizes before t (Set p) Stored after → has_arrived after.pending u ≡ false
+    → 1 ≤ life → deadline_of p.exptime t ≡ Some (t + life) → Step sizes before t (Set p) Stored after
+    → has_arrived after.pending u ≡ false
     → (u ≡ t → HasPut (found_at after u).entries p)
     × (u + 2 * width_of (bucket_of (Some life)) ≤ t + min life longest_life → HasPut (found_at after u).entries p)
     × (t + life ≤ u → map.get (found_at after u).entries p.key ≡ None)

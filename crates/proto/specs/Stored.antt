@@ -84,5 +84,6 @@ abbrev pub ForgetsNothing : Sizes → Cache → List Answered → List Cache →
 ForgetsNothing sizes before [] caches = ⊤
 ForgetsNothing sizes before (e ∷ history) [] = ⊤
 ForgetsNothing sizes before (e ∷ history) (after ∷ caches) =
-    ((e.reply ≡ NoMemory) ⊎ IsDated e.moment (outcome_of sizes before e).entries (outcome_of sizes before e).stored after.entries)
+    ((e.reply ≡ NoMemory) ⊎ IsDated e.moment (outcome_of sizes before e).entries
+    (outcome_of sizes before e).stored after.entries)
     × ForgetsNothing sizes after history caches

@@ -1,5 +1,5 @@
 -- The words of a line, and keys with a space before each.
-use Rattle.std.specs.Prelude.{◌≡◌, ℕ, Bool, false, eqb, List, [], drop, Option, Some, None}
+use Rattle.std.specs.Prelude.{◌≡◌, ℕ, Bool, false, eqb, List, [], ◌∷◌, Option, Some, None}
 use Rattle.std.specs.Borrow.{Bor}
 use Rattle.std.specs.List.{list_any, slice_split}
 use Rattle.proto.specs.Lines.{space}
@@ -20,6 +20,7 @@ abbrev pub words_behind : Option (Bor (List ℕ)) → List (List ℕ)
 words_behind None = []
 words_behind (Some rest) = words_of rest.now
 
--- the keys in bytes where a space stands before each: the words behind the first space
+-- the keys in bytes where a space stands before each: the words behind the first byte
 abbrev pub keys_in : List ℕ → List (List ℕ)
-keys_in b = drop 1 (words_of b)
+keys_in [] = []
+keys_in (first ∷ rest) = words_of rest

@@ -1,7 +1,7 @@
 //! The words that begin lines.
 
 ghost use Rattle.std.specs.Prelude.{◌≡◌, ◌≢◌, length, slice_index, MatchOption};
-ghost use Rattle.proto.specs.Heads.{word_of};
+ghost use Rattle.proto.specs.Heads.{word_of_command};
 ghost use Rattle.proto.specs.declared.command_word.CommandWord.{CommandWord};
 
 /// The command word of a storage line.
@@ -34,7 +34,8 @@ pub enum CommandWord {
 
 /// The one command word that may have this length and first byte.
 fn candidate(size: usize, first: u8) -> Option<CommandWord>
-    ensures { (command : CommandWord) → size ≡ length (word_of command) → first ≡ slice_index (word_of command) 0 → result ≡ Some command }
+    ensures { (command : CommandWord) → size ≡ length (word_of_command command) → first ≡ slice_index (word_of_command command) 0
+        → result ≡ Some command }
 {
     match (size, first) {
         (3, b'g') => Some(CommandWord::Other(OtherWord::Get)),
@@ -55,7 +56,7 @@ fn candidate(size: usize, first: u8) -> Option<CommandWord>
 impl CommandWord {
     /// The bytes of the word.
     fn as_bytes(self) -> &'static [u8]
-        ensures { result.now ≡ word_of self }
+        ensures { result.now ≡ word_of_command self }
     {
         match self {
             CommandWord::Storage(Verb::Set) => b"set",
@@ -75,7 +76,8 @@ impl CommandWord {
 
 /// The command that the word names: its length and its first byte leave one to be compared with.
 pub(crate) fn command_of(word: &[u8]) -> Option<CommandWord>
-    ensures { MatchOption result ((command : CommandWord) → word.now ≢ word_of command) (λ command. word.now ≡ word_of command) }
+    ensures { MatchOption result ((command : CommandWord)
+        → word.now ≢ word_of_command command) (λ command. word.now ≡ word_of_command command) }
 {
     let Some((first, _)) = word.split_first() else {
         return None;

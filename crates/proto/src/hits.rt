@@ -1,6 +1,7 @@
 //! The hits of an answer, in one piece of memory.
 
-ghost use Rattle.std.specs.Prelude.{◌≡◌, ◌≤◌, ◌<◌, ◌+◌, ◌-◌, ◌++◌, ◌∷◌, ◌↔◌, [], length, take, drop, vec_len, vec_capacity, MatchOption, IfOk, IfSome, IsTrue, OnErr};
+ghost use Rattle.std.specs.Prelude.{◌≡◌, ◌≤◌, ◌<◌, ◌+◌, ◌-◌, ◌++◌, ◌∷◌, ◌↔◌, [], length, take, drop, vec_len};
+ghost use Rattle.std.specs.Prelude.{vec_capacity, MatchOption, IfOk, IfSome, IsTrue, OnErr};
 ghost use Rattle.std.specs.Int.{from_le_bytes, w32, w64};
 ghost use Rattle.proto.specs.Hits.{packed_hit, packed_size, first_hit};
 ghost use Rattle.proto.specs.SeenHits.{seen_hit};
@@ -155,7 +156,10 @@ impl HitWriter {
     /// Puts a hit behind the others.
     pub fn push(&mut self, hit: HitRef)
         requires { packed_size (seen_hit hit) ≤ self.old.room }
-        ensures { self.new ≡ record { hits = self.old.hits ++ seen_hit hit.entry ∷ []; room = self.old.room - packed_size (seen_hit hit.entry) } }
+        ensures { self.new ≡ record {
+          hits = self.old.hits ++ seen_hit hit.entry ∷ [];
+          room = self.old.room - packed_size (seen_hit hit.entry);
+        } }
     {
         write(&mut self.bytes, hit);
         self.room -= HEADER + hit.key.len() + hit.value.len();
@@ -189,7 +193,8 @@ fn u32_in(bytes: &[u8]) -> u32
 /// The hit with which the bytes begin.
 fn read<'a>(bytes: &'a [u8]) -> HitRef<'a>
     requires header { 28 ≤ length bytes.now }
-    requires whole { 28 + from_le_bytes w64 (take 8 (drop 8 bytes.now)) + from_le_bytes w64 (take 8 (drop 16 bytes.now)) ≤ length bytes.now }
+    requires whole { 28 + from_le_bytes w64 (take 8 (drop 8 bytes.now)) + from_le_bytes w64 (take 8 (drop 16 bytes.now))
+        ≤ length bytes.now }
     ensures { seen_hit result ≡ first_hit bytes.now }
 {
     let key_length = u64_in(bytes.split_at(8).1.split_at(8).0) as usize;

@@ -1,6 +1,6 @@
 //! The keys of a `get`.
 
-ghost use Rattle.std.specs.Prelude.{◌≡◌, ◌≢◌, ◌++◌, ◌∷◌, ◌↔◌, [], length, IfOk, IsTrue, MatchOption, OnErr, OnOk};
+ghost use Rattle.std.specs.Prelude.{◌≡◌, ◌≢◌, ◌≤◌, ◌++◌, ◌∷◌, ◌↔◌, [], length, IfOk, IsTrue, MatchOption, OnErr, OnOk};
 ghost use Rattle.proto.specs.Lines.{space};
 ghost use Rattle.proto.specs.Words.{is_space, IsWord};
 ghost use Rattle.std.specs.List.{count_by};
@@ -17,16 +17,20 @@ use std::mem;
 #[derive(Debug, Drop)]
 pub struct Keys {
     bytes: Vec<u8>,
+    /// How many keys there are.
+    count: usize,
     room: Room,
 }
 
 impl Model for Keys {
-    ghost use Rattle.std.specs.Prelude.{List, ℕ};
+    ghost use Rattle.std.specs.Prelude.{◌≡◌, List, ℕ, length};
     ghost use Rattle.proto.specs.Words.{keys_in};
 
     ghost Value = { List (List ℕ) };
 
     ghost view = { λ a. keys_in a.bytes.items };
+
+    ghost invariant = { λ a. a.count ≡ length (keys_in a.bytes.items) };
 }
 
 impl Keys {
@@ -35,6 +39,7 @@ impl Keys {
     {
         Keys {
             bytes: Vec::new(alloc),
+            count: 0,
             room: Room::new(alloc),
         }
     }
@@ -47,6 +52,7 @@ impl Keys {
             None => Ok(Keys::new(alloc)),
             Some(rest) => Ok(Keys {
                 bytes: spaced(alloc, rest)?,
+                count: spaces(rest) + 1,
                 room: Room::new(alloc),
             }),
         }
@@ -61,6 +67,7 @@ impl Keys {
         self.bytes.reserve(key.len() + 1)?;
         self.bytes.extend_from_slice(b" ").unwrap();
         self.bytes.extend_from_slice(key).unwrap();
+        self.count += 1;
         Ok(())
     }
 
@@ -68,31 +75,39 @@ impl Keys {
     pub fn iter(&self) -> Words<'_>
         ensures { result ≡ self.now }
     {
-        let mut words = Words::new(self.bytes.as_slice());
-        let _ = words.next();
-        words
+        match self.bytes.as_slice().split_first() {
+            None => Words::none(),
+            Some((_, keys)) => Words::new(keys),
+        }
     }
 
     pub fn is_empty(&self) -> bool
         ensures { IsTrue result ↔ (self.now ≡ []) }
     {
-        self.iter().is_empty()
+        self.count == 0
     }
 
     /// The key, where it is the only one.
     pub fn only(&self) -> Option<&[u8]>
         ensures { MatchOption result (length self.now ≢ 1) (λ key. self.now ≡ key.now ∷ []) }
     {
-        let mut words = self.iter();
-        let key = words.next()?;
-        if words.is_empty() { Some(key) } else { None }
+        if self.count == 1 {
+            Some(self.bytes.as_slice().split_at(1).1)
+        } else {
+            None
+        }
     }
 
-    /// How many keys there are: their bytes are walked.
+    /// How many keys there are.
     pub fn len(&self) -> usize
         ensures { result ≡ length self.now }
     {
-        spaces(self.bytes.as_slice())
+        self.count
+    }
+
+    /// Where their memory is taken.
+    pub fn allocator(&self) -> Global {
+        *self.bytes.allocator()
     }
 
     /// Lends the room for the hits, in place of one that was lent before.
@@ -106,7 +121,7 @@ impl Keys {
     pub fn take_room(&mut self) -> Room
         ensures { self.new ≡ self.old }
     {
-        let none = Room::new(*self.bytes.allocator());
+        let none = Room::new(self.allocator());
         mem::replace(&mut self.room, none)
     }
 }
@@ -123,7 +138,8 @@ fn spaced(alloc: Global, bytes: &[u8]) -> Result<Vec<u8>, NoMemory>
 
 /// How many spaces stand in the bytes.
 fn spaces(bytes: &[u8]) -> usize
-    ensures { result ≡ count_by is_space bytes.now }
+    ensures value { result ≡ count_by is_space bytes.now }
+    ensures at_most { result ≤ length bytes.now }
 {
     let mut count: usize = 0;
     for byte in bytes {

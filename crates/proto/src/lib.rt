@@ -2,25 +2,40 @@
 //! `specs/` the grammar, the answers and the commands as definitions.
 #![tactic(auto)]
 
-pub mod byte_string;
+mod byte_string;
 mod command_word;
-pub mod examples;
-pub mod geometry;
-pub mod head;
-pub mod history;
-pub mod hits;
-pub mod keys;
-pub mod laws;
-pub mod limits;
+mod examples;
+mod geometry;
+mod head;
+mod history;
+mod hits;
+mod keys;
+mod laws;
+mod limits;
 mod line;
 mod meaning;
-pub mod message;
-pub mod message_view;
-pub mod next;
-pub mod no_memory;
-pub mod parse;
-pub mod room;
-pub mod show;
+mod message;
+mod message_view;
+mod next;
+mod no_memory;
+mod parse;
+mod room;
+mod showing;
 mod storage;
-pub mod view;
-pub mod words;
+mod view;
+mod words;
+
+pub use byte_string::ByteString;
+pub use geometry::Geometry;
+pub use history::{Answered, Posted};
+pub use hits::{HitRef, HitWriter, Hits};
+pub use keys::Keys;
+pub use limits::{MAX_POSTS, WINDOW};
+pub use message::{FatalKind, Message, Next, Put, Reply, Request, WrongKind};
+pub use next::{next_message, to_message};
+pub use no_memory::NoMemory;
+pub use parse::number;
+pub use room::Room;
+pub use showing::{show, show_reply, shows_cas};
+pub use view::{NextView, next_view};
+pub use words::Words;

@@ -42,7 +42,8 @@ pub part-append : (w : ℕ) (xs ys : List Taken) → part w (xs ++ ys) ≡ part 
 part-append w xs ys = filter-append (λ m. sender_of m == w) xs ys
 
 -- of a list with one message more, the part of each worker
-pub part_more : (w : ℕ) (xs : List Taken) (x : Taken) → part w (xs ++ x ∷ []) ≡ part w xs ++ cond (sender_of x == w) (x ∷ []) []
+pub part_more : (w : ℕ) (xs : List Taken) (x : Taken)
+    → part w (xs ++ x ∷ []) ≡ part w xs ++ cond (sender_of x == w) (x ∷ []) []
 part_more w xs x = part-append w xs (x ∷ [])
 
 -- a message of the worker in front
@@ -67,7 +68,8 @@ ask_if true v p xs = refl
 ask_if false v p xs = refl
 
 -- a bye in front adds one, where it is of the worker
-bye_if : (b : Bool) (v : ℕ) (xs : List Taken) (n : ℕ) → n ≡ byes_count xs → cond b 1 0 + n ≡ byes_count (cond b (Bye v ∷ xs) xs)
+bye_if : (b : Bool) (v : ℕ) (xs : List Taken) (n : ℕ) → n ≡ byes_count xs
+    → cond b 1 0 + n ≡ byes_count (cond b (Bye v ∷ xs) xs)
 bye_if true v xs n e = omega (arith, e)
 bye_if false v xs n e = omega (arith, e)
 
@@ -104,25 +106,31 @@ requests_of_last w true = refl
 requests_of_last w false = refl
 
 -- requests in front are those of the list
-requests_of_asks : (w : ℕ) (l : List Posted) (ms : List Taken) → requests_among (map (λ p. Asked w p) l ++ ms) ≡ l ++ requests_among ms
+requests_of_asks : (w : ℕ) (l : List Posted) (ms : List Taken)
+    → requests_among (map (λ p. Asked w p) l ++ ms) ≡ l ++ requests_among ms
 requests_of_asks w [] ms = refl
 requests_of_asks w (p ∷ l) ms = ap (λ l. p ∷ l) (requests_of_asks w l ms)
 
 -- the requests among a worker's messages are those that it sent
 pub requests_of_messages : (w : ℕ) (s : Sending) → requests_among (messages_of w s) ≡ s.sent
-requests_of_messages w s = requests_of_asks w s.sent (last_bye w s.said_bye) ∙ ap (λ l. s.sent ++ l) (requests_of_last w s.said_bye) ∙ append-nil s.sent
+requests_of_messages w s = requests_of_asks w s.sent (last_bye w s.said_bye)
+    ∙ ap (λ l. s.sent ++ l) (requests_of_last w s.said_bye) ∙ append-nil s.sent
 
 -- one message more, where no bye was said
-pub messages_more : (w : ℕ) (s : Sending) (x : Taken) → s.said_bye ≡ false → sender_of x ≡ w → messages_of w s ++ x ∷ [] ≡ messages_of w (after_sending s x)
+pub messages_more : (w : ℕ) (s : Sending) (x : Taken) → s.said_bye ≡ false → sender_of x ≡ w
+    → messages_of w s ++ x ∷ [] ≡ messages_of w (after_sending s x)
 messages_more w s (Asked v p) quiet is =
-    subst (λ (b : Bool). (map (λ q. Asked w q) s.sent ++ last_bye w b) ++ Asked v p ∷ [] ≡ map (λ q. Asked w q) (s.sent ++ p ∷ []) ++ last_bye w b) (sym quiet)
+    subst (λ (b : Bool). (map (λ q. Asked w q) s.sent ++ last_bye w b) ++ Asked v p ∷ []
+    ≡ map (λ q. Asked w q) (s.sent ++ p ∷ []) ++ last_bye w b) (sym quiet)
     (ap (λ l. l ++ Asked v p ∷ []) (append-nil (map (λ q. Asked w q) s.sent))
     ∙ ap (λ (k : ℕ). map (λ q. Asked w q) s.sent ++ Asked k p ∷ []) is
     ∙ sym (map-append (λ q. Asked w q) s.sent (p ∷ []))
     ∙ sym (append-nil (map (λ q. Asked w q) (s.sent ++ p ∷ []))))
 messages_more w s (Bye v) quiet is =
-    subst (λ (b : Bool). (map (λ q. Asked w q) s.sent ++ last_bye w b) ++ Bye v ∷ [] ≡ map (λ q. Asked w q) s.sent ++ Bye w ∷ []) (sym quiet)
-    (ap (λ l. l ++ Bye v ∷ []) (append-nil (map (λ q. Asked w q) s.sent)) ∙ ap (λ (k : ℕ). map (λ q. Asked w q) s.sent ++ Bye k ∷ []) is)
+    subst (λ (b : Bool). (map (λ q. Asked w q) s.sent ++ last_bye w b) ++ Bye v ∷ []
+    ≡ map (λ q. Asked w q) s.sent ++ Bye w ∷ []) (sym quiet)
+    (ap (λ l. l ++ Bye v ∷ []) (append-nil (map (λ q. Asked w q) s.sent))
+    ∙ ap (λ (k : ℕ). map (λ q. Asked w q) s.sent ++ Bye k ∷ []) is)
 
 -- a request has the number after those sent
 abbrev pub HasNumber : Sending → Taken → Type 0
@@ -130,7 +138,8 @@ HasNumber s (Asked w p) = p.number ≡ length s.sent + 1
 HasNumber s (Bye w) = ⊤
 
 -- one more request with the next number leaves them numbered
-pub numbers_after : (s : Sending) (x : Taken) → AreNumbered s.sent → HasNumber s x → AreNumbered (after_sending s x).sent
+pub numbers_after : (s : Sending) (x : Taken) → AreNumbered s.sent → HasNumber s x
+    → AreNumbered (after_sending s x).sent
 numbers_after s (Asked w p) old new k q e =
     ⊎_elim (λ h. old k q h)
     (λ (h : (k ≡ length s.sent) × (p ≡ q)). let same : p.number ≡ q.number = ap (λ (z : Posted). z.number) h.1 in
@@ -175,15 +184,24 @@ pub record IsCut (l : List Posted) (xs : List Taken) (x : Taken) : Type 0 where
   pub next : Fits l (length xs) x
 
 -- the messages before one of them are requests, and it fits at its place
-pub cut : (w : ℕ) (l : List Posted) (b : Bool) (xs ys : List Taken) (x : Taken) → xs ++ x ∷ ys ≡ map (λ p. Asked w p) l ++ last_bye w b → IsCut l xs x
+pub cut : (w : ℕ) (l : List Posted) (b : Bool) (xs ys : List Taken) (x : Taken)
+    → xs ++ x ∷ ys ≡ map (λ p. Asked w p) l ++ last_bye w b → IsCut l xs x
 unfolding head_of tail_of
 cut w [] false [] ys x e = let z : suc (length ys) ≡ 0 = ap length e in absurd (omega arith)
-cut w [] true [] ys x e = record { no_bye = refl; requests = refl; next = fits_same [] 0 x (Bye w) (ap (head_of x) e) refl }
+cut w [] true [] ys x e = record {
+  no_bye = refl;
+  requests = refl;
+  next = fits_same [] 0 x (Bye w) (ap (head_of x) e) refl;
+}
 cut w [] false (y ∷ xs) ys x e = let z : suc (length (xs ++ x ∷ ys)) ≡ 0 = ap length e in absurd (omega arith)
 cut w [] true (y ∷ xs) ys x e =
     let z : suc (length (xs ++ x ∷ ys)) ≡ 1 = ap length e in
     let z' : length (xs ++ x ∷ ys) ≡ length xs + suc (length ys) = length-append xs (x ∷ ys) in absurd (omega arith)
-cut w (q ∷ l) b [] ys x e = record { no_bye = refl; requests = refl; next = fits_same (q ∷ l) 0 x (Asked w q) (ap (head_of x) e) refl }
+cut w (q ∷ l) b [] ys x e = record {
+  no_bye = refl;
+  requests = refl;
+  next = fits_same (q ∷ l) 0 x (Asked w q) (ap (head_of x) e) refl;
+}
 cut w (q ∷ l) b (y ∷ xs) ys x e =
     let c = cut w l b xs ys x (ap tail_of e) in let first : y ≡ Asked w q = ap (head_of y) e in record {
       no_bye = ap (λ (z : Taken). byes_count (z ∷ xs)) first ∙ c.no_bye;
@@ -192,11 +210,16 @@ cut w (q ∷ l) b (y ∷ xs) ys x e =
     }
 
 -- so it may be taken next
-pub follows : (w : ℕ) (s : Sending) (taken ys : List Taken) (x : Taken) → sender_of x ≡ w → AreNumbered s.sent → part w taken ++ x ∷ ys ≡ messages_of w s
+pub follows : (w : ℕ) (s : Sending) (taken ys : List Taken) (x : Taken) → sender_of x ≡ w → AreNumbered s.sent
+    → part w taken ++ x ∷ ys ≡ messages_of w s
     → MayBeTaken taken x
 follows w s taken ys (Asked v p) is numbered e =
     let c = cut w s.sent s.said_bye (part w taken) ys (Asked v p) e in
-    subst (λ (k : ℕ). (times k (byes_among taken) ≡ 0) × (p.number ≡ length (requests_among (part k taken)) + 1)) (sym is)
-    (times-byes w taken ∙ c.no_bye, let n = numbered (length (part w taken)) p c.next in let r = c.requests in omega (arith, n, r))
+    subst (λ (k : ℕ). (times k (byes_among taken) ≡ 0) × (p.number ≡ length (requests_among (part k taken)) + 1))
+    (sym is) (
+      times-byes w taken ∙ c.no_bye,
+      let n = numbered (length (part w taken)) p c.next in let r = c.requests in
+          omega (arith, n, r),
+    )
 follows w s taken ys (Bye v) is numbered e = let c = cut w s.sent s.said_bye (part w taken) ys (Bye v) e in
     subst (λ (k : ℕ). times k (byes_among taken) ≡ 0) (sym is) (times-byes w taken ∙ c.no_bye)

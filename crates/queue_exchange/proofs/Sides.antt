@@ -9,7 +9,8 @@ use Rattle.queue_exchange.specs.Replies.{ReplyLog}
 pub same_replies : (sides : List ReplyLog) (w : ℕ) (l d : ReplyLog) → l.replies ≡ d.replies → d ≡ get_or sides w d
     → map (λ (l : ReplyLog). l.replies) (set sides w l) ≡ map (λ (l : ReplyLog). l.replies) sides
 same_replies [] w l d e is = refl
-same_replies (x ∷ xs) zero l d e is = ap (λ t. t ∷ map (λ (l : ReplyLog). l.replies) xs) (e ∙ ap (λ (l : ReplyLog). l.replies) is)
+same_replies (x ∷ xs) zero l d e is = ap (λ t. t ∷ map (λ (l : ReplyLog). l.replies) xs)
+    (e ∙ ap (λ (l : ReplyLog). l.replies) is)
 same_replies (x ∷ xs) (suc w) l d e is = ap (λ ls. x.replies ∷ ls) (same_replies xs w l d e is)
 
 module _ {A : Type 0} (P : ℕ → A → Type 0) where

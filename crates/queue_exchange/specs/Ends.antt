@@ -16,62 +16,65 @@ use Rattle.queue_exchange.specs.declared.storage.StorageEnd.TheInside as Storage
 -- A worker's end
 
 abbrev pub worker_queues : Worker.Inside → WorkerQueues
-worker_queues e =
+worker_queues end =
     record {
-      requests = e.asks.table_id;
-      replies = e.takes.table_id;
-      room = ruled_capacity (arc_value e.requests);
-      worker = e.worker;
-      sent = (view e.asks).sending.sent;
-      said_bye = e.said_bye;
-      back = (view e.takes).popped;
+      requests = end.asks.table_id;
+      replies = end.takes.table_id;
+      room = ruled_capacity (arc_value end.requests);
+      worker = end.worker;
+      sent = (view end.asks).sending.sent;
+      said_bye = end.said_bye;
+      back = (view end.takes).popped;
     }
 
-pub record IsWorkerEnd (e : Worker.Inside) : Type 0 where
-  pub asks : IsPassOf (arc_value e.requests) e.asks
-  pub takes : IsPassOf (arc_value e.replies) e.takes
-  pub sends : (view e.asks).sends ≡ true
-  pub blind : (view e.asks).takes ≡ false
-  pub pops : (view e.takes).pops ≡ true
-  pub worker_is : ((view e.asks).worker ≡ e.worker) × (e.worker < 8)
-  pub bye_is : (view e.asks).sending.said_bye ≡ e.said_bye
-  pub sent_is : length (view e.asks).sending.sent ≡ e.sent
-  pub back_is : length (view e.takes).popped ≡ e.back
-  pub order : (e.back ≤ e.sent) × (e.sent ≤ e.back + 64) × (e.sent ≤ max_posts)
-  pub quiet : e.said_bye ≡ true → e.back ≡ e.sent
+pub record IsWorkerEnd (end : Worker.Inside) : Type 0 where
+  pub asks : IsPassOf (arc_value end.requests) end.asks
+  pub takes : IsPassOf (arc_value end.replies) end.takes
+  pub sends : (view end.asks).sends ≡ true
+  pub blind : (view end.asks).takes ≡ false
+  pub pops : (view end.takes).pops ≡ true
+  pub worker_is : ((view end.asks).worker ≡ end.worker) × (end.worker < 8)
+  pub bye_is : (view end.asks).sending.said_bye ≡ end.said_bye
+  pub sent_is : length (view end.asks).sending.sent ≡ end.sent
+  pub back_is : length (view end.takes).popped ≡ end.back
+  pub order : (end.back ≤ end.sent) × (end.sent ≤ end.back + 64) × (end.sent ≤ max_posts)
+  pub quiet : end.said_bye ≡ true → end.back ≡ end.sent
 
 -- Storage's end
 
 abbrev pub storage_queues : Storage.Inside → StorageQueues
-storage_queues s =
+storage_queues storage =
     record {
-      requests = s.takes.table_id;
-      room = ruled_capacity (arc_value s.requests);
-      replies = map (λ (l : ReplyLog). l.replies) s.lanes.items;
-      geometry = s.geometry;
-      taken = with_senders (view s.takes).taken;
-      open_request = (view s.takes).open_request;
-      history = (view s.takes).history;
-      byes = byes_among (view s.takes).taken;
+      requests = storage.takes.table_id;
+      room = ruled_capacity (arc_value storage.requests);
+      replies = map (λ (side : ReplyLog). side.replies) storage.lanes.items;
+      geometry = storage.geometry;
+      taken = with_senders (view storage.takes).taken;
+      open_request = (view storage.takes).open_request;
+      history = (view storage.takes).history;
+      byes = byes_among (view storage.takes).taken;
     }
 
 -- the open request, as a list
 abbrev pub as_list : {A : Type 0} → Option A → List A
 as_list None = []
-as_list (Some a) = a ∷ []
+as_list (Some item) = item ∷ []
 
 -- the requests of a history, each with its worker
 abbrev pub asked_in : List Answered → List (ℕ × Posted)
-asked_in history = map (λ (a : Answered). (a.worker, posted_of a)) history
+asked_in history = map (λ (answered : Answered). (answered.worker, posted_of answered)) history
 
 -- what was taken are the requests of the history, and the open one; what was pushed for a worker is its share
-pub record IsStorageEnd (s : Storage.Inside) : Type 0 where
-  pub takes : IsPassOf (arc_value s.requests) s.takes
-  pub reads : (view s.takes).takes ≡ true
-  pub made : (view s.takes).made ≡ length s.lanes.items
-  pub few : length s.lanes.items ≤ 8
-  pub taken : with_senders (view s.takes).taken ≡ asked_in (view s.takes).history ++ as_list (view s.takes).open_request
-  pub shares : (w : ℕ) (d : ReplyLog) → w < length s.lanes.items → (slice_index_or s.lanes.items w d).pushed ≡ worker_share (view s.takes).history w
-  pub open_is : s.open_now ≡ is_some (view s.takes).open_request
-  pub inside : (o : ℕ × Posted) → (view s.takes).open_request ≡ Some o → o.0 < length s.lanes.items
-  pub legal : Legal s.geometry (view s.takes).history
+pub record IsStorageEnd (storage : Storage.Inside) : Type 0 where
+  pub takes : IsPassOf (arc_value storage.requests) storage.takes
+  pub reads : (view storage.takes).takes ≡ true
+  pub made : (view storage.takes).made ≡ length storage.lanes.items
+  pub few : length storage.lanes.items ≤ 8
+  pub taken : with_senders (view storage.takes).taken ≡ asked_in (view storage.takes).history
+      ++ as_list (view storage.takes).open_request
+  pub shares : (worker : ℕ) (otherwise : ReplyLog) → worker < length storage.lanes.items
+      → (slice_index_or storage.lanes.items worker otherwise).pushed ≡ worker_share (view storage.takes).history worker
+  pub open_is : storage.open_now ≡ is_some (view storage.takes).open_request
+  pub inside : (asked : ℕ × Posted) → (view storage.takes).open_request ≡ Some asked
+      → asked.0 < length storage.lanes.items
+  pub legal : Legal storage.geometry (view storage.takes).history

@@ -12,9 +12,9 @@ abbrev pub reply_pass : Bool → Bool → List Answered → List Answered → Re
 reply_pass pushes pops pushed popped = record { pushes = pushes; pops = pops; pushed = pushed; popped = popped }
 
 -- a pass that pushes is the writer's, and knows what was pushed; one that pops is the reader's, and knows what was popped
-pub record FitsReplies (writer reader : ℕ) (pushed popped : List Answered) (pass : ℕ) (v : ReplyView) : Type 0 where
-  pub writes : v.pushes ≡ true → (pass ≡ writer) × (v.pushed ≡ pushed)
-  pub reads : v.pops ≡ true → (pass ≡ reader) × (v.popped ≡ popped)
+pub record FitsReplies (writer reader : ℕ) (pushed popped : List Answered) (pass : ℕ) (view : ReplyView) : Type 0 where
+  pub writes : view.pushes ≡ true → (pass ≡ writer) × (view.pushed ≡ pushed)
+  pub reads : view.pops ≡ true → (pass ≡ reader) × (view.popped ≡ popped)
 
 -- the rule
 pub record RepliesHold (items : List Answered) (views : List ReplyView) : Type 0 where
@@ -23,7 +23,8 @@ pub record RepliesHold (items : List Answered) (views : List ReplyView) : Type 0
   pub pushed : List Answered
   pub popped : List Answered
   pub in_order : pushed ≡ popped ++ items
-  pub each_pass : (pass : ℕ) (v : ReplyView) → get_elem? views pass ≡ some v → FitsReplies writer reader pushed popped pass v
+  pub each_pass : (pass : ℕ) (view : ReplyView) → get_elem? views pass ≡ some view
+      → FitsReplies writer reader pushed popped pass view
 
 -- what contracts see of storage's side of a reply queue: what it pushed, and which queue it is
 pub record ReplyLog : Type 0 where

@@ -6,9 +6,9 @@ use Rattle.queue_exchange.specs.Replies.{ReplyLog}
 use Rattle.queue_exchange.specs.declared.reply_side.ReplySide.TheInside as Reply
 
 abbrev pub reply_log : Reply.Inside → ReplyLog
-reply_log l = record { pushed = (view l.pass).pushed; replies = l.pass.table_id }
+reply_log side = record { pushed = (view side.pass).pushed; replies = side.pass.table_id }
 
-pub record IsReplySide (l : Reply.Inside) : Type 0 where
-  pub pass : IsPassOf (arc_value l.queue) l.pass
-  pub pushes : (view l.pass).pushes ≡ true
-  pub room : ruled_capacity (arc_value l.queue) ≡ 64
+pub record IsReplySide (side : Reply.Inside) : Type 0 where
+  pub pass : IsPassOf (arc_value side.queue) side.pass
+  pub pushes : (view side.pass).pushes ≡ true
+  pub room : ruled_capacity (arc_value side.queue) ≡ 64

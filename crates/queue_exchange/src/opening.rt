@@ -7,7 +7,7 @@ ghost use Rattle.queue_exchange.specs.Queues.{AreQueuesMade};
 use crate::storage::StorageEnd;
 use crate::worker::WorkerEnd;
 use exchange::MakeFault;
-use proto::geometry::Geometry;
+use proto::Geometry;
 use std::alloc::Global;
 
 fn is_count(workers: usize) -> bool
@@ -24,7 +24,8 @@ pub fn make(
     geometry: Geometry,
 ) -> Result<(Vec<WorkerEnd>, StorageEnd), MakeFault>
     ensures made { IfOk result (λ r. AreQueuesMade workers geometry r.0.items r.1) }
-    ensures count { MatchResult result (λ _. IsCount workers) (λ fault. (IsCount workers × (fault ≡ NoMemory)) ⊎ ((¬ (IsCount workers)) × (fault ≡ BadCount))) }
+    ensures count { MatchResult result (λ _. IsCount workers) (λ fault. (IsCount workers × (fault ≡ NoMemory))
+        ⊎ ((¬ (IsCount workers)) × (fault ≡ BadCount))) }
 {
     if !is_count(workers) {
         return Err(MakeFault::BadCount);

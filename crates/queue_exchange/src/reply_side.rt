@@ -1,10 +1,13 @@
 //! Storage's side of a reply queue.
 
 use crate::rules::{Pushes, ReplyPass, ReplyQueue, Rest, Sides};
-use exchange::Answered;
-use std::alloc::Global;
+use exchange::{Answered, WINDOW};
+use std::alloc::{AllocError, Global};
 use std::marker::Model;
 use std::sync::{Arc, Wait};
+
+/// The most answers that wait for one worker.
+const REPLY_ROOM: usize = WINDOW as usize;
 
 /// Where one worker's answers are put.
 #[derive(Drop)]
@@ -25,19 +28,26 @@ impl Model for ReplySide {
 }
 
 impl ReplySide {
-    ghost use Rattle.std.specs.Prelude.{◌≡◌, ◌++◌, ◌∷◌, [], List, length, true, false, MatchResult};
+    ghost use Rattle.std.specs.Prelude.{◌≡◌, ◌++◌, ◌∷◌, [], List, length, true, false, IfOk, MatchResult};
     ghost use Rattle.std.specs.Arc.{arc_value};
     ghost use Rattle.crossbeam_queue.specs.Passes.{view, IsPassOf, ruled_capacity};
     ghost use Rattle.queue_exchange.specs.Replies.{reply_pass};
     ghost use Rattle.proto.specs.declared.history.Answered.{Answered};
     ghost use Rattle.exchange.specs.Beginnings.{StartsWith};
 
-    pub(crate) fn over(queue: Arc<ReplyQueue, Global>, pass: ReplyPass) -> ReplySide
-        requires queue { IsPassOf (arc_value queue) pass × (ruled_capacity (arc_value queue) ≡ 64) }
-        requires pass { view pass ≡ reply_pass true false [] [] }
-        ensures { result ≡ record { pushed = []; replies = pass.table_id } }
+    // A queue of answers: storage's side of it, and the queue and the pass that the worker gets.
+    pub(crate) fn open(
+        alloc: Global,
+    ) -> Result<(ReplySide, Arc<ReplyQueue, Global>, ReplyPass), AllocError>
+        ensures side { IfOk result (λ made. made.0 ≡ record { pushed = []; replies = made.2.table_id }) }
+        ensures pass { IfOk result (λ made. IsPassOf (arc_value made.1) made.2
+            × (view made.2 ≡ reply_pass false true [] [])) }
     {
-        ReplySide { queue, pass }
+        let (queue, mut pass) = ReplyQueue::ruled(alloc, REPLY_ROOM)?;
+        let queue = Arc::new(alloc, queue)?;
+        let replies = Arc::try_clone(&queue)?;
+        let takes = queue.another::<Sides>(&mut pass);
+        Ok((ReplySide { queue, pass }, replies, takes))
     }
 
     // Takes the worker's pass in again.
@@ -55,7 +65,8 @@ impl ReplySide {
         ensures { MatchResult result
             (λ _. self.new ≡ record self.old { pushed = self.old.pushed ++ answered ∷ [] })
             (λ a. (a ≡ answered) × (self.new ≡ self.old)
-            × ((items : List Answered) × (length items ≡ 64) × ((before : List Answered) × (self.old.pushed ≡ before ++ items)))) }
+            × ((items : List Answered) × (length items ≡ 64)
+            × ((before : List Answered) × (self.old.pushed ≡ before ++ items)))) }
     {
         self.queue
             .push_as::<Pushes, R>(rt, &mut self.pass, answered)

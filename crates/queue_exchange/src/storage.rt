@@ -2,19 +2,15 @@
 
 use crate::reply_side::ReplySide;
 use crate::rules::{
-    Left, Makes, Meets, Notes, PickedEntry, ReplyQueue, RequestPass, RequestQueue, Sides,
-    TakesMessage,
+    Left, Makes, Meets, Notes, PickedEntry, RequestPass, RequestQueue, TakesMessage,
 };
 use crate::worker::WorkerEnd;
-use exchange::{Answered, Taken, WINDOW};
-use proto::geometry::Geometry;
+use exchange::{Answered, Taken};
+use proto::Geometry;
 use std::alloc::{AllocError, Global};
 use std::marker::{Brand, Model};
 use std::snapshot::Snapshot;
 use std::sync::{Arc, Wait};
-
-/// The most answers that wait for one worker.
-const REPLY_ROOM: usize = WINDOW as usize;
 
 /// What storage takes requests from, and answers them. One thread at a time uses it.
 #[derive(Drop)]
@@ -56,17 +52,20 @@ fn note<E: PickedEntry>(queue: &RequestQueue, pass: &mut RequestPass, entry: &Sn
     requires entry { entry.now.value ≡ E.entry }
     requires queue { IsPassOf queue.now pass.old × ((view pass.old).takes ≡ true) }
     ensures queue { IsSamePass pass.old pass.new }
-    ensures view { view pass.new ≡ storage_pass (view pass.old).made (view pass.old).taken None ((view pass.old).history ++ entry.now.value ∷ []) }
+    ensures view { view pass.new ≡ storage_pass (view pass.old).made (view pass.old).taken None ((view pass.old).history
+        ++ entry.now.value ∷ []) }
 {
     let _idle = queue.another::<Notes<E>>(pass);
 }
 
 impl StorageEnd {
-    ghost use Rattle.std.specs.Prelude.{◌≡◌, ◌+◌, ◌<◌, ◌≤◌, ◌++◌, ◌∷◌, [], length, None, Some, is_some, IfOk, MatchOption, MatchResult};
+    ghost use Rattle.std.specs.Prelude.{◌≡◌, ◌+◌, ◌<◌, ◌≤◌, ◌++◌, ◌∷◌, [], length, None, Some, is_some, IfOk};
+    ghost use Rattle.std.specs.Prelude.{MatchOption, MatchResult};
     ghost use Rattle.proto.specs.History.{Legal};
     ghost use Rattle.exchange.specs.Beginnings.{posted_of};
     ghost use Rattle.exchange.specs.Ends.{IsCount};
-    ghost use Rattle.queue_exchange.specs.Queues.{new_worker_queues, new_storage_queues, IsEndOf, IsNextTaken, after_taking, after_answering, RepliesFull, AreMet};
+    ghost use Rattle.queue_exchange.specs.Queues.{new_worker_queues, new_storage_queues, IsEndOf, IsNextTaken};
+    ghost use Rattle.queue_exchange.specs.Queues.{after_taking, after_answering, RepliesFull, AreMet};
 
     // An exchange without workers, with room for so many messages.
     pub(crate) fn open(
@@ -96,15 +95,12 @@ impl StorageEnd {
             (λ e. (self.new ≡ record self.old { replies = self.old.replies ++ e.replies ∷ [] })
             × (e ≡ new_worker_queues self.old.requests e.replies self.old.room (length self.old.replies))) }
     {
-        let (queue, mut pass) = ReplyQueue::ruled(alloc, REPLY_ROOM)?;
-        let takes = queue.another::<Sides>(&mut pass);
-        let queue = Arc::new(alloc, queue)?;
-        let worker = self.lanes.len();
-        let replies = Arc::try_clone(&queue)?;
-        let requests = Arc::try_clone(&self.requests)?;
         self.lanes.reserve(1)?;
+        let requests = Arc::try_clone(&self.requests)?;
+        let (side, replies, takes) = ReplySide::open(alloc)?;
+        let worker = self.lanes.len();
         let asks = self.requests.another::<Makes>(&mut self.takes);
-        self.lanes.push_reserved(ReplySide::over(queue, pass));
+        self.lanes.push_reserved(side);
         Ok(WorkerEnd::over(worker, requests, replies, asks, takes))
     }
 

@@ -32,7 +32,8 @@ impl Model for WorkerEnd {
 }
 
 impl WorkerEnd {
-    ghost use Rattle.std.specs.Prelude.{◌≡◌, ◌⊎◌, ◌+◌, ◌<◌, ◌≤◌, ◌++◌, ◌∷◌, [], length, true, false, MatchResult, MatchOption};
+    ghost use Rattle.std.specs.Prelude.{◌≡◌, ◌⊎◌, ◌+◌, ◌<◌, ◌≤◌, ◌++◌, ◌∷◌, [], length, true, false, MatchResult};
+    ghost use Rattle.std.specs.Prelude.{MatchOption};
     ghost use Rattle.std.specs.Arc.{arc_value};
     ghost use Rattle.crossbeam_queue.specs.Passes.{view, IsPassOf, ruled_capacity};
     ghost use Rattle.exchange.specs.Ends.{max_posts};
@@ -66,9 +67,11 @@ impl WorkerEnd {
 
     // The passes, and the numbers of requests and of answers.
     pub(crate) fn into_passes(self) -> (RequestPass, ReplyPass, u64, u64)
-        ensures asks { (result.0.table_id ≡ self.requests) × (result.0.me.1 ≡ []) × ((view result.0).sends ≡ true) × ((view result.0).worker ≡ self.worker)
+        ensures asks { (result.0.table_id ≡ self.requests) × (result.0.me.1 ≡ []) × ((view result.0).sends ≡ true)
+            × ((view result.0).worker ≡ self.worker)
             × ((view result.0).sending ≡ record { sent = self.sent; said_bye = self.said_bye }) }
-        ensures takes { (result.1.table_id ≡ self.replies) × (result.1.me.1 ≡ []) × ((view result.1).pops ≡ true) × ((view result.1).popped ≡ self.back) }
+        ensures takes { (result.1.table_id ≡ self.replies) × (result.1.me.1 ≡ []) × ((view result.1).pops ≡ true)
+            × ((view result.1).popped ≡ self.back) }
         ensures counts { (result.2 ≡ length self.sent) × (result.3 ≡ length self.back) }
         ensures quiet { self.said_bye ≡ true → length self.back ≡ length self.sent }
     {
@@ -150,8 +153,24 @@ impl WorkerEnd {
         requires { (self.old.said_bye ≡ false) × (length self.old.back ≡ length self.old.sent) }
         ensures { self.new ≡ record self.old { said_bye = true } }
     {
-        push_bye(rt, &self.requests, &mut self.asks, self.worker);
-        self.said_bye = true;
+        for _ in rt.forever() {
+            if self.try_bye(rt) {
+                return;
+            }
+            thread::yield_now();
+        }
+        unreachable!()
+    }
+
+    // Says bye, if the queue of requests has room.
+    fn try_bye<R: Wait>(&mut self, rt: &R) -> bool
+        requires { (self.old.said_bye ≡ false) × (length self.old.back ≡ length self.old.sent) }
+        ensures said { result ≡ true → self.new ≡ record self.old { said_bye = true } }
+        ensures full { result ≡ false → self.new ≡ self.old }
+    {
+        let has_room = push_bye(rt, &self.requests, &mut self.asks, self.worker);
+        self.said_bye = has_room;
+        has_room
     }
 }
 
@@ -187,20 +206,21 @@ fn push_request<R: Wait>(
     }
 }
 
-// Pushes a bye, and waits for room.
-fn push_bye<R: Wait>(rt: &R, queue: &RequestQueue, pass: &mut RequestPass, worker: usize)
+// Pushes a bye, and says whether there was room.
+fn push_bye<R: Wait>(rt: &R, queue: &RequestQueue, pass: &mut RequestPass, worker: usize) -> bool
     requires queue { IsPassOf queue.now pass.old }
     requires view { ((view pass.old).sends ≡ true) × ((view pass.old).takes ≡ false) × ((view pass.old).worker ≡ worker)
         × ((view pass.old).sending.said_bye ≡ false) }
     ensures queue { IsSamePass pass.old pass.new }
-    ensures sent { view pass.new ≡ worker_pass worker (after_sending (view pass.old).sending (Bye worker)) }
+    ensures sent { result ≡ true
+        → view pass.new ≡ worker_pass worker (after_sending (view pass.old).sending (Bye worker)) }
+    ensures full { result ≡ false → view pass.new ≡ view pass.old }
 {
-    for _ in rt.forever() {
-        let bye = Taken::Bye { worker };
-        if queue.push_as::<Sends, R>(rt, pass, bye).is_ok() {
-            return;
+    match queue.push_as::<Sends, R>(rt, pass, Taken::Bye { worker }) {
+        Ok(()) => true,
+        Err(back) => {
+            drop(back);
+            false
         }
-        thread::yield_now();
     }
-    unreachable!()
 }

@@ -1,25 +1,22 @@
 //! One request there and back, and what `gather` counts then.
 
-ghost use Rattle.std.specs.Prelude.{◌≡◌, IfOk, None};
+ghost use Rattle.std.specs.Prelude.{◌≡◌, IfOk};
 ghost use Rattle.proto.specs.Sizes.{Sizes};
 ghost use Rattle.proto.specs.Cache.{empty_cache};
-ghost use Rattle.engine.specs.Reaching.{Reaches};
 ghost use Rattle.queue_exchange.specs.Queues.{AreQueuesMade, IsEndOf};
-ghost use Rattle.exchange_runs.specs.Serving.{IsSameQueues};
 ghost use Rattle.queue_tests.specs.Ends.{IsSameEnd};
 
-use exchange_runs::execute;
+use exchange_runs::{Served, serve_next};
 use plain_store::Store;
-use proto::geometry::Geometry;
-use proto::history::Posted;
-use proto::message::Request;
-use queue_exchange::{Gathered, MakeFault, StorageEnd, Taken, WorkerEnd, gather, make};
+use proto::{Geometry, Posted, Request};
+use queue_exchange::{Gathered, MakeFault, StorageEnd, WorkerEnd, gather, make};
 use std::alloc::{AllocError, Global};
 use std::sync::Wait;
 use std::test::Fail;
 
 fn made(alloc: Global) -> Result<(Vec<WorkerEnd>, StorageEnd, Store), MakeFault>
-    ensures { IfOk result (λ r. (g : Sizes) × AreQueuesMade 1 g r.0.items r.1 × (r.2 ≡ record { sizes = g; cache = empty_cache 0; moment = 0 })) }
+    ensures { IfOk result (λ r. (g : Sizes) × AreQueuesMade 1 g r.0.items r.1
+        × (r.2 ≡ record { sizes = g; cache = empty_cache 0; moment = 0 })) }
 {
     let Ok(geometry) = Geometry::new(4096, 8) else {
         return Err(MakeFault::BadCount);
@@ -56,21 +53,6 @@ fn number<R: Wait>(rt: &R, end: &mut WorkerEnd) -> Option<u64>
     Some(number)
 }
 
-/// Executes and answers one request, and says whether there was one.
-fn serve_one<R: Wait>(rt: &R, store: &mut Store, end: &mut StorageEnd) -> bool
-    requires ready { Reaches end.old.geometry end.old.history store.old.cache store.old.moment × (store.old.sizes ≡ end.old.geometry)
-        × (end.old.open_request ≡ None) }
-    ensures { IsSameQueues end.old end.new }
-{
-    match end.next(rt) {
-        Some(Taken::Asked { worker, posted }) => {
-            execute(rt, store, end, worker, posted);
-            true
-        }
-        _ => false,
-    }
-}
-
 /// Gathers the end of the one worker.
 fn gathered(alloc: Global, end: WorkerEnd, storage: StorageEnd) -> Result<Gathered, AllocError>
     requires { IsEndOf end storage }
@@ -89,7 +71,8 @@ fn a_full_window_and_one_answer(rt: HostRuntime) -> Result<(), Fail> {
     assert_eq!(rt; storage.workers(), 1);
     assert_eq!(rt; fill(&rt, &mut end), 64);
     assert_eq!(rt; number(&rt, &mut end), None);
-    assert!(rt; serve_one(&rt, &mut store, &mut storage));
+    let served = serve_next(&rt, &mut store, &mut storage);
+    assert!(rt; matches!(served, Served::Request));
     assert!(rt; !storage.is_open());
     assert_eq!(rt; number(&rt, &mut end), Some(1));
     assert_eq!(rt; number(&rt, &mut end), None);

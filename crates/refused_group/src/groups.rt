@@ -5,7 +5,7 @@ use crate::served::{Allowed, is_allowed, is_whole};
 use gates::OpenGate;
 use group::{Config, GroupFault, GroupReport, run_group};
 use plain_store::Store;
-use proto::geometry::Geometry;
+use proto::Geometry;
 use std::alloc::Global;
 use std::sync::Wait;
 use std::thread::Threads;

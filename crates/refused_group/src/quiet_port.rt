@@ -2,8 +2,8 @@
 
 use bytes::Bytes;
 use std::sync::atomic::{AtomicU64, Ordering};
-use storage_thread::clock::Clock;
-use worker::port::{Gone, Port, PortEvent};
+use storage_thread::Clock;
+use worker::{Gone, Port, PortEvent};
 
 /// The most bytes that are kept of what is given.
 const ROOM: usize = 64;

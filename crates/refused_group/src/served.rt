@@ -2,7 +2,7 @@
 
 use crate::quiet_port::QuietPort;
 use group::GroupWorker;
-use session_book::causes::EndCause;
+use session_book::EndCause;
 
 /// What the session of a worker may be given: all as it is without a refusal, or one of its requests was answered
 /// with want of memory.

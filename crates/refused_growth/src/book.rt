@@ -1,9 +1,7 @@
 //! Sessions are opened, fed, read and answered after a refusal.
 
-use proto::history::Answered;
-use proto::message::Reply;
-use session_book::book::Book;
-use session_book::causes::{EndCause, FeedFault, OpenFault, Settled};
+use proto::{Answered, Reply};
+use session_book::{Book, EndCause, FeedFault, OpenFault, Settled};
 use std::alloc::Global;
 
 const INPUT: &[u8] = b"set key 0 0 5\r\nvalue\r\nfoo\r\ndelete key\r\nquit\r\nget key\r\n";

@@ -2,11 +2,7 @@
 //! moment, and executes the request when it is asked again.
 
 use plain_store::Store;
-use proto::geometry::Geometry;
-use proto::message::{Message, Next, Reply, Request};
-use proto::next::next_message;
-use proto::no_memory::NoMemory;
-use proto::show::show;
+use proto::{Geometry, Message, Next, NoMemory, Reply, Request, next_message, show};
 use std::alloc::Global;
 
 /// Requests that store, show, change, expire and flush.

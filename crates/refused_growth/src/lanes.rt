@@ -1,7 +1,7 @@
 //! An exchange is made after a refusal.
 
 use exchange::make;
-use proto::geometry::Geometry;
+use proto::Geometry;
 use std::alloc::Global;
 
 /// Whether the ends of two workers are made at the first or the second try.

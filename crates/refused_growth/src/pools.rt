@@ -3,7 +3,7 @@
 ghost use Rattle.std.specs.Prelude.{◌≡◌, ◌<◌, IfSome};
 ghost use Rattle.segments.specs.Pools.{bucket_count};
 
-use proto::geometry::Geometry;
+use proto::Geometry;
 use segments::{ItemRef, Pool, size_of};
 use std::alloc::Global;
 

@@ -3,9 +3,7 @@
 ghost use Rattle.std.specs.Prelude.{◌≡◌, true};
 ghost use Rattle.proto.specs.Answers.{is_ask};
 
-use proto::message::{Message, Next, Reply};
-use proto::next::next_message;
-use proto::show::show;
+use proto::{Message, Next, Reply, next_message, show};
 use std::alloc::Global;
 
 /// A request of each form that is copied, and what the reply Stored makes of it.

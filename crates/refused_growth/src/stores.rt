@@ -1,9 +1,7 @@
 //! A segmented store is made after a refusal, and does then what it would have done.
 
 use crate::cache::read;
-use proto::geometry::Geometry;
-use proto::message::{Message, Reply};
-use proto::show::show;
+use proto::{Geometry, Message, Reply, show};
 use segment_store::Store;
 use std::alloc::Global;
 

@@ -8,17 +8,14 @@ use crate::quiet_port::QuietPort;
 use exchange::{StorageEnd, WorkerEnd, make};
 use parking::ParkingWord;
 use plain_store::Store;
-use proto::geometry::Geometry;
-use session_book::causes::EndCause;
+use proto::Geometry;
+use session_book::EndCause;
 use std::alloc::Global;
 use std::sync::{Arc, Wait};
 use std::thread::Threads;
 use std::{thread, time};
-use storage_thread::clock::Clock;
-use storage_thread::serving::{StorageReport, run_storage};
-use worker::gate::Gate;
-use worker::report::WorkerReport;
-use worker::run::run_worker;
+use storage_thread::{Clock, StorageReport, run_storage};
+use worker::{Gate, WorkerReport, run_worker};
 
 const INPUTS: [&[u8]; 2] = [
     b"set a 0 0 1\r\nx\r\nget a\r\nfoo\r\n",
@@ -94,7 +91,8 @@ where
     let child = thread::spawn(
         rt,
         move || -> StorageReport<SteadyClock>
-            requires { (store.cache ≡ empty_cache 0) × (store.moment ≡ 0) × (store.sizes ≡ storage_end.geometry) × IsUnused storage_end }
+            requires { (store.cache ≡ empty_cache 0) × (store.moment ≡ 0) × (store.sizes ≡ storage_end.geometry)
+                × IsUnused storage_end }
         { run_storage(&handle, store, SteadyClock, storage_end, &of_storage) },
     )
     .ok()?;

@@ -55,9 +55,11 @@ same_verb : (verb word : List ℕ) → bytes_eq verb word ≡ true → verb ≡ 
 same_verb verb word e = (bytes_eq-Decides verb word).0 e
 
 -- an event that is read from words is said by them
-event_sound : (verb : List ℕ) (w s : ℕ) (rest : List (List ℕ)) (e : ScriptEvent) → FitsNumbers w s → event_in verb s rest ≡ Some e → SaysWith verb w s rest e
+event_sound : (verb : List ℕ) (w s : ℕ) (rest : List (List ℕ)) (e : ScriptEvent) → FitsNumbers w s
+    → event_in verb s rest ≡ Some e → SaysWith verb w s rest e
 event_sound verb w s [] e fits h =
-    elim (chosen (bytes_eq verb (codes "open")) (Some (Open s)) (cond (bytes_eq verb (codes "gone")) (Some (Gone s)) None) e h) [
+    elim (chosen (bytes_eq verb (codes "open")) (Some (Open s))
+    (cond (bytes_eq verb (codes "gone")) (Some (Gone s)) None) e h) [
       | inl p ↦
           let verb-is = same_verb verb (codes "open") p.0 in
           subst (λ (x : ScriptEvent). SaysWith verb w s [] x) (some_is (Open s) e p.1)
@@ -76,8 +78,12 @@ event_sound verb w s (hex ∷ []) e fits h =
       | inl p ↦
           let verb-is = same_verb verb (codes "send") p.0 in
           let found = bind_some (bytes_in hex) (λ bytes. Some (Send s bytes)) e p.1 in
-          subst (λ (x : ScriptEvent). SaysWith verb w s (hex ∷ []) x) (some_is (Send s found.0) e found.2)
-          (hex, fits, bytes_in_sound hex found.0 found.1, ap (λ (v : List ℕ). spaced (v ∷ decimal w ∷ decimal s ∷ hex ∷ [])) verb-is)
+          subst (λ (x : ScriptEvent). SaysWith verb w s (hex ∷ []) x) (some_is (Send s found.0) e found.2) (
+            hex,
+            fits,
+            bytes_in_sound hex found.0 found.1,
+            ap (λ (v : List ℕ). spaced (v ∷ decimal w ∷ decimal s ∷ hex ∷ [])) verb-is,
+          )
       | inr p ↦ absurd (none_is_some e p.1)
     ]
 event_sound verb w s (hex ∷ more ∷ rest) e fits h = absurd cc
@@ -92,7 +98,8 @@ words_sound [] l e = absurd (none_is_some l e)
 words_sound (verb ∷ []) l e = absurd (none_is_some l e)
 words_sound (verb ∷ worker ∷ []) l e = absurd (none_is_some l e)
 words_sound (verb ∷ worker ∷ session ∷ rest) l e =
-    let first = bind_some (number_in (10 ^ 10) worker) (λ w. session_in session >>= λ s. event_in verb s rest >>= made w) l e in
+    let first = bind_some (number_in (10 ^ 10) worker)
+    (λ w. session_in session >>= λ s. event_in verb s rest >>= made w) l e in
     let w = first.0 in
     let second = bind_some (session_in session) (λ s. event_in verb s rest >>= made w) l first.2 in
     let s = second.0 in
@@ -104,7 +111,8 @@ words_sound (verb ∷ worker ∷ session ∷ rest) l e =
     let line_is : spaced (verb ∷ decimal w ∷ decimal s ∷ rest) ≡ spaced (verb ∷ worker ∷ session ∷ rest) =
     ap (λ (ws : List (List ℕ)). spaced (verb ∷ ws))
     (ap (λ (v : List ℕ). v ∷ decimal s ∷ rest) (sym number.0) ∙ ap (λ (v : List ℕ). worker ∷ v ∷ rest) (sym found.0)) in
-    subst (λ (x : ScriptLine). LineSays (spaced (verb ∷ worker ∷ session ∷ rest)) x) (some_is (record { worker = w; event = third.0 }) l third.2)
+    subst (λ (x : ScriptLine). LineSays (spaced (verb ∷ worker ∷ session ∷ rest)) x)
+    (some_is (record { worker = w; event = third.0 }) l third.2)
     (subst (λ (line : List ℕ). SaysAt line w third.0) line_is said)
 
 -- what the plain reader finds, the line says
@@ -121,7 +129,10 @@ digit_other c h = ne_eqb c 32 (λ e. false≢true (rw e at h))
 hex_word : (hex : List ℕ) → AllPass is_hex_digit hex → IsWord hex
 hex_word [] h = refl
 hex_word (c ∷ hex) h =
-    rw (digit_other c (All-head (λ x. is_hex_digit x ≡ true) c hex h), hex_word hex (All-tail (λ x. is_hex_digit x ≡ true) c hex h)) refl
+    rw (
+      digit_other c (All-head (λ x. is_hex_digit x ≡ true) c hex h),
+      hex_word hex (All-tail (λ x. is_hex_digit x ≡ true) c hex h),
+    ) refl
 
 -- a session's number in decimal is read as it
 session_found : (w s : ℕ) → FitsNumbers w s → session_in (decimal s) ≡ Some s
@@ -147,13 +158,17 @@ words_found : (verb : List ℕ) (w s : ℕ) (rest : List (List ℕ)) → FitsNum
 words_found verb w s rest fits verb_word rest_words =
     let ten_digits = fits.ten_digits in
     let below = fits.fits in
-    words_of-spaced verb (decimal w ∷ decimal s ∷ rest) (verb_word, (decimal_word w (omega arith), (decimal_word s (omega arith), rest_words)))
+    words_of-spaced verb (decimal w ∷ decimal s ∷ rest)
+    (verb_word, (decimal_word w (omega arith), (decimal_word s (omega arith), rest_words)))
 
 -- what the reader gives, where the words are these and the event is found in them
-given_words : (line verb : List ℕ) (w s : ℕ) (rest : List (List ℕ)) (e : ScriptEvent) → FitsNumbers w s → IsWord verb → AreWords rest
-    → line ≡ spaced (verb ∷ decimal w ∷ decimal s ∷ rest) → event_in verb s rest ≡ Some e → line_in (words_of line) ≡ made w e
+given_words : (line verb : List ℕ) (w s : ℕ) (rest : List (List ℕ)) (e : ScriptEvent) → FitsNumbers w s → IsWord verb
+    → AreWords rest
+    → line ≡ spaced (verb ∷ decimal w ∷ decimal s ∷ rest) → event_in verb s rest ≡ Some e
+    → line_in (words_of line) ≡ made w e
 given_words line verb w s rest e fits verb_word rest_words is found =
-    let words-are : words_of line ≡ verb ∷ decimal w ∷ decimal s ∷ rest = ap words_of is ∙ words_found verb w s rest fits verb_word rest_words in
+    let words-are : words_of line ≡ verb ∷ decimal w ∷ decimal s ∷ rest =
+    ap words_of is ∙ words_found verb w s rest fits verb_word rest_words in
     rw (words-are, worker_found w s fits, session_found w s fits, found) refl
 
 -- what a line says, the plain reader finds
@@ -162,9 +177,11 @@ line_complete line w (Open s) h = given_words line (codes "open") w s [] (Open s
 line_complete line w (Gone s) h = given_words line (codes "gone") w s [] (Gone s) h.0 refl tt h.1 refl
 line_complete line w (Send s bytes) (hex, fits, is_hex, is) =
     let digits = (decode_of-ok hex bytes is_hex.decoded).1 in
-    given_words line (codes "send") w s (hex ∷ []) (Send s bytes) fits refl (hex_word hex digits, tt) is (rw (bytes_found hex bytes is_hex) refl)
+    given_words line (codes "send") w s (hex ∷ []) (Send s bytes) fits refl (hex_word hex digits, tt) is
+    (rw (bytes_found hex bytes is_hex) refl)
 
 -- the plain reader finds exactly what a line says
-pub line_meaning : (line : List ℕ) (found : Option ScriptLine) → found ≡ line_in (words_of line) → MatchOption found (SaysNothing line) (LineSays line)
+pub line_meaning : (line : List ℕ) (found : Option ScriptLine) → found ≡ line_in (words_of line)
+    → MatchOption found (SaysNothing line) (LineSays line)
 line_meaning line None is = λ l said. none_is_some l (is ∙ line_complete line l.worker l.event said)
 line_meaning line (Some l) is = line_sound line l (sym is)

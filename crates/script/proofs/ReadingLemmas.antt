@@ -9,7 +9,8 @@ use Rattle.script.specs.declared.fault.ScriptFault.TheVariants as script
 use Rattle.script.specs.Scripts.{Workers, AddsLine, AreRead, no_events, Position, first_position, ReadsLine, IsNextFault, AreEventsOf, IsFaultOf, max_script}
 
 -- a text with a line feed is the line before it, and the lines behind
-pub lines_at : (text : List ℕ) (i : ℕ) → i < length text → eqb (get_or text i 0) 10 ≡ true → ((k : ℕ) → k < i → eqb (get_or text k 0) 10 ≡ false)
+pub lines_at : (text : List ℕ) (i : ℕ) → i < length text → eqb (get_or text i 0) 10 ≡ true
+    → ((k : ℕ) → k < i → eqb (get_or text k 0) 10 ≡ false)
     → lines_of text ≡ take i text ∷ lines_of (drop 1 (drop i text))
 lines_at [] i lt here before = absurd (omega arith)
 lines_at (c ∷ text) zero lt here before = rw here refl
@@ -18,7 +19,8 @@ lines_at (c ∷ text) (suc i) lt here before =
     rw (before 0 (omega arith), below) refl
 
 -- a text without a line feed is one line
-pub lines_last : (c : ℕ) (text : List ℕ) → ((k : ℕ) → k < length (c ∷ text) → eqb (get_or (c ∷ text) k 0) 10 ≡ false) → lines_of (c ∷ text) ≡ (c ∷ text) ∷ []
+pub lines_last : (c : ℕ) (text : List ℕ) → ((k : ℕ) → k < length (c ∷ text) → eqb (get_or (c ∷ text) k 0) 10 ≡ false)
+    → lines_of (c ∷ text) ≡ (c ∷ text) ∷ []
 lines_last c [] h = rw (h 0 (omega arith)) refl
 lines_last c (d ∷ text) h =
     let below = lines_last d text (λ k lt. h (suc k) (omega arith)) in
@@ -28,10 +30,12 @@ lines_last c (d ∷ text) h =
 pub are_read_more : (before mid after : Workers) (lines : List (List ℕ)) (line : List ℕ) → AreRead before lines mid
     → AddsLine mid line after → AreRead before (lines ++ line ∷ []) after
 are_read_more before mid after [] line is adds = (after, subst (λ (w : Workers). AddsLine w line after) is adds, refl)
-are_read_more before mid after (first ∷ lines) line (next, adds_first, read) adds = (next, adds_first, are_read_more next mid after lines line read adds)
+are_read_more before mid after (first ∷ lines) line (next, adds_first, read) adds =
+    (next, adds_first, are_read_more next mid after lines line read adds)
 
 -- a text that isn't empty and has no line feed is one line
-pub lines_whole : (text : List ℕ) → 0 < length text → ((k : ℕ) → k < length text → eqb (get_or text k 0) 10 ≡ false) → lines_of text ≡ text ∷ []
+pub lines_whole : (text : List ℕ) → 0 < length text → ((k : ℕ) → k < length text → eqb (get_or text k 0) 10 ≡ false)
+    → lines_of text ≡ text ∷ []
 lines_whole [] some h = absurd (omega arith)
 lines_whole (c ∷ text) some h = lines_last c text h
 
@@ -47,11 +51,14 @@ pub at_first : (workers : ℕ) (text : List ℕ) → IsAt workers text (first_po
 at_first workers text = record { before = []; lines_are = refl; read_is = refl; read = refl }
 
 -- one line further
-pub at_next : (workers : ℕ) (text : List ℕ) (old new : Position) → IsAt workers text old → ReadsLine old new → IsAt workers text new
+pub at_next : (workers : ℕ) (text : List ℕ) (old new : Position) → IsAt workers text old → ReadsLine old new
+    → IsAt workers text new
 at_next workers text old new at reads = record {
   before = at.before ++ reads.line ∷ [];
-  lines_are = at.lines_are ∙ ap (λ (left : List (List ℕ)). at.before ++ left) reads.first ∙ sym (append_assoc at.before (reads.line ∷ []) new.left);
-  read_is = let counted = reads.counted in let was = at.read_is in omega (arith, length-append at.before (reads.line ∷ []));
+  lines_are = at.lines_are ∙ ap (λ (left : List (List ℕ)). at.before ++ left) reads.first
+      ∙ sym (append_assoc at.before (reads.line ∷ []) new.left);
+  read_is = let counted = reads.counted in let was = at.read_is in
+      omega (arith, length-append at.before (reads.line ∷ []));
   read = are_read_more (no_events workers) old.workers new.workers at.before reads.line at.read reads.adds;
 }
 
@@ -84,6 +91,8 @@ at_fault workers text position (script.Line number fault) at next small = (
 at_fault workers text position script.NoMemory at next small = tt
 
 -- lines add no worker
-pub length-are_read : (before after : Workers) (lines : List (List ℕ)) → AreRead before lines after → length after ≡ length before
+pub length-are_read : (before after : Workers) (lines : List (List ℕ)) → AreRead before lines after
+    → length after ≡ length before
 length-are_read before after [] is = ap length is
-length-are_read before after (line ∷ lines) (mid, adds, read) = length-are_read mid after lines read ∙ ap length adds.2 ∙ length-set before adds.0.worker _
+length-are_read before after (line ∷ lines) (mid, adds, read) =
+    length-are_read mid after lines read ∙ ap length adds.2 ∙ length-set before adds.0.worker _

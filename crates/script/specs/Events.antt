@@ -22,19 +22,20 @@ open_after session was (Send other bytes) = was
 open_after session was (Gone other) = if other == session then false else was
 
 -- whether the session has begun, and its peer hasn't gone
-abbrev pub is_open : List ScriptEvent → ℕ → Bool
-is_open events session = fold (open_after session) false events
+abbrev pub is_open_in_script : List ScriptEvent → ℕ → Bool
+is_open_in_script events session = fold (open_after session) false events
 
 -- A session that begins has a number above each that was opened before. Bytes come, and a peer goes, only
 -- where the session is open.
 abbrev pub MayFollow : List ScriptEvent → ScriptEvent → Type 0
 MayFollow before (Open session) = newest_of before < session
-MayFollow before (Send session bytes) = IsTrue (is_open before session)
-MayFollow before (Gone session) = IsTrue (is_open before session)
+MayFollow before (Send session bytes) = IsTrue (is_open_in_script before session)
+MayFollow before (Gone session) = IsTrue (is_open_in_script before session)
 
 -- each event may come behind those before it
 abbrev pub IsPlayable : List ScriptEvent → Type 0
-IsPlayable events = (k : ℕ) (d : ScriptEvent) → k < length events → MayFollow (take k events) (slice_index_or events k d)
+IsPlayable events = (k : ℕ) (d : ScriptEvent) → k < length events
+    → MayFollow (take k events) (slice_index_or events k d)
 
 abbrev pub session_opened_by : ScriptEvent → Option ℕ
 session_opened_by (Open session) = Some session
@@ -66,5 +67,5 @@ goes_in_script events session = list_any (goes_by_event session) events
 -- what is wrong with an event that may not come
 abbrev pub IsOutOfPlace : List ScriptEvent → ScriptEvent → LineFault → Type 0
 IsOutOfPlace before (Open session) fault = (fault ≡ NotAboveLast) × (session ≤ newest_of before)
-IsOutOfPlace before (Send session bytes) fault = (fault ≡ NotOpen) × (is_open before session ≡ false)
-IsOutOfPlace before (Gone session) fault = (fault ≡ NotOpen) × (is_open before session ≡ false)
+IsOutOfPlace before (Send session bytes) fault = (fault ≡ NotOpen) × (is_open_in_script before session ≡ false)
+IsOutOfPlace before (Gone session) fault = (fault ≡ NotOpen) × (is_open_in_script before session ≡ false)

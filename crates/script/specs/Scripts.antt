@@ -107,5 +107,6 @@ pub record AreEventsOf (workers : ℕ) (text : List ℕ) (events : Workers) : Ty
 -- why a script has no events
 abbrev pub IsFaultOf : ℕ → List ℕ → ScriptFault → Type 0
 IsFaultOf workers text script.TooLarge = max_script < length text
-IsFaultOf workers text (script.Line number fault) = (length text ≤ max_script) × HasFault workers (lines_of text) number fault
+IsFaultOf workers text (script.Line number fault) =
+    (length text ≤ max_script) × HasFault workers (lines_of text) number fault
 IsFaultOf workers text script.NoMemory = ⊤

@@ -1,6 +1,6 @@
 //! What is wrong with a script.
 
-use proto::no_memory::NoMemory;
+use proto::NoMemory;
 use thiserror::Error;
 
 /// What is wrong with a line. The first of these that a line has is reported.

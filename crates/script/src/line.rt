@@ -8,9 +8,7 @@ ghost use Rattle.proto.specs.Words.{words_of};
 use crate::event::{ScriptEvent, ScriptLine};
 use bytes::Bytes;
 use hex::FromHexError;
-use proto::no_memory::NoMemory;
-use proto::parse::number;
-use proto::words::Words;
+use proto::{NoMemory, Words, number};
 use std::alloc::Global;
 
 /// The number of a session, which isn't 0.

@@ -1,16 +1,18 @@
 //! Reads a script line by line.
 
-ghost use Rattle.std.specs.Prelude.{◌≡◌, ◌+◌, ◌<◌, ◌≤◌, ◌↔◌, [], ◌∷◌, length, replicate, IfOk, IfErr, OnOk, OnErr, MatchResult, MatchOption, MatchBool, IfSome};
+ghost use Rattle.std.specs.Prelude.{◌≡◌, ◌+◌, ◌<◌, ◌≤◌, ◌↔◌, [], ◌∷◌, length, replicate, IfOk, IfErr, OnOk, OnErr};
+ghost use Rattle.std.specs.Prelude.{MatchResult, MatchOption, MatchBool, IfSome};
 ghost use Rattle.script.specs.Lines.{lines_of};
 ghost use Rattle.script.specs.Events.{MayFollow};
-ghost use Rattle.script.specs.Scripts.{MayAdd, IsFaulty, events_at, with_line, no_events, max_script, first_position, ReadsLine, IsNextFault, AreEventsOf, IsFaultOf};
+ghost use Rattle.script.specs.Scripts.{MayAdd, IsFaulty, events_at, with_line, no_events, max_script, first_position};
+ghost use Rattle.script.specs.Scripts.{ReadsLine, IsNextFault, AreEventsOf, IsFaultOf};
 
 use crate::event::ScriptLine;
 use crate::fault::{LineFault, ScriptFault};
 use crate::line::script_line;
 use crate::worker_script::WorkerScript;
 use memchr::memchr;
-use proto::no_memory::NoMemory;
+use proto::NoMemory;
 use std::alloc::Global;
 use std::marker::Model;
 
@@ -120,7 +122,8 @@ impl<'a> ScriptReader<'a> {
 
     /// Reads the next line, if there is one, and says whether there was. A fault changes nothing.
     pub fn next_line(&mut self) -> Result<bool, ScriptFault>
-        ensures read { IfOk result (λ more. MatchBool more (ReadsLine self.old self.new) ((self.old.left ≡ []) × (self.new ≡ self.old))) }
+        ensures read { IfOk result (λ more. MatchBool more (ReadsLine self.old self.new) ((self.old.left ≡ [])
+            × (self.new ≡ self.old))) }
         ensures fault { IfErr result (IsNextFault self.old) }
         ensures err { OnErr result (self.new ≡ self.old) }
     {

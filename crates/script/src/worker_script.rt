@@ -7,7 +7,7 @@ ghost use Rattle.script.specs.Events.{IsOutOfPlace, IsPlayable, MayFollow, newes
 
 use crate::event::ScriptEvent;
 use crate::fault::LineFault;
-use proto::no_memory::NoMemory;
+use proto::NoMemory;
 use std::alloc::Global;
 use std::collections::BTreeSet;
 use std::marker::Model;
@@ -41,8 +41,10 @@ fn track(
     event: &ScriptEvent,
 ) -> Result<(), NoMemory>
     ensures newest { OnOk result (newest.new ≡ newest_after newest.old event.now) }
-    ensures sessions { OnOk result ((s : ℕ) → contains nat_cmp sessions.new s ≡ open_after s (contains nat_cmp sessions.old s) event.now) }
-    ensures err { OnErr result ((newest.new ≡ newest.old) × ((s : ℕ) → contains nat_cmp sessions.new s ≡ contains nat_cmp sessions.old s)) }
+    ensures sessions { OnOk result ((s : ℕ)
+        → contains nat_cmp sessions.new s ≡ open_after s (contains nat_cmp sessions.old s) event.now) }
+    ensures err { OnErr result ((newest.new ≡ newest.old)
+        × ((s : ℕ) → contains nat_cmp sessions.new s ≡ contains nat_cmp sessions.old s)) }
 {
     match event {
         ScriptEvent::Open(session) => {

@@ -1,14 +1,15 @@
 -- The events that are left, and which may come.
-use Rattle.std.proofs.Common.{◌≡◌, ◌≢◌, ℕ, zero, suc, ◌+◌, ◌<◌, ◌≤◌, nat_lt, Bool, true, false, true≢false, not, ◌&&◌, cond, eq-eqb, ne_eqb, List, [], ◌∷◌}
-use Rattle.std.proofs.Common.{◌++◌, length, get_or, take, append-nil, append_assoc, refl, sym, ap, subst, ◌∙◌, arith, Some, None}
+use Rattle.std.proofs.Common.{◌≡◌, ◌≢◌, ℕ, zero, suc, ◌<◌, ◌≤◌, nat_lt, Bool, true, false, true≢false, not, ◌&&◌, cond}
+use Rattle.std.proofs.Common.{eq-eqb, ne_eqb, List, [], ◌∷◌}
+use Rattle.std.proofs.Common.{◌++◌, length, get_or, take, append-nil, append_assoc, refl, sym, ap, subst, ◌∙◌, arith}
 use Rattle.std.proofs.lemmas.Bool.Decides.{nat_tests}
-use Rattle.std.specs.List.{position, prefix_len, AllByRecursion}
+use Rattle.std.specs.List.{AllByRecursion}
 use Rattle.script.specs.declared.event.ScriptEvent.{ScriptEvent}
 use Rattle.script.specs.declared.event.ScriptEvent.TheVariants.{Open, Send, Gone}
-use Rattle.script.specs.Events.{newest_after, newest_of, open_after, is_open, MayFollow, IsPlayable}
+use Rattle.script.specs.Events.{newest_after, newest_of, open_after, is_open_in_script, MayFollow, IsPlayable}
 use Rattle.script.proofs.TrackLemmas.{newest_more, open_more}
 use Rattle.script_port.specs.Events.{event_session, events_without, may_follow, plays_from, is_playable}
-use Rattle.script_port.proofs.SessionLemmas.{either_way}
+use Rattle.proto.proofs.CountLemmas.{either_way}
 
 -- if two tests both pass, the first one passes
 pub and_left : (a b : Bool) → (a && b) ≡ true → a ≡ true
@@ -40,83 +41,16 @@ false_lt a b e = grind (arith, nat_tests)
 pub lt_false : (a b : ℕ) → nat_lt a b ≡ false → b ≤ a
 lt_false a b e = grind (arith, nat_tests)
 
--- ---- the first that passes a test
-
--- a list around its first event that passes a test: the event stands at this place, and all before it fail
-pub record Splits (p : ScriptEvent → Bool) (xs : List ScriptEvent) (at : ℕ) : Type 0 where
-  pub before : List ScriptEvent
-  pub e : ScriptEvent
-  pub after : List ScriptEvent
-  pub is : xs ≡ before ++ e ∷ after
-  pub at_is : length before ≡ at
-  pub fails : AllByRecursion (λ (x : ScriptEvent). p x ≡ false) before
-  pub passes : p e ≡ true
-
--- whether an event fails the test
-abbrev not_p : (ScriptEvent → Bool) → ScriptEvent → Bool
-not_p p x = not (p x)
+-- ---- which may come
 
 -- what holds if a test says yes, and holds if it says no, holds
 pub bool_cases : {A : Type 0} (b : Bool) → (b ≡ true → A) → (b ≡ false → A) → A
 bool_cases true f g = f refl
 bool_cases false f g = g refl
 
--- if the first event passes, no failing events stand in front
-prefix_yes : (p : ScriptEvent → Bool) (x : ScriptEvent) (xs : List ScriptEvent) → p x ≡ true → prefix_len (not_p p) (x ∷ xs) ≡ 0
-prefix_yes p x xs e = ap (λ b. cond (not b) (1 + prefix_len (not_p p) xs) 0) e
-
--- if the first event fails, the failing events in front are one more than those in front of the rest
-prefix_no : (p : ScriptEvent → Bool) (x : ScriptEvent) (xs : List ScriptEvent) → p x ≡ false → prefix_len (not_p p) (x ∷ xs) ≡ 1 + prefix_len (not_p p) xs
-prefix_no p x xs e = ap (λ b. cond (not b) (1 + prefix_len (not_p p) xs) 0) e
-
--- if fewer events in front fail than the list has, the one behind them is the first that passes
-splits_at : (p : ScriptEvent → Bool) (xs : List ScriptEvent) → prefix_len (not_p p) xs < length xs → Splits p xs (prefix_len (not_p p) xs)
-splits_at p [] lt = absurd (omega arith)
-splits_at p (x ∷ xs) lt =
-    bool_cases (p x)
-    (λ yes. record { before = []; e = x; after = xs; is = refl; at_is = sym (prefix_yes p x xs yes); fails = tt; passes = yes })
-    (λ no.
-    let k = prefix_no p x xs no in
-    let r = splits_at p xs (omega (arith, k)) in
-    record {
-      before = x ∷ r.before;
-      e = r.e;
-      after = r.after;
-      is = ap (λ l. x ∷ l) r.is;
-      at_is = (let len = r.at_is in omega (arith, k, len));
-      fails = (no, r.fails);
-      passes = r.passes;
-    })
-
--- if as many events in front fail as the list has, all of its events fail
-all_fail : (p : ScriptEvent → Bool) (xs : List ScriptEvent) → length xs ≤ prefix_len (not_p p) xs → AllByRecursion (λ (x : ScriptEvent). p x ≡ false) xs
-all_fail p [] le = tt
-all_fail p (x ∷ xs) le =
-    bool_cases (p x)
-    (λ yes. let k = prefix_yes p x xs yes in absurd (omega (arith, k)))
-    (λ no. let k = prefix_no p x xs no in (no, all_fail p xs (omega (arith, k))))
-
--- the place that a search finds is that of the first event that passes
-pub found_first : (p : ScriptEvent → Bool) (xs : List ScriptEvent) (at : ℕ) → position p xs ≡ Some at → Splits p xs at
-found_first p xs at e =
-    bool_cases (nat_lt (prefix_len (not_p p) xs) (length xs))
-    (λ yes.
-    let here : Some (prefix_len (not_p p) xs) ≡ Some at = ap (λ b. cond b (Some (prefix_len (not_p p) xs)) None) (sym yes) ∙ e in
-    let same : prefix_len (not_p p) xs ≡ at = cc in
-    subst (Splits p xs) same (splits_at p xs (lt_true (prefix_len (not_p p) xs) (length xs) yes)))
-    (λ no. let here : None ≡ Some at = ap (λ b. cond b (Some (prefix_len (not_p p) xs)) None) (sym no) ∙ e in absurd (cc))
-
--- if a search finds no place, all events fail
-pub found_none : (p : ScriptEvent → Bool) (xs : List ScriptEvent) → position p xs ≡ None → AllByRecursion (λ (x : ScriptEvent). p x ≡ false) xs
-found_none p xs e =
-    bool_cases (nat_lt (prefix_len (not_p p) xs) (length xs))
-    (λ yes. let here : Some (prefix_len (not_p p) xs) ≡ None = ap (λ b. cond b (Some (prefix_len (not_p p) xs)) None) (sym yes) ∙ e in absurd (cc))
-    (λ no. all_fail p xs (lt_false (prefix_len (not_p p) xs) (length xs) no))
-
--- ---- which may come
-
 -- only what is said of the sessions matters
-pub plays_same : (n : ℕ) (o o' : ℕ → Bool) (xs : List ScriptEvent) → ((t : ℕ) → o t ≡ o' t) → plays_from n o xs ≡ plays_from n o' xs
+pub plays_same : (n : ℕ) (o o' : ℕ → Bool) (xs : List ScriptEvent) → ((t : ℕ) → o t ≡ o' t)
+    → plays_from n o xs ≡ plays_from n o' xs
 plays_same n o o' xs e = ap (λ (f : ℕ → Bool). plays_from n f xs) (λ i t. e t i)
 
 -- what an event makes of another session, and of its own
@@ -136,13 +70,15 @@ pub record TakenOut (n : ℕ) (o : ℕ → Bool) (e : ScriptEvent) (rest : List 
   pub rest_plays : plays_from (newest_after n e) (λ t. open_after t (o t) e) rest ≡ true
 
 -- where two accounts of the open sessions agree on an event's session, they agree on whether the event may come
-may_same : (n : ℕ) (o o' : ℕ → Bool) (e : ScriptEvent) → o (event_session e) ≡ o' (event_session e) → may_follow n o e ≡ may_follow n o' e
+may_same : (n : ℕ) (o o' : ℕ → Bool) (e : ScriptEvent) → o (event_session e) ≡ o' (event_session e)
+    → may_follow n o e ≡ may_follow n o' e
 may_same n o o' (Open s) h = refl
 may_same n o o' (Send s bytes) h = h
 may_same n o o' (Gone s) h = h
 
 -- what two events of different sessions make of the sessions, in either order
-swapped : (e x : ScriptEvent) (t : ℕ) (b : Bool) → event_session x ≢ event_session e → open_after t (open_after t b x) e ≡ open_after t (open_after t b e) x
+swapped : (e x : ScriptEvent) (t : ℕ) (b : Bool) → event_session x ≢ event_session e
+    → open_after t (open_after t b x) e ≡ open_after t (open_after t b e) x
 swapped e x t b ne =
     either_way (event_session e) t
     (λ eq.
@@ -160,14 +96,16 @@ take_out n o [] e ys apart h = record {
       (plays_from (newest_after n e) (λ t. open_after t (o t) e) ys) h;
 }
 take_out n o (Open s ∷ xs) e ys apart h =
-    let may : nat_lt n s ≡ true = and_left (nat_lt n s) (plays_from s (λ t. open_after t (o t) (Open s)) (xs ++ e ∷ ys)) h in
+    let may : nat_lt n s ≡ true = and_left (nat_lt n s)
+    (plays_from s (λ t. open_after t (o t) (Open s)) (xs ++ e ∷ ys)) h in
     let lt = lt_true n s may in absurd (omega (arith, lt, apart.0.old))
 take_out n o (Send s bytes ∷ xs) e ys apart h =
     let may : o s ≡ true = and_left (o s) (plays_from n o (xs ++ e ∷ ys)) h in
     let r = take_out n o xs e ys apart.1 (and_right (o s) (plays_from n o (xs ++ e ∷ ys)) h) in
     record {
       may = r.may;
-      rest_plays = and_both (open_after s (o s) e) (plays_from (newest_after n e) (λ t. open_after t (o t) e) (xs ++ ys))
+      rest_plays = and_both (open_after s (o s) e)
+          (plays_from (newest_after n e) (λ t. open_after t (o t) e) (xs ++ ys))
           (after_other e s (o s) (λ q. apart.0.other (sym q)) ∙ may) r.rest_plays;
     }
 take_out n o (Gone s ∷ xs) e ys apart h =
@@ -178,7 +116,8 @@ take_out n o (Gone s ∷ xs) e ys apart h =
     let m = newest_after n e in
     record {
       may = sym (may_same n o1 o e (after_other x (event_session e) (o (event_session e)) apart.0.other)) ∙ r.may;
-      rest_plays = and_both (open_after s (o s) e) (plays_from m (λ t. open_after t (open_after t (o t) e) x) (xs ++ ys))
+      rest_plays = and_both (open_after s (o s) e)
+          (plays_from m (λ t. open_after t (open_after t (o t) e) x) (xs ++ ys))
           (after_other e s (o s) (λ q. apart.0.other (sym q)) ∙ may)
           (sym (plays_same m (λ t. open_after t (o1 t) e) (λ t. open_after t (open_after t (o t) e) x) (xs ++ ys)
           (λ t. swapped e x t (o t) apart.0.other)) ∙ r.rest_plays);
@@ -188,7 +127,8 @@ take_out n o (Gone s ∷ xs) e ys apart h =
 pub send_again : (n : ℕ) (o : ℕ → Bool) (xs : List ScriptEvent) (s : ℕ) (b b' : List ℕ) (ys : List ScriptEvent)
     → plays_from n o (xs ++ Send s b ∷ ys) ≡ plays_from n o (xs ++ Send s b' ∷ ys)
 send_again n o [] s b b' ys = refl
-send_again n o (x ∷ xs) s b b' ys = ap (λ c. may_follow n o x && c) (send_again (newest_after n x) (λ t. open_after t (o t) x) xs s b b' ys)
+send_again n o (x ∷ xs) s b b' ys = ap (λ c. may_follow n o x && c)
+    (send_again (newest_after n x) (λ t. open_after t (o t) x) xs s b b' ys)
 
 -- a session that isn't above the newest still isn't after an event that may come
 still_old : (n : ℕ) (o : ℕ → Bool) (x : ScriptEvent) (s : ℕ) → s ≤ n → may_follow n o x ≡ true → s ≤ newest_after n x
@@ -197,12 +137,14 @@ still_old n o (Send t bytes) s le may = le
 still_old n o (Gone t) s le may = le
 
 -- the session's own event leaves the others as they are
-own_event : (n : ℕ) (o o' : ℕ → Bool) (s : ℕ) (x : ScriptEvent) → ((t : ℕ) → t ≢ s → o' t ≡ o t) → event_session x ≡ s → (t : ℕ)
+own_event : (n : ℕ) (o o' : ℕ → Bool) (s : ℕ) (x : ScriptEvent) → ((t : ℕ) → t ≢ s → o' t ≡ o t) → event_session x ≡ s
+    → (t : ℕ)
     → t ≢ s → o' t ≡ open_after t (o t) x
 own_event n o o' s x same eq t apart = same t apart ∙ sym (after_other x t (o t) (λ q. apart (sym q ∙ eq)))
 
 -- an open session's own event opens no newer one
-own_newest : (n : ℕ) (o : ℕ → Bool) (s : ℕ) (x : ScriptEvent) → s ≤ n → event_session x ≡ s → may_follow n o x ≡ true → newest_after n x ≡ n
+own_newest : (n : ℕ) (o : ℕ → Bool) (s : ℕ) (x : ScriptEvent) → s ≤ n → event_session x ≡ s → may_follow n o x ≡ true
+    → newest_after n x ≡ n
 own_newest n o s (Open t) le eq may = let lt = lt_true n t may in absurd (omega (arith, lt, eq))
 own_newest n o s (Send t bytes) le eq may = refl
 own_newest n o s (Gone t) le eq may = refl
@@ -217,59 +159,68 @@ leave_out n o o' s (x ∷ xs) le same h =
     let rest = and_right (may_follow n o x) (plays_from (newest_after n x) o1 xs) h in
     either_way (event_session x) s
     (λ eq.
-    ap (λ c. plays_from n o' (cond (not c) (x ∷ events_without s xs) (events_without s xs))) (eq-eqb (event_session x) s eq)
-    ∙ leave_out n o1 o' s xs le (own_event n o o' s x same eq) (ap (λ (m : ℕ). plays_from m o1 xs) (sym (own_newest n o s x le eq may)) ∙ rest))
+    ap (λ c. plays_from n o' (cond (not c) (x ∷ events_without s xs) (events_without s xs)))
+    (eq-eqb (event_session x) s eq)
+    ∙ leave_out n o1 o' s xs le (own_event n o o' s x same eq)
+    (ap (λ (m : ℕ). plays_from m o1 xs) (sym (own_newest n o s x le eq may)) ∙ rest))
     (λ ne.
-    ap (λ c. plays_from n o' (cond (not c) (x ∷ events_without s xs) (events_without s xs))) (ne_eqb (event_session x) s ne)
+    ap (λ c. plays_from n o' (cond (not c) (x ∷ events_without s xs) (events_without s xs)))
+    (ne_eqb (event_session x) s ne)
     ∙ and_both (may_follow n o' x) (plays_from (newest_after n x) (λ t. open_after t (o' t) x) (events_without s xs))
     (may_same n o' o x (same (event_session x) ne) ∙ may)
-    (leave_out (newest_after n x) o1 (λ t. open_after t (o' t) x) s xs (still_old n o x s le may) (λ t apart. ap (λ b. open_after t b x) (same t apart)) rest))
+    (leave_out (newest_after n x) o1 (λ t. open_after t (o' t) x) s xs (still_old n o x s le may)
+    (λ t apart. ap (λ b. open_after t b x) (same t apart)) rest))
 
 -- ---- what a playable script is
 
 -- an event that the test allows behind those before it may follow them
-may_come : (before : List ScriptEvent) (x : ScriptEvent) → may_follow (newest_of before) (is_open before) x ≡ true → MayFollow before x
+may_come : (before : List ScriptEvent) (x : ScriptEvent)
+    → may_follow (newest_of before) (is_open_in_script before) x ≡ true → MayFollow before x
 may_come before (Open s) h = lt_true (newest_of before) s h
 may_come before (Send s bytes) h = h
 may_come before (Gone s) h = h
 
 -- an event that may follow those before it is allowed by the test behind them
-may_go : (before : List ScriptEvent) (x : ScriptEvent) → MayFollow before x → may_follow (newest_of before) (is_open before) x ≡ true
+may_go : (before : List ScriptEvent) (x : ScriptEvent) → MayFollow before x
+    → may_follow (newest_of before) (is_open_in_script before) x ≡ true
 may_go before (Open s) h = true_lt (newest_of before) s h
 may_go before (Send s bytes) h = h
 may_go before (Gone s) h = h
 
 -- what may come after one more event is what may come after the list with that event at its end
 after_one : (before : List ScriptEvent) (x : ScriptEvent) (xs : List ScriptEvent)
-    → plays_from (newest_after (newest_of before) x) (λ t. open_after t (is_open before t) x) xs ≡ plays_from
-    (newest_of (before ++ x ∷ [])) (is_open (before ++ x ∷ [])) xs
+    → plays_from (newest_after (newest_of before) x) (λ t. open_after t (is_open_in_script before t) x) xs ≡ plays_from
+    (newest_of (before ++ x ∷ [])) (is_open_in_script (before ++ x ∷ [])) xs
 after_one before x xs = λ i. plays_from (sym (newest_more before x) i) (λ t. sym (open_more before x t) i) xs
 
 -- if the test allows a list behind other events, each event of it may follow all those before it
-come_each : (before xs : List ScriptEvent) → plays_from (newest_of before) (is_open before) xs ≡ true → (k : ℕ) (d : ScriptEvent)
+come_each : (before xs : List ScriptEvent) → plays_from (newest_of before) (is_open_in_script before) xs ≡ true
+    → (k : ℕ) (d : ScriptEvent)
     → k < length xs → MayFollow (before ++ take k xs) (get_or xs k d)
 come_each before [] h k d lt = absurd (omega arith)
 come_each before (x ∷ xs) h zero d lt = subst (λ (l : List ScriptEvent). MayFollow l x) (sym (append-nil before))
     (may_come before x
-    (and_left (may_follow (newest_of before) (is_open before) x)
-    (plays_from (newest_after (newest_of before) x) (λ t. open_after t (is_open before t) x) xs) h))
+    (and_left (may_follow (newest_of before) (is_open_in_script before) x)
+    (plays_from (newest_after (newest_of before) x) (λ t. open_after t (is_open_in_script before t) x) xs) h))
 come_each before (x ∷ xs) h (suc k) d lt =
-    let rest = and_right (may_follow (newest_of before) (is_open before) x)
-    (plays_from (newest_after (newest_of before) x) (λ t. open_after t (is_open before t) x) xs) h in
+    let rest = and_right (may_follow (newest_of before) (is_open_in_script before) x)
+    (plays_from (newest_after (newest_of before) x) (λ t. open_after t (is_open_in_script before t) x) xs) h in
     subst (λ (l : List ScriptEvent). MayFollow l (get_or xs k d)) (append_assoc before (x ∷ []) (take k xs))
     (come_each (before ++ x ∷ []) xs (sym (after_one before x xs) ∙ rest) k d (omega arith))
 
 -- if each event of a list may follow all those before it, the test allows the list behind them
 go_each : (before xs : List ScriptEvent)
     → ((k : ℕ) (d : ScriptEvent) → k < length xs → MayFollow (before ++ take k xs) (get_or xs k d))
-    → plays_from (newest_of before) (is_open before) xs ≡ true
+    → plays_from (newest_of before) (is_open_in_script before) xs ≡ true
 go_each before [] h = refl
 go_each before (x ∷ xs) h =
-    and_both (may_follow (newest_of before) (is_open before) x) (plays_from (newest_after (newest_of before) x) (λ t. open_after t (is_open before t) x) xs)
+    and_both (may_follow (newest_of before) (is_open_in_script before) x)
+    (plays_from (newest_after (newest_of before) x) (λ t. open_after t (is_open_in_script before t) x) xs)
     (may_go before x (subst (λ (l : List ScriptEvent). MayFollow l x) (append-nil before) (h 0 x (omega arith))))
     (after_one before x xs
     ∙ go_each (before ++ x ∷ []) xs
-    (λ k d lt. subst (λ (l : List ScriptEvent). MayFollow l (get_or xs k d)) (sym (append_assoc before (x ∷ []) (take k xs)))
+    (λ k d lt. subst (λ (l : List ScriptEvent). MayFollow l (get_or xs k d))
+    (sym (append_assoc before (x ∷ []) (take k xs)))
     (h (suc k) d (omega arith))))
 
 -- in a script that passes the test for playable ones, each event may follow those before it

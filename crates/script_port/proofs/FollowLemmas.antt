@@ -1,5 +1,6 @@
 -- What a port's list says of its script, after each step.
-use Rattle.std.proofs.Common.{◌≡◌, ◌≢◌, ℕ, ◌≤◌, ◌==◌, nat_lt, Bool, true, false, true≢false, not, ◌||◌, cond, eq-eqb, ne_eqb, List, [], ◌∷◌, ◌++◌, length}
+use Rattle.std.proofs.Common.{◌≡◌, ◌≢◌, ℕ, ◌≤◌, ◌==◌, nat_lt, Bool, true, false, true≢false, not, ◌||◌, cond, eq-eqb}
+use Rattle.std.proofs.Common.{ne_eqb, List, [], ◌∷◌, ◌++◌, length}
 use Rattle.std.proofs.Common.{take, drop, append-nil, append_assoc, refl, sym, ap, subst, ◌∙◌, arith, None}
 use Rattle.std.specs.List.{AllByRecursion}
 use Rattle.std.proofs.lemmas.List.Folds.{list_any-append}
@@ -18,9 +19,9 @@ use Rattle.worker.proofs.Facts.{any_more, any_no}
 use Rattle.script_port.specs.Events.{event_session, events_without, send_after, plays_from}
 use Rattle.script_port.specs.Records.{opened, opened_by}
 use Rattle.script_port.specs.Following.{Follows, MayGo}
-use Rattle.script_port.proofs.SessionLemmas.{either_way}
 use Rattle.script_port.proofs.EventLemmas.{bool_cases, and_left, and_right, lt_true, lt_false, IsApart}
 use Rattle.script_port.proofs.PlayerLemmas.{opened_more, opened_one}
+use Rattle.proto.proofs.CountLemmas.{either_way}
 
 -- ---- lists of events, and of records
 
@@ -29,12 +30,14 @@ sent_more : (xs ys : List ScriptEvent) (s : ℕ) → sent (xs ++ ys) s ≡ sent 
 sent_more xs ys s = flat_map-append (sent_by s) xs ys
 
 -- two lists of events, one behind the other, open the sessions of the first and then those of the second
-opens_more : (xs ys : List ScriptEvent) → script.sessions_opened (xs ++ ys) ≡ script.sessions_opened xs ++ script.sessions_opened ys
+opens_more : (xs ys : List ScriptEvent)
+    → script.sessions_opened (xs ++ ys) ≡ script.sessions_opened xs ++ script.sessions_opened ys
 opens_more xs ys = filter_map-append script.session_opened_by xs ys
 
 -- one more record puts the bytes that it has of a session behind those that came before
 fed_more : (l l' : List PortRecord) (x : PortRecord) (s : ℕ) → l' ≡ l ++ x ∷ [] → fed s l' ≡ fed s l ++ fed_by s x
-fed_more l l' x s e = ap (fed s) e ∙ flat_map-append (fed_by s) l (x ∷ []) ∙ ap (λ (b : List ℕ). fed s l ++ b) (append-nil (fed_by s x))
+fed_more l l' x s e = ap (fed s) e ∙ flat_map-append (fed_by s) l (x ∷ [])
+    ∙ ap (λ (b : List ℕ). fed s l ++ b) (append-nil (fed_by s x))
 
 -- a record with no bytes of a session leaves what came of it as it was
 fed_same : (l l' : List PortRecord) (x : PortRecord) (s : ℕ) → l' ≡ l ++ x ∷ [] → fed_by s x ≡ [] → fed s l' ≡ fed s l
@@ -47,7 +50,8 @@ sends_nothing (Send t bytes) s other = ap (λ b. cond b bytes []) (ne_eqb t s ot
 sends_nothing (Gone t) s other = refl
 
 -- events of other sessions send an event's session nothing
-pub sent_apart : (n : ℕ) (e : ScriptEvent) (xs : List ScriptEvent) → AllByRecursion (IsApart n e) xs → sent xs (event_session e) ≡ []
+pub sent_apart : (n : ℕ) (e : ScriptEvent) (xs : List ScriptEvent) → AllByRecursion (IsApart n e) xs
+    → sent xs (event_session e) ≡ []
 sent_apart n e [] apart = refl
 sent_apart n e (x ∷ xs) apart = (λ i. sends_nothing x (event_session e) apart.0.other i ++ sent_apart n e xs apart.1 i)
 
@@ -56,8 +60,10 @@ pub no_opens : (n : ℕ) (o : ℕ → Bool) (e : ScriptEvent) (xs ys : List Scri
     → plays_from n o (xs ++ ys) ≡ true → script.sessions_opened xs ≡ []
 no_opens n o e [] ys apart h = refl
 no_opens n o e (Open s ∷ xs) ys apart h = let lt = lt_true n s
-    (and_left (nat_lt n s) (plays_from s (λ t. open_after t (o t) (Open s)) (xs ++ ys)) h) in absurd (omega (arith, lt, apart.0.old))
-no_opens n o e (Send s bytes ∷ xs) ys apart h = no_opens n o e xs ys apart.1 (and_right (o s) (plays_from n o (xs ++ ys)) h)
+    (and_left (nat_lt n s) (plays_from s (λ t. open_after t (o t) (Open s)) (xs ++ ys)) h) in
+    absurd (omega (arith, lt, apart.0.old))
+no_opens n o e (Send s bytes ∷ xs) ys apart h =
+    no_opens n o e xs ys apart.1 (and_right (o s) (plays_from n o (xs ++ ys)) h)
 no_opens n o e (Gone s ∷ xs) ys apart h = no_opens n (λ t. open_after t (o t) (Gone s)) e xs ys apart.1
     (and_right (o s) (plays_from n (λ t. open_after t (o t) (Gone s)) (xs ++ ys)) h)
 
@@ -81,21 +87,27 @@ opens_without n o s [] le h = refl
 opens_without n o s (Open t ∷ xs) le h =
     let lt = lt_true n t (and_left (nat_lt n t) (plays_from t (λ u. open_after u (o u) (Open t)) xs) h) in
     let apart : t ≢ s = λ e. omega (arith, lt, e) in
-    ap (λ b. script.sessions_opened (cond (not b) (Open t ∷ events_without s xs) (events_without s xs))) (ne_eqb t s apart)
+    ap (λ b. script.sessions_opened (cond (not b) (Open t ∷ events_without s xs) (events_without s xs)))
+    (ne_eqb t s apart)
     ∙ ap (λ (l : List ℕ). t ∷ l)
     (opens_without t (λ u. open_after u (o u) (Open t)) s xs (omega (arith, lt, le))
     (and_right (nat_lt n t) (plays_from t (λ u. open_after u (o u) (Open t)) xs) h))
 opens_without n o s (Send t bytes ∷ xs) le h =
     either_way t s
-    (λ same. ap (λ b. script.sessions_opened (cond (not b) (Send t bytes ∷ events_without s xs) (events_without s xs))) (eq-eqb t s same)
+    (λ same. ap (λ b. script.sessions_opened (cond (not b) (Send t bytes ∷ events_without s xs) (events_without s xs)))
+    (eq-eqb t s same)
     ∙ opens_without n o s xs le (and_right (o t) (plays_from n o xs) h))
-    (λ apart. ap (λ b. script.sessions_opened (cond (not b) (Send t bytes ∷ events_without s xs) (events_without s xs))) (ne_eqb t s apart)
+    (λ apart. ap (λ b. script.sessions_opened (cond (not b) (Send t bytes ∷ events_without s xs) (events_without s xs)))
+    (ne_eqb t s apart)
     ∙ opens_without n o s xs le (and_right (o t) (plays_from n o xs) h))
 opens_without n o s (Gone t ∷ xs) le h =
-    let rest = opens_without n (λ u. open_after u (o u) (Gone t)) s xs le (and_right (o t) (plays_from n (λ u. open_after u (o u) (Gone t)) xs) h) in
+    let rest = opens_without n (λ u. open_after u (o u) (Gone t)) s xs le
+    (and_right (o t) (plays_from n (λ u. open_after u (o u) (Gone t)) xs) h) in
     either_way t s
-    (λ same. ap (λ b. script.sessions_opened (cond (not b) (Gone t ∷ events_without s xs) (events_without s xs))) (eq-eqb t s same) ∙ rest)
-    (λ apart. ap (λ b. script.sessions_opened (cond (not b) (Gone t ∷ events_without s xs) (events_without s xs))) (ne_eqb t s apart) ∙ rest)
+    (λ same. ap (λ b. script.sessions_opened (cond (not b) (Gone t ∷ events_without s xs) (events_without s xs)))
+    (eq-eqb t s same) ∙ rest)
+    (λ apart. ap (λ b. script.sessions_opened (cond (not b) (Gone t ∷ events_without s xs) (events_without s xs)))
+    (ne_eqb t s apart) ∙ rest)
 
 -- ---- which peers go
 
@@ -119,22 +131,26 @@ or_either true b e f g = f refl
 or_either false b e f g = g e
 
 -- in two lists of events, one behind the other, a peer goes exactly where it goes in one of them
-goes_more : (xs ys : List ScriptEvent) (s : ℕ) → goes_in_script (xs ++ ys) s ≡ (goes_in_script xs s || goes_in_script ys s)
+goes_more : (xs ys : List ScriptEvent) (s : ℕ)
+    → goes_in_script (xs ++ ys) s ≡ (goes_in_script xs s || goes_in_script ys s)
 goes_more xs ys s = list_any-append (goes_by_event s) xs ys
 
 -- what goes with an event goes in a list that has it
 pub goes_here : (xs : List ScriptEvent) (s : ℕ) (ys : List ScriptEvent) → goes_in_script (xs ++ Gone s ∷ ys) s ≡ true
 goes_here xs s ys =
     goes_more xs (Gone s ∷ ys) s
-    ∙ or_second (goes_in_script xs s) ((s == s) || goes_in_script ys s) (or_first (s == s) (goes_in_script ys s) (eq-eqb s s refl))
+    ∙ or_second (goes_in_script xs s) ((s == s) || goes_in_script ys s)
+    (or_first (s == s) (goes_in_script ys s) (eq-eqb s s refl))
 
 -- without a session's events no other peer goes
-goes_without : (s t : ℕ) (xs : List ScriptEvent) → goes_in_script (events_without s xs) t ≡ true → goes_in_script xs t ≡ true
+goes_without : (s t : ℕ) (xs : List ScriptEvent) → goes_in_script (events_without s xs) t ≡ true
+    → goes_in_script xs t ≡ true
 goes_without s t [] goes = goes
 goes_without s t (x ∷ xs) goes =
     bool_cases (event_session x == s)
     (λ same. or_second (goes_by_event t x) (goes_in_script xs t)
-    (goes_without s t xs (sym (ap (λ b. goes_in_script (cond (not b) (x ∷ events_without s xs) (events_without s xs)) t) same) ∙ goes)))
+    (goes_without s t xs (sym (ap (λ b. goes_in_script (cond (not b) (x ∷ events_without s xs) (events_without s xs)) t)
+    same) ∙ goes)))
     (λ other.
     or_either (goes_by_event t x) (goes_in_script (events_without s xs) t)
     (sym (ap (λ b. goes_in_script (cond (not b) (x ∷ events_without s xs) (events_without s xs)) t) other) ∙ goes)
@@ -142,7 +158,8 @@ goes_without s t (x ∷ xs) goes =
     (λ rest. or_second (goes_by_event t x) (goes_in_script xs t) (goes_without s t xs rest)))
 
 -- an entry of which none goes leaves those that have gone
-gone_same : (l l' : List PortRecord) (x : PortRecord) (s : ℕ) → l' ≡ l ++ x ∷ [] → is_leaving s x ≡ false → has_gone s l' ≡ has_gone s l
+gone_same : (l l' : List PortRecord) (x : PortRecord) (s : ℕ) → l' ≡ l ++ x ∷ [] → is_leaving s x ≡ false
+    → has_gone s l' ≡ has_gone s l
 gone_same l l' x s e stays = ap (has_gone s) e ∙ any_no (is_leaving s) l x stays
 
 -- ---- what the rest of a send is
@@ -154,7 +171,8 @@ rest_sent s bytes =
     (λ more.
     ap (λ b. sent (cond b (Send s (drop 16384 bytes) ∷ []) []) s) more
     ∙ ap (λ b. cond b (drop 16384 bytes) [] ++ []) (eq-eqb s s refl) ∙ append-nil (drop 16384 bytes))
-    (λ last. ap (λ b. sent (cond b (Send s (drop 16384 bytes) ∷ []) []) s) last ∙ sym (drop_all 16384 bytes (lt_false 16384 (length bytes) last)))
+    (λ last. ap (λ b. sent (cond b (Send s (drop 16384 bytes) ∷ []) []) s) last
+    ∙ sym (drop_all 16384 bytes (lt_false 16384 (length bytes) last)))
 
 -- what is left of a send behind its next piece sends the other sessions nothing
 rest_others : (s t : ℕ) (bytes : List ℕ) → t ≢ s → sent (send_after s bytes) t ≡ []
@@ -182,19 +200,25 @@ rest_goes s t bytes =
 -- ---- the steps
 
 -- a step that takes no event away and adds no session and no bytes
-pub follows_still : (played left left' : List ScriptEvent) (l l' : List PortRecord) (x : PortRecord) (closed closed' : ℕ → Bool)
-    (can_fail : Bool) → left' ≡ left → l' ≡ l ++ x ∷ [] → opened_by x ≡ None → ((t : ℕ) → fed_by t x ≡ []) → ((t : ℕ) → is_leaving t x ≡ false)
-    → ((t : ℕ) → closed' t ≡ closed t) → Follows played left l closed can_fail → Follows played left' l' closed' can_fail
+pub follows_still : (played left left' : List ScriptEvent) (l l' : List PortRecord) (x : PortRecord)
+    (closed closed' : ℕ → Bool)
+    (can_fail : Bool) → left' ≡ left → l' ≡ l ++ x ∷ [] → opened_by x ≡ None → ((t : ℕ) → fed_by t x ≡ [])
+    → ((t : ℕ) → is_leaving t x ≡ false)
+    → ((t : ℕ) → closed' t ≡ closed t) → Follows played left l closed can_fail
+    → Follows played left' l' closed' can_fail
 follows_still played left left' l l' x closed closed' can_fail left_is l_is none nothing stays same f = record {
   opened_are = f.opened_are ∙ (λ i. sym (opened_more l l' x l_is none) i ++ script.sessions_opened (sym left_is i));
-  fed_are = λ t active. f.fed_are t (sym (same t) ∙ active) ∙ (λ i. sym (fed_same l l' x t l_is (nothing t)) i ++ sent (sym left_is i) t);
-  begun = λ t ended. subst (StartsWith (sent played t)) (sym (fed_same l l' x t l_is (nothing t))) (f.begun t (sym (same t) ∙ ended));
+  fed_are = λ t active. f.fed_are t (sym (same t) ∙ active)
+      ∙ (λ i. sym (fed_same l l' x t l_is (nothing t)) i ++ sent (sym left_is i) t);
+  begun = λ t ended. subst (StartsWith (sent played t)) (sym (fed_same l l' x t l_is (nothing t)))
+      (f.begun t (sym (same t) ∙ ended));
   to_go = λ t goes. f.to_go t (ap (λ xs. goes_in_script xs t) (sym left_is) ∙ goes);
   gone_by = λ t gone. f.gone_by t (sym (gone_same l l' x t l_is (stays t)) ∙ gone);
 }
 
 -- nothing is added
-pub follows_as : (played left left' : List ScriptEvent) (l : List PortRecord) (closed closed' : ℕ → Bool) (can_fail : Bool) → left' ≡ left
+pub follows_as : (played left left' : List ScriptEvent) (l : List PortRecord) (closed closed' : ℕ → Bool)
+    (can_fail : Bool) → left' ≡ left
     → ((t : ℕ) → closed' t ≡ closed t) → Follows played left l closed can_fail → Follows played left' l closed' can_fail
 follows_as played left left' l closed closed' can_fail left_is same f = record {
   opened_are = f.opened_are ∙ (λ i. opened l ++ script.sessions_opened (sym left_is i));
@@ -205,21 +229,27 @@ follows_as played left left' l closed closed' can_fail left_is same f = record {
 }
 
 -- a session begins
-pub follows_open : (played left left' before after : List ScriptEvent) (l l' : List PortRecord) (s : ℕ) (closed closed' : ℕ → Bool)
+pub follows_open : (played left left' before after : List ScriptEvent) (l l' : List PortRecord) (s : ℕ)
+    (closed closed' : ℕ → Bool)
     (can_fail : Bool) → left ≡ before ++ Open s ∷ after → left' ≡ before ++ after → l' ≡ l ++ was.Opened s ∷ []
-    → script.sessions_opened before ≡ [] → ((t : ℕ) → closed' t ≡ closed t) → Follows played left l closed can_fail → Follows played left' l' closed' can_fail
+    → script.sessions_opened before ≡ [] → ((t : ℕ) → closed' t ≡ closed t) → Follows played left l closed can_fail
+    → Follows played left' l' closed' can_fail
 follows_open played left left' before after l l' s closed closed' can_fail left_is left'_is l_is none same f = record {
   opened_are = f.opened_are
       ∙ ap (λ (xs : List ℕ). opened l ++ xs)
-      (ap script.sessions_opened left_is ∙ opens_more before (Open s ∷ after) ∙ ap (λ (xs : List ℕ). xs ++ s ∷ script.sessions_opened after) none)
+      (ap script.sessions_opened left_is ∙ opens_more before (Open s ∷ after)
+      ∙ ap (λ (xs : List ℕ). xs ++ s ∷ script.sessions_opened after) none)
       ∙ sym (append_assoc (opened l) (s ∷ []) (script.sessions_opened after))
       ∙ (λ i. sym (opened_one l l' s l_is) i ++ sym
-      (ap script.sessions_opened left'_is ∙ opens_more before after ∙ ap (λ (xs : List ℕ). xs ++ script.sessions_opened after) none) i);
+      (ap script.sessions_opened left'_is ∙ opens_more before after
+      ∙ ap (λ (xs : List ℕ). xs ++ script.sessions_opened after) none) i);
   fed_are = λ t active. f.fed_are t (sym (same t) ∙ active)
       ∙ (λ i. sym (fed_same l l' (was.Opened s) t l_is refl) i ++
-      (ap (λ (xs : List ScriptEvent). sent xs t) left_is ∙ sent_more before (Open s ∷ after) t ∙ sym (sent_more before after t)
+      (ap (λ (xs : List ScriptEvent). sent xs t) left_is ∙ sent_more before (Open s ∷ after) t
+      ∙ sym (sent_more before after t)
       ∙ sym (ap (λ (xs : List ScriptEvent). sent xs t) left'_is)) i);
-  begun = λ t ended. subst (StartsWith (sent played t)) (sym (fed_same l l' (was.Opened s) t l_is refl)) (f.begun t (sym (same t) ∙ ended));
+  begun = λ t ended. subst (StartsWith (sent played t)) (sym (fed_same l l' (was.Opened s) t l_is refl))
+      (f.begun t (sym (same t) ∙ ended));
   to_go = λ t goes. f.to_go t
       (ap (λ xs. goes_in_script xs t) left_is ∙ goes_more before (Open s ∷ after) t ∙ sym (goes_more before after t)
       ∙ sym (ap (λ xs. goes_in_script xs t) left'_is) ∙ goes);
@@ -228,44 +258,55 @@ follows_open played left left' before after l l' s closed closed' can_fail left_
 
 -- a piece of a session's bytes comes
 pub follows_send : (played left left' before after : List ScriptEvent) (l l' : List PortRecord) (s : ℕ) (bytes : List ℕ)
-    (closed closed' : ℕ → Bool) (can_fail : Bool) → left ≡ before ++ Send s bytes ∷ after → left' ≡ before ++ send_after s bytes ++ after
-    → l' ≡ l ++ was.Data s (take 16384 bytes) ∷ [] → sent before s ≡ [] → closed s ≡ false → ((t : ℕ) → closed' t ≡ closed t)
+    (closed closed' : ℕ → Bool) (can_fail : Bool) → left ≡ before ++ Send s bytes ∷ after
+    → left' ≡ before ++ send_after s bytes ++ after
+    → l' ≡ l ++ was.Data s (take 16384 bytes) ∷ [] → sent before s ≡ [] → closed s ≡ false
+    → ((t : ℕ) → closed' t ≡ closed t)
     → Follows played left l closed can_fail → Follows played left' l' closed' can_fail
-follows_send played left left' before after l l' s bytes closed closed' can_fail left_is left'_is l_is none active same f = record {
-  opened_are = f.opened_are
-      ∙ (λ i. sym (opened_more l l' (was.Data s (take 16384 bytes)) l_is refl) i ++
-      (ap script.sessions_opened left_is ∙ opens_more before (Send s bytes ∷ after) ∙ sym (ap script.sessions_opened left'_is ∙ opens_around)) i);
-  fed_are = λ t is_open. either_way t s
-      (λ here. subst (λ (u : ℕ). sent played u ≡ fed u l' ++ sent left' u) (sym here) (f.fed_are s active ∙ moved))
-      (λ other. f.fed_are t (sym (same t) ∙ is_open)
-      ∙ (λ i. sym
-      (fed_same l l' (was.Data s (take 16384 bytes)) t l_is
-      (ap (λ b. cond b (take 16384 bytes) []) (ne_eqb s t (λ e. other (sym e))))) i ++ stays t other i));
-  begun = λ t ended. either_way t s
-      (λ here. absurd (true≢false (sym ended ∙ same t ∙ ap closed here ∙ active)))
-      (λ other. subst (StartsWith (sent played t))
-      (sym (fed_same l l' (was.Data s (take 16384 bytes)) t l_is
-      (ap (λ b. cond b (take 16384 bytes) []) (ne_eqb s t (λ e. other (sym e)))))) (f.begun t (sym (same t) ∙ ended)));
-  to_go = λ t goes. f.to_go t
-      (ap (λ xs. goes_in_script xs t) left_is ∙ goes_more before (Send s bytes ∷ after) t ∙ sym (goes_around t)
-      ∙ sym (ap (λ xs. goes_in_script xs t) left'_is) ∙ goes);
-  gone_by = λ t gone. f.gone_by t (sym (gone_same l l' (was.Data s (take 16384 bytes)) t l_is refl) ∙ gone);
-}
+follows_send played left left' before after l l' s bytes closed closed' can_fail left_is left'_is l_is none active same
+    f = record {
+      opened_are = f.opened_are
+          ∙ (λ i. sym (opened_more l l' (was.Data s (take 16384 bytes)) l_is refl) i ++
+          (ap script.sessions_opened left_is ∙ opens_more before (Send s bytes ∷ after)
+          ∙ sym (ap script.sessions_opened left'_is ∙ opens_around)) i);
+      fed_are = λ t is_open. either_way t s
+          (λ here. subst (λ (u : ℕ). sent played u ≡ fed u l' ++ sent left' u) (sym here) (f.fed_are s active ∙ moved))
+          (λ other. f.fed_are t (sym (same t) ∙ is_open)
+          ∙ (λ i. sym
+          (fed_same l l' (was.Data s (take 16384 bytes)) t l_is
+          (ap (λ b. cond b (take 16384 bytes) []) (ne_eqb s t (λ e. other (sym e))))) i ++ stays t other i));
+      begun = λ t ended. either_way t s
+          (λ here. absurd (true≢false (sym ended ∙ same t ∙ ap closed here ∙ active)))
+          (λ other. subst (StartsWith (sent played t))
+          (sym (fed_same l l' (was.Data s (take 16384 bytes)) t l_is
+          (ap (λ b. cond b (take 16384 bytes) []) (ne_eqb s t (λ e. other (sym e))))))
+          (f.begun t (sym (same t) ∙ ended)));
+      to_go = λ t goes. f.to_go t
+          (ap (λ xs. goes_in_script xs t) left_is ∙ goes_more before (Send s bytes ∷ after) t ∙ sym (goes_around t)
+          ∙ sym (ap (λ xs. goes_in_script xs t) left'_is) ∙ goes);
+      gone_by = λ t gone. f.gone_by t (sym (gone_same l l' (was.Data s (take 16384 bytes)) t l_is refl) ∙ gone);
+    }
   where
-    goes_around : (t : ℕ) → goes_in_script (before ++ send_after s bytes ++ after) t ≡ (goes_in_script before t || goes_in_script after t)
+    goes_around : (t : ℕ) → goes_in_script (before ++ send_after s bytes ++ after) t
+        ≡ (goes_in_script before t || goes_in_script after t)
     goes_around t =
         goes_more (before ++ send_after s bytes) after t
         ∙ ap (λ b. b || goes_in_script after t)
-        (goes_more before (send_after s bytes) t ∙ ap (λ b. goes_in_script before t || b) (rest_goes s t bytes) ∙ or_no (goes_in_script before t))
+        (goes_more before (send_after s bytes) t ∙ ap (λ b. goes_in_script before t || b) (rest_goes s t bytes)
+        ∙ or_no (goes_in_script before t))
 
-    sent_around : (t : ℕ) → sent (before ++ send_after s bytes ++ after) t ≡ (sent before t ++ sent (send_after s bytes) t) ++ sent after t
-    sent_around t = sent_more (before ++ send_after s bytes) after t ∙ ap (λ (xs : List ℕ). xs ++ sent after t) (sent_more before (send_after s bytes) t)
+    sent_around : (t : ℕ) → sent (before ++ send_after s bytes ++ after) t
+        ≡ (sent before t ++ sent (send_after s bytes) t) ++ sent after t
+    sent_around t = sent_more (before ++ send_after s bytes) after t
+        ∙ ap (λ (xs : List ℕ). xs ++ sent after t) (sent_more before (send_after s bytes) t)
 
-    opens_around : script.sessions_opened (before ++ send_after s bytes ++ after) ≡ script.sessions_opened before ++ script.sessions_opened after
+    opens_around : script.sessions_opened (before ++ send_after s bytes ++ after)
+        ≡ script.sessions_opened before ++ script.sessions_opened after
     opens_around =
         opens_more (before ++ send_after s bytes) after
         ∙ ap (λ (xs : List ℕ). xs ++ script.sessions_opened after)
-        (opens_more before (send_after s bytes) ∙ ap (λ (xs : List ℕ). script.sessions_opened before ++ xs) (rest_opens s bytes)
+        (opens_more before (send_after s bytes)
+        ∙ ap (λ (xs : List ℕ). script.sessions_opened before ++ xs) (rest_opens s bytes)
         ∙ append-nil (script.sessions_opened before))
 
     stays : (t : ℕ) → t ≢ s → sent left t ≡ sent left' t
@@ -284,7 +325,8 @@ follows_send played left left' before after l l' s bytes closed closed' can_fail
 
     new_sent : sent left' s ≡ drop 16384 bytes ++ sent after s
     new_sent =
-        ap (λ (xs : List ScriptEvent). sent xs s) left'_is ∙ sent_around s ∙ ap (λ (xs : List ℕ). (xs ++ sent (send_after s bytes) s) ++ sent after s) none
+        ap (λ (xs : List ScriptEvent). sent xs s) left'_is ∙ sent_around s
+        ∙ ap (λ (xs : List ℕ). (xs ++ sent (send_after s bytes) s) ++ sent after s) none
         ∙ ap (λ (xs : List ℕ). xs ++ sent after s) (rest_sent s bytes)
 
     moved : fed s l ++ sent left s ≡ fed s l' ++ sent left' s
@@ -299,21 +341,27 @@ follows_send played left left' before after l l' s bytes closed closed' can_fail
 
 -- a session is closed
 pub follows_close : (played left left' : List ScriptEvent) (l l' : List PortRecord) (x : PortRecord) (s : ℕ)
-    (closed closed' : ℕ → Bool) (can_fail : Bool) → left' ≡ events_without s left → l' ≡ l ++ x ∷ [] → opened_by x ≡ None
+    (closed closed' : ℕ → Bool) (can_fail : Bool) → left' ≡ events_without s left → l' ≡ l ++ x ∷ []
+    → opened_by x ≡ None
     → ((t : ℕ) → fed_by t x ≡ []) → ((t : ℕ) → is_leaving t x ≡ true → MayGo played can_fail t)
     → script.sessions_opened (events_without s left) ≡ script.sessions_opened left → closed s ≡ false → closed' s ≡ true
-    → ((t : ℕ) → t ≢ s → closed' t ≡ closed t) → Follows played left l closed can_fail → Follows played left' l' closed' can_fail
-follows_close played left left' l l' x s closed closed' can_fail left'_is l_is none nothing caused opens active ended others f = record {
-  opened_are = f.opened_are ∙ (λ i. sym (opened_more l l' x l_is none) i ++ sym (ap script.sessions_opened left'_is ∙ opens) i);
-  fed_are = λ t is_open. either_way t s
-      (λ here. absurd (true≢false (sym ended ∙ ap closed' (sym here) ∙ is_open)))
-      (λ other. f.fed_are t (sym (others t other) ∙ is_open)
-      ∙ (λ i. sym (fed_same l l' x t l_is (nothing t)) i ++ sym (ap (λ (xs : List ScriptEvent). sent xs t) left'_is ∙ sent_without s t left other) i));
-  begun = λ t gone. subst (StartsWith (sent played t)) (sym (fed_same l l' x t l_is (nothing t)))
-      (either_way t s
-      (λ here. (sent left t, f.fed_are t (ap closed here ∙ active)))
-      (λ other. f.begun t (sym (others t other) ∙ gone)));
-  to_go = λ t goes. f.to_go t (goes_without s t left (ap (λ xs. goes_in_script xs t) (sym left'_is) ∙ goes));
-  gone_by = λ t gone.
-      or_either (has_gone t l) (is_leaving t x) (sym (ap (has_gone t) l_is ∙ any_more (is_leaving t) l x) ∙ gone) (f.gone_by t) (caused t);
-}
+    → ((t : ℕ) → t ≢ s → closed' t ≡ closed t) → Follows played left l closed can_fail
+    → Follows played left' l' closed' can_fail
+follows_close played left left' l l' x s closed closed' can_fail left'_is l_is none nothing caused opens active ended
+    others f = record {
+      opened_are = f.opened_are ∙ (λ i. sym (opened_more l l' x l_is none) i
+          ++ sym (ap script.sessions_opened left'_is ∙ opens) i);
+      fed_are = λ t is_open. either_way t s
+          (λ here. absurd (true≢false (sym ended ∙ ap closed' (sym here) ∙ is_open)))
+          (λ other. f.fed_are t (sym (others t other) ∙ is_open)
+          ∙ (λ i. sym (fed_same l l' x t l_is (nothing t)) i
+          ++ sym (ap (λ (xs : List ScriptEvent). sent xs t) left'_is ∙ sent_without s t left other) i));
+      begun = λ t gone. subst (StartsWith (sent played t)) (sym (fed_same l l' x t l_is (nothing t)))
+          (either_way t s
+          (λ here. (sent left t, f.fed_are t (ap closed here ∙ active)))
+          (λ other. f.begun t (sym (others t other) ∙ gone)));
+      to_go = λ t goes. f.to_go t (goes_without s t left (ap (λ xs. goes_in_script xs t) (sym left'_is) ∙ goes));
+      gone_by = λ t gone.
+          or_either (has_gone t l) (is_leaving t x) (sym (ap (has_gone t) l_is ∙ any_more (is_leaving t) l x) ∙ gone)
+          (f.gone_by t) (caused t);
+    }

@@ -5,6 +5,7 @@ use Rattle.worker.specs.Ports.{fed, has_ended}
 use Rattle.worker.specs.Sessions.{PortFacts, port_facts}
 use Rattle.script_port.specs.declared.player.Player.{Player}
 use Rattle.script_port.specs.Events.{is_playable}
+use Rattle.script_port.specs.Remaining.{in_order}
 use Rattle.script_port.specs.Records.{opened}
 use Rattle.script_port.specs.Sessions.{ScriptSessionState, session_entry, is_some_and, is_closed, was_closed}
 use Rattle.script_port.specs.Players.{Agrees, IsPlayerConsistent, events_left}
@@ -18,14 +19,18 @@ facts_closed None f agrees gone shut = refl
 facts_closed (Some x) f agrees gone shut = sym agrees.1 ∙ (λ i. gone i || shut i)
 
 -- where the script may be played as it stands, a consistent player's list says what the script does
-pub played : (p : Player) → IsPlayerConsistent p → is_playable p.script.value.items ≡ true → IsPlayed p.script.value.items p.records p.can_fail
+pub played : (p : Player) → IsPlayerConsistent p → is_playable p.script.value.items ≡ true
+    → IsPlayed p.script.value.items p.records p.can_fail
 played p k tells =
-    let l = p.records in let whole = p.script.value.items in let left = events_left p.sessions p.events.items in
+    let l = p.records in let whole = p.script.value.items in let left = events_left p.sessions (in_order p.events) in
     let f = k.follows tells in
-    let none : has_ended l ≡ true → left ≡ [] = λ over. ap (events_left p.sessions) (k.finished (sym k.at_end ∙ over)) in record {
+    let none : has_ended l ≡ true → left ≡ [] =
+    λ over. ap (events_left p.sessions) (k.finished (sym k.at_end ∙ over)) in record {
       opened_first = (script.sessions_opened left, f.opened_are);
-      fed_first = λ s. bool_cases (was_closed p.sessions s) (λ closed. f.begun s closed) (λ active. (script.sent left s, f.fed_are s active));
-      opened_all = λ over. sym (f.opened_are ∙ ap (λ xs. opened l ++ script.sessions_opened xs) (none over) ∙ append-nil (opened l));
+      fed_first = λ s. bool_cases (was_closed p.sessions s) (λ closed. f.begun s closed)
+          (λ active. (script.sent left s, f.fed_are s active));
+      opened_all = λ over. sym (f.opened_are ∙ ap (λ xs. opened l ++ script.sessions_opened xs) (none over)
+          ∙ append-nil (opened l));
       fed_all = λ s over gone shut.
           sym (f.fed_are s (facts_closed (session_entry p.sessions s) (port_facts l s) (k.each s) gone shut)
           ∙ ap (λ xs. fed s l ++ script.sent xs s) (none over) ∙ append-nil (fed s l));

@@ -1,11 +1,13 @@
 -- What a port tells after each of its calls.
-use Rattle.std.proofs.Common.{◌≡◌, ◌≢◌, ℕ, ◌==◌, Bool, true, false, true≢false, not, ◌&&◌, ◌||◌, cond, eq-eqb, ne_eqb, List, [], ◌∷◌, ◌++◌, take, refl, sym}
+use Rattle.std.proofs.Common.{◌≡◌, ◌≢◌, ℕ, ◌==◌, Bool, true, false, true≢false, not, ◌&&◌, ◌||◌, cond, eq-eqb, ne_eqb}
+use Rattle.std.proofs.Common.{List, [], ◌∷◌, ◌++◌, take, refl, sym}
 use Rattle.std.proofs.Common.{ap, subst, ◌∙◌, Option, Some, None, option_map, Result, Ok, Err}
 use Rattle.worker.specs.declared.port.PortRecord.TheVariants as was
 use Rattle.worker.specs.declared.port.PortEvent.{PortEvent}
 use Rattle.worker.specs.declared.port.PortEvent.TheVariants as event
 use Rattle.worker.specs.declared.port.Gone.{Gone}
-use Rattle.worker.specs.Ports.{PortStory, then_told, event_records, give_records, are_end_of, IsOpenIn, MayCome, is_open}
+use Rattle.worker.specs.Ports.{PortStory, then_told, event_records, give_records, are_end_of, IsOpenIn, MayCome}
+use Rattle.worker.specs.Ports.{is_open}
 use Rattle.script_port.specs.Events.{is_playable}
 use Rattle.script_port.specs.States.{PortState, is_held, story_of, story_told, Gives, DropsSession}
 use Rattle.worker.specs.Sessions.{PortFacts, port_facts}
@@ -13,8 +15,8 @@ use Rattle.script_port.specs.declared.player.Player.{Player}
 use Rattle.script_port.specs.Sessions.{ScriptSessionState, is_some_and, is_closed}
 use Rattle.script_port.specs.Sessions as in_table
 use Rattle.script_port.specs.Players.{Agrees, IsPlayerConsistent, player_state, TellsNext}
-use Rattle.script_port.proofs.SessionLemmas.{either_way}
 use Rattle.script_port.proofs.EventLemmas.{bool_cases, and_left, and_right}
+use Rattle.proto.proofs.CountLemmas.{either_way}
 
 -- where it tells, its story is as it is said; where it doesn't, it still doesn't
 pub told_step : (old new : PortState) (f : PortStory → PortStory) → new.script ≡ old.script
@@ -29,24 +31,28 @@ told_step old new f script_is step =
     ∙ sym (ap (λ b. option_map f (cond b (Some (story_of old)) None)) no))
 
 -- what is asked of a call, where the port tells
-pub open_where_told : (port : PortState) (s : ℕ) → IsOpenIn s (story_told port) → is_playable port.script ≡ true → is_open s port.records ≡ true
+pub open_where_told : (port : PortState) (s : ℕ) → IsOpenIn s (story_told port) → is_playable port.script ≡ true
+    → is_open s port.records ≡ true
 open_where_told port s asked tells = asked (story_of port) (ap (λ b. cond b (Some (story_of port)) None) tells)
 
 -- a session that is open in the list is open in the table too
 facts_open : (o : Option ScriptSessionState) (f : PortFacts) → Agrees o f → (f.opened && not (f.gone || f.shut)) ≡ true
     → is_some_and (λ (x : ScriptSessionState). not (is_closed x.stage)) o ≡ true
-facts_open None f agrees active = absurd (true≢false (sym (and_left f.opened (not (f.gone || f.shut)) active) ∙ agrees.0))
+facts_open None f agrees active = absurd (true≢false
+    (sym (and_left f.opened (not (f.gone || f.shut)) active) ∙ agrees.0))
 facts_open (Some x) f agrees active = sym (ap not agrees.1) ∙ and_right f.opened (not (f.gone || f.shut)) active
 
 -- where the port tells, a session that is open in its story is open in the player's table
-pub open_in_table : (port : PortState) (p : Player) (s : ℕ) → player_state p ≡ port → IsPlayerConsistent p → IsOpenIn s (story_told port)
-    → is_playable port.script ≡ true → in_table.is_open p.sessions s ≡ true
+pub open_in_table : (port : PortState) (p : Player) (s : ℕ) → player_state p ≡ port → IsPlayerConsistent p
+    → IsOpenIn s (story_told port)
+    → is_playable port.script ≡ true → in_table.is_session_open p.sessions s ≡ true
 open_in_table port p s same k asked tells =
     facts_open (in_table.session_entry p.sessions s) (port_facts p.records s) (k.each s)
     (ap (λ (q : PortState). is_open s q.records) same ∙ open_where_told port s asked tells)
 
 -- what may come, where the port tells
-pub may_where_told : (port : PortState) (result : PortEvent) → (is_playable port.script ≡ true → MayCome (story_of port) result)
+pub may_where_told : (port : PortState) (result : PortEvent)
+    → (is_playable port.script ≡ true → MayCome (story_of port) result)
     → (story : PortStory) → story_told port ≡ Some story → MayCome story result
 may_where_told port result may story told =
     bool_cases (is_playable port.script)
@@ -66,7 +72,8 @@ ends_held : (old new : PortState) (s t : ℕ) (ends : Bool) → ends ≡ (s == t
     → ((u : ℕ) → u ≢ s → is_held new u ≡ is_held old u) → is_held new t ≡ cond ends false (is_held old t)
 ends_held old new s t ends ends_is here others =
     either_way t s
-    (λ same. ap (is_held new) same ∙ here ∙ sym (ap (λ b. cond b false (is_held old t)) (ends_is ∙ eq-eqb s t (sym same))))
+    (λ same. ap (is_held new) same ∙ here
+    ∙ sym (ap (λ b. cond b false (is_held old t)) (ends_is ∙ eq-eqb s t (sym same))))
     (λ apart. others t apart ∙ sym (ap (λ b. cond b false (is_held old t)) (ends_is ∙ ne_eqb s t (λ e. apart (sym e)))))
 
 -- whether a record of a gone peer ends a session, spelt out, is whether it is of that session
@@ -82,7 +89,8 @@ no_end s bytes n t b =
 
 -- an event came
 pub told_next : (old new : PortState) (result : PortEvent) → new.script ≡ old.script
-    → (is_playable old.script ≡ true → TellsNext old result new) → story_told new ≡ option_map (then_told (event_records result)) (story_told old)
+    → (is_playable old.script ≡ true → TellsNext old result new)
+    → story_told new ≡ option_map (then_told (event_records result)) (story_told old)
 told_next old new (event.Opened s) script_is tells = told_step old new (then_told (was.Opened s ∷ [])) script_is
     (λ yes i. record { events = (tells yes).records_are i; paused = λ t. (tells yes).goes_on.3 t i })
 told_next old new (event.Data s bytes) script_is tells = told_step old new (then_told (was.Data s bytes ∷ [])) script_is
@@ -101,16 +109,21 @@ told_next old new (event.Gone s) script_is tells =
 
 -- bytes were offered
 pub told_give : (old new : PortState) (s : ℕ) (bytes : List ℕ) (result : Result ℕ Gone) → new.script ≡ old.script
-    → (is_playable old.script ≡ true → (new.records ≡ old.records ++ give_records s bytes result) × Gives old s bytes result new)
+    → (is_playable old.script ≡ true → (new.records ≡ old.records ++ give_records s bytes result)
+    × Gives old s bytes result new)
     → story_told new ≡ option_map (then_told (give_records s bytes result)) (story_told old)
 told_give old new s bytes (Ok n) script_is tells =
     told_step old new (then_told (give_records s bytes (Ok n))) script_is
-    (λ yes i. record { events = (tells yes).0 i; paused = λ t. ((tells yes).1.3 t ∙ no_end s bytes n t (is_held old t)) i })
+    (λ yes i. record {
+      events = (tells yes).0 i;
+      paused = λ t. ((tells yes).1.3 t ∙ no_end s bytes n t (is_held old t)) i;
+    })
 told_give old new s bytes (Err e) script_is tells =
     told_step old new (then_told (was.Gone s ∷ [])) script_is
     (λ yes i. record {
       events = (tells yes).0 i;
-      paused = λ t. ends_held old new s t (((s == t) || false) || false) (by_gone s t) (tells yes).1.2 (tells yes).1.3 i;
+      paused = λ t. ends_held old new s t (((s == t) || false) || false) (by_gone s t) (tells yes).1.2
+          (tells yes).1.3 i;
     })
 
 -- a session was shut
@@ -121,5 +134,6 @@ told_shut old new s script_is tells =
     told_step old new (then_told (was.Shut s ∷ [])) script_is
     (λ yes i. record {
       events = (tells yes).0 i;
-      paused = λ t. ends_held old new s t ((s == t) || false) (or_none (s == t)) (tells yes).1.here (tells yes).1.others i;
+      paused = λ t. ends_held old new s t ((s == t) || false) (or_none (s == t)) (tells yes).1.here
+          (tells yes).1.others i;
     })

@@ -14,7 +14,8 @@ MayGo played can_fail s = (script.goes_in_script played s ≡ true) ⊎ (can_fai
 -- So far: what was opened and what is left to open are the sessions of the script; and of a session that isn't closed,
 -- what came and what is left to come are the bytes that the script sends it. Of a closed one a beginning came. What is
 -- left to go are peers of which the script says it; and those that have gone might.
-pub record Follows (played left : List ScriptEvent) (records : List PortRecord) (closed : ℕ → Bool) (can_fail : Bool) : Type 0 where
+pub record Follows (played left : List ScriptEvent) (records : List PortRecord) (closed : ℕ → Bool)
+    (can_fail : Bool) : Type 0 where
   pub opened_are : script.sessions_opened played ≡ opened records ++ script.sessions_opened left
   pub fed_are : (s : ℕ) → closed s ≡ false → script.sent played s ≡ fed s records ++ script.sent left s
   pub begun : (s : ℕ) → closed s ≡ true → StartsWith (script.sent played s) (fed s records)

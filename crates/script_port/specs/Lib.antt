@@ -1,4 +1,5 @@
 pub mod Events
+pub mod Remaining
 pub mod Sessions
 pub mod Records
 pub mod Following

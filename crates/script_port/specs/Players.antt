@@ -1,8 +1,8 @@
 -- How the events that are left, the sessions and the list of events fit together.
-use Rattle.std.specs.Prelude.{◌≡◌, ℕ, ◌<◌, ◌≤◌, ◌⊎◌, Bool, true, false, not, ◌&&◌, ◌||◌, List, [], ◌∷◌, ◌++◌, length, filter, Option, Some, None, Result}
+use Rattle.std.specs.Prelude.{◌≡◌, ℕ, ◌<◌, ◌≤◌, ◌⊎◌, Bool, true, false, not, ◌&&◌, ◌||◌, List, [], ◌∷◌, ◌++◌, filter}
+use Rattle.std.specs.Prelude.{Option, Some, None, Result}
 use Rattle.std.specs.List.{AllByRecursion}
 use Rattle.script.specs.declared.event.ScriptEvent.{ScriptEvent}
-use Rattle.script.specs.declared.event.ScriptEvent.TheVariants as script
 use Rattle.worker.specs.declared.port.PortRecord.{PortRecord}
 use Rattle.worker.specs.declared.port.PortRecord.TheVariants as was
 use Rattle.worker.specs.declared.port.PortEvent.{PortEvent}
@@ -11,8 +11,10 @@ use Rattle.worker.specs.Ports.{has_ended}
 use Rattle.worker.specs.Ports as list
 use Rattle.worker.specs.Sessions.{PortFacts, port_facts}
 use Rattle.script_port.specs.declared.player.Player.{Player}
-use Rattle.script_port.specs.Events.{event_session, send_after, plays_from, is_playable}
-use Rattle.script_port.specs.Sessions.{ScriptSessionState, numbers, newest, session_entry, is_closed, was_closed, is_open, is_paused}
+use Rattle.script_port.specs.Events.{event_session, plays_from, is_playable}
+use Rattle.script_port.specs.Remaining.{in_order}
+use Rattle.script_port.specs.Sessions.{ScriptSessionState, numbers, newest, session_entry, is_closed, was_closed}
+use Rattle.script_port.specs.Sessions.{is_session_open, is_paused}
 use Rattle.script_port.specs.Records.{opened}
 use Rattle.script_port.specs.Following.{Follows, MayGo}
 use Rattle.script_port.specs.States.{PortState, story_of, Plays, PortGoesOn, DropsSession, Gives, Fails, count_down}
@@ -27,10 +29,14 @@ events_left sessions events = filter (is_left sessions) events
 abbrev pub is_ready : List ScriptSessionState → ScriptEvent → Bool
 is_ready sessions e = is_left sessions e && not (is_paused sessions (event_session e))
 
+-- none of these events may be played now
+abbrev pub NoneReady : List ScriptSessionState → List ScriptEvent → Type 0
+NoneReady sessions events = AllByRecursion (λ (e : ScriptEvent). is_ready sessions e ≡ false) events
+
 abbrev pub player_state : Player → PortState
 player_state p = record {
   script = p.script.value.items;
-  left = events_left p.sessions p.events.items;
+  left = events_left p.sessions (in_order p.events);
   sessions = p.sessions;
   records = p.records;
   accept = p.accept;
@@ -48,25 +54,20 @@ pub record IsPlayerConsistent (p : Player) : Type 0 where
   pub opened_are : numbers p.sessions ≡ opened p.records
   pub rising : (s : ℕ) (x : ScriptSessionState) → session_entry p.sessions s ≡ Some x → s ≤ newest p.sessions
   pub at_end : has_ended p.records ≡ p.ended
-  pub plays : is_playable p.script.value.items ≡ true → plays_from (newest p.sessions) (is_open p.sessions) (events_left p.sessions p.events.items) ≡ true
-  pub follows : is_playable p.script.value.items ≡ true → Follows p.script.value.items (events_left p.sessions p.events.items) p.records (was_closed p.sessions) p.can_fail
-  pub finished : p.ended ≡ true → p.events.items ≡ []
+  pub plays : is_playable p.script.value.items ≡ true
+      → plays_from (newest p.sessions) (is_session_open p.sessions) (events_left p.sessions (in_order p.events)) ≡ true
+  pub follows : is_playable p.script.value.items ≡ true
+      → Follows p.script.value.items (events_left p.sessions (in_order p.events)) p.records
+      (was_closed p.sessions) p.can_fail
+  pub aside : NoneReady p.sessions p.events.aside
+  pub finished : p.ended ≡ true → in_order p.events ≡ []
   pub may_fail : 0 < p.fail_give → p.can_fail ≡ true
 
--- the event at this place is the first that may be played now
-pub record IsFirst (p : Player) (at : ℕ) (e : ScriptEvent) : Type 0 where
-  pub before : List ScriptEvent
+-- the event in front of the rest may be played now, so it is the first that may
+pub record IsFirst (p : Player) (e : ScriptEvent) : Type 0 where
   pub after : List ScriptEvent
-  pub events_are : p.events.items ≡ before ++ e ∷ after
-  pub at_is : length before ≡ at
-  pub unready : AllByRecursion (λ (x : ScriptEvent). is_ready p.sessions x ≡ false) before
+  pub rest_is : p.events.rest ≡ e ∷ after
   pub ready : is_ready p.sessions e ≡ true
-
--- a send loses its next piece
-abbrev pub TakesPiece : List ScriptEvent → ℕ → List ScriptEvent → Type 0
-TakesPiece old at new =
-    (before after : List ScriptEvent) (s : ℕ) (bytes : List ℕ) → old ≡ before ++ script.Send s bytes ∷ after
-    → length before ≡ at → new ≡ before ++ send_after s bytes ++ after
 
 -- where the port tells, an event came as it may
 pub record TellsNext (old : PortState) (result : PortEvent) (new : PortState) : Type 0 where
@@ -76,7 +77,8 @@ pub record TellsNext (old : PortState) (result : PortEvent) (new : PortState) : 
   pub goes_on : PortGoesOn old new
 
 abbrev pub Played : Player → PortEvent → Player → Type 0
-Played old result new = is_playable old.script.value.items ≡ true → TellsNext (player_state old) result (player_state new)
+Played old result new = is_playable old.script.value.items ≡ true
+    → TellsNext (player_state old) result (player_state new)
 
 -- a record with which a session ends
 abbrev pub EndsSession : ℕ → PortRecord → Type 0
@@ -84,7 +86,8 @@ EndsSession s entry = (entry ≡ was.Gone s) ⊎ (entry ≡ was.Shut s)
 
 -- where the port tells, a session whose peer goes is one that may
 abbrev pub IsCausedAt : Player → ℕ → PortRecord → Type 0
-IsCausedAt p s entry = is_playable p.script.value.items ≡ true → entry ≡ was.Gone s → MayGo p.script.value.items p.can_fail s
+IsCausedAt p s entry = is_playable p.script.value.items ≡ true → entry ≡ was.Gone s
+    → MayGo p.script.value.items p.can_fail s
 
 -- a session is closed with this record
 pub record RecordsClose (old : Player) (s : ℕ) (entry : PortRecord) (new : Player) : Type 0 where
@@ -96,7 +99,7 @@ pub record RecordsClose (old : Player) (s : ℕ) (entry : PortRecord) (new : Pla
 
 -- bytes that were accepted are kept
 pub record Keeps (old : Player) (s : ℕ) (bytes : List ℕ) (new : Player) : Type 0 where
-  pub was_open : is_open old.sessions s ≡ true
+  pub was_open : is_session_open old.sessions s ≡ true
   pub records_are : new.records ≡ old.records ++ was.Accepted s bytes ∷ []
   pub state_is : player_state new ≡ record (player_state old) { sessions = new.sessions; records = new.records }
   pub held : (t : ℕ) → is_paused new.sessions t ≡ is_paused old.sessions t

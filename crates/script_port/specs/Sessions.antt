@@ -1,5 +1,6 @@
 -- The sessions that a port has opened.
-use Rattle.std.specs.Prelude.{◌≡◌, ◌≢◌, ℕ, ◌<◌, ⊤, Bool, true, false, not, ◌==◌, if◌then◌else◌, List, [], ◌∷◌, ◌++◌, length, map, slice_index_or, Option}
+use Rattle.std.specs.Prelude.{◌≡◌, ◌≢◌, ℕ, ◌<◌, ⊤, Bool, true, false, not, ◌==◌, if◌then◌else◌, List, [], ◌∷◌, ◌++◌}
+use Rattle.std.specs.Prelude.{length, map, slice_index_or, Option}
 use Rattle.std.specs.Prelude.{Some, None, option_map, MatchOption}
 use Rattle.script_port.specs.declared.stage.Stage.{Stage}
 use Rattle.script_port.specs.declared.stage.Stage.TheVariants.{Playing, Paused, Closed}
@@ -46,13 +47,16 @@ is_some_and p (Some x) = p x
 is_some_and p None = false
 
 abbrev pub was_closed : List ScriptSessionState → ℕ → Bool
-was_closed sessions session = is_some_and (λ (x : ScriptSessionState). is_closed x.stage) (session_entry sessions session)
+was_closed sessions session = is_some_and (λ (x : ScriptSessionState). is_closed x.stage)
+    (session_entry sessions session)
 
-abbrev pub is_open : List ScriptSessionState → ℕ → Bool
-is_open sessions session = is_some_and (λ (x : ScriptSessionState). not (is_closed x.stage)) (session_entry sessions session)
+abbrev pub is_session_open : List ScriptSessionState → ℕ → Bool
+is_session_open sessions session = is_some_and (λ (x : ScriptSessionState). not (is_closed x.stage))
+    (session_entry sessions session)
 
 abbrev pub is_paused : List ScriptSessionState → ℕ → Bool
-is_paused sessions session = is_some_and (λ (x : ScriptSessionState). is_waiting x.stage) (session_entry sessions session)
+is_paused sessions session = is_some_and (λ (x : ScriptSessionState). is_waiting x.stage)
+    (session_entry sessions session)
 
 -- the place of a session, if it is there
 abbrev pub IsPlaceOf : List ScriptSessionState → ℕ → Option ℕ → Type 0
@@ -67,12 +71,14 @@ abbrev pub with_output : List ℕ → ScriptSessionState → ScriptSessionState
 with_output bytes x = record x { output = x.output ++ bytes }
 
 -- one session changes, and the others stay
-pub record ChangesAt (old : List ScriptSessionState) (session : ℕ) (change : ScriptSessionState → ScriptSessionState) (new : List ScriptSessionState) : Type 0 where
+pub record ChangesAt (old : List ScriptSessionState) (session : ℕ) (change : ScriptSessionState → ScriptSessionState)
+    (new : List ScriptSessionState) : Type 0 where
   pub numbers_are : numbers new ≡ numbers old
   pub here : session_entry new session ≡ option_map change (session_entry old session)
   pub others : (t : ℕ) → t ≢ session → session_entry new t ≡ session_entry old t
 
 -- an open session has these bytes behind its output, and the others stay
-pub record AcceptsAt (old : List ScriptSessionState) (session : ℕ) (bytes : List ℕ) (new : List ScriptSessionState) : Type 0 where
-  pub was_open : is_open old session ≡ true
+pub record AcceptsAt (old : List ScriptSessionState) (session : ℕ) (bytes : List ℕ)
+    (new : List ScriptSessionState) : Type 0 where
+  pub was_open : is_session_open old session ≡ true
   pub at : ChangesAt old session (with_output bytes) new

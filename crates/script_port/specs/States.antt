@@ -1,5 +1,6 @@
 -- What a port has still to play, and what its calls change of that.
-use Rattle.std.specs.Prelude.{◌≡◌, ◌≢◌, ℕ, ◌-◌, ◌<◌, ◌==◌, ◌⊎◌, min, Bool, true, false, List, [], ◌∷◌, ◌++◌, length, take, Result, Ok, Err, Option, Some}
+use Rattle.std.specs.Prelude.{◌≡◌, ◌≢◌, ℕ, ◌-◌, ◌<◌, ◌==◌, ◌⊎◌, min, Bool, true, false, List, [], ◌∷◌, ◌++◌, length}
+use Rattle.std.specs.Prelude.{take, Result, Ok, Err, Option, Some}
 use Rattle.std.specs.Prelude.{None, if◌then◌else◌}
 use Rattle.std.proofs.Common.{refl, ◌∙◌}
 use Rattle.std.specs.List.{AllByRecursion}
@@ -33,7 +34,8 @@ abbrev pub KeepsOthers : ℕ → PortState → PortState → Type 0
 KeepsOthers session old new = (t : ℕ) → t ≢ session → is_held new t ≡ is_held old t
 
 -- the first event left whose session isn't paused is this one; behind the call this stands in its place
-pub record TakesEvent (old : PortState) (e : ScriptEvent) (rest : List ScriptEvent) (left : List ScriptEvent) : Type 0 where
+pub record TakesEvent (old : PortState) (e : ScriptEvent) (rest : List ScriptEvent)
+    (left : List ScriptEvent) : Type 0 where
   pub before : List ScriptEvent
   pub after : List ScriptEvent
   pub old_is : old.left ≡ before ++ e ∷ after
@@ -117,4 +119,12 @@ plays_later first second third before after = (after.0 ∙ before.0, after.1 ∙
 
 -- a port of which nothing was asked yet
 abbrev pub IsNewPort : List ScriptEvent → PortState → Type 0
-IsNewPort events port = port ≡ record { script = events; left = events; sessions = []; records = []; accept = 0; fail_give = 0; can_fail = false }
+IsNewPort events port = port ≡ record {
+  script = events;
+  left = events;
+  sessions = [];
+  records = [];
+  accept = 0;
+  fail_give = 0;
+  can_fail = false;
+}

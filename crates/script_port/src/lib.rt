@@ -1,9 +1,11 @@
 //! A port that plays a script.
 #![tactic(auto)]
 
-mod awake;
 mod player;
-pub mod port;
+mod port;
 mod records;
-pub mod sessions;
+mod remaining;
+mod sessions;
 mod stage;
+
+pub use port::ScriptPort;

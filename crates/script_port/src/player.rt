@@ -1,24 +1,29 @@
 //! What a port that plays a script holds, and its steps.
 
-ghost use Rattle.std.specs.Prelude.{◌≡◌, ℕ, ◌+◌, ◌-◌, ◌<◌, ◌≤◌, ◌==◌, ◌||◌, nat_lt, List, [], ◌∷◌, ◌++◌, length, take, true, false, Some, None, IfOk};
-ghost use Rattle.std.specs.List.{position};
+ghost use Rattle.std.specs.Prelude.{◌≡◌, ℕ, ◌+◌, ◌-◌, ◌<◌, ◌≤◌, ◌==◌, ◌||◌, nat_lt, List, [], ◌∷◌, ◌++◌, length, take};
+ghost use Rattle.std.specs.Prelude.{true, false, IfOk};
+ghost use Rattle.std.specs.List.{AllByRecursion};
 ghost use Rattle.script.specs.declared.event.ScriptEvent.TheVariants as script;
-ghost use Rattle.script_port.specs.Events.{event_session, is_playable};
+ghost use Rattle.script.specs.declared.event.ScriptEvent.{ScriptEvent};
+ghost use Rattle.script_port.specs.Events.{is_playable};
+ghost use Rattle.script_port.specs.Remaining.{in_order};
 ghost use Rattle.script_port.specs.Sessions.{is_closed, is_waiting};
 ghost use Rattle.script_port.specs.Sessions as sessions;
-ghost use Rattle.script_port.specs.Players.{is_left, is_ready, events_left, player_state, IsPlayerConsistent, IsFirst, IsCausedAt, Played, RecordsClose, EndsSession, Keeps, SamePlayer, CountsOffer, GivesAs, TakesPiece};
+ghost use Rattle.script_port.specs.Players.{is_left, is_ready, events_left, NoneReady, player_state};
+ghost use Rattle.script_port.specs.Players.{IsPlayerConsistent, IsFirst, IsCausedAt, Played};
+ghost use Rattle.script_port.specs.Players.{RecordsClose, EndsSession, Keeps, SamePlayer, CountsOffer, GivesAs};
 ghost use Rattle.script_port.specs.States.{IsNewPort, CountsGive, SetsHeld, most_accepted};
 ghost use Rattle.worker.specs.Ports.{given};
 
 use crate::records::Records;
+use crate::remaining::{Remaining, event_session};
 use crate::sessions::Sessions;
 use crate::stage::Stage;
 use bytes::Bytes;
-use script::event::ScriptEvent;
+use script::ScriptEvent;
 use std::alloc::{AllocError, Global};
-use std::collections::VecDeque;
 use std::snapshot::Snapshot;
-use worker::port::{Gone, MAX_PIECE, PortEvent, PortRecord};
+use worker::{Gone, MAX_PIECE, PortEvent, PortRecord};
 
 #[derive(Drop)]
 pub(crate) struct Player {
@@ -26,7 +31,7 @@ pub(crate) struct Player {
     /// The script that was handed in.
     pub(crate) script: Snapshot<Vec<ScriptEvent>>,
     /// The events that weren't played yet, those of closed sessions included.
-    pub(crate) events: VecDeque<ScriptEvent>,
+    pub(crate) events: Remaining,
     pub(crate) sessions: Sessions,
     pub(crate) records: Records,
     /// The most bytes that a `give` accepts, or 0.
@@ -36,17 +41,6 @@ pub(crate) struct Player {
     /// Whether a `give` was asked to fail.
     pub(crate) can_fail: bool,
     pub(crate) ended: bool,
-}
-
-// The session that an event is of.
-fn event_session(event: &ScriptEvent) -> u64
-    ensures { result ≡ event_session event.now }
-{
-    match event {
-        ScriptEvent::Open(session) => *session,
-        ScriptEvent::Send(session, _) => *session,
-        ScriptEvent::Gone(session) => *session,
-    }
 }
 
 // Whether the event's session is neither gone nor shut.
@@ -70,32 +64,32 @@ fn is_ready(sessions: &Sessions, event: &ScriptEvent) -> bool
 }
 
 // Drops the events of closed sessions that stand in front.
-fn drop_closed(sessions: &Sessions, events: &mut VecDeque<ScriptEvent>)
-    ensures left { events_left sessions.now events.new.items ≡ events_left sessions.now events.old.items }
-    ensures front { events_left sessions.now events.new.items ≡ [] → events.new.items ≡ [] }
+fn drop_closed(sessions: &Sessions, events: &mut Remaining)
+    ensures left { events_left sessions.now (in_order events.new) ≡ events_left sessions.now (in_order events.old) }
+    ensures aside { NoneReady sessions.now events.old.aside → NoneReady sessions.now events.new.aside }
+    ensures front { events_left sessions.now (in_order events.new) ≡ [] → in_order events.new ≡ [] }
 {
-    while let Some(event) = events.front() {
+    while let Some(event) = events.first() {
         if is_left(sessions, event) {
             return;
         }
-        events.pop_front();
+        events.drop_first();
     }
 }
 
-// Gives memory back once half of it has no event any more.
-fn give_back(events: &mut VecDeque<ScriptEvent>)
-    ensures { events.new.items ≡ events.old.items }
+// Puts aside what stands before the first event that may be played now.
+fn settle(sessions: &Sessions, events: &mut Remaining)
+    requires { NoneReady sessions.now events.old.aside }
+    ensures order { in_order events.new ≡ in_order events.old }
+    ensures aside { NoneReady sessions.now events.new.aside }
+    ensures front { (e : ScriptEvent) (after : List ScriptEvent) → events.new.rest ≡ e ∷ after → is_ready sessions.now e ≡ true }
 {
-    if events.len() < events.capacity() / 2 {
-        events.shrink_to_fit();
+    while let Some(event) = events.front() {
+        if is_ready(sessions, event) {
+            return;
+        }
+        events.put_aside();
     }
-}
-
-// The place of the first event that may be played now.
-fn first_ready(sessions: &Sessions, events: &VecDeque<ScriptEvent>) -> Option<usize>
-    ensures { result ≡ position (is_ready sessions.now) events.now.items }
-{
-    events.iter().position(|event| is_ready(sessions, event))
 }
 
 // The next piece of a send, and a copy of it for the list of events.
@@ -105,25 +99,6 @@ fn next_piece(bytes: &Bytes) -> Result<(Bytes, Bytes), AllocError>
     let piece = bytes.slice(0..bytes.len().min(MAX_PIECE))?;
     let copy = piece.clone()?;
     Ok((piece, copy))
-}
-
-// Takes the next piece off a send, and the send away with its last piece.
-fn take_piece(events: &mut VecDeque<ScriptEvent>, at: usize)
-    requires { at < length events.old.items }
-    ensures { TakesPiece events.old.items at events.new.items }
-{
-    let Some(ScriptEvent::Send(session, mut bytes)) = events.remove(at) else {
-        return;
-    };
-    if bytes.len() > MAX_PIECE {
-        bytes.advance(MAX_PIECE);
-        if events
-            .insert(at, ScriptEvent::Send(session, bytes))
-            .is_err()
-        {
-            unreachable!()
-        }
-    }
 }
 
 // The most bytes of these that a `give` accepts.
@@ -147,7 +122,7 @@ impl Player {
         Player {
             alloc,
             script,
-            events: VecDeque::from_vec(events),
+            events: Remaining::new(events),
             sessions: Sessions::new(alloc),
             records: Records::new(),
             accept: 0,
@@ -161,7 +136,12 @@ impl Player {
     pub(crate) fn set_faults(&mut self, accept: usize, fail_give: u64)
         requires consistent { IsPlayerConsistent self.old }
         ensures consistent { IsPlayerConsistent self.new }
-        ensures state { player_state self.new ≡ record (player_state self.old) { accept = accept; fail_give = fail_give; can_fail = self.old.can_fail || nat_lt 0 fail_give } }
+        ensures state { player_state self.new
+            ≡ record (player_state self.old) {
+              accept = accept;
+              fail_give = fail_give;
+              can_fail = self.old.can_fail || nat_lt 0 fail_give;
+            } }
     {
         self.accept = accept;
         self.fail_give = fail_give;
@@ -180,10 +160,10 @@ impl Player {
     }
 
     // Begins a session.
-    fn open(&mut self, at: usize, session: u64) -> PortEvent
+    fn open(&mut self, session: u64) -> PortEvent
         requires consistent { IsPlayerConsistent self.old }
         requires running { self.old.ended ≡ false }
-        requires first { IsFirst self.old at (script.Open session) }
+        requires first { IsFirst self.old (script.Open session) }
         ensures consistent { IsPlayerConsistent self.new }
         ensures script { self.new.script ≡ self.old.script }
         ensures accept { self.new.accept ≡ self.old.accept }
@@ -191,22 +171,23 @@ impl Player {
         ensures played { Played self.old result self.new }
     {
         if session <= self.sessions.newest() {
-            self.events.remove(at);
+            self.events.drop_first();
             return PortEvent::Opened(session);
         }
         if self.sessions.open(session).is_err() {
             return PortEvent::Idle;
         }
         self.records.write(PortRecord::Opened(session));
-        self.events.remove(at);
+        self.events.drop_first();
         PortEvent::Opened(session)
     }
 
     // Gives the next piece of a send.
-    fn send(&mut self, at: usize, session: u64, piece: Bytes, copy: Bytes) -> PortEvent
+    fn send(&mut self, session: u64, piece: Bytes, copy: Bytes) -> PortEvent
         requires consistent { IsPlayerConsistent self.old }
         requires running { self.old.ended ≡ false }
-        requires first { (bytes : List ℕ) × IsFirst self.old at (script.Send session bytes) × (piece ≡ take 16384 bytes) × (copy ≡ take 16384 bytes) }
+        requires first { (bytes : List ℕ) × IsFirst self.old (script.Send session bytes) × (piece ≡ take 16384 bytes)
+            × (copy ≡ take 16384 bytes) }
         ensures consistent { IsPlayerConsistent self.new }
         ensures script { self.new.script ≡ self.old.script }
         ensures accept { self.new.accept ≡ self.old.accept }
@@ -214,15 +195,15 @@ impl Player {
         ensures played { Played self.old result self.new }
     {
         self.records.write(PortRecord::Data(session, copy));
-        take_piece(&mut self.events, at);
+        self.events.take_piece();
         PortEvent::Data(session, piece)
     }
 
     // Ends a session whose peer has gone.
-    fn go(&mut self, at: usize, session: u64) -> PortEvent
+    fn go(&mut self, session: u64) -> PortEvent
         requires consistent { IsPlayerConsistent self.old }
         requires running { self.old.ended ≡ false }
-        requires first { IsFirst self.old at (script.Gone session) }
+        requires first { IsFirst self.old (script.Gone session) }
         ensures consistent { IsPlayerConsistent self.new }
         ensures script { self.new.script ≡ self.old.script }
         ensures accept { self.new.accept ≡ self.old.accept }
@@ -230,36 +211,37 @@ impl Player {
         ensures played { Played self.old result self.new }
     {
         self.close(session, PortRecord::Gone(session));
-        self.events.remove(at);
+        self.events.drop_first();
         PortEvent::Gone(session)
     }
 
-    // Plays the event at this place.
-    fn play(&mut self, at: usize) -> PortEvent
+    // Plays the first of the rest, if there is one.
+    fn play(&mut self) -> PortEvent
         requires consistent { IsPlayerConsistent self.old }
         requires running { self.old.ended ≡ false }
-        requires first { position (is_ready self.old.sessions) self.old.events.items ≡ Some at }
+        requires first { (e : ScriptEvent) (after : List ScriptEvent) → self.old.events.rest ≡ e ∷ after
+            → is_ready self.old.sessions e ≡ true }
         ensures consistent { IsPlayerConsistent self.new }
         ensures script { self.new.script ≡ self.old.script }
         ensures accept { self.new.accept ≡ self.old.accept }
         ensures can_fail { self.new.can_fail ≡ self.old.can_fail }
         ensures played { Played self.old result self.new }
     {
-        match self.events.get(at) {
+        match self.events.front() {
             Some(ScriptEvent::Open(session)) => {
                 let session = *session;
-                self.open(at, session)
+                self.open(session)
             }
             Some(ScriptEvent::Send(session, bytes)) => {
                 let session = *session;
                 match next_piece(bytes) {
-                    Ok((piece, copy)) => self.send(at, session, piece, copy),
+                    Ok((piece, copy)) => self.send(session, piece, copy),
                     Err(_) => PortEvent::Idle,
                 }
             }
             Some(ScriptEvent::Gone(session)) => {
                 let session = *session;
-                self.go(at, session)
+                self.go(session)
             }
             None => PortEvent::Idle,
         }
@@ -269,7 +251,7 @@ impl Player {
     fn end(&mut self) -> PortEvent
         requires consistent { IsPlayerConsistent self.old }
         requires running { self.old.ended ≡ false }
-        requires none { self.old.events.items ≡ [] }
+        requires none { in_order self.old.events ≡ [] }
         ensures consistent { IsPlayerConsistent self.new }
         ensures script { self.new.script ≡ self.old.script }
         ensures accept { self.new.accept ≡ self.old.accept }
@@ -295,9 +277,10 @@ impl Player {
             return PortEvent::Idle;
         }
         drop_closed(&self.sessions, &mut self.events);
-        give_back(&mut self.events);
-        match first_ready(&self.sessions, &self.events) {
-            Some(at) => self.play(at),
+        settle(&self.sessions, &mut self.events);
+        self.events.give_back();
+        match self.events.front() {
+            Some(_) => self.play(),
             None => {
                 if self.events.is_empty() {
                     self.end()
@@ -306,18 +289,6 @@ impl Player {
                 }
             }
         }
-    }
-
-    pub(crate) fn is_paused(&self, session: u64) -> bool {
-        match self.sessions.get(session) {
-            Some(session) => session.stage().is_paused(),
-            None => false,
-        }
-    }
-
-    /// Whether events are left, of paused sessions alone.
-    pub(crate) fn is_waiting(&self) -> bool {
-        !self.events.is_empty() && first_ready(&self.sessions, &self.events).is_none()
     }
 
     /// Ends an open session with this entry. Its events are left no more.
@@ -329,8 +300,9 @@ impl Player {
         ensures script { self.new.script ≡ self.old.script }
         ensures accept { self.new.accept ≡ self.old.accept }
         ensures can_fail { self.new.can_fail ≡ self.old.can_fail }
-        ensures closes { sessions.is_open self.old.sessions session ≡ true → RecordsClose self.old session entry self.new }
-        ensures same { sessions.is_open self.old.sessions session ≡ false → self.new ≡ self.old }
+        ensures closes { sessions.is_session_open self.old.sessions session ≡ true
+            → RecordsClose self.old session entry self.new }
+        ensures same { sessions.is_session_open self.old.sessions session ≡ false → self.new ≡ self.old }
     {
         if self.sessions.change(session, Stage::Closed) {
             self.records.write(entry);
@@ -346,9 +318,17 @@ impl Player {
         ensures accept { self.new.accept ≡ self.old.accept }
         ensures can_fail { self.new.can_fail ≡ self.old.can_fail }
         ensures records { self.new.records ≡ self.old.records }
-        ensures held { sessions.is_open self.old.sessions session ≡ true → SetsHeld (player_state self.old) session (is_waiting stage) (player_state self.new) }
+        ensures held { sessions.is_session_open self.old.sessions session ≡ true
+            → SetsHeld (player_state self.old) session (is_waiting stage) (player_state self.new) }
     {
-        self.sessions.change(session, stage);
+        if !self.sessions.change(session, stage) {
+            return;
+        }
+        if stage.is_paused() {
+            return;
+        }
+        let stay = self.events.before_first_of(session);
+        self.events.bring_back(stay);
     }
 
     // Keeps bytes that a session is given. False where there is no memory, and then nothing changes.
@@ -388,7 +368,8 @@ impl Player {
         ensures within { IfOk result (λ n. n ≤ length bytes.now) }
         ensures counts { CountsGive (player_state self.old) bytes.now (player_state self.new) }
         ensures can_fail { self.new.can_fail ≡ self.old.can_fail }
-        ensures given { sessions.is_open self.old.sessions session ≡ true → GivesAs self.old session bytes.now result self.new }
+        ensures given { sessions.is_session_open self.old.sessions session ≡ true
+            → GivesAs self.old session bytes.now result self.new }
     {
         if self.fails(bytes) {
             self.close(session, PortRecord::Gone(session));

@@ -8,16 +8,16 @@ ghost use Rattle.script_port.specs.Events.{is_playable};
 ghost use Rattle.script_port.specs.Sessions.{numbers};
 ghost use Rattle.script_port.specs.Records.{opened};
 ghost use Rattle.script_port.specs.Following.{IsPlayed};
-ghost use Rattle.script_port.specs.States.{story_told, PlaysOn, Plays, Gives, PortGoesOn, CountsGive, SetsHeld, DropsSession, IsNewPort};
+ghost use Rattle.script_port.specs.States.{story_told, PlaysOn, Plays, Gives, PortGoesOn, CountsGive, SetsHeld};
+ghost use Rattle.script_port.specs.States.{DropsSession, IsNewPort};
 
-use crate::awake::Awake;
 use crate::player::Player;
 use crate::sessions::ScriptSession;
 use crate::stage::Stage;
-use script::event::ScriptEvent;
+use script::ScriptEvent;
 use std::alloc::Global;
 use std::marker::Model;
-use worker::port::{Gone, Port, PortEvent, PortRecord};
+use worker::{Gone, Port, PortEvent, PortRecord};
 
 /// Plays the events of a script in order, and keeps what each session is given.
 ///
@@ -26,7 +26,6 @@ use worker::port::{Gone, Port, PortEvent, PortRecord};
 #[derive(Drop)]
 pub struct ScriptPort {
     player: Player,
-    awake: Awake,
 }
 
 impl Model for ScriptPort {
@@ -48,14 +47,17 @@ impl ScriptPort {
     {
         ScriptPort {
             player: Player::new(alloc, events),
-            awake: Awake::any(alloc),
         }
     }
 
     /// From now on each `give` accepts at most `accept` bytes, and the `fail_give`th that is offered at least one
     /// byte accepts none and answers that the peer has gone. 0 is none for either.
     pub fn with_faults(mut self, accept: usize, fail_give: u64) -> ScriptPort
-        ensures { result ≡ record self { accept = accept; fail_give = fail_give; can_fail = self.can_fail || nat_lt 0 fail_give } }
+        ensures { result ≡ record self {
+          accept = accept;
+          fail_give = fail_give;
+          can_fail = self.can_fail || nat_lt 0 fail_give;
+        } }
     {
         self.player.set_faults(accept, fail_give);
         self
@@ -97,27 +99,19 @@ impl Port for ScriptPort {
         ensures plays { is_playable self.old.script ≡ true → Plays self.old result self.new }
         ensures goes_on { is_playable self.old.script ≡ true → PortGoesOn self.old self.new }
     {
-        if self.awake.is_none() {
-            return PortEvent::Idle;
-        }
-        let event = self.player.next();
-        let is_idle = matches!(&event, PortEvent::Idle);
-        self.awake.note(is_idle && self.player.is_waiting());
-        event
+        self.player.next()
     }
 
     fn give(&mut self, session: u64, bytes: &[u8]) -> Result<usize, Gone>
         requires { IsOpenIn session (story_told self.old) }
         ensures within { IfOk result (λ n. n ≤ length bytes.now) }
         ensures leads { PlaysOn self.old self.new }
-        ensures told { story_told self.new ≡ option_map (then_told (give_records session bytes.now result)) (story_told self.old) }
+        ensures told { story_told self.new
+            ≡ option_map (then_told (give_records session bytes.now result)) (story_told self.old) }
         ensures gives { is_playable self.old.script ≡ true → Gives self.old session bytes.now result self.new }
         ensures counts { CountsGive self.old bytes.now self.new }
     {
-        let was_paused = self.player.is_paused(session);
-        let given = self.player.give(session, bytes);
-        self.awake.forget(was_paused && given.is_err());
-        given
+        self.player.give(session, bytes)
     }
 
     fn pause(&mut self, session: u64)
@@ -127,7 +121,6 @@ impl Port for ScriptPort {
         ensures held { is_playable self.old.script ≡ true → SetsHeld self.old session true self.new }
     {
         self.player.hold(session, Stage::Paused);
-        self.awake.sleep(session);
     }
 
     fn resume(&mut self, session: u64)
@@ -137,7 +130,6 @@ impl Port for ScriptPort {
         ensures held { is_playable self.old.script ≡ true → SetsHeld self.old session false self.new }
     {
         self.player.hold(session, Stage::Playing);
-        self.awake.wake(session);
     }
 
     fn shut(&mut self, session: u64)
@@ -146,8 +138,6 @@ impl Port for ScriptPort {
         ensures told { story_told self.new ≡ option_map (then_told (Shut session ∷ [])) (story_told self.old) }
         ensures shuts { is_playable self.old.script ≡ true → DropsSession self.old session self.new }
     {
-        let was_paused = self.player.is_paused(session);
         self.player.close(session, PortRecord::Shut(session));
-        self.awake.forget(was_paused);
     }
 }

@@ -5,7 +5,7 @@ ghost use Rattle.script_port.specs.Records.{listed};
 
 use std::marker::Model;
 use std::snapshot::Snapshot;
-use worker::port::PortRecord;
+use worker::PortRecord;
 
 /// The entries that were written. Only the last one has bytes; those before it are for clauses alone.
 #[derive(Drop)]

@@ -1,7 +1,9 @@
 //! The sessions that a port has opened.
 
-ghost use Rattle.std.specs.Prelude.{◌≡◌, ℕ, ◌+◌, ◌<◌, [], ◌∷◌, ◌++◌, length, map, true, false, Some, None, option_map, MatchOption, OnOk, OnErr, slice_index_or, if◌then◌else◌};
-ghost use Rattle.script_port.specs.Sessions.{ScriptSessionState, numbers, RisesFrom, newest, session_entry, is_open, ChangesAt, with_stage, IsPlaceOf, is_closed, AcceptsAt};
+ghost use Rattle.std.specs.Prelude.{◌≡◌, ℕ, ◌+◌, ◌<◌, [], ◌∷◌, ◌++◌, length, map, true, false, Some, None, option_map};
+ghost use Rattle.std.specs.Prelude.{MatchOption, OnOk, OnErr, slice_index_or, if◌then◌else◌};
+ghost use Rattle.script_port.specs.Sessions.{ScriptSessionState, numbers, RisesFrom, newest, session_entry};
+ghost use Rattle.script_port.specs.Sessions.{is_session_open, ChangesAt, with_stage, IsPlaceOf, is_closed, AcceptsAt};
 
 use crate::stage::Stage;
 use std::alloc::{AllocError, Global};
@@ -85,26 +87,17 @@ impl Model for Sessions {
     ghost invariant = { λ s. RisesFrom 0 (numbers s.entries.items) };
 }
 
-// The place of the session with this number, by a binary search.
+// The place of the session with this number.
 fn place_of(sessions: &[ScriptSession], number: u64) -> Option<usize>
     requires { RisesFrom 0 (numbers sessions.now) }
     ensures { IsPlaceOf sessions.now number result }
 {
-    let mut low = 0;
-    let mut high = sessions.len();
-    while low < high {
-        let middle = low + (high - low) / 2;
-        let found = sessions[middle].number();
-        if found == number {
-            return Some(middle);
-        }
-        if found < number {
-            low = middle + 1;
-        } else {
-            high = middle;
-        }
+    let at = sessions.partition_point(|session| session.number() < number);
+    if at < sessions.len() && sessions[at].number() == number {
+        Some(at)
+    } else {
+        None
     }
-    None
 }
 
 impl Sessions {
@@ -155,7 +148,7 @@ impl Sessions {
 
     /// Writes what becomes of a session. False where it isn't open, and then nothing changes.
     pub(crate) fn change(&mut self, number: u64, stage: Stage) -> bool
-        ensures open { result ≡ is_open self.old number }
+        ensures open { result ≡ is_session_open self.old number }
         ensures changes { result ≡ true → ChangesAt self.old number (with_stage stage) self.new }
         ensures same { result ≡ false → self.new ≡ self.old }
     {

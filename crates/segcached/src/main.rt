@@ -1,11 +1,10 @@
 //! `segcached`: serves, and replays scripts.
 #![tactic(auto)]
 
-use command_line::words::{Job, Options, ServeOptions, WordsFault, parse_words, unreadable_words};
-use faults::fault::Fault;
-use proto::geometry::Geometry;
-use serving::seed::seed_of;
-use serving::serve::{serve, serve_geometry};
+use command_line::{Job, Options, ServeOptions, WordsFault, parse_words, unreadable_words};
+use faults::Fault;
+use proto::Geometry;
+use serving::{seed_of, serve, serve_geometry};
 use std::fs::File;
 use std::io::{self, BufWriter};
 use std::net::Net;
@@ -13,7 +12,7 @@ use std::process::ExitCode;
 use std::sync::Wait;
 use std::thread::Threads;
 use std::{env, fs, time};
-use subcommands::replay::{cannot_read, geometry_of, replay};
+use subcommands::{cannot_read, geometry_of, replay};
 
 /// Replays the script in the file that the options name, with these threads.
 fn replay_file<H: Threads + Wait + time::Clock + Sync>(

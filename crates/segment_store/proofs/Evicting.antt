@@ -17,7 +17,7 @@ use Rattle.proto.specs.Cache.{Entry, Entries, entry_size}
 use Rattle.proto.specs.Steps.{size_at, contains_bytes, without}
 use Rattle.proto.proofs.CacheLemmas.{get-remove, if_live}
 use Rattle.segments.specs.declared.place.Place.{Place}
-use Rattle.segments.specs.Items.{Item, item_size, size_of_all}
+use Rattle.segments.specs.Items.{Item, size_of_item, size_of_all}
 use Rattle.segments.specs.Pools.{PoolState, IsPool, Used, Standing, item_in, place_deadline, standing, standing_from, items_of, segment_at, has_live}
 use Rattle.segments.specs.Changes.{cleared}
 use Rattle.segments.specs.Places.{same_place, HasFree}
@@ -43,7 +43,8 @@ abbrev pub IsCurrent : PoolState → Table → Standing → Type 0
 IsCurrent p index s = (item_in p s.place ≡ Some s.item) × (finite.get (current p index) s.item.key ≡ Some s.place)
 
 -- where no current deadline has come, a current item is shown as the entry that it keeps, with its segment's deadline
-pub shown_item : (p : PoolState) (index : Table) (t : ℕ) (s : Standing) → AllWait p (current p index) t → IsCurrent p index s
+pub shown_item : (p : PoolState) (index : Table) (t : ℕ) (s : Standing) → AllWait p (current p index) t
+    → IsCurrent p index s
     → finite.get (shown_entries p index t) s.item.key ≡ Some (kept_entry (place_deadline p s.place) s.item)
 shown_item p index t s wait c =
     get-live_in p (current p index) t s.item.key ∙ ap (λ (o : Option Place). if_live t (option_map (entry_at p) o)) c.1
@@ -55,23 +56,27 @@ key_in s = s.item.key
 
 -- the bytes that an item at a place takes
 abbrev pub size_in : Standing → ℕ
-size_in s = item_size s.item
+size_in s = size_of_item s.item
 
 -- where no current deadline has come, an entry is shown at the key of each of some current items
-pub all_shown : (p : PoolState) (index : Table) (t : ℕ) (ss : List Standing) → AllWait p (current p index) t → All (IsCurrent p index) ss
+pub all_shown : (p : PoolState) (index : Table) (t : ℕ) (ss : List Standing) → AllWait p (current p index) t
+    → All (IsCurrent p index) ss
     → list_all (finite.contains_key (shown_entries p index t)) (map key_in ss) ≡ true
 all_shown p index t [] wait all = refl
 all_shown p index t (s ∷ ss) wait all =
-    let here : finite.contains_key (shown_entries p index t) s.item.key ≡ true = ap is_some (shown_item p index t s wait (All-head (IsCurrent p index) s ss all)) in
+    let here : finite.contains_key (shown_entries p index t) s.item.key ≡ true =
+    ap is_some (shown_item p index t s wait (All-head (IsCurrent p index) s ss all)) in
     rw here (all_shown p index t ss wait (All-tail (IsCurrent p index) s ss all))
 
 -- where no current deadline has come, the entries shown at the keys of current items take the bytes that these items take
-pub shown_sizes : (p : PoolState) (index : Table) (t : ℕ) (ss : List Standing) → AllWait p (current p index) t → All (IsCurrent p index) ss
+pub shown_sizes : (p : PoolState) (index : Table) (t : ℕ) (ss : List Standing) → AllWait p (current p index) t
+    → All (IsCurrent p index) ss
     → sum_by (size_at (shown_entries p index t)) (map key_in ss) ≡ sum_by size_in ss
 shown_sizes p index t [] wait all = refl
 shown_sizes p index t (s ∷ ss) wait all =
-    let here : size_at (shown_entries p index t) s.item.key ≡ item_size s.item = ap
-    (λ (o : Option Entry). option_map_or (entry_size s.item.key) o 0) (shown_item p index t s wait (All-head (IsCurrent p index) s ss all)) in
+    let here : size_at (shown_entries p index t) s.item.key ≡ size_of_item s.item = ap
+    (λ (o : Option Entry). option_map_or (entry_size s.item.key) o 0)
+    (shown_item p index t s wait (All-head (IsCurrent p index) s ss all)) in
     let rest = shown_sizes p index t ss wait (All-tail (IsCurrent p index) s ss all) in
     let one = sum_by-cons (size_at (shown_entries p index t)) s.item.key (map key_in ss) in
     let other = sum_by-cons size_in s ss in
@@ -88,12 +93,14 @@ pub record HasKeyIn (m : Places) (entries : Entries) (n : ℕ) : Type 0 where
   pub entry : finite.contains_key entries key ≡ true
 
 -- a map without one of its keys has one entry less
-one_less : (e : Entries) (q : List ℕ) → finite.contains_key e q ≡ true → finite.len (finite.remove e q) + 1 ≡ finite.len e
+one_less : (e : Entries) (q : List ℕ) → finite.contains_key e q ≡ true
+    → finite.len (finite.remove e q) + 1 ≡ finite.len e
 one_less e q h =
     let l = finite.len-remove nat_list_cmp_total e q in
     elim (cases_eq (finite.len e) 0) [
       | inl z ↦
-          let none : finite.get e q ≡ None = ap (λ (m : Entries). finite.get m q) (finite.empty_of_len e z) ∙ finite.get-empty (slice_cmp nat_cmp) q in
+          let none : finite.get e q ≡ None = ap (λ (m : Entries). finite.get m q) (finite.empty_of_len e z)
+          ∙ finite.get-empty (slice_cmp nat_cmp) q in
           absurd (false≢true (ap is_some (sym none) ∙ h))
       | inr some ↦
           let is : finite.len (finite.remove e q) ≡ finite.len e - 1 = l ∙ rw h refl in
@@ -101,7 +108,8 @@ one_less e q h =
     ]
 
 -- where each segment below a number has a key with a place in it and an entry, there are at least that many entries
-pub many_keys : (k : ℕ) (m : Places) (entries : Entries) → ((n : ℕ) → n < k → HasKeyIn m entries n) → k ≤ finite.len entries
+pub many_keys : (k : ℕ) (m : Places) (entries : Entries) → ((n : ℕ) → n < k → HasKeyIn m entries n)
+    → k ≤ finite.len entries
 many_keys zero m entries h = omega arith
 many_keys (suc k) m entries h =
     let x = h k (omega arith) in
@@ -116,17 +124,20 @@ many_keys (suc k) m entries h =
     let one = one_less entries x.key x.entry in
     omega (arith, less, one)
   where
-    other : (n : ℕ) (y : HasKeyIn m entries n) (x : HasKeyIn m entries k) → n < k → (bytes_eq y.key x.key ≡ true) ⊎ (bytes_eq y.key x.key ≡ false)
+    other : (n : ℕ) (y : HasKeyIn m entries n) (x : HasKeyIn m entries k) → n < k
+        → (bytes_eq y.key x.key ≡ true) ⊎ (bytes_eq y.key x.key ≡ false)
         → is_some (cond (bytes_eq y.key x.key) None (finite.get entries y.key)) ≡ true
     other n y x lt (inl same) =
-        let e : Some y.place ≡ Some x.place = sym y.there ∙ ap (finite.get m) ((bytes_eq-Decides y.key x.key).0 same) ∙ x.there in
+        let e : Some y.place ≡ Some x.place =
+        sym y.there ∙ ap (finite.get m) ((bytes_eq-Decides y.key x.key).0 same) ∙ x.there in
         let is : y.place ≡ x.place = cc in
         let s : n ≡ k = sym y.segment ∙ ap (λ (r : Place). r.segment) is ∙ x.segment in
         absurd (omega (arith, lt, s))
     other n y x lt (inr apart) = rw apart y.entry
 
 -- of items that all have a property, and of which some pass a test, one passes it and has the property
-found_live : (t : Standing → Bool) (xs : List Standing) → list_any t xs ≡ true → (P : Standing → Type 0) → All P xs → (s : Standing) × (t s ≡ true) × P s
+found_live : (t : Standing → Bool) (xs : List Standing) → list_any t xs ≡ true → (P : Standing → Type 0) → All P xs
+    → (s : Standing) × (t s ≡ true) × P s
 found_live t [] h P all = absurd (false≢true h)
 found_live t (x ∷ xs) h P all =
     elim (cases_Bool (t x)) [
@@ -135,20 +146,29 @@ found_live t (x ∷ xs) h P all =
     ]
 
 -- where each segment has a current item, and all are live, there are as many entries as segments
-pub many_shown : (p : PoolState) (index : Table) (marks : Marks) (t : ℕ) → IsTied p index marks → AllWait p (current p index) t
-    → ((n : ℕ) → n < p.sizes.segments → has_live (lives_by marks) p n ≡ true) → p.sizes.segments ≤ finite.len (shown_entries p index t)
+pub many_shown : (p : PoolState) (index : Table) (marks : Marks) (t : ℕ) → IsTied p index marks
+    → AllWait p (current p index) t
+    → ((n : ℕ) → n < p.sizes.segments → has_live (lives_by marks) p n ≡ true)
+    → p.sizes.segments ≤ finite.len (shown_entries p index t)
 many_shown p index marks t tied wait live =
     many_keys p.sizes.segments (current p index) (shown_entries p index t)
     (λ n lt.
     let w = found_live (λ s. is_marked marks s.place) (standing p n) (live n lt)
     (λ (s : Standing). (s.place.segment ≡ n) × (item_in p s.place ≡ Some s.item)) (standing_all p n) in
     let there = tied.marked w.0.place w.0.item w.2.1 w.1 in
-    record { key = w.0.item.key; place = w.0.place; there = there; segment = w.2.0; entry = ap is_some (shown_item p index t w.0 wait (w.2.1, there)) })
+    record {
+      key = w.0.item.key;
+      place = w.0.place;
+      there = there;
+      segment = w.2.0;
+      entry = ap is_some (shown_item p index t w.0 wait (w.2.1, there));
+    })
 
 -- ---- all that is forgotten
 
 -- a key with a place is one of the keys of some current items exactly where its place is one of theirs
-key_left : (p : PoolState) (index : Table) (ss : List Standing) (q : List ℕ) (r : Place) → All (IsCurrent p index) ss → finite.get (current p index) q ≡ Some r
+key_left : (p : PoolState) (index : Table) (ss : List Standing) (q : List ℕ) (r : Place) → All (IsCurrent p index) ss
+    → finite.get (current p index) q ≡ Some r
     → contains_bytes (map key_in ss) q ≡ is_left ss r
 key_left p index [] q r all there = refl
 key_left p index (e ∷ ss) q r all there =
@@ -156,7 +176,8 @@ key_left p index (e ∷ ss) q r all there =
     let rest = key_left p index ss q r (All-tail (IsCurrent p index) e ss all) there in
     elim (cases_Bool (bytes_eq q e.item.key)) [
       | inl y ↦
-          let one : Some r ≡ Some e.place = sym there ∙ ap (finite.get (current p index)) ((bytes_eq-Decides q e.item.key).0 y) ∙ here.1 in
+          let one : Some r ≡ Some e.place =
+          sym there ∙ ap (finite.get (current p index)) ((bytes_eq-Decides q e.item.key).0 y) ∙ here.1 in
           let is : r ≡ e.place = cc in
           let same : same_place e.place r ≡ true = ap (same_place e.place) is ∙ same_place_itself e.place in
           rw (y, same) refl
@@ -173,7 +194,8 @@ key_left p index (e ∷ ss) q r all there =
     ]
 
 -- Each key's place was forgotten with these items, or shows what it did, wherever it is now.
-pub record HaveStayed (p : PoolState) (old : Places) (after : PoolState) (new : Places) (ss : List Standing) : Type 0 where
+pub record HaveStayed (p : PoolState) (old : Places) (after : PoolState) (new : Places)
+    (ss : List Standing) : Type 0 where
   pub none : (q : List ℕ) → finite.get old q ≡ None → finite.get new q ≡ None
   pub gone : (q : List ℕ) (r : Place) → finite.get old q ≡ Some r → is_left ss r ≡ true → finite.get new q ≡ None
   pub stays : (q : List ℕ) (r : Place) → finite.get old q ≡ Some r → is_left ss r ≡ false → (s : Place)
@@ -188,9 +210,11 @@ no_entry false = refl
 shown_but : (p : PoolState) (index : Table) (after : PoolState) (new : Places) (t : ℕ) (ss : List Standing) (q : List ℕ)
     (o : Option Place) → All (IsCurrent p index) ss
     → HaveStayed p (current p index) after new ss → finite.get (current p index) q ≡ o
-    → if_live t (option_map (entry_at after) (finite.get new q)) ≡ cond (contains_bytes (map key_in ss) q) None (if_live t (option_map (entry_at p) o))
+    → if_live t (option_map (entry_at after) (finite.get new q))
+    ≡ cond (contains_bytes (map key_in ss) q) None (if_live t (option_map (entry_at p) o))
 shown_but p index after new t ss q None all h e =
-    ap (λ (o : Option Place). if_live t (option_map (entry_at after) o)) (h.none q e) ∙ no_entry (contains_bytes (map key_in ss) q)
+    ap (λ (o : Option Place). if_live t (option_map (entry_at after) o)) (h.none q e)
+    ∙ no_entry (contains_bytes (map key_in ss) q)
 shown_but p index after new t ss q (Some r) all h e =
     let left = key_left p index ss q r all e in
     elim (cases_Bool (is_left ss r)) [
@@ -200,15 +224,19 @@ shown_but p index after new t ss q (Some r) all h e =
       | inr n ↦
           let no : contains_bytes (map key_in ss) q ≡ false = left ∙ n in
           let s = h.stays q r e n in
-          ap (λ (o : Option Place). if_live t (option_map (entry_at after) o)) s.1 ∙ ap (λ (x : Entry). if_live t (Some x)) s.2 ∙ rw no refl
+          ap (λ (o : Option Place). if_live t (option_map (entry_at after) o)) s.1
+          ∙ ap (λ (x : Entry). if_live t (Some x)) s.2 ∙ rw no refl
     ]
 
 -- where current items leave and the others stay, exactly their keys aren't shown any more
-pub left_entries : (p : PoolState) (index : Table) (after : PoolState) (found : Table) (t : ℕ) (ss : List Standing) → All (IsCurrent p index) ss
-    → HaveStayed p (current p index) after (current after found) ss → shown_entries after found t ≡ without (shown_entries p index t) (map key_in ss)
+pub left_entries : (p : PoolState) (index : Table) (after : PoolState) (found : Table) (t : ℕ) (ss : List Standing)
+    → All (IsCurrent p index) ss
+    → HaveStayed p (current p index) after (current after found) ss
+    → shown_entries after found t ≡ without (shown_entries p index t) (map key_in ss)
 left_entries p index after found t ss all stayed =
     shown_without p after (current p index) (current after found) t (map key_in ss)
-    (λ q. get-live_in after (current after found) t q ∙ shown_but p index after (current after found) t ss q (finite.get (current p index) q) all stayed refl
+    (λ q. get-live_in after (current after found) t q
+    ∙ shown_but p index after (current after found) t ss q (finite.get (current p index) q) all stayed refl
     ∙ ap (cond (contains_bytes (map key_in ss) q) None) (sym (get-live_in p (current p index) t q)))
 
 -- what is forgotten where current items of a crowded map leave, no more than four segments' worth
@@ -236,9 +264,11 @@ pub current_among : (p : PoolState) (index : Table) (marks : Marks) (ss : List S
 current_among p index marks [] tied all = All-nil (IsCurrent p index)
 current_among p index marks (s ∷ ss) tied all =
     let here = All-head (λ (x : Standing). item_in p x.place ≡ Some x.item) s ss all in
-    let rest = current_among p index marks ss tied (All-tail (λ (x : Standing). item_in p x.place ≡ Some x.item) s ss all) in
+    let rest = current_among p index marks ss tied
+    (All-tail (λ (x : Standing). item_in p x.place ≡ Some x.item) s ss all) in
     elim (cases_Bool (is_marked marks s.place)) [
-      | inl y ↦ rw y (All-cons (IsCurrent p index) s (filter (λ (x : Standing). is_marked marks x.place) ss) (here, tied.marked s.place s.item here y) rest)
+      | inl y ↦ rw y (All-cons (IsCurrent p index) s (filter (λ (x : Standing). is_marked marks x.place) ss)
+          (here, tied.marked s.place s.item here y) rest)
       | inr n ↦ rw n rest
     ]
 
@@ -259,7 +289,8 @@ left_marked marks (s ∷ ss) r h =
     ]
 
 -- a place in another segment is none of those of a segment's items
-none_left : (ss : List Standing) (n : ℕ) (r : Place) → All (λ (s : Standing). s.place.segment ≡ n) ss → (r.segment ≡ n → ⊥) → is_left ss r ≡ false
+none_left : (ss : List Standing) (n : ℕ) (r : Place) → All (λ (s : Standing). s.place.segment ≡ n) ss
+    → (r.segment ≡ n → ⊥) → is_left ss r ≡ false
 none_left [] n r all ne = refl
 none_left (s ∷ ss) n r all ne =
     let here = All-head (λ (x : Standing). x.place.segment ≡ n) s ss all in
@@ -270,13 +301,15 @@ none_left (s ∷ ss) n r all ne =
     ]
 
 -- those of some items that are marked take no more bytes than all of them
-marked_sizes : (marks : Marks) (ss : List Standing) → sum_by size_in (filter (λ (s : Standing). is_marked marks s.place) ss) ≤ sum_by size_in ss
+marked_sizes : (marks : Marks) (ss : List Standing)
+    → sum_by size_in (filter (λ (s : Standing). is_marked marks s.place) ss) ≤ sum_by size_in ss
 marked_sizes marks [] = omega arith
 marked_sizes marks (s ∷ ss) =
     let rest = marked_sizes marks ss in
     let whole = sum_by-cons size_in s ss in
     elim (cases_Bool (is_marked marks s.place)) [
-      | inl y ↦ (let part = sum_by-cons size_in s (filter (λ (x : Standing). is_marked marks x.place) ss) in rw y (omega (arith, rest, whole, part)))
+      | inl y ↦ (let part = sum_by-cons size_in s (filter (λ (x : Standing). is_marked marks x.place) ss) in
+          rw y (omega (arith, rest, whole, part)))
       | inr n ↦ rw n (omega (arith, rest, whole))
     ]
 
@@ -284,13 +317,15 @@ marked_sizes marks (s ∷ ss) =
 pub standing_sizes : (n from : ℕ) (items : List Item) → sum_by size_in (standing_from n from items) ≡ size_of_all items
 standing_sizes n from [] = refl
 standing_sizes n from (i ∷ items) =
-    let rest = standing_sizes n (from + item_size i) items in
-    let one = sum_by-cons size_in (record { place = record { segment = n; offset = from }; item = i }) (standing_from n (from + item_size i) items) in
-    let other = sum_by-cons item_size i items in
+    let rest = standing_sizes n (from + size_of_item i) items in
+    let one = sum_by-cons size_in (record { place = record { segment = n; offset = from }; item = i })
+    (standing_from n (from + size_of_item i) items) in
+    let other = sum_by-cons size_of_item i items in
     omega (arith, rest, one, other)
 
 -- the items under a segment's number, none where it is free, take no more bytes than a segment has
-size_by : (p : PoolState) (n : ℕ) (o : Option Used) → IsPool p → segment_at p n ≡ o → size_of_all (items_of o) ≤ p.sizes.segment_size
+size_by : (p : PoolState) (n : ℕ) (o : Option Used) → IsPool p → segment_at p n ≡ o
+    → size_of_all (items_of o) ≤ p.sizes.segment_size
 size_by p n None k e = omega arith
 size_by p n (Some u) k e = (k.used n u e).fits
 
@@ -304,7 +339,8 @@ segment_sizes p n k =
 -- ---- a segment is cleared whose keys have left
 
 -- where a segment is cleared, places in other segments show what they did
-cleared_entry : (p : PoolState) (n : ℕ) (r : Place) → IsSome (segment_at p n) → (r.segment ≡ n → ⊥) → entry_at (cleared p n) r ≡ entry_at p r
+cleared_entry : (p : PoolState) (n : ℕ) (r : Place) → IsSome (segment_at p n) → (r.segment ≡ n → ⊥)
+    → entry_at (cleared p n) r ≡ entry_at p r
 unfolding entry_at
 cleared_entry p n r some ne =
     let f = ne_eqb r.segment n ne in
@@ -314,13 +350,15 @@ cleared_entry p n r some ne =
     ∙ ap (λ (o : Option Item). option_map_or (kept_entry (place_deadline p r)) o gone) item
 
 -- where a segment is cleared, the items in other segments stay where they stood
-cleared_key : (p : PoolState) (n : ℕ) (r : Place) → IsSome (segment_at p n) → (r.segment ≡ n → ⊥) → item_in (cleared p n) r ≡ item_in p r
+cleared_key : (p : PoolState) (n : ℕ) (r : Place) → IsSome (segment_at p n) → (r.segment ≡ n → ⊥)
+    → item_in (cleared p n) r ≡ item_in p r
 cleared_key p n r some ne = let f = ne_eqb r.segment n ne in cleared_item p n r some ∙ rw f refl
 
 -- where a segment is cleared in which no key has its current place, all stays tied, and the current places stay
 pub tied_cleared : (p after : PoolState) (n : ℕ) (index : Table) (marks : Marks) → IsTied p index marks → IsPool after
     → after ≡ cleared p n → IsSome (segment_at p n)
-    → ((q : List ℕ) (r : Place) → finite.get (current p index) q ≡ Some r → r.segment ≡ n → ⊥) → IsTied after index marks
+    → ((q : List ℕ) (r : Place) → finite.get (current p index) q ≡ Some r → r.segment ≡ n → ⊥)
+    → IsTied after index marks
     × (current after index ≡ current p index)
 unfolding key_at
 tied_cleared p after n index marks tied pool is some elsewhere =
@@ -329,7 +367,8 @@ tied_cleared p after n index marks tied pool is some elsewhere =
     let same : (r : Place) → is_marked marks r ≡ true → item_in after r ≡ item_in p r =
     λ r h. ap (λ (a : PoolState). item_in a r) is ∙ by_item p n r some (item_in p r) refl (λ i e. apart r i h e) in
     tied_same p after index marks tied
-    (knows_after marks p after tied.known pool (ap (λ (a : PoolState). a.sizes) is) (λ r h s. subst IsSome (sym (same r h)) s))
+    (knows_after marks p after tied.known pool (ap (λ (a : PoolState). a.sizes) is)
+    (λ r h s. subst IsSome (sym (same r h)) s))
     (ap (λ (a : PoolState). a.sizes) is) (λ r h. ap (option_map (λ (i : Item). i.key)) (same r h))
   where
     by_item : (p : PoolState) (n : ℕ) (r : Place) → IsSome (segment_at p n) → (o : Option Item) → item_in p r ≡ o
@@ -342,7 +381,7 @@ tied_cleared p after n index marks tied pool is some elsewhere =
         nothing false o e = refl
 
 -- no place is left where each would be one too many
-still_none : (m : Places) (q : List ℕ) → ((r : Place) → finite.get m q ≡ Some r → ⊥) → finite.get m q ≡ None
+pub still_none : (m : Places) (q : List ℕ) → ((r : Place) → finite.get m q ≡ Some r → ⊥) → finite.get m q ≡ None
 still_none m q h = by (finite.get m q) refl
   where
     by : (o : Option Place) → finite.get m q ≡ o → finite.get m q ≡ None
@@ -353,11 +392,13 @@ still_none m q h = by (finite.get m q) refl
 pub cleared_stayed : (p after : PoolState) (n : ℕ) (index found : Table) (marks others : Marks) → IsTied p index marks
     → IsTied p found others → IsPool after → after ≡ cleared p n
     → IsSome (segment_at p n) → HasLeft n (current p index) (current p found)
-    → HaveStayed p (current p index) after (current after found) (filter (λ (s : Standing). is_marked marks s.place) (standing p n))
+    → HaveStayed p (current p index) after (current after found)
+    (filter (λ (s : Standing). is_marked marks s.place) (standing p n))
 cleared_stayed p after n index found marks others tied left pool is some h =
     let same = (tied_cleared p after n found others left pool is some (λ q r e s. h.elsewhere q r e s)).1 in
     record {
-      none = λ q none. ap (λ (m : Places). finite.get m q) same ∙ still_none (current p found) q (λ r e. none-some r (sym none ∙ h.before q r e));
+      none = λ q none. ap (λ (m : Places). finite.get m q) same
+          ∙ still_none (current p found) q (λ r e. none-some r (sym none ∙ h.before q r e));
       gone = λ q r e yes. ap (λ (m : Places). finite.get m q) same ∙ still_none (current p found) q
           (λ s f. let one : Some r ≡ Some s = sym e ∙ h.before q s f in let rs : r ≡ s = cc in
           let ne : r.segment ≡ n → ⊥ = λ z. h.elsewhere q s f (ap (λ (x : Place). x.segment) (sym rs) ∙ z) in
@@ -366,14 +407,19 @@ cleared_stayed p after n index found marks others tied left pool is some h =
       stays = λ q r e no.
           (let ne : r.segment ≡ n → ⊥ = λ z.
           let x = current_item p index q r e in
-          let yes : is_left (standing p n) r ≡ true = ap (λ m. is_left (standing p m) r) (sym z) ∙ standing_left p r x.0 x.1 in
-          false≢true (sym no ∙ left_marked marks (standing p n) r (tied.held q r e) ∙ yes) in
-          (r, ap (λ (m : Places). finite.get m q) same ∙ h.others q r e ne, ap (λ (a : PoolState). entry_at a r) is ∙ cleared_entry p n r some ne));
+          let yes : is_left (standing p n) r ≡ true =
+          ap (λ m. is_left (standing p m) r) (sym z) ∙ standing_left p r x.0 x.1 in
+          false≢true (sym no ∙ left_marked marks (standing p n) r (tied.held q r e) ∙ yes) in (
+            r,
+            ap (λ (m : Places). finite.get m q) same ∙ h.others q r e ne,
+            ap (λ (a : PoolState). entry_at a r) is ∙ cleared_entry p n r some ne,
+          ));
     }
 
 -- where all current items are live, and no fewer than the segments, clearing a segment whose keys have left makes room,
 -- and forgets no more than may be forgotten for it
-pub cleared_made : (p after : PoolState) (n : ℕ) (index found : Table) (marks others : Marks) (t : ℕ) → IsTied p index marks
+pub cleared_made : (p after : PoolState) (n : ℕ) (index found : Table) (marks others : Marks) (t : ℕ)
+    → IsTied p index marks
     → IsTied p found others → IsPool after → after ≡ cleared p n → IsSome (segment_at p n)
     → HasLeft n (current p index) (current p found) → IsCrowded p index t → IsRoomMade p index t after found
 cleared_made p after n index found marks others t tied left pool is some h crowded =
@@ -383,8 +429,11 @@ cleared_made p after n index found marks others t tied left pool is some h crowd
       sizes = ap (λ (a : PoolState). a.sizes) is;
       past = subst (λ (a : PoolState). IsPast a t) (sym is) (past_cleared p t n crowded.past some);
       free = subst HasFree (sym is) (cleared_free p n tied.known.pool some);
-      absent = λ q none. ap (λ (m : Places). finite.get m q) same ∙ still_none (current p found) q (λ r e. none-some r (sym none ∙ h.before q r e));
-      kept = evicted_kept p index after found t ss crowded (current_among p index marks (standing p n) tied (λ k d lt. (standing_all p n k d lt).1))
+      absent = λ q none. ap (λ (m : Places). finite.get m q) same
+          ∙ still_none (current p found) q (λ r e. none-some r (sym none ∙ h.before q r e));
+      kept = evicted_kept p index after found t ss crowded
+          (current_among p index marks (standing p n) tied (λ k d lt. (standing_all p n k d lt).1))
           (cleared_stayed p after n index found marks others tied left pool is some h)
-          (let a = marked_sizes marks (standing p n) in let b = segment_sizes p n tied.known.pool in omega (arith, a, b));
+          (let a = marked_sizes marks (standing p n) in let b = segment_sizes p n tied.known.pool in
+          omega (arith, a, b));
     }

@@ -40,7 +40,8 @@ pub record EvictsKeys (lives : Liveness) (p after : PoolState) (keys : List (Lis
 -- ---- whatever the plan is
 
 -- what a merge of one or more segments makes of a pool doesn't depend on the pool's plan
-pub merged_replanned : (p : PoolState) (o : Option Plan) (b : ℕ) (numbers : List ℕ) (items : List Item) → 1 ≤ length numbers
+pub merged_replanned : (p : PoolState) (o : Option Plan) (b : ℕ) (numbers : List ℕ) (items : List Item)
+    → 1 ≤ length numbers
     → merged_into (with_plan p o) b numbers items ≡ merged_into p b numbers items
 merged_replanned p o b [] items some = absurd (omega (arith, some))
 merged_replanned p o b (n ∷ numbers) items some = refl
@@ -54,7 +55,8 @@ pub keys_replanned : (lives : Liveness) (p : PoolState) (o : Option Plan) (after
     → EvictsKeys lives (with_plan p o) after keys → EvictsKeys lives p after keys
 keys_replanned lives p o after keys h = by h.evicted h.keys_are
   where
-    by : (e : Evicts lives (with_plan p o) after) → keys ≡ keys_evicted lives (with_plan p o) after e → EvictsKeys lives p after keys
+    by : (e : Evicts lives (with_plan p o) after) → keys ≡ keys_evicted lives (with_plan p o) after e
+        → EvictsKeys lives p after keys
     by (inl m) are =
         let long = leb-true 2 (length (front p m.bucket)) m.next.qualifying in
         let four = length-take 4 (front p m.bucket) in
@@ -64,14 +66,20 @@ keys_replanned lives p o after keys h = by h.evicted h.keys_are
             next = record { in_range = m.next.in_range; qualifying = m.next.qualifying; first = m.next.first };
             judged = m.judged;
             is_judged = record { all_live = m.is_judged.all_live; each = m.is_judged.each };
-            after_is = m.after_is ∙ merged_replanned p o m.bucket (merged_segments p m.bucket) _ (omega (arith, long, four));
+            after_is = m.after_is ∙ merged_replanned p o m.bucket (merged_segments p m.bucket) _
+                (omega (arith, long, four));
           });
           keys_are = are;
         }
     by (inr c) are =
         record {
           evicted = inr
-              (record { none_qualifies = c.none_qualifies; segment = c.segment; is_oldest = c.is_oldest; after_is = c.after_is });
+              (record {
+                none_qualifies = c.none_qualifies;
+                segment = c.segment;
+                is_oldest = c.is_oldest;
+                after_is = c.after_is;
+              });
           keys_are = are;
         }
 
@@ -89,27 +97,40 @@ keys_agree one other p after keys a h = by h.evicted h.keys_are
             bucket = m.bucket;
             next = m.next;
             judged = m.judged;
-            is_judged = record { all_live = m.is_judged.all_live ∙ same_live_items p one other _ a; each = m.is_judged.each };
+            is_judged = record {
+              all_live = m.is_judged.all_live ∙ same_live_items p one other _ a;
+              each = m.is_judged.each;
+            };
             after_is = m.after_is;
           });
           keys_are = are;
         }
-    by (inr c) are = record { evicted = inr c; keys_are = are ∙ ap (map (λ s. s.item.key)) (same_live_standing p one other c.segment a) }
+    by (inr c) are = record {
+      evicted = inr c;
+      keys_are = are ∙ ap (map (λ s. s.item.key)) (same_live_standing p one other c.segment a);
+    }
 
 -- Room was made, with these keys.
-pub record MakesKeys (lives : Liveness) (p : PoolState) (bucket t : ℕ) (i : Item) (after : PoolState) (keys : List (List ℕ)) : Type 0 where
+pub record MakesKeys (lives : Liveness) (p : PoolState) (bucket t : ℕ) (i : Item) (after : PoolState)
+    (keys : List (List ℕ)) : Type 0 where
   pub room : MakesRoom lives p bucket t i after
   pub keys_are : keys ≡ keys_forgotten lives p bucket t i after room
 
 -- tests that say the same of each item make the same room
-pub makes_agree : (one other : Liveness) (p : PoolState) (bucket t : ℕ) (i : Item) (after : PoolState) → AgreeIn p one other
+pub makes_agree : (one other : Liveness) (p : PoolState) (bucket t : ℕ) (i : Item) (after : PoolState)
+    → AgreeIn p one other
     → (m : MakesRoom one p bucket t i after)
     → MakesKeys other p bucket t i after (keys_forgotten one p bucket t i after m)
 makes_agree one other p bucket t i _ a (has_room room) = record { room = has_room room; keys_are = refl }
 makes_agree one other p bucket t i _ a (gives_back after full dead given) =
-    record { room = gives_back after full (subst (λ n. 0 < n) (same_dead p one other a) dead) (same_given p after one other a given); keys_are = refl }
+    record {
+      room = gives_back after full (subst (λ n. 0 < n) (same_dead p one other a) dead)
+          (same_given p after one other a given);
+      keys_are = refl;
+    }
 makes_agree one other p bucket t i _ a (evicts after full none evicted) =
-    let k = keys_agree one other p after (keys_evicted one p after evicted) a (record { evicted = evicted; keys_are = refl }) in
+    let k = keys_agree one other p after (keys_evicted one p after evicted) a
+    (record { evicted = evicted; keys_are = refl }) in
     record { room = evicts after full (sym (same_dead p one other a) ∙ none) k.evicted; keys_are = k.keys_are }
 
 -- ---- where nothing is given back
@@ -135,11 +156,13 @@ same_segment false None h = refl
 same_segment false (Some u) h = absurd (false≢true (h refl))
 
 -- a pool of which nothing was given back has another plan, and is else as it was
-pub none_given : (lives : Liveness) (p after : PoolState) → IsPool p → IsGivenBack lives p after → dead_segments lives p ≡ 0 → after ≡ with_plan p None
+pub none_given : (lives : Liveness) (p after : PoolState) → IsPool p → IsGivenBack lives p after
+    → dead_segments lives p ≡ 0 → after ≡ with_plan p None
 none_given lives p after pool g none =
     let segments : after.segments ≡ p.segments =
     ext_get_or None after.segments p.segments g.count
-    (λ n lt. g.segments n ∙ same_segment (has_live lives p n) (segment_at p n) (λ some. all_alive lives p n pool none some)) in
+    (λ n lt. g.segments n ∙ same_segment (has_live lives p n) (segment_at p n)
+    (λ some. all_alive lives p n pool none some)) in
     let order : after.order ≡ p.order = g.order ∙ all_kept (has_live lives p) p.order none in
     λ i. record { sizes = g.sizes i; segments = segments i; order = order i; cursor = g.cursor i; plan = g.plan i }
 
@@ -168,18 +191,21 @@ not_false true h = sym h
 not_false false h = refl
 
 -- once the expired items have left, the marked ones are those that are live at the moment
-pub expired_agree : (p : PoolState) (index found : Table) (marks others : Marks) (t : ℕ) → IsTied p index marks → IsTied p found others
+pub expired_agree : (p : PoolState) (index found : Table) (marks others : Marks) (t : ℕ) → IsTied p index marks
+    → IsTied p found others
     → HaveExpiredLeft p t (current p index) (current p found) → AgreeIn p (lives_by others) (live_marks marks t)
 expired_agree p index found marks others t tied left h =
     record {
       each = λ place i e. elim (cases_Bool (is_marked others place)) [
         | inl y ↦
             let now = left.marked place i e y in
-            y ∙ sym (both_true (is_marked marks place) (not (has_arrived (place_deadline p place) t)) (tied.held i.key place (h.before i.key place now))
+            y ∙ sym (both_true (is_marked marks place) (not (has_arrived (place_deadline p place) t))
+            (tied.held i.key place (h.before i.key place now))
             (not_false _ (h.waiting i.key place now)))
         | inr n ↦
             n ∙ sym (both_false (is_marked marks place) (not (has_arrived (place_deadline p place) t))
-            (λ was waits. false≢true (sym n ∙ left.held i.key place (h.others i.key place (tied.marked place i e was) (not_true _ waits)))))
+            (λ was waits. false≢true (sym n
+            ∙ left.held i.key place (h.others i.key place (tied.marked place i e was) (not_true _ waits)))))
       ];
     }
 
@@ -192,7 +218,8 @@ without_key p index found marks others key place i tied left is e =
     elim (cases_Bool (is_marked others place)) [
       | inl y ↦
           let now = left.marked place i e y in
-          let was = removed_at (current p index) key i.key place (ap (λ (m : Places). finite.get m i.key) (sym is) ∙ now) in
+          let was = removed_at (current p index) key i.key place
+          (ap (λ (m : Places). finite.get m i.key) (sym is) ∙ now) in
           y ∙ sym (both_true (is_marked marks place) (not (bytes_eq i.key key)) (tied.held i.key place was.1)
           (not_false _ (other (bytes_eq i.key key) refl was.0)))
       | inr n ↦
@@ -200,7 +227,8 @@ without_key p index found marks others key place i tied left is e =
           (λ was apart. false≢true (sym n ∙ left.held i.key place
           (ap (λ (m : Places). finite.get m i.key) is
           ∙ removed_other (current p index) key i.key place
-          (λ same. false≢true (sym (not_true _ apart) ∙ (bytes_eq-Decides i.key key).1 same)) (tied.marked place i e was)))))
+          (λ same. false≢true (sym (not_true _ apart) ∙ (bytes_eq-Decides i.key key).1 same))
+          (tied.marked place i e was)))))
     ]
   where
     other : (b : Bool) → bytes_eq i.key key ≡ b → (i.key ≡ key → ⊥) → b ≡ false
@@ -216,26 +244,32 @@ swapped true false false = refl
 swapped false b c = refl
 
 -- so these are live at a moment
-pub others_agree : (p : PoolState) (index found : Table) (marks others : Marks) (key : List ℕ) (t : ℕ) → IsTied p index marks → IsTied p found others
+pub others_agree : (p : PoolState) (index found : Table) (marks others : Marks) (key : List ℕ) (t : ℕ)
+    → IsTied p index marks → IsTied p found others
     → current p found ≡ finite.remove (current p index) key → AgreeIn p (live_marks others t) (live_others key marks t)
 others_agree p index found marks others key t tied left is =
     record {
-      each = λ place i e. ap (λ b. b && not (has_arrived (place_deadline p place) t)) (without_key p index found marks others key place i tied left is e)
+      each = λ place i e. ap (λ b. b && not (has_arrived (place_deadline p place) t))
+          (without_key p index found marks others key place i tied left is e)
           ∙ swapped (is_marked marks place) (not (bytes_eq i.key key)) (not (has_arrived (place_deadline p place) t));
     }
 
 -- ---- room that was made
 
 -- what was evicted of a pool with another plan
-pub evicted_replanned : (p mid : PoolState) (o : Option Plan) (index : Table) (marks : Marks) (after : PoolState) (found : Table) → IsTied p index marks
-    → IsPool mid → mid ≡ with_plan p o → IsEvicted (lives_by marks) mid index after found → IsEvicted (lives_by marks) p index after found
+pub evicted_replanned : (p mid : PoolState) (o : Option Plan) (index : Table) (marks : Marks) (after : PoolState)
+    (found : Table) → IsTied p index marks
+    → IsPool mid → mid ≡ with_plan p o → IsEvicted (lives_by marks) mid index after found
+    → IsEvicted (lives_by marks) p index after found
 evicted_replanned p mid o index marks after found tied pool is e =
     let keys = keys_evicted (lives_by marks) mid after e.evicted in
     let k = keys_replanned (lives_by marks) p o after keys
-    (subst (λ (q : PoolState). EvictsKeys (lives_by marks) q after keys) is (record { evicted = e.evicted; keys_are = refl })) in
+    (subst (λ (q : PoolState). EvictsKeys (lives_by marks) q after keys) is
+    (record { evicted = e.evicted; keys_are = refl })) in
     record {
       evicted = k.evicted;
-      entries = λ t. e.entries t ∙ ap (λ (es : Entries). without es keys) (shown_replanned p mid o index marks t tied pool is)
+      entries = λ t. e.entries t ∙ ap (λ (es : Entries). without es keys)
+          (shown_replanned p mid o index marks t tied pool is)
           ∙ ap (without (shown_entries p index t)) k.keys_are;
     }
 
@@ -246,23 +280,28 @@ pub room_given : (p : PoolState) (index : Table) (one other : Liveness) (bucket 
     → HasMadeRoom other p index bucket t i after found
 room_given p index one other bucket t i after found marks a full dead given s =
     record {
-      room = gives_back after full (subst (λ n. 0 < n) (same_dead p one other a) dead) (same_given p after one other a given);
+      room = gives_back after full (subst (λ n. 0 < n) (same_dead p one other a) dead)
+          (same_given p after one other a given);
       entries = s.entries ∙ sym (without-nil (shown_entries p index t));
     }
 
 -- or, where there was none, something was evicted
-pub room_evicted : (p : PoolState) (index : Table) (one other : Liveness) (bucket t : ℕ) (i : Item) (mid : PoolState) (between : Table) (marks : Marks)
+pub room_evicted : (p : PoolState) (index : Table) (one other : Liveness) (bucket t : ℕ) (i : Item) (mid : PoolState)
+    (between : Table) (marks : Marks)
     (after : PoolState) (found : Table) → IsPool p → AgreeIn p one other
-    → HasNoRoom p bucket t i → dead_segments one p ≡ 0 → IsGivenBack one p mid → IsSwept p index t mid between marks → IsEvicted one mid between after found
+    → HasNoRoom p bucket t i → dead_segments one p ≡ 0 → IsGivenBack one p mid → IsSwept p index t mid between marks
+    → IsEvicted one mid between after found
     → HasMadeRoom other p index bucket t i after found
 room_evicted p index one other bucket t i mid between marks after found pool a full none given s e =
     let keys = keys_evicted one mid after e.evicted in
     let is = none_given one p mid pool given none in
     let k = keys_agree one other p after keys a
-    (keys_replanned one p None after keys (subst (λ (q : PoolState). EvictsKeys one q after keys) is (record { evicted = e.evicted; keys_are = refl }))) in
+    (keys_replanned one p None after keys
+    (subst (λ (q : PoolState). EvictsKeys one q after keys) is (record { evicted = e.evicted; keys_are = refl }))) in
     record {
       room = evicts after full (sym (same_dead p one other a) ∙ none) k.evicted;
-      entries = e.entries t ∙ ap (λ (es : Entries). without es keys) s.entries ∙ ap (without (shown_entries p index t)) k.keys_are;
+      entries = e.entries t ∙ ap (λ (es : Entries). without es keys) s.entries
+          ∙ ap (without (shown_entries p index t)) k.keys_are;
     }
 
 -- where an item was appended, there was room for it
@@ -270,12 +309,15 @@ pub room_was : (p : PoolState) (bucket t : ℕ) (i : Item) (after : PoolState) (
     → IsAddedToTail p bucket t i after place ⊎ IsAddedToFree p bucket t i after place
     → HasNoRoom p bucket t i → ⊥
 room_was p bucket t i after place (inl a) h = none-some place.segment (sym h.no_tail ∙ a.tail)
-room_was p bucket t i after place (inr a) h = false≢true (sym (ap is_some a.free) ∙ h.none_free place.segment a.in_range)
+room_was p bucket t i after place (inr a) h =
+    false≢true (sym (ap is_some a.free) ∙ h.none_free place.segment a.in_range)
 
 -- and none was made
-pub room_there : (lives : Liveness) (p : PoolState) (index : Table) (bucket t : ℕ) (i : Item) → (HasNoRoom p bucket t i → ⊥)
+pub room_there : (lives : Liveness) (p : PoolState) (index : Table) (bucket t : ℕ) (i : Item)
+    → (HasNoRoom p bucket t i → ⊥)
     → HasMadeRoom lives p index bucket t i p index
-room_there lives p index bucket t i there = record { room = has_room there; entries = sym (without-nil (shown_entries p index t)) }
+room_there lives p index bucket t i there =
+    record { room = has_room there; entries = sym (without-nil (shown_entries p index t)) }
 
 -- ---- a key that is written
 
@@ -293,10 +335,12 @@ put_over e keys key w =
     ])
 
 -- an item was placed once the one of its key had left
-pub placed_over : (p : PoolState) (index between : Table) (marks others : Marks) (bucket t : ℕ) (i : Item) (after : PoolState)
+pub placed_over : (p : PoolState) (index between : Table) (marks others : Marks) (bucket t : ℕ) (i : Item)
+    (after : PoolState)
     (found : Table) → IsTied p index marks
     → IsTied p between others → current p between ≡ finite.remove (current p index) i.key
-    → PlacesItem (live_marks others t) p between bucket t i after found → PlacesItem (live_others i.key marks t) p index bucket t i after found
+    → PlacesItem (live_marks others t) p between bucket t i after found
+    → PlacesItem (live_others i.key marks t) p index bucket t i after found
 placed_over p index between marks others bucket t i after found tied left is h =
     let one = live_marks others t in
     let keys = keys_forgotten one p bucket t i h.written.roomy h.written.room in
@@ -310,5 +354,6 @@ placed_over p index between marks others bucket t i after found tied left is h =
       written = record { roomy = h.written.roomy; room = k.room; added = h.written.added };
       entries = h.entries ∙ ap (λ (e : Entries). finite.insert (without e keys) i.key (entry_at after h.place)) shows
           ∙ put_over (shown_entries p index t) keys i.key (entry_at after h.place)
-          ∙ ap (λ (ks : List (List ℕ)). finite.insert (without (shown_entries p index t) ks) i.key (entry_at after h.place)) k.keys_are;
+          ∙ ap (λ (ks : List (List ℕ)). finite.insert (without (shown_entries p index t) ks) i.key
+          (entry_at after h.place)) k.keys_are;
     }

@@ -44,13 +44,15 @@ no_dead f (x ∷ xs) n e h =
     ]
 
 -- where none is dead, each segment of a chain has a live item
-pub all_alive : (lives : Liveness) (p : PoolState) (n : ℕ) → IsPool p → dead_segments lives p ≡ 0 → IsSome (segment_at p n) → has_live lives p n ≡ true
+pub all_alive : (lives : Liveness) (p : PoolState) (n : ℕ) → IsPool p → dead_segments lives p ≡ 0
+    → IsSome (segment_at p n) → has_live lives p n ≡ true
 all_alive lives p n pool none some =
     let named : times n p.order ≡ 1 = pool.named n ∙ rw some refl in
     no_dead (has_live lives p) p.order n none (omega (arith, named))
 
 -- and none was given back
-pub full_given : (lives : Liveness) (p after : PoolState) → IsPool p → IsPoolFull p → IsGivenBack lives p after → dead_segments lives p ≡ 0 → IsPoolFull after
+pub full_given : (lives : Liveness) (p after : PoolState) → IsPool p → IsPoolFull p → IsGivenBack lives p after
+    → dead_segments lives p ≡ 0 → IsPoolFull after
 full_given lives p after pool full g none n lt =
     let within : n < p.sizes.segments = subst (λ s. n < s.segments) g.sizes lt in
     let alive = all_alive lives p n pool none (full n within) in

@@ -38,29 +38,43 @@ members =
     }
 
 -- a reply without hits leaves the pool, and one with hits counts their reads
-shown_by : (found : MapState) (done : Outcome) (after : MapState) (r : Reply) → IsSegmentedMap found → done.stored ≡ None → done.reply ≡ r
+shown_by : (found : MapState) (done : Outcome) (after : MapState) (r : Reply) → IsSegmentedMap found
+    → done.stored ≡ None → done.reply ≡ r
     → CountsShown IsReadAgain HasSamePool found r after → LeavesSegments found done after done.reply
 shown_by found done after (Values hits) kept none e counts = reads hits none e counts
-shown_by found done after Stored kept none e alike = stays none (ap has_hits e) (alike found (record { pool = refl; kept = kept })).pool
-shown_by found done after NotStored kept none e alike = stays none (ap has_hits e) (alike found (record { pool = refl; kept = kept })).pool
-shown_by found done after Exists kept none e alike = stays none (ap has_hits e) (alike found (record { pool = refl; kept = kept })).pool
-shown_by found done after NotFound kept none e alike = stays none (ap has_hits e) (alike found (record { pool = refl; kept = kept })).pool
-shown_by found done after Deleted kept none e alike = stays none (ap has_hits e) (alike found (record { pool = refl; kept = kept })).pool
-shown_by found done after (Number n) kept none e alike = stays none (ap has_hits e) (alike found (record { pool = refl; kept = kept })).pool
-shown_by found done after Flushed kept none e alike = stays none (ap has_hits e) (alike found (record { pool = refl; kept = kept })).pool
-shown_by found done after TooLarge kept none e alike = stays none (ap has_hits e) (alike found (record { pool = refl; kept = kept })).pool
-shown_by found done after NoMemory kept none e alike = stays none (ap has_hits e) (alike found (record { pool = refl; kept = kept })).pool
-shown_by found done after NotNumber kept none e alike = stays none (ap has_hits e) (alike found (record { pool = refl; kept = kept })).pool
-shown_by found done after NoCas kept none e alike = stays none (ap has_hits e) (alike found (record { pool = refl; kept = kept })).pool
+shown_by found done after Stored kept none e alike =
+    stays none (ap has_hits e) (alike found (record { pool = refl; kept = kept })).pool
+shown_by found done after NotStored kept none e alike =
+    stays none (ap has_hits e) (alike found (record { pool = refl; kept = kept })).pool
+shown_by found done after Exists kept none e alike =
+    stays none (ap has_hits e) (alike found (record { pool = refl; kept = kept })).pool
+shown_by found done after NotFound kept none e alike =
+    stays none (ap has_hits e) (alike found (record { pool = refl; kept = kept })).pool
+shown_by found done after Deleted kept none e alike =
+    stays none (ap has_hits e) (alike found (record { pool = refl; kept = kept })).pool
+shown_by found done after (Number n) kept none e alike =
+    stays none (ap has_hits e) (alike found (record { pool = refl; kept = kept })).pool
+shown_by found done after Flushed kept none e alike =
+    stays none (ap has_hits e) (alike found (record { pool = refl; kept = kept })).pool
+shown_by found done after TooLarge kept none e alike =
+    stays none (ap has_hits e) (alike found (record { pool = refl; kept = kept })).pool
+shown_by found done after NoMemory kept none e alike =
+    stays none (ap has_hits e) (alike found (record { pool = refl; kept = kept })).pool
+shown_by found done after NotNumber kept none e alike =
+    stays none (ap has_hits e) (alike found (record { pool = refl; kept = kept })).pool
+shown_by found done after NoCas kept none e alike =
+    stays none (ap has_hits e) (alike found (record { pool = refl; kept = kept })).pool
 
 -- what was asked for is written, or nothing is
-changed_by : (found : MapState) (done : Outcome) (after : MapState) (stored : Option (List ℕ)) → IsSegmentedMap found → done.stored ≡ stored
+changed_by : (found : MapState) (done : Outcome) (after : MapState) (stored : Option (List ℕ)) → IsSegmentedMap found
+    → done.stored ≡ stored
     → Changes members found done stored after → LeavesSegments found done after done.reply
 changed_by found done after None kept e is = shown_by found done after done.reply kept e refl is.shown
 changed_by found done after (Some key) kept e s = writes key s.entry e s.asked_is s.exactly
 
 -- what an engine over segments handles
-pub handles_segments : (before : Engine SegmentMap) (t : ℕ) (q : Request) (reply : Reply) (after : Engine SegmentMap) → IsHandled members before t q reply after
+pub handles_segments : (before : Engine SegmentMap) (t : ℕ) (q : Request) (reply : Reply) (after : Engine SegmentMap)
+    → IsHandled members before t q reply after
     → HandlesSegments before t q reply after
 handles_segments before t q reply after h =
     let found = h.found.map in
@@ -72,10 +86,13 @@ handles_segments before t q reply after h =
         pool = h.alike.pool;
         kept = kept;
         moment = h.moment_is;
-        entries = ap (shown_entries found.pool found.index) (sym h.moment_is) ∙ ap (λ (c : Cache). c.entries) h.found_is;
+        entries = ap (shown_entries found.pool found.index) (sym h.moment_is)
+            ∙ ap (λ (c : Cache). c.entries) h.found_is;
       };
       leaves = elim h.leaves.gives [
-        | inl d ↦ subst (LeavesSegments found done after.map) (sym d.reply_is) (changed_by found done after.map done.stored kept refl d.changes)
-        | inr d ↦ subst (LeavesSegments found done after.map) (sym d.reply_is) (refuses (d.alike found (record { pool = refl; kept = kept })).pool)
+        | inl d ↦ subst (LeavesSegments found done after.map) (sym d.reply_is)
+            (changed_by found done after.map done.stored kept refl d.changes)
+        | inr d ↦ subst (LeavesSegments found done after.map) (sym d.reply_is)
+            (refuses (d.alike found (record { pool = refl; kept = kept })).pool)
       ];
     }

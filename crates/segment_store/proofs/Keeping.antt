@@ -12,11 +12,12 @@ use Rattle.proto.specs.Steps.{without}
 use Rattle.proto.specs.Stored.{StoredItem, written, spread}
 use Rattle.proto.proofs.CacheLemmas.{without-nil}
 use Rattle.segments.specs.declared.place.Place.{Place}
-use Rattle.segments.specs.Items.{Item, item_size, IsStorable}
+use Rattle.segments.specs.Items.{Item, size_of_item, IsStorable}
 use Rattle.segments.specs.Pools.{PoolState, IsPool, Used, Liveness, segment_at, lasting}
 use Rattle.segments.specs.Changes.{HasNoRoom, IsAddedToTail, IsAddedToFree}
 use Rattle.segments.specs.Filling.{IsFilled, HoldsLittle, held_size, Group, group_for, group_of, same_group, groups_among, groups_with}
-use Rattle.segments.proofs.FilledLemmas.{has_space, keeps_append, AreUsed, order_used}
+use Rattle.segments.proofs.FilledLemmas.{keeps_append}
+use Rattle.segments.proofs.GroupLemmas.{AreUsed, has_space, order_used}
 use Rattle.index.specs.Table.{Table}
 use Rattle.segment_store.specs.Shown.{shown_entries, entry_at}
 use Rattle.segment_store.specs.Kept.{IsPast}
@@ -28,12 +29,14 @@ use Rattle.segment_store.proofs.Opening.{in_time_past}
 use Rattle.segment_store.proofs.Putting.{in_segment}
 
 -- where there is room, none is made, and nothing is forgotten for it
-record IsUnmade (lives : Liveness) (p : PoolState) (bucket t : ℕ) (i : Item) (after : PoolState) (room : MakesRoom lives p bucket t i after) : Type 0 where
+record IsUnmade (lives : Liveness) (p : PoolState) (bucket t : ℕ) (i : Item) (after : PoolState)
+    (room : MakesRoom lives p bucket t i after) : Type 0 where
   same : after ≡ p
   nothing : keys_forgotten lives p bucket t i after room ≡ []
 
 -- where an item has room, to make room for it leaves the pool as it was and forgets no key
-room_there : (lives : Liveness) (p : PoolState) (bucket t : ℕ) (i : Item) (after : PoolState) (room : MakesRoom lives p bucket t i after)
+room_there : (lives : Liveness) (p : PoolState) (bucket t : ℕ) (i : Item) (after : PoolState)
+    (room : MakesRoom lives p bucket t i after)
     → (HasNoRoom p bucket t i → ⊥)
     → IsUnmade lives p bucket t i after room
 room_there lives p bucket t i after (has_room there) fits = record { same = refl; nothing = refl }
@@ -42,26 +45,33 @@ room_there lives p bucket t i _ (evicts after full none evicted) fits = absurd (
 
 -- What an item leaves at its place that was written where little was held: nothing was given back, evicted or forgotten for
 -- it, segments stay filled, and what is held grows by the item.
-pub record IsKeptWith (p : PoolState) (index : Table) (bucket t : ℕ) (i : Item) (after : PoolState) (found : Table) (place : Place) : Type 0 where
+pub record IsKeptWith (p : PoolState) (index : Table) (bucket t : ℕ) (i : Item) (after : PoolState) (found : Table)
+    (place : Place) : Type 0 where
   pub added : IsAddedToTail p bucket t i after place ⊎ IsAddedToFree p bucket t i after place
   pub entries : shown_entries after found t ≡ finite.insert (shown_entries p index t) i.key (entry_at after place)
   pub filled : IsFilled after
-  pub held : held_size after ≡ held_size p + item_size i
+  pub held : held_size after ≡ held_size p + size_of_item i
 
 -- so it is with an item that was placed where little was held
-pub kept_with : (lives : Liveness) (p : PoolState) (index : Table) (bucket t : ℕ) (i : Item) (after : PoolState) (found : Table)
+pub kept_with : (lives : Liveness) (p : PoolState) (index : Table) (bucket t : ℕ) (i : Item) (after : PoolState)
+    (found : Table)
     → IsPool p → IsPast p t → IsStorable (item_limit p.sizes) i → IsFilled p → HoldsLittle p bucket t
     → (x : PlacesItem lives p index bucket t i after found) → IsKeptWith p index bucket t i after found x.place
 kept_with lives p index bucket t i after found pool past storable filled little x =
     let time = in_time_past p t pool past in
-    let there = room_there lives p bucket t i x.written.roomy x.written.room (has_space p bucket t i pool time filled little storable) in
+    let there = room_there lives p bucket t i x.written.roomy x.written.room
+    (has_space p bucket t i pool time filled little storable) in
     let added : IsAddedToTail p bucket t i after x.place ⊎ IsAddedToFree p bucket t i after x.place =
-    subst (λ (q : PoolState). IsAddedToTail q bucket t i after x.place ⊎ IsAddedToFree q bucket t i after x.place) there.same x.written.added in
-    let kept = keeps_append p bucket t i after x.place pool storable (record { filled = filled; in_time = time }) added in
+    subst (λ (q : PoolState). IsAddedToTail q bucket t i after x.place ⊎ IsAddedToFree q bucket t i after x.place)
+    there.same x.written.added in
+    let kept = keeps_append p bucket t i after x.place pool storable
+    (record { filled = filled; in_time = time }) added in
     record {
       added = added;
-      entries = x.entries ∙ ap (λ (keys : List (List ℕ)). finite.insert (without (shown_entries p index t) keys) i.key (entry_at after x.place)) there.nothing
-          ∙ ap (λ (e : Entries). finite.insert e i.key (entry_at after x.place)) (without-nil (shown_entries p index t));
+      entries = x.entries ∙ ap (λ (keys : List (List ℕ)). finite.insert (without (shown_entries p index t) keys) i.key
+          (entry_at after x.place)) there.nothing
+          ∙ ap (λ (e : Entries). finite.insert e i.key (entry_at after x.place))
+          (without-nil (shown_entries p index t));
       filled = kept.0.filled;
       held = kept.1;
     }
@@ -77,15 +87,18 @@ groups_of_one : (g : Group) (groups : List Group) → AreOf g groups → groups_
 groups_of_one g [] all = refl
 groups_of_one g (h ∷ groups) all =
     let same : same_group g h ≡ true = ap (same_group g) all.0 ∙ same_itself g in
-    let any : list_any (same_group g) (h ∷ groups) ≡ true = ap (λ (b : Bool). b || list_any (same_group g) groups) same in
-    let rest : groups_among (h ∷ groups) ≡ 1 = ap (λ (x : Group). groups_among (x ∷ groups)) all.0 ∙ groups_of_one g groups all.1 in
+    let any : list_any (same_group g) (h ∷ groups) ≡ true =
+    ap (λ (b : Bool). b || list_any (same_group g) groups) same in
+    let rest : groups_among (h ∷ groups) ≡ 1 =
+    ap (λ (x : Group). groups_among (x ∷ groups)) all.0 ∙ groups_of_one g groups all.1 in
     ap (λ (b : Bool). (if b then 0 else 1) + groups_among (h ∷ groups)) any ∙ zero_more (groups_among (h ∷ groups)) rest
   where
     zero_more : (n : ℕ) → n ≡ 1 → 0 + n ≡ 1
     zero_more n e = omega arith
 
     same_itself : (g : Group) → same_group g g ≡ true
-    same_itself g = and_from (g.bucket == g.bucket) (g.opened == g.opened) (eq-eqb g.bucket g.bucket refl) (eq-eqb g.opened g.opened refl)
+    same_itself g = and_from (g.bucket == g.bucket) (g.opened == g.opened) (eq-eqb g.bucket g.bucket refl)
+        (eq-eqb g.opened g.opened refl)
 
 -- where each segment is of the bucket of what has no deadline, segments of chains are all of that bucket's one group
 groups_last : (p : PoolState) (t : ℕ) (numbers : List ℕ) → AreUsed p numbers → AllLast p
@@ -94,12 +107,14 @@ groups_last p t [] used all = tt
 groups_last p t (n ∷ later) used all =
     let u = used.0.0 in
     let is : group_of p n ≡ group_for u.bucket u.opened =
-    ap (λ (o : Option Used). group_for (option_map_or (λ (s : Used). s.bucket) o lasting) (option_map_or (λ (s : Used). s.opened) o 0)) used.0.1 in
+    ap (λ (o : Option Used). group_for (option_map_or (λ (s : Used). s.bucket) o lasting)
+    (option_map_or (λ (s : Used). s.opened) o 0)) used.0.1 in
     (is ∙ ap (λ (b : ℕ). group_for b u.opened) (all n u used.0.1), groups_last p t later used.1 all)
 
 -- where all is of that bucket, an item of it goes to the one group
 pub one_group : (p : PoolState) (t : ℕ) → IsPool p → AllLast p → groups_with p lasting t ≡ 1
-one_group p t pool all = groups_of_one (group_for lasting t) (map (group_of p) p.order) (groups_last p t p.order (order_used p pool) all)
+one_group p t pool all = groups_of_one (group_for lasting t) (map (group_of p) p.order)
+    (groups_last p t p.order (order_used p pool) all)
 
 -- ---- items without deadlines
 
@@ -108,7 +123,8 @@ abbrev AreLast : List StoredItem → Type 0
 AreLast items = AllByRecursion (λ (i : StoredItem). i.bucket ≡ lasting) items
 
 -- stored items without deadlines, of which there is at least one, are all in one bucket
-spread_last : (items : List StoredItem) (one : StoredItem) → AreLast items → one.bucket ≡ lasting → spread (items ++ one ∷ []) ≡ 1
+spread_last : (items : List StoredItem) (one : StoredItem) → AreLast items → one.bucket ≡ lasting
+    → spread (items ++ one ∷ []) ≡ 1
 spread_last [] one all is = refl
 spread_last (i ∷ items) one all is =
     let rest : spread (items ++ one ∷ []) ≡ 1 = spread_last items one all.1 is in
@@ -125,7 +141,8 @@ pub written_more : (items : List StoredItem) (one : StoredItem) → written (ite
 written_more items one = sum_by_push (λ (i : StoredItem). i.size) items one
 
 -- with one more that has no deadline, stored items without deadlines still have none
-pub all_last : (items : List StoredItem) (one : StoredItem) → AreLast items → one.bucket ≡ lasting → AreLast (items ++ one ∷ [])
+pub all_last : (items : List StoredItem) (one : StoredItem) → AreLast items → one.bucket ≡ lasting
+    → AreLast (items ++ one ∷ [])
 all_last [] one all is = (is, tt)
 all_last (i ∷ items) one all is = (all.0, all_last items one all.1 is)
 
@@ -136,7 +153,8 @@ within_bound held d more s one is some h = grind arith
 -- Where all that was written is within the bound together with an item, so little is held that the item has room.
 pub holds_little : (p : PoolState) (t : ℕ) (items : List StoredItem) (one : StoredItem) → IsPool p → AllLast p
     → AreLast items → one.bucket ≡ lasting → held_size p ≤ written items
-    → written (items ++ one ∷ []) ≤ (p.sizes.segments - spread (items ++ one ∷ [])) * (p.sizes.segment_size - item_limit p.sizes) → HoldsLittle p lasting t
+    → written (items ++ one ∷ []) ≤ (p.sizes.segments - spread
+    (items ++ one ∷ [])) * (p.sizes.segment_size - item_limit p.sizes) → HoldsLittle p lasting t
 holds_little p t items one pool all last is held bound =
     let groups = one_group p t pool all in
     let spread_is = spread_last items one last is in

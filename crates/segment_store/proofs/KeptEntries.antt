@@ -29,9 +29,9 @@ use Rattle.segment_store.specs.Writes.{unread, WritesToSegments}
 use Rattle.segment_store.specs.Forgetting.{PlacesItem, keys_forgotten}
 use Rattle.segment_store.specs.Keeping.{AllLast, KeepsStored}
 use Rattle.segment_store.proofs.Showing.{get-live_in, entry_is}
-use Rattle.segment_store.proofs.Starting.{nothing_at}
 use Rattle.segment_store.proofs.Appending.{appended_here}
 use Rattle.segment_store.proofs.Keeping.{kept_with, holds_little, written_more, all_last, last_appended}
+use Rattle.tally.proofs.MarkedPlaces.{nothing_at}
 
 -- ---- no entry has a deadline where all segments are of the bucket of what has none
 
@@ -59,13 +59,15 @@ undated_item t d (Some i) none = by_test (is_live (kept_entry d i) t)
     by_test false = refl
 
 -- where all segments are of that bucket, what is shown of a place, if there is one, has no deadline
-undated_entry : (p : PoolState) (t : ℕ) (o : Option Place) → AllLast p → asked_at (if_live t (option_map (entry_at p) o)) ≡ None
+undated_entry : (p : PoolState) (t : ℕ) (o : Option Place) → AllLast p
+    → asked_at (if_live t (option_map (entry_at p) o)) ≡ None
 unfolding entry_at
 undated_entry p t None all = refl
 undated_entry p t (Some r) all = undated_item t (place_deadline p r) (item_in p r) (undated_place p r all)
 
 -- where all segments are of that bucket, no key is shown with a deadline
-undated_shown : (p : PoolState) (m : Places) (t : ℕ) (key : List ℕ) → AllLast p → steps.deadline_at (live_entries p m t) key ≡ None
+undated_shown : (p : PoolState) (m : Places) (t : ℕ) (key : List ℕ) → AllLast p
+    → steps.deadline_at (live_entries p m t) key ≡ None
 undated_shown p m t key all = ap asked_at (get-live_in p m t key) ∙ undated_entry p t (finite.get m key) all
 
 -- so an entry that is written has none either
@@ -80,25 +82,30 @@ adds_none p m t key e all (inr same) = same ∙ undated_shown p m t key all
 entry_there : (after : PoolState) (place : Place) (key : List ℕ) (e : Entry)
     → item_in after place ≡ Some (unread key e) → AllLast after → e.deadline ≡ None → entry_at after place ≡ e
 entry_there after place key e here all none =
-    entry_is after place (unread key e) here ∙ ap (λ (d : Option ℕ). kept_entry d (unread key e)) (undated_place after place all ∙ sym none)
+    entry_is after place (unread key e) here
+    ∙ ap (λ (d : Option ℕ). kept_entry d (unread key e)) (undated_place after place all ∙ sym none)
 
 -- An entry that is written where little is stored, and nothing with a deadline, is kept with what was.
 pub keeps_entry : (lives : Liveness) (old new : MapState) (key : List ℕ) (e : Entry) → IsPool old.pool
     → IsPast old.pool old.moment
     → IsStorable (item_limit old.pool.sizes) (unread key e)
     → new.moment ≡ old.moment
-    → PlacesItem lives old.pool old.index (bucket_of (time_to_live e.deadline old.moment)) old.moment (unread key e) new.pool new.index
-    → KeepsEntry (λ (m : MapState). m.pool.sizes) (λ (m : MapState). shown_entries m.pool m.index m.moment) (λ (m : MapState). m.moment) KeepsStored old key e new
+    → PlacesItem lives old.pool old.index (bucket_of (time_to_live e.deadline old.moment)) old.moment
+    (unread key e) new.pool new.index
+    → KeepsEntry (λ (m : MapState). m.pool.sizes) (λ (m : MapState). shown_entries m.pool m.index m.moment)
+    (λ (m : MapState). m.moment) KeepsStored old key e new
 keeps_entry lives old new key e pool past storable moment placed items keeps adds within =
     let p = old.pool in
     let left = old.index in
     let t = old.moment in
     let none : e.deadline ≡ None = adds_none p (current p old.index) t key e keeps.all_last adds in
-    let bucket : bucket_of (time_to_live e.deadline t) ≡ lasting = ap (λ (d : Option ℕ). bucket_of (time_to_live d t)) none in
+    let bucket : bucket_of (time_to_live e.deadline t) ≡ lasting =
+    ap (λ (d : Option ℕ). bucket_of (time_to_live d t)) none in
     let one : StoredItem = record { size = entry_size key e; bucket = bucket_of (time_to_live e.deadline t) } in
     let i = unread key e in
     let little = holds_little p t items one pool keeps.all_last keeps.undated bucket keeps.held within in
-    let x : PlacesItem lives p left lasting t i new.pool new.index = subst (λ (b : ℕ). PlacesItem lives p left b t i new.pool new.index) bucket placed in
+    let x : PlacesItem lives p left lasting t i new.pool new.index =
+    subst (λ (b : ℕ). PlacesItem lives p left b t i new.pool new.index) bucket placed in
     let kept = kept_with lives p left lasting t i new.pool new.index pool past storable keeps.filled little x in
     let all = last_appended p t i new.pool x.place pool past kept.added keeps.all_last in
     let here = appended_here p new.pool lasting t i x.place (appended p lasting t i new.pool x.place pool kept.added) in
@@ -106,12 +113,19 @@ keeps_entry lives old new key e pool past storable moment placed items keeps add
     let held = kept.held in
     let more = written_more items one in
     let was = keeps.held in (
-      ap (λ (u : ℕ). shown_entries new.pool new.index u) moment ∙ kept.entries ∙ ap (finite.insert (shown_entries p left t) key) is,
-      record { filled = kept.filled; all_last = all; undated = all_last items one keeps.undated bucket; held = omega arith },
+      ap (λ (u : ℕ). shown_entries new.pool new.index u) moment ∙ kept.entries
+          ∙ ap (finite.insert (shown_entries p left t) key) is,
+      record {
+        filled = kept.filled;
+        all_last = all;
+        undated = all_last items one keeps.undated bucket;
+        held = omega arith;
+      },
     )
 
 -- what two maps have at one key, put into them to the same end, is the same
-same_put : (all m n : Entries) (key : List ℕ) (a b : Entry) → all ≡ finite.insert m key a → all ≡ finite.insert n key b → a ≡ b
+same_put : (all m n : Entries) (key : List ℕ) (a b : Entry) → all ≡ finite.insert m key a
+    → all ≡ finite.insert n key b → a ≡ b
 same_put all m n key a b one other =
     let first : finite.get all key ≡ Some a = ap (λ (x : Entries). finite.get x key) one ∙ get-stored m key a in
     let second : finite.get all key ≡ Some b = ap (λ (x : Entries). finite.get x key) other ∙ get-stored n key b in
@@ -119,21 +133,25 @@ same_put all m n key a b one other =
     cc
 
 -- An item that was placed is that of the entry, with the deadline that is shown.
-pub writes_to_segments : (old new : MapState) (key : List ℕ) (e : Entry) → IsStorable (item_limit old.pool.sizes) (unread key e)
+pub writes_to_segments : (old new : MapState) (key : List ℕ) (e : Entry)
+    → IsStorable (item_limit old.pool.sizes) (unread key e)
     → PlacesItem (live_others key old.tally old.moment) old.pool old.index
     (bucket_of (time_to_live e.deadline old.moment)) old.moment (unread key e) new.pool new.index
     → (deadline : Option ℕ) → MayLive old.moment e.deadline deadline → (kept : Entries)
-    → shown_entries new.pool new.index old.moment ≡ finite.insert kept key (kept_entry deadline (unread key e)) → WritesToSegments old key e new
+    → shown_entries new.pool new.index old.moment ≡ finite.insert kept key (kept_entry deadline (unread key e))
+    → WritesToSegments old key e new
 writes_to_segments old new key e storable placed deadline may kept entries =
     let lives = live_others key old.tally old.moment in
     let bucket = bucket_of (time_to_live e.deadline old.moment) in
-    let keys = keys_forgotten lives old.pool bucket old.moment (unread key e) placed.written.roomy placed.written.room in
+    let keys = keys_forgotten lives old.pool bucket old.moment
+    (unread key e) placed.written.roomy placed.written.room in
     record {
       storable = storable;
       placed = placed;
       deadline = deadline;
       may_live = may;
-      stands = same_put (shown_entries new.pool new.index old.moment) (steps.without (shown_entries old.pool old.index old.moment) keys) kept key
+      stands = same_put (shown_entries new.pool new.index old.moment)
+          (steps.without (shown_entries old.pool old.index old.moment) keys) kept key
           (entry_at new.pool placed.place)
           (kept_entry deadline (unread key e)) placed.entries entries;
     }
@@ -144,10 +162,12 @@ writes_to_segments old new key e storable placed deadline may kept entries =
 same_bucket : (offset : ℕ) (o : Option Used) (u : Used) → option_map (read_in offset) o ≡ Some u
     → ((s : Used) → o ≡ Some s → s.bucket ≡ lasting) → u.bucket ≡ lasting
 same_bucket offset None u e all = absurd (none-some u e)
-same_bucket offset (Some s) u e all = (let f : read_in offset s ≡ u = cc in sym (ap (λ (x : Used). x.bucket) f) ∙ all s refl)
+same_bucket offset (Some s) u e all = (let f : read_in offset s ≡ u = cc in
+    sym (ap (λ (x : Used). x.bucket) f) ∙ all s refl)
 
 -- a read keeps what was kept
-pub keeps_read : (old new : MapState) (place : Place) → IsSome (item_in old.pool place) → new.pool ≡ touched old.pool place
+pub keeps_read : (old new : MapState) (place : Place) → IsSome (item_in old.pool place)
+    → new.pool ≡ touched old.pool place
     → StaysKept KeepsStored old new
 keeps_read old new place some is items keeps =
     let p = old.pool in
@@ -161,7 +181,8 @@ keeps_read old new place some is items keeps =
           (let at = touched_segment p place n some in
           let now : segment_at (touched p place) n ≡ Some u = ap (λ (q : PoolState). segment_at q n) (sym is) ∙ e in
           elim (cases_Bool (n == place.segment)) [
-            | inl y ↦ same_bucket place.offset (segment_at p place.segment) u (sym (at ∙ rw y refl) ∙ now) (keeps.all_last place.segment)
+            | inl y ↦ same_bucket place.offset (segment_at p place.segment) u (sym (at ∙ rw y refl) ∙ now)
+                (keeps.all_last place.segment)
             | inr f ↦ keeps.all_last n u (sym (at ∙ rw f refl) ∙ now)
           ]);
       undated = keeps.undated;

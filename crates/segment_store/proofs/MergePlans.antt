@@ -30,28 +30,33 @@ unfolding key_at
 same_key p after o r is = ap (λ (a : PoolState). key_at a r) is
 
 -- with another plan each place shows the same entry
-same_entry : (p after : PoolState) (o : Option Plan) (r : Place) → after ≡ with_plan p o → entry_at after r ≡ entry_at p r
+same_entry : (p after : PoolState) (o : Option Plan) (r : Place) → after ≡ with_plan p o
+    → entry_at after r ≡ entry_at p r
 unfolding entry_at
 same_entry p after o r is = ap (λ (a : PoolState). entry_at a r) is
 
 -- all stays tied
-pub tied_replanned : (p after : PoolState) (o : Option Plan) (index : Table) (marks : Marks) → IsTied p index marks → IsPool after → after ≡ with_plan p o
+pub tied_replanned : (p after : PoolState) (o : Option Plan) (index : Table) (marks : Marks) → IsTied p index marks
+    → IsPool after → after ≡ with_plan p o
     → IsTied after index marks × (current after index ≡ current p index)
 tied_replanned p after o index marks tied pool is =
     let sizes : after.sizes ≡ p.sizes = ap (λ (a : PoolState). a.sizes) is in
     tied_same p after index marks tied
-    (knows_after marks p after tied.known pool sizes (λ r h some. subst (λ (a : PoolState). IsSome (item_in a r)) (sym is) some))
+    (knows_after marks p after tied.known pool sizes
+    (λ r h some. subst (λ (a : PoolState). IsSome (item_in a r)) (sym is) some))
     sizes (λ r h. same_key p after o r is)
 
 -- the same is shown
-pub shown_replanned : (p after : PoolState) (o : Option Plan) (index : Table) (marks : Marks) (t : ℕ) → IsTied p index marks → IsPool after
+pub shown_replanned : (p after : PoolState) (o : Option Plan) (index : Table) (marks : Marks) (t : ℕ)
+    → IsTied p index marks → IsPool after
     → after ≡ with_plan p o → shown_entries after index t ≡ shown_entries p index t
 shown_replanned p after o index marks t tied pool is =
     ap (λ (m : Places). live_entries after m t) (tied_replanned p after o index marks tied pool is).1
     ∙ shown_same p after (current p index) t (λ q r e. same_entry p after o r is)
 
 -- the same is found
-swept_replanned : (p after : PoolState) (o : Option Plan) (index : Table) (marks : Marks) (t : ℕ) → IsTied p index marks → IsPool after
+swept_replanned : (p after : PoolState) (o : Option Plan) (index : Table) (marks : Marks) (t : ℕ) → IsTied p index marks
+    → IsPool after
     → after ≡ with_plan p o → IsCrowded p index t
     → IsSwept p index t after index marks
 swept_replanned p after o index marks t tied pool is crowded =
@@ -63,12 +68,14 @@ swept_replanned p after o index marks t tied pool is crowded =
       tied = same.0;
       absent = λ q none. ap (λ (m : Places). finite.get m q) same.1 ∙ none;
       waiting = λ q r e.
-          ap (λ (a : PoolState). has_arrived (place_deadline a r) t) is ∙ crowded.waiting q r (ap (λ (m : Places). finite.get m q) (sym same.1) ∙ e);
+          ap (λ (a : PoolState). has_arrived (place_deadline a r) t) is
+          ∙ crowded.waiting q r (ap (λ (m : Places). finite.get m q) (sym same.1) ∙ e);
       entries = shown_replanned p after o index marks t tied pool is;
     }
 
 -- it is as crowded
-pub crowded_replanned : (p after : PoolState) (o : Option Plan) (index : Table) (marks : Marks) (t : ℕ) → IsTied p index marks → IsPool after
+pub crowded_replanned : (p after : PoolState) (o : Option Plan) (index : Table) (marks : Marks) (t : ℕ)
+    → IsTied p index marks → IsPool after
     → after ≡ with_plan p o → IsCrowded p index t
     → IsCrowded after index t
 crowded_replanned p after o index marks t tied pool is crowded =
@@ -81,14 +88,17 @@ crowded_replanned p after o index marks t tied pool is crowded =
     }
 
 -- so room that is made then is made
-pub made_replanned : (p mid : PoolState) (o : Option Plan) (index : Table) (marks : Marks) (t : ℕ) (after : PoolState) (found : Table)
+pub made_replanned : (p mid : PoolState) (o : Option Plan) (index : Table) (marks : Marks) (t : ℕ) (after : PoolState)
+    (found : Table)
     → IsTied p index marks → IsPool mid → mid ≡ with_plan p o
-    → IsCrowded p index t → ((u : ℕ) → IsCrowded mid index u → IsRoomMade mid index u after found) → IsRoomMade p index t after found
+    → IsCrowded p index t → ((u : ℕ) → IsCrowded mid index u → IsRoomMade mid index u after found)
+    → IsRoomMade p index t after found
 made_replanned p mid o index marks t after found tied pool is crowded made =
     swept_evicted p index t mid index marks after found (swept_replanned p mid o index marks t tied pool is crowded)
     (made t (crowded_replanned p mid o index marks t tied pool is crowded))
 
 -- the plan is that of the marked items
-pub has_plan : (p after : PoolState) (plan : Plan) (marks : Marks) → IsPlan (lives_by marks) p plan → after ≡ planned p plan → HasPlan after marks
+pub has_plan : (p after : PoolState) (plan : Plan) (marks : Marks) → IsPlan (lives_by marks) p plan
+    → after ≡ planned p plan → HasPlan after marks
 has_plan p after plan marks h is = subst (λ (a : PoolState). HasPlan a marks) (sym is)
     (record { plan = plan; planned = refl; is_plan = planned_again (lives_by marks) p plan h })

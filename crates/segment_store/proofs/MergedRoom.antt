@@ -9,7 +9,7 @@ use Rattle.std.proofs.lemmas.Bool.{cases_Bool, false≢true, eq-eqb}
 use Rattle.std.proofs.lemmas.Option.{none-some}
 use Rattle.std.proofs.lemmas.List.{length-take}
 use Rattle.std.proofs.lemmas.List.Sums.{sum_by-cons, sum_by-append}
-use Rattle.std.proofs.lemmas.List.Elements.{All-nil, All-cons, All-head, All-tail, All-append, All-filter}
+use Rattle.std.proofs.lemmas.List.Elements.{All-nil, All-append, All-filter}
 use Rattle.segments.specs.declared.place.Place.{Place}
 use Rattle.segments.specs.declared.place.Move.{Move}
 use Rattle.segments.specs.Items.{Item, halved}
@@ -29,7 +29,7 @@ use Rattle.segment_store.specs.Room.{IsCrowded, IsRoomMade}
 use Rattle.segment_store.proofs.Showing.{entry_is}
 use Rattle.segment_store.proofs.Tying.{current_item}
 use Rattle.segment_store.proofs.LeftPlaces.{is_left, standing_all}
-use Rattle.segment_store.proofs.Evicting.{IsCurrent, HaveStayed, size_in, segment_sizes, evicted_kept}
+use Rattle.segment_store.proofs.Evicting.{IsCurrent, HaveStayed, size_in, segment_sizes, evicted_kept, current_among}
 use Rattle.segment_store.proofs.MergedMarks.{IsMergeFollowed}
 
 -- ---- when segments were opened
@@ -38,18 +38,24 @@ use Rattle.segment_store.proofs.MergedMarks.{IsMergeFollowed}
 filled_opened : (items : List Item) (o : Option Used) (u : Used) → option_map (with_items items) o ≡ Some u
     → (s : Used) × (o ≡ Some s) × (u.opened ≡ s.opened)
 filled_opened items None u e = absurd (none-some u e)
-filled_opened items (Some s) u e = (s, refl, (let f : with_items items s ≡ u = cc in sym (ap (λ (x : Used). x.opened) f)))
+filled_opened items (Some s) u e = (
+  s,
+  refl,
+  (let f : with_items items s ≡ u = cc in sym (ap (λ (x : Used). x.opened) f)),
+)
 
 -- a segment that stays, or becomes another one with other items, unless it is freed, was opened by a moment by which both were
 opened_by : (c e : Bool) (items : List Item) (f o : Option Used) (t : ℕ) (u : Used)
     → (if c then None else (if e then option_map (with_items items) f else o)) ≡ Some u
     → ((s : Used) → f ≡ Some s → s.opened ≤ t) → ((s : Used) → o ≡ Some s → s.opened ≤ t) → u.opened ≤ t
 opened_by true e items f o t u h a b = absurd (none-some u h)
-opened_by false true items f o t u h a b = let r = filled_opened items f u h in subst (λ (x : ℕ). x ≤ t) (sym r.2) (a r.0 r.1)
+opened_by false true items f o t u h a b = let r = filled_opened items f u h in
+    subst (λ (x : ℕ). x ≤ t) (sym r.2) (a r.0 r.1)
 opened_by false false items f o t u h a b = b u h
 
 -- no segment gets another moment
-past_merged : (p : PoolState) (plan : Plan) (after : PoolState) (t : ℕ) → IsTrue (qualifies p plan.bucket) → after ≡ carried_out p plan → IsPast p t
+past_merged : (p : PoolState) (plan : Plan) (after : PoolState) (t : ℕ) → IsTrue (qualifies p plan.bucket)
+    → after ≡ carried_out p plan → IsPast p t
     → IsPast after t
 past_merged p plan after t qualifying is past =
     let f = merged_front p plan.bucket qualifying in
@@ -59,16 +65,20 @@ past_merged p plan after t qualifying is past =
     let items = carried_items p plan.moves in
     let z = eq-eqb first first refl in
     let some : 1 ≤ times first (merged_segments p plan.bucket) =
-    (let e : times first (merged_segments p plan.bucket) ≡ 1 + times first others = ap (times first) whole ∙ rw z refl in omega (arith, e)) in
+    (let e : times first (merged_segments p plan.bucket) ≡ 1 + times first others = ap (times first) whole
+    ∙ rw z refl in omega (arith, e)) in
     let used = merged_in_chain p plan.bucket first some in
-    let now : after ≡ merged_into p plan.bucket (first ∷ others) items = is ∙ ap (λ (xs : List ℕ). merged_into p plan.bucket xs items) whole in
+    let now : after ≡ merged_into p plan.bucket (first ∷ others) items =
+    is ∙ ap (λ (xs : List ℕ). merged_into p plan.bucket xs items) whole in
     record {
       within = past.within;
       opened = λ n u e.
           opened_by (contains_number others n) (n == first) items (segment_at p first) (segment_at p n) t u
-          (sym (ap (λ (r : PoolState). segment_at r n) now ∙ merged_segment p plan.bucket first others items n used.within) ∙ e) (past.opened first)
+          (sym (ap (λ (r : PoolState). segment_at r n) now
+          ∙ merged_segment p plan.bucket first others items n used.within) ∙ e) (past.opened first)
           (past.opened n);
-      in_order = subst IsInOrder (sym is) (order_part p (carried_out p plan) (part_merged p plan.bucket items qualifying) past.in_order);
+      in_order = subst IsInOrder (sym is)
+          (order_part p (carried_out p plan) (part_merged p plan.bucket items qualifying) past.in_order);
     }
 
 -- ---- the items that are forgotten
@@ -83,7 +93,8 @@ none_of None h = refl
 none_of (Some r) h = absurd (false≢true (sym h))
 
 -- the place of a lost item goes nowhere
-lost_none : (moves : List Move) (ss : List Standing) (r : Place) → is_left (lost moves ss) r ≡ true → moved_by moves r ≡ None
+lost_none : (moves : List Move) (ss : List Standing) (r : Place) → is_left (lost moves ss) r ≡ true
+    → moved_by moves r ≡ None
 lost_none moves [] r h = absurd (false≢true h)
 lost_none moves (s ∷ ss) r h =
     elim (cases_Bool (is_some (moved_by moves s.place))) [
@@ -97,12 +108,14 @@ lost_none moves (s ∷ ss) r h =
     ]
 
 -- and one of these places that goes nowhere is that of a lost item
-is_lost : (moves : List Move) (ss : List Standing) (r : Place) → is_left ss r ≡ true → moved_by moves r ≡ None → is_left (lost moves ss) r ≡ true
+is_lost : (moves : List Move) (ss : List Standing) (r : Place) → is_left ss r ≡ true → moved_by moves r ≡ None
+    → is_left (lost moves ss) r ≡ true
 is_lost moves [] r h e = h
 is_lost moves (s ∷ ss) r h e =
     elim (cases_Bool (same_place s.place r)) [
       | inl y ↦
-          let none : is_some (moved_by moves s.place) ≡ false = ap (λ (x : Place). is_some (moved_by moves x)) (same_place_is s.place r y) ∙ ap is_some e in
+          let none : is_some (moved_by moves s.place) ≡ false =
+          ap (λ (x : Place). is_some (moved_by moves x)) (same_place_is s.place r y) ∙ ap is_some e in
           rw (none, y) refl
       | inr n ↦
           let rest = is_lost moves ss r (let later : is_left ss r ≡ true = rw n at h in later) e in
@@ -121,7 +134,8 @@ any_at f r [] = refl
 any_at f r (x ∷ xs) = ap (λ (b : Bool). same_place (f x) r || b) (any_at f r xs)
 
 -- a marked place of a merged segment is that of one of them
-merged_left : (p : PoolState) (plan : Plan) (after : PoolState) (index found : Table) (marks : Marks) → IsMergeFollowed p plan after index found marks
+merged_left : (p : PoolState) (plan : Plan) (after : PoolState) (index found : Table) (marks : Marks)
+    → IsMergeFollowed p plan after index found marks
     → (r : Place) (i : Item)
     → item_in p r ≡ Some i → is_marked marks r ≡ true → contains_number (merged_segments p plan.bucket) r.segment ≡ true
     → is_left (live_items (lives_by marks) p (merged_segments p plan.bucket)) r ≡ true
@@ -130,26 +144,14 @@ merged_left p plan after index found marks w r i e h n =
     ∙ ap (list_any (λ (x : Place). same_place x r)) (sym (sources_live (lives_by marks) p plan w.is_plan))
     ∙ any_at (λ (m : Move). m.source) r plan.moves ∙ live_source (lives_by marks) p plan r i w.is_plan e h n
 
--- what is marked of a segment is current
-current_one : (p : PoolState) (index : Table) (marks : Marks) (ss : List Standing) → IsTied p index marks
-    → All (λ (s : Standing). item_in p s.place ≡ Some s.item) ss
-    → All (IsCurrent p index) (filter (λ (s : Standing). is_marked marks s.place) ss)
-current_one p index marks [] tied all = All-nil (IsCurrent p index)
-current_one p index marks (s ∷ ss) tied all =
-    let here = All-head (λ (x : Standing). item_in p x.place ≡ Some x.item) s ss all in
-    let rest = current_one p index marks ss tied (All-tail (λ (x : Standing). item_in p x.place ≡ Some x.item) s ss all) in
-    elim (cases_Bool (is_marked marks s.place)) [
-      | inl y ↦ rw y (All-cons (IsCurrent p index) s (filter (λ (x : Standing). is_marked marks x.place) ss) (here, tied.marked s.place s.item here y) rest)
-      | inr n ↦ rw n rest
-    ]
-
 -- they are current
 pub live_current : (p : PoolState) (index : Table) (marks : Marks) (numbers : List ℕ) → IsTied p index marks
     → All (IsCurrent p index) (live_items (lives_by marks) p numbers)
 live_current p index marks [] tied = All-nil (IsCurrent p index)
 live_current p index marks (n ∷ numbers) tied =
     All-append (IsCurrent p index) (live_standing (lives_by marks) p n) (live_items (lives_by marks) p numbers)
-    (current_one p index marks (standing p n) tied (λ k d lt. (standing_all p n k d lt).1)) (live_current p index marks numbers tied)
+    (current_among p index marks (standing p n) tied (λ k d lt. (standing_all p n k d lt).1))
+    (live_current p index marks numbers tied)
 
 -- some of them are no more than all
 part_sizes : (test : Standing → Bool) (ss : List Standing) → sum_by size_in (filter test ss) ≤ sum_by size_in ss
@@ -176,7 +178,8 @@ live_sizes p marks (n ∷ numbers) k =
 -- ---- what stays
 
 -- a moved item's entry stays
-moved_entry : (p : PoolState) (plan : Plan) (after : PoolState) (index found : Table) (marks : Marks) → IsMergeFollowed p plan after index found marks
+moved_entry : (p : PoolState) (plan : Plan) (after : PoolState) (index found : Table) (marks : Marks)
+    → IsMergeFollowed p plan after index found marks
     → (q : List ℕ) (r s : Place)
     → finite.get (current p index) q ≡ Some r → moved_by plan.moves r ≡ Some s → entry_at after s ≡ entry_at p r
 moved_entry p plan after index found marks w q r s e m =
@@ -184,30 +187,37 @@ moved_entry p plan after index found marks w q r s e m =
     elim (cases_Bool (contains_number (merged_segments p plan.bucket) r.segment)) [
       | inl y ↦
           let there : (item_in after s ≡ Some (halved x.0)) × (place_deadline after s ≡ place_deadline p r) =
-          subst (λ (o : Option Place). IfSome o (λ place. (item_in after place ≡ Some (halved x.0)) × (place_deadline after place ≡ place_deadline p r))) m
+          subst (λ (o : Option Place). IfSome o
+          (λ place. (item_in after place ≡ Some (halved x.0)) × (place_deadline after place ≡ place_deadline p r))) m
           (moved_live (lives_by marks) p plan after r x.0 w.is_plan w.out x.1 (w.tied.held q r e) y) in
-          entry_is after s (halved x.0) there.0 ∙ ap (λ (d : Option ℕ). kept_entry d x.0) there.1 ∙ sym (entry_is p r x.0 x.1)
+          entry_is after s (halved x.0) there.0 ∙ ap (λ (d : Option ℕ). kept_entry d x.0) there.1
+          ∙ sym (entry_is p r x.0 x.1)
       | inr n ↦
           let o = moved_other p plan after r w.out n in
           let one : Some s ≡ Some r = sym m ∙ o.0 in
           let same : s ≡ r = cc in
-          ap (entry_at after) same ∙ entry_is after r x.0 (o.1 ∙ x.1) ∙ ap (λ (d : Option ℕ). kept_entry d x.0) o.2 ∙ sym (entry_is p r x.0 x.1)
+          ap (entry_at after) same ∙ entry_is after r x.0 (o.1 ∙ x.1) ∙ ap (λ (d : Option ℕ). kept_entry d x.0) o.2
+          ∙ sym (entry_is p r x.0 x.1)
     ]
 
 -- each key's entry stays but for the lost ones
-pub merged_stayed : (p : PoolState) (plan : Plan) (after : PoolState) (index found : Table) (marks : Marks) → IsMergeFollowed p plan after index found marks
-    → HaveStayed p (current p index) after (current after found) (lost plan.moves (live_items (lives_by marks) p (merged_segments p plan.bucket)))
+pub merged_stayed : (p : PoolState) (plan : Plan) (after : PoolState) (index found : Table) (marks : Marks)
+    → IsMergeFollowed p plan after index found marks
+    → HaveStayed p (current p index) after (current after found)
+    (lost plan.moves (live_items (lives_by marks) p (merged_segments p plan.bucket)))
 merged_stayed p plan after index found marks w =
     let all = live_items (lives_by marks) p (merged_segments p plan.bucket) in
     record {
       none = λ q none. w.followed.places q ∙ ap (option_and_then (moved_by plan.moves)) none;
-      gone = λ q r e yes. w.followed.places q ∙ ap (option_and_then (moved_by plan.moves)) e ∙ lost_none plan.moves all r yes;
+      gone = λ q r e yes. w.followed.places q ∙ ap (option_and_then (moved_by plan.moves)) e
+          ∙ lost_none plan.moves all r yes;
       stays = λ q r e apart. by q r e apart (moved_by plan.moves r) refl;
     }
   where
     by : (q : List ℕ) (r : Place) → finite.get (current p index) q ≡ Some r
         → is_left (lost plan.moves (live_items (lives_by marks) p (merged_segments p plan.bucket))) r ≡ false
-        → (o : Option Place) → moved_by plan.moves r ≡ o → (s : Place) × (finite.get (current after found) q ≡ Some s) × (entry_at after s ≡ entry_at p r)
+        → (o : Option Place) → moved_by plan.moves r ≡ o
+        → (s : Place) × (finite.get (current after found) q ≡ Some s) × (entry_at after s ≡ entry_at p r)
     by q r e apart (Some s) m = (
       s,
       w.followed.places q ∙ ap (option_and_then (moved_by plan.moves)) e
@@ -218,7 +228,8 @@ merged_stayed p plan after index found marks w =
         let x = current_item p index q r e in
         elim (cases_Bool (contains_number (merged_segments p plan.bucket) r.segment)) [
           | inl y ↦
-              absurd (false≢true (sym apart ∙ is_lost plan.moves (live_items (lives_by marks) p (merged_segments p plan.bucket)) r
+              absurd (false≢true (sym apart
+              ∙ is_lost plan.moves (live_items (lives_by marks) p (merged_segments p plan.bucket)) r
               (merged_left p plan after index found marks w r x.0 x.1 (w.tied.held q r e) y) m))
           | inr n ↦ absurd (none-some r (sym m ∙ (moved_other p plan after r w.out n).0))
         ]
@@ -241,7 +252,8 @@ merged_made p plan after index found marks t w crowded =
           (merged_stayed p plan after index found marks w)
           (let part = part_sizes (λ (s : Standing). not (is_some (moved_by plan.moves s.place))) all in
           let whole = live_sizes p marks (merged_segments p plan.bucket) w.tied.known.pool in
-          let four : length (merged_segments p plan.bucket) ≤ 4 = (let l = length-take 4 (front p plan.bucket) in omega (arith, l)) in
+          let four : length (merged_segments p plan.bucket) ≤ 4 =
+          (let l = length-take 4 (front p plan.bucket) in omega (arith, l)) in
           let most = mul-le-mul_left p.sizes.segment_size four in
           omega (arith, part, whole, most));
     }

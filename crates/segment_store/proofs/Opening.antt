@@ -11,29 +11,36 @@ use Rattle.segments.specs.Changes.{touched, cleared, read_in, IsGivenBack}
 use Rattle.segments.specs.Merges.{opened_at}
 use Rattle.segments.specs.Filling.{IsInTime}
 use Rattle.segments.proofs.Places.{touched_segment, cleared_segment}
-use Rattle.segments.proofs.FilledLemmas.{AreUsed, order_used}
+use Rattle.segments.proofs.GroupLemmas.{AreUsed, order_used}
 use Rattle.segments.proofs.InTimeLemmas.{order_touched, order_part, part_given, part_cleared}
 use Rattle.segments.specs.Pools.{item_in}
 use Rattle.segment_store.specs.Kept.{IsPast}
 
 -- where segments stand in order and none was opened after a moment, it is so at each later moment within the limit
 pub past_later : (p : PoolState) (t u : ℕ) → IsPast p t → t ≤ u → u ≤ 4611686018427387904 → IsPast p u
-past_later p t u past le within = record { within = within; opened = λ n s e. le_trans (past.opened n s e) le; in_order = past.in_order }
+past_later p t u past le within = record {
+  within = within;
+  opened = λ n s e. le_trans (past.opened n s e) le;
+  in_order = past.in_order;
+}
 
 -- a segment that is there once one of its items was read was there before, opened at the same moment
-read_opened : (o : Option Used) (offset : ℕ) (u : Used) → option_map (read_in offset) o ≡ Some u → (s : Used) × (o ≡ Some s) × (u.opened ≡ s.opened)
+read_opened : (o : Option Used) (offset : ℕ) (u : Used) → option_map (read_in offset) o ≡ Some u
+    → (s : Used) × (o ≡ Some s) × (u.opened ≡ s.opened)
 read_opened None offset u e = absurd (none-some u e)
 read_opened (Some s) offset u e = (s, refl, (let f : read_in offset s ≡ u = cc in sym (ap (λ (x : Used). x.opened) f)))
 
 -- where an item is read, segments still stand in order, and none was opened after the moment
-pub past_touched : (p : PoolState) (t : ℕ) (place : Place) → IsPast p t → IsSome (item_in p place) → IsPast (touched p place) t
+pub past_touched : (p : PoolState) (t : ℕ) (place : Place) → IsPast p t → IsSome (item_in p place)
+    → IsPast (touched p place) t
 past_touched p t place past some =
     record {
       within = past.within;
       opened = λ n u e.
           elim (cases_Bool (n == place.segment)) [
             | inl y ↦
-                let r = read_opened (segment_at p place.segment) place.offset u (sym (touched_segment p place n some ∙ rw y refl) ∙ e) in
+                let r = read_opened (segment_at p place.segment) place.offset u
+                (sym (touched_segment p place n some ∙ rw y refl) ∙ e) in
                 subst (λ x. x ≤ t) (sym r.2) (past.opened place.segment r.0 r.1)
             | inr f ↦ past.opened n u (sym (touched_segment p place n some ∙ rw f refl) ∙ e)
           ];
@@ -46,7 +53,8 @@ part_of true o u e = e
 part_of false o u e = absurd (none-some u e)
 
 -- where segments are given back, the others still stand in order, and none was opened after the moment
-pub past_given : (lives : Liveness) (p after : PoolState) (t : ℕ) → IsPast p t → IsGivenBack lives p after → IsPast after t
+pub past_given : (lives : Liveness) (p after : PoolState) (t : ℕ) → IsPast p t → IsGivenBack lives p after
+    → IsPast after t
 past_given lives p after t past g =
     record {
       within = past.within;
@@ -69,12 +77,14 @@ past_cleared p t n past some =
     }
 
 -- the segments of chains were opened in time
-opened_all : (p : PoolState) (t : ℕ) (numbers : List ℕ) → AreUsed p numbers → IsPast p t → All (λ m. opened_at p m ≤ t) numbers
+opened_all : (p : PoolState) (t : ℕ) (numbers : List ℕ) → AreUsed p numbers → IsPast p t
+    → All (λ m. opened_at p m ≤ t) numbers
 opened_all p t [] used past = All-nil (λ m. opened_at p m ≤ t)
 opened_all p t (n ∷ later) used past =
     let u = used.0.0 in
     let is : opened_at p n ≡ u.opened = ap (λ (o : Option Used). option_map_or (λ (s : Used). s.opened) o 0) used.0.1 in
-    All-cons (λ m. opened_at p m ≤ t) n later (subst (λ (x : ℕ). x ≤ t) (sym is) (past.opened n u used.0.1)) (opened_all p t later used.1 past)
+    All-cons (λ m. opened_at p m ≤ t) n later (subst (λ (x : ℕ). x ≤ t) (sym is) (past.opened n u used.0.1))
+    (opened_all p t later used.1 past)
 
 -- where no segment was opened after a moment, none that the pool's order names was, and they stand in the order of opening
 pub in_time_past : (p : PoolState) (t : ℕ) → IsPool p → IsPast p t → IsInTime p t

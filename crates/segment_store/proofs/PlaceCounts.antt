@@ -40,7 +40,8 @@ few_places p (suc n) k =
     omega (arith, split, long, all, few, rest)
 
 -- a place where an item stands is one of them
-mapped : (xs : List Standing) (k : ℕ) (r : Place) (d : Standing) → k < length xs → (get_or xs k d).place ≡ r → Contains (map place_in xs) r
+mapped : (xs : List Standing) (k : ℕ) (r : Place) (d : Standing) → k < length xs → (get_or xs k d).place ≡ r
+    → Contains (map place_in xs) r
 mapped [] k r d lt e = absurd (omega (arith, lt))
 mapped (x ∷ xs) zero r d lt e = (0, omega arith, e)
 mapped (x ∷ xs) (suc k) r d lt e =
@@ -49,7 +50,8 @@ mapped (x ∷ xs) (suc k) r d lt e =
     (suc rest.0, omega (arith, l), rest.2)
 
 -- the place of an item in a segment below a number is one of the places of items there
-pub in_places : (p : PoolState) (n : ℕ) (r : Place) (i : Item) → item_in p r ≡ Some i → r.segment < n → Contains (places_below p n) r
+pub in_places : (p : PoolState) (n : ℕ) (r : Place) (i : Item) → item_in p r ≡ Some i → r.segment < n
+    → Contains (places_below p n) r
 unfolding places_below
 in_places p zero r i e lt = absurd (omega (arith, lt))
 in_places p (suc n) r i e lt =
@@ -61,18 +63,23 @@ in_places p (suc n) r i e lt =
           let there : (get_or (standing p r.segment) w.0 d).place ≡ r = ap place_in w.2
           ∙ ap (λ (x : ℕ). record { segment = r.segment; offset = x }) zero_plus in
           Contains-append_left (map place_in (standing p n)) (places_below p n) r
-          (subst (λ (m : ℕ). Contains (map place_in (standing p m)) r) same (mapped (standing p r.segment) w.0 r d w.1 there))
-      | inr other ↦ Contains-append_right (map place_in (standing p n)) (places_below p n) r (in_places p n r i e (omega (arith, lt, other)))
+          (subst (λ (m : ℕ). Contains (map place_in (standing p m)) r) same
+          (mapped (standing p r.segment) w.0 r d w.1 there))
+      | inr other ↦ Contains-append_right (map place_in (standing p n)) (places_below p n) r
+          (in_places p n r i e (omega (arith, lt, other)))
     ]
 
 -- two places that a list has at the same number are equal
-at_same : (all : List Place) (i j : ℕ) (a b : Place) → i ≡ j → j < length all → get_or all j b ≡ b → get_or all i a ≡ a → a ≡ b
+at_same : (all : List Place) (i j : ℕ) (a b : Place) → i ≡ j → j < length all → get_or all j b ≡ b
+    → get_or all i a ≡ a → a ≡ b
 at_same all i j a b same lt e f = sym f ∙ ap (λ (k : ℕ). get_or all k a) same ∙ get_or_default all j a b lt ∙ e
 
 -- One more item stands than the index has: it has a slot to spare.
-pub slot_to_spare : (p : PoolState) (index : Table) (place : Place) (i : Item) → IsPool p → IsIndex (key_at p) index → item_in p place ≡ Some i
+pub slot_to_spare : (p : PoolState) (index : Table) (place : Place) (i : Item) → IsPool p → IsIndex (key_at p) index
+    → item_in p place ≡ Some i
     → ((r : Place) → HasPlace index r → (j : Item) × (item_in p r ≡ Some j)) → (HasPlace index place → ⊥)
-    → 2 * (p.sizes.segments * (p.sizes.segment_size / 32)) ≤ length index.slots → 2 * (used_in index.slots + 1) ≤ length index.slots
+    → 2 * (p.sizes.segments * (p.sizes.segment_size / 32)) ≤ length index.slots
+    → 2 * (used_in index.slots + 1) ≤ length index.slots
 slot_to_spare p index place i pool indexed here held fresh roomy =
     let all = places_below p p.sizes.segments in
     let few = few_places p p.sizes.segments pool in
@@ -83,6 +90,7 @@ slot_to_spare p index place i pool indexed here held fresh roomy =
     few_used (key_at p) index rest indexed (λ r h.
     let j = held r h in
     let k = in_places p p.sizes.segments r j.0 j.1 (mark_within p r j.0 pool j.1).0 in
-    (in_remove all at.0 k.0 r at.1 k.1 (sym k.2) (λ same. fresh (subst (HasPlace index) (at_same all k.0 at.0 r place same at.1 at.2 k.2) h))).1) in
+    (in_remove all at.0 k.0 r at.1 k.1 (sym k.2)
+    (λ same. fresh (subst (HasPlace index) (at_same all k.0 at.0 r place same at.1 at.2 k.2) h))).1) in
     let some = at.1 in
     omega (arith, used, shorter, few, some, roomy)

@@ -5,17 +5,17 @@ use Rattle.std.specs.Option.{option_map_or}
 use Rattle.std.specs.FinMap as finite
 use Rattle.std.specs.Result.{MatchResult, is_err}
 use Rattle.std.proofs.Common.{Result, Ok, Err}
-use Rattle.std.proofs.lemmas.Bool.{cases_Bool, eq-eqb, ne_eqb, false≢true, and_parts, not-true, or_parts, leb-false, lt-leb, ltb-true, eqb-true}
+use Rattle.std.proofs.lemmas.Bool.{cases_Bool, eq-eqb, ne_eqb, false≢true, or_parts, leb-false, lt-leb, ltb-true, eqb-true}
 use Rattle.std.proofs.lemmas.Option.{option_and_then_some, cond_some}
 use Rattle.std.proofs.lemmas.Slice.Eq.{bytes_eq-Decides}
 use Rattle.proto.specs.Cache.{Entry, Entries, has_arrived}
 use Rattle.proto.specs.Buckets.{MayLive, bucket_of, time_to_live, shared_deadline, width_of}
 use Rattle.proto.proofs.DeadlineLemmas.{may_be_shared}
 use Rattle.segments.specs.declared.place.Place.{Place}
-use Rattle.segments.specs.Items.{Item, item_size}
-use Rattle.segments.specs.Pools.{PoolState, IsPool, Used, Liveness, item_in, place_deadline, deadline_in, deadline_of, segment_at, tail, is_closed, lasting}
+use Rattle.segments.specs.Items.{Item, size_of_item}
+use Rattle.segments.specs.Pools.{PoolState, IsPool, Used, Liveness, item_in, place_deadline, deadline_in, bucket_deadline, segment_at, tail, is_sealed, lasting}
 use Rattle.segments.specs.Changes.{IsAddedToTail, IsAddedToFree, open_tail, if_takes, takes, with_item}
-use Rattle.segments.proofs.Places.{appended, set_at, just_open}
+use Rattle.segments.proofs.Places.{appended, set_at, just_open, takes_open}
 use Rattle.segments.proofs.LinkLemmas.{some_within, last_passes, in_chain}
 use Rattle.segments.proofs.InTimeLemmas.{in_time_appended}
 use Rattle.tally.specs.Marks.{Marks}
@@ -38,7 +38,7 @@ pub record IsIn (p : PoolState) (bucket t : ℕ) (after : PoolState) (place : Pl
   pub is_at : segment_at after place.segment ≡ Some used
   pub of_bucket : used.bucket ≡ bucket
   pub was : used.opened ≤ t
-  pub takes : is_closed bucket used.opened t ≡ false
+  pub takes : is_sealed bucket used.opened t ≡ false
   pub others : (n : ℕ) → (n == place.segment) ≡ false → segment_at after n ≡ segment_at p n
 
 -- the open tail for an item of a size is the last segment of the bucket's chain, and takes an item of that size
@@ -50,15 +50,6 @@ tail_number p bucket t size n e =
     let c = cond_some (option_map_or (takes p.sizes t size) (segment_at p m) false) m n passes in
     (is_tail ∙ ap Some c.1, subst (λ k. option_map_or (takes p.sizes t size) (segment_at p k) false ≡ true) c.1 c.0))
 
--- a segment that takes an item isn't closed
-takes_open : (p : PoolState) (t size : ℕ) (o : Option Used) (u : Used) → o ≡ Some u
-    → option_map_or (takes p.sizes t size) o false ≡ true → is_closed u.bucket u.opened t ≡ false
-takes_open p t size None u e h = absurd (false≢true h)
-takes_open p t size (Some v) u e h =
-    let same : v ≡ u = cc in
-    subst (λ (w : Used). is_closed w.bucket w.opened t ≡ false) same
-    (not-true (is_closed v.bucket v.opened t) (and_parts (not (is_closed v.bucket v.opened t)) _ h).0)
-
 -- an appended item is in a segment of its bucket that takes items at the moment and was opened by then; the others stay
 pub in_segment : (p : PoolState) (bucket t : ℕ) (i : Item) (after : PoolState) (place : Place) → IsPool p → IsPast p t
     → IsAddedToTail p bucket t i after place ⊎ IsAddedToFree p bucket t i after place → IsIn p bucket t after place
@@ -68,15 +59,17 @@ in_segment p bucket t i after place pool past (inl a) =
     let at : (m : ℕ)
     → segment_at after m ≡ (if m == place.segment then Some u else segment_at p m) = λ m. ap
     (λ (r : PoolState). segment_at r m) a.after_is ∙ set_at p.segments place.segment (Some u) m lt in
-    let number = tail_number p bucket t (item_size i) place.segment a.tail in
+    let number = tail_number p bucket t (size_of_item i) place.segment a.tail in
     let c = in_chain p.segments bucket place.segment (last_passes _ p.order place.segment number.0) in
-    let same : a.segment.bucket ≡ bucket = ap (λ (o : Option Used). option_map_or (λ (s : Used). s.bucket) o 0) (sym a.is_tail ∙ c.is_at) ∙ c.of_bucket in
+    let same : a.segment.bucket ≡ bucket = ap (λ (o : Option Used). option_map_or (λ (s : Used). s.bucket) o 0)
+    (sym a.is_tail ∙ c.is_at) ∙ c.of_bucket in
     record {
       used = u;
       is_at = at place.segment ∙ (let z = eq-eqb place.segment place.segment refl in rw z refl);
       of_bucket = same;
       was = past.opened place.segment a.segment a.is_tail;
-      takes = subst (λ b. is_closed b a.segment.opened t ≡ false) same (takes_open p t (item_size i) (segment_at p place.segment) a.segment a.is_tail number.1);
+      takes = subst (λ b. is_sealed b a.segment.opened t ≡ false) same
+          (takes_open p t (size_of_item i) (segment_at p place.segment) a.segment a.is_tail number.1);
       others = λ n e. at n ∙ rw e refl;
     }
 in_segment p bucket t i after place pool past (inr a) =
@@ -84,7 +77,8 @@ in_segment p bucket t i after place pool past (inr a) =
     let range = a.in_range in
     let count = pool.count in
     let at : (m : ℕ) → segment_at after m ≡ (if m == place.segment then Some u else segment_at p m) =
-    λ m. ap (λ (r : PoolState). segment_at r m) a.after_is ∙ set_at p.segments place.segment (Some u) m (omega (arith, range, count)) in
+    λ m. ap (λ (r : PoolState). segment_at r m) a.after_is
+    ∙ set_at p.segments place.segment (Some u) m (omega (arith, range, count)) in
     record {
       used = u;
       is_at = at place.segment ∙ (let z = eq-eqb place.segment place.segment refl in rw z refl);
@@ -132,19 +126,20 @@ bucket_below ttl =
 
 -- the deadline of the segment may stand for the one asked for
 pub deadline_may : (t bucket opened : ℕ) (asked : Option ℕ) → has_arrived asked t ≡ false
-    → bucket ≡ bucket_of (time_to_live asked t) → opened ≤ t → is_closed bucket opened t ≡ false
-    → MayLive t asked (deadline_of bucket opened)
+    → bucket ≡ bucket_of (time_to_live asked t) → opened ≤ t → is_sealed bucket opened t ≡ false
+    → MayLive t asked (bucket_deadline bucket opened)
 deadline_may t bucket opened None waits is was unclosed =
-    let e : deadline_of bucket opened ≡ None = ap (λ b. deadline_of b opened) is in
+    let e : bucket_deadline bucket opened ≡ None = ap (λ b. bucket_deadline b opened) is in
     subst (MayLive t None) (sym e) tt
 deadline_may t bucket opened (Some asked) waits is was unclosed =
     let below : bucket_of (time_to_live (Some asked) t) < 1024 = bucket_below (max 1 (asked - t)) in
     let f : (bucket == lasting) ≡ false = ne_eqb bucket lasting (omega (arith, below, is)) in
     let later : t < asked = leb-false asked t waits in
-    let parts = or_parts (nat_le (shared_deadline bucket opened) t) (nat_le (opened + width_of bucket) t) (rw f at unclosed) in
+    let parts = or_parts (nat_le (shared_deadline bucket opened) t) (nat_le (opened + width_of bucket) t)
+    (rw f at unclosed) in
     let a = leb-false (shared_deadline bucket opened) t parts.0 in
     let b = leb-false (opened + width_of bucket) t parts.1 in
-    let e : deadline_of bucket opened ≡ Some (shared_deadline bucket opened) = rw f refl in
+    let e : bucket_deadline bucket opened ≡ Some (shared_deadline bucket opened) = rw f refl in
     subst (MayLive t (Some asked)) (sym e) (may_be_shared t asked opened bucket later is was b a)
 
 -- a deadline that an entry may get at a moment hasn't come at that moment
@@ -155,9 +150,12 @@ may_wait t (Some a) None h = refl
 may_wait t (Some a) (Some d) h = lt-leb d t h.later
 
 -- an appended item is shown with the entry of its place, and the others as they were
-pub put_shown : (p after : PoolState) (index found : Table) (marks : Marks) (bucket t : ℕ) (i : Item) (place : Place) → IsTied p index marks
-    → IsAddedToTail p bucket t i after place ⊎ IsAddedToFree p bucket t i after place → current after found ≡ finite.insert (current p index) i.key place
-    → has_arrived (entry_at after place).deadline t ≡ false → shown_entries after found t ≡ finite.insert (shown_entries p index t) i.key (entry_at after place)
+pub put_shown : (p after : PoolState) (index found : Table) (marks : Marks) (bucket t : ℕ) (i : Item) (place : Place)
+    → IsTied p index marks
+    → IsAddedToTail p bucket t i after place ⊎ IsAddedToFree p bucket t i after place
+    → current after found ≡ finite.insert (current p index) i.key place
+    → has_arrived (entry_at after place).deadline t ≡ false
+    → shown_entries after found t ≡ finite.insert (shown_entries p index t) i.key (entry_at after place)
 put_shown p after index found marks bucket t i place tied added is waits =
     let a = appended p bucket t i after place tied.known.pool added in
     ap (λ (m : Places). live_entries after m t) is
@@ -177,24 +175,29 @@ put_deadline p after marks index bucket t i asked place past tied added waits of
     let a = appended p bucket t i after place tied.known.pool added in
     let x = in_segment p bucket t i after place tied.known.pool past added in
     let may = deadline_may t bucket x.used.opened asked waits of_bucket x.was x.takes in
-    let deadline : place_deadline after place ≡ deadline_of bucket x.used.opened = ap deadline_in x.is_at ∙ ap (λ b. deadline_of b x.used.opened) x.of_bucket in (
-      deadline_of bucket x.used.opened,
+    let deadline : place_deadline after place ≡ bucket_deadline bucket x.used.opened =
+    ap deadline_in x.is_at ∙ ap (λ b. bucket_deadline b x.used.opened) x.of_bucket in (
+      bucket_deadline bucket x.used.opened,
       may,
-      entry_is after place i (appended_here p after bucket t i place a) ∙ ap (λ (d : Option ℕ). kept_entry d i) deadline,
+      entry_is after place i (appended_here p after bucket t i place a)
+          ∙ ap (λ (d : Option ℕ). kept_entry d i) deadline,
       past_put p bucket t i after place tied.known.pool past added x,
     )
 
 -- An item was appended to a pool that kept what it had to.
-pub put_made : (p : PoolState) (index : Table) (mid : PoolState) (between : Table) (marks : Marks) (bucket t : ℕ) (i : Item)
+pub put_made : (p : PoolState) (index : Table) (mid : PoolState) (between : Table) (marks : Marks) (bucket t : ℕ)
+    (i : Item)
     (asked : Option ℕ) (after : PoolState) (found : Table) (place : Place)
-    → mid.sizes ≡ p.sizes → AreKept p.sizes (shown_entries p index t) (shown_entries mid between t) → IsPast mid t → IsTied mid between marks
+    → mid.sizes ≡ p.sizes → AreKept p.sizes (shown_entries p index t) (shown_entries mid between t) → IsPast mid t
+    → IsTied mid between marks
     → IsAddedToTail mid bucket t i after place ⊎ IsAddedToFree mid bucket t i after place
     → current after found ≡ finite.insert (current mid between) i.key place
     → has_arrived asked t ≡ false → bucket ≡ bucket_of (time_to_live asked t) → IsPut p index t i asked after found
 put_made p index mid between marks bucket t i asked after found place sizes kept past tied added is waits of_bucket =
     let a = appended mid bucket t i after place tied.known.pool added in
     let d = put_deadline mid after marks between bucket t i asked place past tied added waits of_bucket in
-    let waiting : has_arrived (entry_at after place).deadline t ≡ false = ap (λ (e : Entry). has_arrived e.deadline t) d.2 ∙ may_wait t asked d.0 d.1 in
+    let waiting : has_arrived (entry_at after place).deadline t ≡ false =
+    ap (λ (e : Entry). has_arrived e.deadline t) d.2 ∙ may_wait t asked d.0 d.1 in
     record {
       sizes = a.sizes ∙ sizes;
       past = d.3;
@@ -213,10 +216,12 @@ pub put_placed : (lives : Liveness) (p : PoolState) (index : Table) (mid : PoolS
     → HasMadeRoom lives p index bucket t i mid between → IsPast mid t → IsTied mid between marks
     → IsAddedToTail mid bucket t i after place ⊎ IsAddedToFree mid bucket t i after place
     → current after found ≡ finite.insert (current mid between) i.key place
-    → has_arrived asked t ≡ false → bucket ≡ bucket_of (time_to_live asked t) → PlacesItem lives p index bucket t i after found
+    → has_arrived asked t ≡ false → bucket ≡ bucket_of (time_to_live asked t)
+    → PlacesItem lives p index bucket t i after found
 put_placed lives p index mid between marks bucket t i asked after found place made past tied added is waits of_bucket =
     let d = put_deadline mid after marks between bucket t i asked place past tied added waits of_bucket in
-    let waiting : has_arrived (entry_at after place).deadline t ≡ false = ap (λ (e : Entry). has_arrived e.deadline t) d.2 ∙ may_wait t asked d.0 d.1 in
+    let waiting : has_arrived (entry_at after place).deadline t ≡ false =
+    ap (λ (e : Entry). has_arrived e.deadline t) d.2 ∙ may_wait t asked d.0 d.1 in
     record {
       place = place;
       stands = ap (λ (m : Places). finite.get m i.key) is ∙ get-insert (current mid between) i.key place i.key
@@ -227,7 +232,8 @@ put_placed lives p index mid between marks bucket t i asked after found place ma
     }
 
 -- An item was appended in place of its key's.
-pub put_over : (p : PoolState) (index : Table) (marks : Marks) (bucket t : ℕ) (i : Item) (asked : Option ℕ) (after : PoolState) (found : Table) (place : Place)
+pub put_over : (p : PoolState) (index : Table) (marks : Marks) (bucket t : ℕ) (i : Item) (asked : Option ℕ)
+    (after : PoolState) (found : Table) (place : Place)
     → IsPast p t → IsTied p index marks
     → IsAddedToTail p bucket t i after place ⊎ IsAddedToFree p bucket t i after place
     → current after found ≡ finite.insert (current p index) i.key place
@@ -235,7 +241,8 @@ pub put_over : (p : PoolState) (index : Table) (marks : Marks) (bucket t : ℕ) 
 put_over p index marks bucket t i asked after found place past tied added is waits of_bucket =
     let a = appended p bucket t i after place tied.known.pool added in
     let d = put_deadline p after marks index bucket t i asked place past tied added waits of_bucket in
-    let waiting : has_arrived (entry_at after place).deadline t ≡ false = ap (λ (e : Entry). has_arrived e.deadline t) d.2 ∙ may_wait t asked d.0 d.1 in
+    let waiting : has_arrived (entry_at after place).deadline t ≡ false =
+    ap (λ (e : Entry). has_arrived e.deadline t) d.2 ∙ may_wait t asked d.0 d.1 in
     let others : Entries = finite.remove (shown_entries p index t) i.key in
     record {
       sizes = a.sizes;
@@ -245,20 +252,24 @@ put_over p index marks bucket t i asked after found place past tied added is wai
       kept = others;
       are_kept = record { forgotten = []; evicted = inl refl; entries = sym (without-nil others) };
       entries = put_shown p after index found marks bucket t i place tied added is waiting
-          ∙ ap (finite.insert (shown_entries p index t) i.key) d.2 ∙ sym (insert_removed (shown_entries p index t) i.key (kept_entry d.0 i));
+          ∙ ap (finite.insert (shown_entries p index t) i.key) d.2
+          ∙ sym (insert_removed (shown_entries p index t) i.key (kept_entry d.0 i));
     }
 
 -- what an append says of its result, where that is known to be one or the other
-pub was_refused : {A B : Type 0} (r : Result A B) (P : A → Type 0) (Q : Type 0) → MatchResult r P (λ _. Q) → is_err r ≡ true → Q
+pub was_refused : {A B : Type 0} (r : Result A B) (P : A → Type 0) (Q : Type 0) → MatchResult r P (λ _. Q)
+    → is_err r ≡ true → Q
 was_refused (Ok x) P Q h e = absurd (false≢true e)
 was_refused (Err x) P Q h e = h
 
 -- a result that isn't an error is a value, of which holds what is said of values
-pub was_done : {A B : Type 0} (r : Result A B) (P : A → Type 0) (Q : Type 0) → MatchResult r P (λ _. Q) → is_err r ≡ false → (x : A) × P x
+pub was_done : {A B : Type 0} (r : Result A B) (P : A → Type 0) (Q : Type 0) → MatchResult r P (λ _. Q)
+    → is_err r ≡ false → (x : A) × P x
 was_done (Ok x) P Q h e = (x, h)
 was_done (Err x) P Q h e = absurd (false≢true (sym e))
 
 -- a result that can't be an error is a value, of which holds what is said of values
-pub never_refused : {A B : Type 0} (r : Result A B) (P : A → Type 0) (Q : Type 0) → MatchResult r P (λ _. Q) → (Q → ⊥) → (x : A) × P x
+pub never_refused : {A B : Type 0} (r : Result A B) (P : A → Type 0) (Q : Type 0) → MatchResult r P (λ _. Q) → (Q → ⊥)
+    → (x : A) × P x
 never_refused (Ok x) P Q h n = (x, h)
 never_refused (Err x) P Q h n = absurd (n h)

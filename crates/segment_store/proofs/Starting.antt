@@ -10,36 +10,34 @@ use Rattle.segments.specs.Pools.{PoolState, IsPool, segment_at}
 use Rattle.segments.specs.Changes.{new_pool}
 use Rattle.segments.specs.Filling.{IsInOrder}
 use Rattle.tally.specs.Marks.{Marks, KnowsPool, no_tally, mark_at}
-use Rattle.tally.proofs.MarkedPlaces.{knows_none}
+use Rattle.tally.proofs.MarkedPlaces.{knows_none, nothing_at}
 use Rattle.index.specs.Keys.{key_at}
 use Rattle.index.specs.Layouts.{IsLayoutOf}
 use Rattle.index.specs.Table.{Table, Places, IsMap}
 use Rattle.segment_store.specs.Kept.{IsTied, IsPast}
-
--- a list that repeats a value has it at each number, and behind its end too where it is the default
-pub nothing_at : {X : Type 0} (x : X) (n k : ℕ) → get_or (replicate n x) k x ≡ x
-nothing_at x zero k = refl
-nothing_at x (suc n) zero = refl
-nothing_at x (suc n) (suc k) = nothing_at x n k
 
 -- with no marks and no keys all is tied
 no_mark : (s : Sizes) (p : PoolState) (t : Marks) (n k : ℕ) → t ≡ no_tally s → mark_at t n k ≡ false
 unfolding no_tally
 no_mark s p t n k is = ap (λ (u : Marks). mark_at u n k) is ∙ rows s.segments n
   where
-    rows : (count m : ℕ) → get_or (get_or (replicate count (replicate (s.segment_size / 32) false)) m []) k false ≡ false
+    rows : (count m : ℕ) → get_or (get_or (replicate count (replicate (s.segment_size / 32) false)) m []) k
+        false ≡ false
     rows zero m = refl
     rows (suc count) zero = nothing_at false (s.segment_size / 32) k
     rows (suc count) (suc m) = rows count m
 
 -- an index without a key, with slots enough, and a tally without a mark are tied to a pool of their sizes
-pub tied_start : (p : PoolState) (index : Table) (t : Marks) → IsPool p → t ≡ no_tally p.sizes → IsMap (key_at p) index finite.empty
-    → 2 * (p.sizes.segments * (p.sizes.segment_size / 32)) ≤ length index.slots → IsLayoutOf p.sizes index.layout → IsTied p index t
+pub tied_start : (p : PoolState) (index : Table) (t : Marks) → IsPool p → t ≡ no_tally p.sizes
+    → IsMap (key_at p) index finite.empty
+    → 2 * (p.sizes.segments * (p.sizes.segment_size / 32)) ≤ length index.slots → IsLayoutOf p.sizes index.layout
+    → IsTied p index t
 tied_start p index t pool is m roomy layout =
     record {
       known = subst (λ (u : Marks). KnowsPool u p) (sym is) (knows_none p pool);
       indexed = m.index;
-      held = λ q r h. absurd (none-some r (sym (ap (λ (n : Places). finite.get n q) m.places_are ∙ finite.get-empty (slice_cmp nat_cmp) q) ∙ h));
+      held = λ q r h. absurd (none-some r
+          (sym (ap (λ (n : Places). finite.get n q) m.places_are ∙ finite.get-empty (slice_cmp nat_cmp) q) ∙ h));
       marked = λ r i e h. absurd (false≢true (sym (no_mark p.sizes p t r.segment (r.offset / 32) is) ∙ h));
       roomy = roomy;
       layout = layout;
@@ -51,6 +49,7 @@ unfolding new_pool
 past_start p sizes is =
     record {
       within = omega arith;
-      opened = λ n u e. absurd (none-some u (sym (ap (λ (q : PoolState). segment_at q n) is ∙ nothing_at None sizes.segments n) ∙ e));
+      opened = λ n u e. absurd (none-some u
+          (sym (ap (λ (q : PoolState). segment_at q n) is ∙ nothing_at None sizes.segments n) ∙ e));
       in_order = subst IsInOrder (sym is) tt;
     }

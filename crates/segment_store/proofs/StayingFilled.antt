@@ -50,8 +50,10 @@ counted_filled (key ∷ keys) old new h filled =
     (rest.0, rest.1 ∙ ap held_size same ∙ one.1)
 
 -- What is left where nothing was forgotten for a stored item, and segments stayed filled.
-record IsLeftFilled (t : ℕ) (found : MapState) (done : Outcome) (reply : Reply) (after : MapState) (items : List StoredItem) : Type 0 where
-  dated : (done.stored ≡ None) ⊎ ((reply ≡ NoMemory) ⊎ IsDated t done.entries done.stored (shown_entries after.pool after.index t))
+record IsLeftFilled (t : ℕ) (found : MapState) (done : Outcome) (reply : Reply) (after : MapState)
+    (items : List StoredItem) : Type 0 where
+  dated : (done.stored ≡ None) ⊎ ((reply ≡ NoMemory)
+      ⊎ IsDated t done.entries done.stored (shown_entries after.pool after.index t))
   filled : IsFilled after.pool
   held : held_size after.pool ≤ held_size found.pool + written items
 
@@ -66,22 +68,26 @@ LeavesFilled t found done reply after =
     → IsLeftFilled t found done reply after (items_by t done reply)
 
 -- an item that was written where little is held
-written_filled : (found after : MapState) (done : Outcome) (key : List ℕ) (e : Entry) → IsSegmentedMap found → (done.reply ≡ NoMemory → ⊥)
+written_filled : (found after : MapState) (done : Outcome) (key : List ℕ) (e : Entry) → IsSegmentedMap found
+    → (done.reply ≡ NoMemory → ⊥)
     → done.stored ≡ Some key
-    → done.entries ≡ finite.insert (shown_entries found.pool found.index found.moment) key e → WritesToSegments found key e after
+    → done.entries ≡ finite.insert (shown_entries found.pool found.index found.moment) key e
+    → WritesToSegments found key e after
     → LeavesFilled found.moment found done done.reply after
 written_filled found after done key e kept other stored asked w filled little =
     let p = found.pool in
     let t = found.moment in
     let one : StoredItem = record { size = entry_size key e; bucket = bucket_of (time_to_live e.deadline t) } in
-    let there : finite.get done.entries key ≡ Some e = ap (λ (m : Entries). finite.get m key) asked ∙ get-stored (shown_entries p found.index t) key e in
+    let there : finite.get done.entries key ≡ Some e =
+    ap (λ (m : Entries). finite.get m key) asked ∙ get-stored (shown_entries p found.index t) key e in
     let items : items_by t done done.reply ≡ one ∷ [] = answered_item done.reply (item_stored t done done.stored) other
     ∙ ap (λ (o : Option (List ℕ)). item_stored t done o) stored ∙ ap (stored_item_of t key) there in
     let few : HoldsLittle p one.bucket t = (subst
     (λ (xs : List StoredItem). AllByRecursion (λ (i : StoredItem). HoldsLittle p i.bucket t) xs) items little).0 in
     let k = kept_with (live_others key found.tally t) p found.index one.bucket t
     (unread key e) after.pool after.index kept.tied.known.pool kept.past w.storable filled few w.placed in
-    let now : shown_entries after.pool after.index t ≡ finite.insert (shown_entries p found.index t) key (record e { deadline = w.deadline }) =
+    let now : shown_entries after.pool after.index t
+    ≡ finite.insert (shown_entries p found.index t) key (record e { deadline = w.deadline }) =
     k.entries ∙ ap (finite.insert (shown_entries p found.index t) key) w.stands in
     let exact : IsDated t (finite.insert (shown_entries p found.index t) key e) (Some key)
     (finite.insert (shown_entries p found.index t) key (record e { deadline = w.deadline })) =
@@ -89,25 +95,32 @@ written_filled found after done key e kept other stored asked w filled little =
     let held = k.held in
     let size : written (items_by t done done.reply) ≡ entry_size key e + 0 = ap written items ∙ omega arith in
     record {
-      dated = inr (inr (subst (λ (o : Option (List ℕ)). IsDated t done.entries o (shown_entries after.pool after.index t)) (sym stored)
+      dated = inr (inr (subst (λ (o : Option (List ℕ)). IsDated t done.entries o
+          (shown_entries after.pool after.index t)) (sym stored)
           (subst (λ (m : Entries). IsDated t m (Some key) (shown_entries after.pool after.index t)) (sym asked)
-          (subst (λ (m : Entries). IsDated t (finite.insert (shown_entries p found.index t) key e) (Some key) m) (sym now) exact))));
+          (subst (λ (m : Entries). IsDated t (finite.insert (shown_entries p found.index t) key e) (Some key) m)
+          (sym now) exact))));
       filled = k.filled;
       held = omega arith;
     }
 
 -- where the pool stays, segments stay filled
-same_filled : (t : ℕ) (found after : MapState) (done : Outcome) (reply : Reply) (items : List StoredItem) → (done.stored ≡ None) ⊎ (reply ≡ NoMemory)
+same_filled : (t : ℕ) (found after : MapState) (done : Outcome) (reply : Reply) (items : List StoredItem)
+    → (done.stored ≡ None) ⊎ (reply ≡ NoMemory)
     → IsFilled after.pool → held_size after.pool ≡ held_size found.pool → IsLeftFilled t found done reply after items
-same_filled t found after done reply items (inl none) filled held = record { dated = inl none; filled = filled; held = omega arith }
-same_filled t found after done reply items (inr refused) filled held = record { dated = inr (inl refused); filled = filled; held = omega arith }
+same_filled t found after done reply items (inl none) filled held =
+    record { dated = inl none; filled = filled; held = omega arith }
+same_filled t found after done reply items (inr refused) filled held =
+    record { dated = inr (inl refused); filled = filled; held = omega arith }
 
 -- each outcome leaves segments filled where little is held, be it that an item is written, reads are counted, the pool stays,
 -- or memory is refused
-leaves_filled : (found after : MapState) (done : Outcome) (reply : Reply) → IsSegmentedMap found → (done.reply ≡ NoMemory → ⊥)
+leaves_filled : (found after : MapState) (done : Outcome) (reply : Reply) → IsSegmentedMap found
+    → (done.reply ≡ NoMemory → ⊥)
     → LeavesSegments found done after reply
     → LeavesFilled found.moment found done reply after
-leaves_filled found after done _ kept other (writes key e stored asked w) = written_filled found after done key e kept other stored asked w
+leaves_filled found after done _ kept other (writes key e stored asked w) =
+    written_filled found after done key e kept other stored asked w
 leaves_filled found after done _ kept other (reads hits none is counts) =
     λ filled little.
     (let c = counted_filled (keys_of hits) found after counts filled in
@@ -118,7 +131,8 @@ leaves_filled found after done _ kept other (stays none hitless same) =
     (subst IsFilled (sym same) filled) (ap held_size same)
 leaves_filled found after done _ kept other (refuses same) =
     λ filled little.
-    same_filled found.moment found after done NoMemory (items_by found.moment done NoMemory) (inr refl) (subst IsFilled (sym same) filled) (ap held_size same)
+    same_filled found.moment found after done NoMemory (items_by found.moment done NoMemory) (inr refl)
+    (subst IsFilled (sym same) filled) (ap held_size same)
 
 -- a request that stores nothing forgets nothing
 unstored : (before after : Engine SegmentMap) (t : ℕ) (q : Request) (reply : Reply)
@@ -129,14 +143,18 @@ unstored before after t q reply (inr r) none = inl r.reply_is
 unstored before after t q reply (inl x) none =
     let done = outcome_at (sizes_in before) (segmented_cache before) t q in
     let old = (found_at (segmented_cache before) t).entries in
-    let dated : x.dated ≡ done.entries = subst (λ (o : Option (List ℕ)). IsDated t done.entries o x.dated) none x.is_dated in
-    let nothing : x.forgotten ≡ [] = subst (λ (o : Option (List ℕ)). MayForget (sizes_in before) old x.dated o x.forgotten) none x.may_forget in
-    let same : (segmented_cache after).entries ≡ done.entries = x.entries ∙ ap (without x.dated) nothing ∙ without-nil x.dated ∙ dated in
+    let dated : x.dated ≡ done.entries =
+    subst (λ (o : Option (List ℕ)). IsDated t done.entries o x.dated) none x.is_dated in
+    let nothing : x.forgotten ≡ [] = subst
+    (λ (o : Option (List ℕ)). MayForget (sizes_in before) old x.dated o x.forgotten) none x.may_forget in
+    let same : (segmented_cache after).entries ≡ done.entries =
+    x.entries ∙ ap (without x.dated) nothing ∙ without-nil x.dated ∙ dated in
     inr (subst (λ (o : Option (List ℕ)). IsDated t done.entries o (segmented_cache after).entries) (sym none) same)
 
 -- by what a request does to the segments it forgets nothing where they hold little
 pub stays_filled : (before : Engine SegmentMap) (t : ℕ) (q : Request) (reply : Reply) (after : Engine SegmentMap)
-    → Step (sizes_in before) (segmented_cache before) t q reply (segmented_cache after) → after.map.moment ≡ t → HandlesSegments before t q reply after
+    → Step (sizes_in before) (segmented_cache before) t q reply (segmented_cache after) → after.map.moment ≡ t
+    → HandlesSegments before t q reply after
     → StaysFilled before t q reply after
 stays_filled before t q reply after step moment h filled little =
     let done = outcome_at (sizes_in before) (segmented_cache before) t q in
@@ -144,16 +162,19 @@ stays_filled before t q reply after step moment h filled little =
     let pool = h.is_found.pool in
     let other = answers_act (item_limit (sizes_in before)) (found_at (segmented_cache before) t) t q in
     let leaves : LeavesFilled t found done reply after.map =
-    subst (λ (u : ℕ). LeavesFilled u found done reply after.map) h.is_found.moment (leaves_filled found after.map done reply h.is_found.kept other h.leaves) in
+    subst (λ (u : ℕ). LeavesFilled u found done reply after.map) h.is_found.moment
+    (leaves_filled found after.map done reply h.is_found.kept other h.leaves) in
     let left = leaves (subst IsFilled (sym pool) filled)
-    (subst (λ (p : PoolState). AllByRecursion (λ (i : StoredItem). HoldsLittle p i.bucket t) (items_by t done reply)) (sym pool) little) in
+    (subst (λ (p : PoolState). AllByRecursion (λ (i : StoredItem). HoldsLittle p i.bucket t) (items_by t done reply))
+    (sym pool) little) in
     let held = left.held in
     let was : held_size found.pool ≡ held_size before.map.pool = ap held_size pool in (
       elim left.dated [
         | inl none ↦ unstored before after t q reply step none
         | inr dated ↦ elim dated [
           | inl refused ↦ inl refused
-          | inr is ↦ inr (subst (λ (u : ℕ). IsDated t done.entries done.stored (shown_entries after.map.pool after.map.index u)) (sym moment) is)
+          | inr is ↦ inr (subst (λ (u : ℕ). IsDated t done.entries done.stored
+              (shown_entries after.map.pool after.map.index u)) (sym moment) is)
         ]
       ],
       left.filled,

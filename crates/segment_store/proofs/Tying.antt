@@ -1,10 +1,10 @@
 -- What ties pool, index and tally together, and what changes of them leave of that.
 use Rattle.std.proofs.Common.{◌≡◌, ℕ, ◌/◌, Bool, true, false, cond, List, length, Option, Some, None, refl, sym, ap, subst, ◌∙◌, inl, inr}
-use Rattle.std.specs.Prelude.{bytes_eq, option_map, IsSome, IfSome, ◌⊎◌, ◌*◌, ◌≤◌, ◌==◌, if◌then◌else◌}
+use Rattle.std.specs.Prelude.{bytes_eq, option_map, IsSome, IfSome, ◌⊎◌, ◌*◌, ◌≤◌, if◌then◌else◌}
 use Rattle.std.specs.FinMap as finite
 use Rattle.std.specs.FinMap.{slice_cmp-IsAntisymmetric, nat_cmp-IsAntisymmetric}
 use Rattle.std.specs.Cmp.Lexicographic.{nat_list_cmp_total}
-use Rattle.std.proofs.lemmas.Bool.{cases_Bool, false≢true, and_parts, eqb-true}
+use Rattle.std.proofs.lemmas.Bool.{cases_Bool, false≢true}
 use Rattle.std.proofs.lemmas.Slice.Eq.{bytes_eq-Decides}
 use Rattle.std.proofs.lemmas.Option.{none-some}
 use Rattle.segments.specs.declared.place.Place.{Place}
@@ -25,35 +25,32 @@ use Rattle.index.proofs.Agreeing.{keys_agree, held_key}
 use Rattle.segment_store.specs.Shown.{current}
 use Rattle.segment_store.specs.Kept.{IsTied}
 use Rattle.segment_store.specs.Leaving.{marked_instead}
+use Rattle.index.proofs.PoolKeys.{item_key}
+use Rattle.tally.proofs.MarkedPlaces.{is_of_place}
+use Rattle.proto.proofs.Options.{value_there}
 
 -- ---- items of current places
 
--- an option that isn't empty has a value
-some_of : {A : Type 0} (o : Option A) → IsSome o → (x : A) × (o ≡ Some x)
-some_of None h = absurd (false≢true h)
-some_of (Some x) h = (x, refl)
-
 -- where there is a key of what may be an item, there is an item, and it has that key
-key_from : (o : Option Item) (q : List ℕ) → option_map (λ (i : Item). i.key) o ≡ Some q → (i : Item) × (o ≡ Some i) × (i.key ≡ q)
+key_from : (o : Option Item) (q : List ℕ) → option_map (λ (i : Item). i.key) o ≡ Some q
+    → (i : Item) × (o ≡ Some i) × (i.key ≡ q)
 key_from None q h = absurd (none-some q h)
 key_from (Some i) q h = (i, refl, cc)
 
 -- the item at a place with a key
-pub keyed_item : (p : PoolState) (r : Place) (q : List ℕ) → key_at p r ≡ Some q → (i : Item) × (item_in p r ≡ Some i) × (i.key ≡ q)
+pub keyed_item : (p : PoolState) (r : Place) (q : List ℕ) → key_at p r ≡ Some q
+    → (i : Item) × (item_in p r ≡ Some i) × (i.key ≡ q)
 unfolding key_at
 keyed_item p r q h = key_from (item_in p r) q h
 
--- the key at a place is that of the item there
-pub key_of : (p : PoolState) (r : Place) (i : Item) → item_in p r ≡ Some i → key_at p r ≡ Some i.key
-unfolding key_at
-key_of p r i h = rw h refl
-
 -- a current place holds an item of its key
-pub current_key : (p : PoolState) (index : Table) (q : List ℕ) (r : Place) → finite.get (current p index) q ≡ Some r → key_at p r ≡ Some q
+pub current_key : (p : PoolState) (index : Table) (q : List ℕ) (r : Place) → finite.get (current p index) q ≡ Some r
+    → key_at p r ≡ Some q
 current_key p index q r h = (stands_from_get (key_at p) index.slots q r h).key_is
 
 -- an item stands at the current place of a key, and has this key
-pub current_item : (p : PoolState) (index : Table) (q : List ℕ) (r : Place) → finite.get (current p index) q ≡ Some r → (i : Item)
+pub current_item : (p : PoolState) (index : Table) (q : List ℕ) (r : Place) → finite.get (current p index) q ≡ Some r
+    → (i : Item)
     × (item_in p r ≡ Some i) × (i.key ≡ q)
 current_item p index q r h = keyed_item p r q (current_key p index q r h)
 
@@ -62,17 +59,21 @@ pub some_item : (p : PoolState) (r : Place) (i : Item) → item_in p r ≡ Some 
 some_item p r i h = subst IsSome (sym h) refl
 
 -- the place of a slot is current
-pub held_place : (keys : KeysOf) (t : Table) (r : Place) → IsIndex keys t → HasPlace t r → (q : List ℕ) × (place_at keys t q ≡ Some r)
+pub held_place : (keys : KeysOf) (t : Table) (r : Place) → IsIndex keys t → HasPlace t r
+    → (q : List ℕ) × (place_at keys t q ≡ Some r)
 held_place keys t r index h =
-    let k = some_of (keys r) (held_key keys t index r h) in
-    let st : Stands keys t.slots k.0 r = record { at = h.at; in_range = h.in_range; used = h.used; place_is = h.place_is; key_is = k.1 } in
+    let k = value_there (keys r) (held_key keys t index r h) in
+    let st : Stands keys t.slots k.0 r =
+    record { at = h.at; in_range = h.in_range; used = h.used; place_is = h.place_is; key_is = k.1 } in
     (k.0, get_from_stands keys t.slots k.0 r st (λ s. stands_once _ keys t.slots index k.0 r s st))
 
 -- where the current places keep their keys, they stay the current ones
 pub same_current : (p after : PoolState) (index : Table) → IsIndex (key_at p) index
-    → ((q : List ℕ) (r : Place) → finite.get (current p index) q ≡ Some r → key_at after r ≡ key_at p r) → IsMap (key_at after) index (current p index)
+    → ((q : List ℕ) (r : Place) → finite.get (current p index) q ≡ Some r → key_at after r ≡ key_at p r)
+    → IsMap (key_at after) index (current p index)
 same_current p after index indexed same =
-    keys_agree (key_at p) (key_at after) index indexed (λ r h. let k = held_place (key_at p) index r indexed h in same k.0 r k.1)
+    keys_agree (key_at p) (key_at after) index indexed
+    (λ r h. let k = held_place (key_at p) index r indexed h in same k.0 r k.1)
 
 -- ---- marks of items
 
@@ -80,14 +81,8 @@ same_current p after index indexed same =
 true_false : true ≡ false → ⊥
 true_false e = cc
 
--- a mark of a place is of the place's segment and has the number of the 32 bytes in which the place begins
-is_of_place : (place : Place) (n k : ℕ) → is_mark_of place n k ≡ true → (place.segment ≡ n) × (place.offset / 32 ≡ k)
-is_of_place place n k h =
-    let parts = and_parts (n == place.segment) (k == place.offset / 32) h in
-    (sym (eqb-true n place.segment parts.0), sym (eqb-true k (place.offset / 32) parts.1))
-
 -- a place has the mark of its segment with the number of the 32 bytes in which it begins
-mark_itself : (x : Place) → is_mark_of x x.segment (x.offset / 32) ≡ true
+pub mark_itself : (x : Place) → is_mark_of x x.segment (x.offset / 32) ≡ true
 mark_itself x = same_place_itself (record { segment = x.segment; offset = x.offset / 32 })
 
 -- items that share a mark stand at one place
@@ -96,7 +91,8 @@ pub same_mark : (p : PoolState) (a b : Place) (i j : Item) → IsPool p → item
 same_mark p a b i j k e f h =
     let parts = is_of_place a b.segment (b.offset / 32) h in
     let offset = own_marks p a b i j k e f parts.0 parts.1 in
-    ap (λ n. record { segment = n; offset = a.offset }) parts.0 ∙ ap (λ n. record { segment = b.segment; offset = n }) offset
+    ap (λ n. record { segment = n; offset = a.offset }) parts.0
+    ∙ ap (λ n. record { segment = b.segment; offset = n }) offset
 
 -- where a choice is true and its first side false, the second side was taken, and is true
 mark_if : (b m x : Bool) → (if m then b else x) ≡ true → b ≡ false → (m ≡ false) × (x ≡ true)
@@ -108,7 +104,8 @@ pub other_mark : (t : Marks) (p : PoolState) (place r : Place) (i j : Item) → 
     → item_in p r ≡ Some j → (place ≡ r → ⊥) → is_marked t r ≡ true
     → is_marked (with_mark false t place) r ≡ true
 other_mark t p place r i j known e f differ h =
-    let at = mark_after false t place r.segment (r.offset / 32) known.sized (item_within t p place known (some_item p place i e)) in
+    let at = mark_after false t place r.segment (r.offset / 32) known.sized
+    (item_within t p place known (some_item p place i e)) in
     elim (cases_Bool (is_mark_of place r.segment (r.offset / 32))) [
       | inl y ↦ absurd (differ (same_mark p place r i j known.pool e f y))
       | inr n ↦ at ∙ rw n h
@@ -119,22 +116,29 @@ pub left_mark : (t : Marks) (p : PoolState) (place r : Place) (i : Item) → Kno
     → is_marked (with_mark false t place) r ≡ true
     → (is_marked t r ≡ true) × (place ≡ r → ⊥)
 left_mark t p place r i known e h =
-    let at = mark_after false t place r.segment (r.offset / 32) known.sized (item_within t p place known (some_item p place i e)) in
-    let parts = mark_if false (is_mark_of place r.segment (r.offset / 32)) (is_marked t r) (sym at ∙ h) refl in
-    (parts.1, λ same. false≢true (sym parts.0 ∙ ap (λ (x : Place). is_mark_of x r.segment (r.offset / 32)) same ∙ mark_itself r))
+    let at = mark_after false t place r.segment (r.offset / 32) known.sized
+    (item_within t p place known (some_item p place i e)) in
+    let parts = mark_if false (is_mark_of place r.segment (r.offset / 32)) (is_marked t r) (sym at ∙ h) refl in (
+      parts.1,
+      λ same. false≢true (sym parts.0 ∙ ap (λ (x : Place). is_mark_of x r.segment (r.offset / 32)) same
+          ∙ mark_itself r),
+    )
 
 -- ---- a current item leaves
 
 -- a key that has a place once a key was taken out is another one, and had this place before
-pub removed_at : (m : Places) (key q : List ℕ) (r : Place) → finite.get (finite.remove m key) q ≡ Some r → (q ≡ key → ⊥) × (finite.get m q ≡ Some r)
+pub removed_at : (m : Places) (key q : List ℕ) (r : Place) → finite.get (finite.remove m key) q ≡ Some r
+    → (q ≡ key → ⊥) × (finite.get m q ≡ Some r)
 removed_at m key q r h = by (cases_Bool (bytes_eq q key)) (sym (get-remove m key q) ∙ h)
   where
-    by : (bytes_eq q key ≡ true) ⊎ (bytes_eq q key ≡ false) → cond (bytes_eq q key) None (finite.get m q) ≡ Some r → (q ≡ key → ⊥) × (finite.get m q ≡ Some r)
+    by : (bytes_eq q key ≡ true) ⊎ (bytes_eq q key ≡ false) → cond (bytes_eq q key) None (finite.get m q) ≡ Some r
+        → (q ≡ key → ⊥) × (finite.get m q ≡ Some r)
     by (inl same) e = (let f : None ≡ Some r = rw same at e in absurd (none-some r f))
     by (inr apart) e = (λ same. true_false (sym ((bytes_eq-Decides q key).1 same) ∙ apart), rw apart at e)
 
 -- where a key is taken out, another key keeps its place
-pub removed_other : (m : Places) (key q : List ℕ) (r : Place) → (q ≡ key → ⊥) → finite.get m q ≡ Some r → finite.get (finite.remove m key) q ≡ Some r
+pub removed_other : (m : Places) (key q : List ℕ) (r : Place) → (q ≡ key → ⊥) → finite.get m q ≡ Some r
+    → finite.get (finite.remove m key) q ≡ Some r
 removed_other m key q r differ h =
     elim (cases_Bool (bytes_eq q key)) [
       | inl same ↦ absurd (differ ((bytes_eq-Decides q key).0 same))
@@ -146,7 +150,8 @@ pub inserted_at : (m : Places) (key q : List ℕ) (place r : Place) → finite.g
     → ((q ≡ key) × (place ≡ r)) ⊎ ((q ≡ key → ⊥) × (finite.get m q ≡ Some r))
 inserted_at m key q place r h = by (cases_Bool (bytes_eq q key)) (sym (get-insert m key place q) ∙ h)
   where
-    by : (bytes_eq q key ≡ true) ⊎ (bytes_eq q key ≡ false) → cond (bytes_eq q key) (Some place) (finite.get m q) ≡ Some r
+    by : (bytes_eq q key ≡ true) ⊎ (bytes_eq q key ≡ false)
+        → cond (bytes_eq q key) (Some place) (finite.get m q) ≡ Some r
         → ((q ≡ key) × (place ≡ r)) ⊎ ((q ≡ key → ⊥) × (finite.get m q ≡ Some r))
     by (inl same) e = (let f : Some place ≡ Some r = rw same at e in inl ((bytes_eq-Decides q key).0 same, cc))
     by (inr apart) e = inr (λ same. true_false (sym ((bytes_eq-Decides q key).1 same) ∙ apart), rw apart at e)
@@ -161,17 +166,19 @@ inserted_other m key q place r differ h =
     ]
 
 -- items at the same place have the same key
-keys_same : (p : PoolState) (a b : Place) (i j : Item) → item_in p a ≡ Some i → item_in p b ≡ Some j → a ≡ b → j.key ≡ i.key
+keys_same : (p : PoolState) (a b : Place) (i j : Item) → item_in p a ≡ Some i → item_in p b ≡ Some j → a ≡ b
+    → j.key ≡ i.key
 keys_same p a b i j e f same = (let g : Some j ≡ Some i = sym f ∙ ap (item_in p) (sym same) ∙ e in cc)
 
 -- two places that are equal as options are equal
-one_place : {a b : Place} → Some a ≡ Some b → a ≡ b
+pub one_place : {a b : Place} → Some a ≡ Some b → a ≡ b
 one_place e = cc
 
 -- where a key is taken out of the index and the mark of its place out of the tally, all stays tied
 pub tied_left : (p : PoolState) (index after : Table) (t : Marks) (key : List ℕ) (place : Place) → IsTied p index t
     → finite.get (current p index) key ≡ Some place
-    → IsMap (key_at p) after (finite.remove (current p index) key) → IsSameSize index after → IsTied p after (with_mark false t place)
+    → IsMap (key_at p) after (finite.remove (current p index) key) → IsSameSize index after
+    → IsTied p after (with_mark false t place)
 tied_left p index after t key place tied there m size =
     let x = current_item p index key place there in
     let known = tied.known in
@@ -179,14 +186,17 @@ tied_left p index after t key place tied there m size =
       known = knows_unmark t p place known (item_within t p place known (some_item p place x.0 x.1));
       indexed = m.index;
       held = λ q r h.
-          (let was = removed_at (current p index) key q r (ap (λ (n : Places). finite.get n q) (sym m.places_are) ∙ h) in
+          (let was = removed_at (current p index) key q r
+          (ap (λ (n : Places). finite.get n q) (sym m.places_are) ∙ h) in
           let y = current_item p index q r was.1 in
-          other_mark t p place r x.0 y.0 known x.1 y.1 (λ same. was.0 (sym y.2 ∙ keys_same p place r x.0 y.0 x.1 y.1 same ∙ x.2)) (tied.held q r was.1));
+          other_mark t p place r x.0 y.0 known x.1 y.1
+          (λ same. was.0 (sym y.2 ∙ keys_same p place r x.0 y.0 x.1 y.1 same ∙ x.2)) (tied.held q r was.1));
       marked = λ r j e h.
           (let left = left_mark t p place r x.0 known x.1 h in
           let was = tied.marked r j e left.0 in
           ap (λ (n : Places). finite.get n j.key) m.places_are
-          ∙ removed_other (current p index) key j.key r (λ same. left.1 (one_place (sym there ∙ ap (finite.get (current p index)) (sym same) ∙ was))) was);
+          ∙ removed_other (current p index) key j.key r
+          (λ same. left.1 (one_place (sym there ∙ ap (finite.get (current p index)) (sym same) ∙ was))) was);
       roomy = subst (λ (n : ℕ). 2 * (p.sizes.segments * (p.sizes.segment_size / 32)) ≤ n) (sym size.count) tied.roomy;
       layout = subst (IsLayoutOf p.sizes) (sym size.layout) tied.layout;
     }
@@ -194,8 +204,10 @@ tied_left p index after t key place tied there m size =
 -- ---- the pool changes
 
 -- where each marked place keeps its key, all stays tied
-pub tied_same : (p after : PoolState) (index : Table) (t : Marks) → IsTied p index t → KnowsPool t after → after.sizes ≡ p.sizes
-    → ((r : Place) → is_marked t r ≡ true → key_at after r ≡ key_at p r) → IsTied after index t × (current after index ≡ current p index)
+pub tied_same : (p after : PoolState) (index : Table) (t : Marks) → IsTied p index t → KnowsPool t after
+    → after.sizes ≡ p.sizes
+    → ((r : Place) → is_marked t r ≡ true → key_at after r ≡ key_at p r)
+    → IsTied after index t × (current after index ≡ current p index)
 tied_same p after index t tied known sizes same =
     let m = same_current p after index tied.indexed (λ q r h. same r (tied.held q r h)) in (
       record {
@@ -203,16 +215,19 @@ tied_same p after index t tied known sizes same =
         indexed = m.index;
         held = λ q r h. tied.held q r (ap (λ (n : Places). finite.get n q) (sym m.places_are) ∙ h);
         marked = λ r i e h.
-            (let x = keyed_item p r i.key (sym (same r h) ∙ key_of after r i e) in
-            ap (λ (n : Places). finite.get n i.key) m.places_are ∙ ap (finite.get (current p index)) (sym x.2) ∙ tied.marked r x.0 x.1 h);
-        roomy = subst (λ (s : Sizes). 2 * (s.segments * (s.segment_size / 32)) ≤ length index.slots) (sym sizes) tied.roomy;
+            (let x = keyed_item p r i.key (sym (same r h) ∙ item_key after r i e) in
+            ap (λ (n : Places). finite.get n i.key) m.places_are ∙ ap (finite.get (current p index)) (sym x.2)
+            ∙ tied.marked r x.0 x.1 h);
+        roomy = subst (λ (s : Sizes). 2 * (s.segments * (s.segment_size / 32)) ≤ length index.slots)
+            (sym sizes) tied.roomy;
         layout = subst (λ (s : Sizes). IsLayoutOf s index.layout) (sym sizes) tied.layout;
       },
       m.places_are,
     )
 
 -- an item that was read once more keeps its key, and what is no item has none
-read_key : (o : Option Item) → option_map (λ (i : Item). i.key) (option_map read_again o) ≡ option_map (λ (i : Item). i.key) o
+read_key : (o : Option Item) → option_map (λ (i : Item). i.key) (option_map read_again o)
+    ≡ option_map (λ (i : Item). i.key) o
 read_key None = refl
 read_key (Some i) = refl
 
@@ -226,15 +241,18 @@ touched_key p place r h =
     ]
 
 -- where an item is read, all stays tied, and the current places stay
-pub tied_touched : (p after : PoolState) (index : Table) (t : Marks) (place : Place) → IsTied p index t → IsSome (item_in p place)
+pub tied_touched : (p after : PoolState) (index : Table) (t : Marks) (place : Place) → IsTied p index t
+    → IsSome (item_in p place)
     → IsPool after → after ≡ touched p place
     → IsTied after index t × (current after index ≡ current p index)
 tied_touched p after index t place tied some pool is =
     subst (λ (a : PoolState). IsTied a index t × (current a index ≡ current p index)) (sym is)
-    (tied_same p (touched p place) index t tied (knows_touched t p place tied.known (subst IsPool is pool) some) refl (λ r h. touched_key p place r some))
+    (tied_same p (touched p place) index t tied
+    (knows_touched t p place tied.known (subst IsPool is pool) some) refl (λ r h. touched_key p place r some))
 
 -- where segments without a marked item are given back, a marked place keeps its key, or still has none
-given_key : (t : Marks) (p after : PoolState) (r : Place) (o : Option Item) → IsGivenBack (lives_by t) p after → item_in p r ≡ o → is_marked t r ≡ true
+given_key : (t : Marks) (p after : PoolState) (r : Place) (o : Option Item) → IsGivenBack (lives_by t) p after
+    → item_in p r ≡ o → is_marked t r ≡ true
     → option_map (λ (i : Item). i.key) (item_in after r) ≡ option_map (λ (i : Item). i.key) o
 given_key t p after r None g e h = ap (option_map (λ (i : Item). i.key))
     (given_item (lives_by t) p after r g ∙ none (has_live (lives_by t) p r.segment) (item_in p r) e)
@@ -242,21 +260,26 @@ given_key t p after r None g e h = ap (option_map (λ (i : Item). i.key))
     none : (b : Bool) (o : Option Item) → o ≡ None → (if b then o else None) ≡ None
     none true o e = e
     none false o e = refl
-given_key t p after r (Some i) g e h = ap (option_map (λ (i : Item). i.key)) (live_given (lives_by t) p after r i g e h).0
+given_key t p after r (Some i) g e h = ap (option_map (λ (i : Item). i.key))
+    (live_given (lives_by t) p after r i g e h).0
 
 -- what has no mark is given back
-pub tied_given : (p after : PoolState) (index : Table) (t : Marks) → IsTied p index t → IsPool after → IsGivenBack (lives_by t) p after
+pub tied_given : (p after : PoolState) (index : Table) (t : Marks) → IsTied p index t → IsPool after
+    → IsGivenBack (lives_by t) p after
     → IsTied after index t × (current after index ≡ current p index)
 unfolding key_at
 tied_given p after index t tied pool g =
-    tied_same p after index t tied (knows_given t p after tied.known pool g) g.sizes (λ r h. given_key t p after r (item_in p r) g refl h)
+    tied_same p after index t tied (knows_given t p after tied.known pool g) g.sizes
+    (λ r h. given_key t p after r (item_in p r) g refl h)
 
 -- ---- an item is appended
 
 -- once a place was marked, a place that shares its mark is marked, and another one is if it was
 marked_after : (t : Marks) (p : PoolState) (place r : Place) → KnowsPool t p → IsSome (item_in p place)
-    → is_marked (with_mark true t place) r ≡ (if is_mark_of place r.segment (r.offset / 32) then true else is_marked t r)
-marked_after t p place r known some = mark_after true t place r.segment (r.offset / 32) known.sized (item_within t p place known some)
+    → is_marked (with_mark true t place) r
+    ≡ (if is_mark_of place r.segment (r.offset / 32) then true else is_marked t r)
+marked_after t p place r known some = mark_after true t place r.segment (r.offset / 32) known.sized
+    (item_within t p place known some)
 
 -- a choice between true and what is true is true
 true_or : (b x : Bool) → x ≡ true → (if b then true else x) ≡ true
@@ -273,9 +296,11 @@ no_mark p a b i j k e f n =
     ]
 
 -- where an item of a key without a place is appended, its key put into the index and its place marked, all stays tied
-pub tied_appended : (p after : PoolState) (bucket moment : ℕ) (i : Item) (place : Place) (index found : Table) (t : Marks) → IsTied p index t → IsPool after
+pub tied_appended : (p after : PoolState) (bucket moment : ℕ) (i : Item) (place : Place) (index found : Table)
+    (t : Marks) → IsTied p index t → IsPool after
     → IsAppended p bucket moment i after place → finite.get (current p index) i.key ≡ None
-    → IsMap (key_at after) found (finite.insert (current p index) i.key place) → IsSameSize index found → IsTied after found (with_mark true t place)
+    → IsMap (key_at after) found (finite.insert (current p index) i.key place) → IsSameSize index found
+    → IsTied after found (with_mark true t place)
 tied_appended p after bucket moment i place index found t tied pool a absent m size =
     let known = knows_longer t p bucket moment i after place tied.known pool a in
     let here : item_in after place ≡ Some i = a.items place ∙ (let s = same_place_itself place in rw s refl) in
@@ -284,10 +309,12 @@ tied_appended p after bucket moment i place index found t tied pool a absent m s
       known = knows_appended t p bucket moment i after place tied.known pool a;
       indexed = m.index;
       held = λ q r h.
-          (let was = inserted_at (current p index) i.key q place r (ap (λ (n : Places). finite.get n q) (sym m.places_are) ∙ h) in
+          (let was = inserted_at (current p index) i.key q place r
+          (ap (λ (n : Places). finite.get n q) (sym m.places_are) ∙ h) in
           marked_after t after place r known some ∙
           elim was [
-            | inl new ↦ ap (λ (x : Place). if is_mark_of place x.segment (x.offset / 32) then true else is_marked t x) (sym new.1)
+            | inl new ↦ ap (λ (x : Place). if is_mark_of place x.segment (x.offset / 32) then true else is_marked t x)
+                (sym new.1)
                 ∙ (let y = mark_itself place in rw y refl)
             | inr old ↦ true_or (is_mark_of place r.segment (r.offset / 32)) (is_marked t r) (tied.held q r old.1)
           ]);
@@ -298,29 +325,36 @@ tied_appended p after bucket moment i place index found t tied pool a absent m s
                 let same = same_place_is r place y in
                 let is : Some j ≡ Some i = sym e ∙ ap (item_in after) same ∙ here in
                 let key : j.key ≡ i.key = cc in
-                ap (finite.get (finite.insert (current p index) i.key place)) key ∙ get-insert (current p index) i.key place i.key
+                ap (finite.get (finite.insert (current p index) i.key place)) key
+                ∙ get-insert (current p index) i.key place i.key
                 ∙ (let z = (bytes_eq-Decides i.key i.key).1 refl in rw z refl) ∙ ap Some (sym same)
             | inr n ↦
                 let was : item_in p r ≡ Some j = sym (a.items r ∙ rw n refl) ∙ e in
-                let apart : is_mark_of place r.segment (r.offset / 32) ≡ false = no_mark after place r i j pool here e n in
+                let apart : is_mark_of place r.segment (r.offset / 32) ≡ false =
+                no_mark after place r i j pool here e n in
                 let mark : is_marked t r ≡ true = sym (marked_after t after place r known some ∙ rw apart refl) ∙ h in
                 let old = tied.marked r j was mark in
-                inserted_other (current p index) i.key j.key place r (λ same. none-some r (sym absent ∙ ap (finite.get (current p index)) (sym same) ∙ old)) old
+                inserted_other (current p index) i.key j.key place r
+                (λ same. none-some r (sym absent ∙ ap (finite.get (current p index)) (sym same) ∙ old)) old
           ];
       roomy = subst (λ (n : ℕ). 2 * (after.sizes.segments * (after.sizes.segment_size / 32)) ≤ n) (sym size.count)
-          (subst (λ (s : Sizes). 2 * (s.segments * (s.segment_size / 32)) ≤ length index.slots) (sym a.sizes) tied.roomy);
-      layout = subst (IsLayoutOf after.sizes) (sym size.layout) (subst (λ (s : Sizes). IsLayoutOf s index.layout) (sym a.sizes) tied.layout);
+          (subst (λ (s : Sizes). 2 * (s.segments * (s.segment_size / 32)) ≤ length index.slots)
+          (sym a.sizes) tied.roomy);
+      layout = subst (IsLayoutOf after.sizes) (sym size.layout)
+          (subst (λ (s : Sizes). IsLayoutOf s index.layout) (sym a.sizes) tied.layout);
     }
 
 -- an item is appended in place of the current one of its key
-tied_replaced : (p after : PoolState) (bucket moment : ℕ) (i : Item) (place : Place) (index found : Table) (t : Marks) (source : Place) → IsTied p index t
+tied_replaced : (p after : PoolState) (bucket moment : ℕ) (i : Item) (place : Place) (index found : Table) (t : Marks)
+    (source : Place) → IsTied p index t
     → IsPool after → IsAppended p bucket moment i after place → finite.get (current p index) i.key ≡ Some source
     → IsMap (key_at after) found (finite.insert (current p index) i.key place) → IsSameSize index found
     → IsTied after found (with_mark true (with_mark false t source) place)
 tied_replaced p after bucket moment i place index found t source tied pool a there m size =
     let x = current_item p index i.key source there in
     let u : Marks = with_mark false t source in
-    let known_left = knows_unmark t p source tied.known (item_within t p source tied.known (some_item p source x.0 x.1)) in
+    let known_left = knows_unmark t p source tied.known
+    (item_within t p source tied.known (some_item p source x.0 x.1)) in
     let known = knows_longer u p bucket moment i after place known_left pool a in
     let here : item_in after place ≡ Some i = a.items place ∙ (let s = same_place_itself place in rw s refl) in
     let some = some_item after place i here in
@@ -328,15 +362,18 @@ tied_replaced p after bucket moment i place index found t source tied pool a the
       known = knows_appended u p bucket moment i after place known_left pool a;
       indexed = m.index;
       held = λ q r h.
-          (let was = inserted_at (current p index) i.key q place r (ap (λ (n : Places). finite.get n q) (sym m.places_are) ∙ h) in
+          (let was = inserted_at (current p index) i.key q place r
+          (ap (λ (n : Places). finite.get n q) (sym m.places_are) ∙ h) in
           marked_after u after place r known some ∙
           elim was [
-            | inl new ↦ ap (λ (x : Place). if is_mark_of place x.segment (x.offset / 32) then true else is_marked u x) (sym new.1)
+            | inl new ↦ ap (λ (x : Place). if is_mark_of place x.segment (x.offset / 32) then true else is_marked u x)
+                (sym new.1)
                 ∙ (let y = mark_itself place in rw y refl)
             | inr old ↦
                 let y = current_item p index q r old.1 in
                 true_or (is_mark_of place r.segment (r.offset / 32)) (is_marked u r)
-                (other_mark t p source r x.0 y.0 tied.known x.1 y.1 (λ same. old.0 (sym y.2 ∙ keys_same p source r x.0 y.0 x.1 y.1 same ∙ x.2))
+                (other_mark t p source r x.0 y.0 tied.known x.1 y.1
+                (λ same. old.0 (sym y.2 ∙ keys_same p source r x.0 y.0 x.1 y.1 same ∙ x.2))
                 (tied.held q r old.1))
           ]);
       marked = λ r j e h.
@@ -346,11 +383,13 @@ tied_replaced p after bucket moment i place index found t source tied pool a the
                 let same = same_place_is r place y in
                 let is : Some j ≡ Some i = sym e ∙ ap (item_in after) same ∙ here in
                 let key : j.key ≡ i.key = cc in
-                ap (finite.get (finite.insert (current p index) i.key place)) key ∙ get-insert (current p index) i.key place i.key
+                ap (finite.get (finite.insert (current p index) i.key place)) key
+                ∙ get-insert (current p index) i.key place i.key
                 ∙ (let z = (bytes_eq-Decides i.key i.key).1 refl in rw z refl) ∙ ap Some (sym same)
             | inr n ↦
                 let was : item_in p r ≡ Some j = sym (a.items r ∙ rw n refl) ∙ e in
-                let apart : is_mark_of place r.segment (r.offset / 32) ≡ false = no_mark after place r i j pool here e n in
+                let apart : is_mark_of place r.segment (r.offset / 32) ≡ false =
+                no_mark after place r i j pool here e n in
                 let mark : is_marked u r ≡ true = sym (marked_after u after place r known some ∙ rw apart refl) ∙ h in
                 let left = left_mark t p source r x.0 tied.known x.1 mark in
                 let old = tied.marked r j was left.0 in
@@ -358,12 +397,15 @@ tied_replaced p after bucket moment i place index found t source tied pool a the
                 (λ same. left.1 (one_place (sym there ∙ ap (finite.get (current p index)) (sym same) ∙ old))) old
           ];
       roomy = subst (λ (n : ℕ). 2 * (after.sizes.segments * (after.sizes.segment_size / 32)) ≤ n) (sym size.count)
-          (subst (λ (s : Sizes). 2 * (s.segments * (s.segment_size / 32)) ≤ length index.slots) (sym a.sizes) tied.roomy);
-      layout = subst (IsLayoutOf after.sizes) (sym size.layout) (subst (λ (s : Sizes). IsLayoutOf s index.layout) (sym a.sizes) tied.layout);
+          (subst (λ (s : Sizes). 2 * (s.segments * (s.segment_size / 32)) ≤ length index.slots)
+          (sym a.sizes) tied.roomy);
+      layout = subst (IsLayoutOf after.sizes) (sym size.layout)
+          (subst (λ (s : Sizes). IsLayoutOf s index.layout) (sym a.sizes) tied.layout);
     }
 
 -- an item is appended, whether its key has one or not
-pub tied_put : (p after : PoolState) (bucket moment : ℕ) (i : Item) (place : Place) (index found : Table) (t : Marks) (source : Option Place) → IsTied p index t
+pub tied_put : (p after : PoolState) (bucket moment : ℕ) (i : Item) (place : Place) (index found : Table) (t : Marks)
+    (source : Option Place) → IsTied p index t
     → IsPool after → IsAppended p bucket moment i after place → source ≡ finite.get (current p index) i.key
     → IsMap (key_at after) found (finite.insert (current p index) i.key place) → IsSameSize index found
     → IsTied after found (marked_instead t source place)
@@ -373,7 +415,8 @@ tied_put p after bucket moment i place index found t (Some source) tied pool a i
     tied_replaced p after bucket moment i place index found t source tied pool a (sym is) m size
 
 -- a current place has a mark of its own
-pub source_within : (p : PoolState) (index : Table) (t : Marks) (key : List ℕ) (source : Option Place) → IsTied p index t
+pub source_within : (p : PoolState) (index : Table) (t : Marks) (key : List ℕ) (source : Option Place)
+    → IsTied p index t
     → source ≡ finite.get (current p index) key → IfSome source (IsWithin t.sizes)
 source_within p index t key None tied is = tt
 source_within p index t key (Some source) tied is =
@@ -383,11 +426,13 @@ source_within p index t key (Some source) tied is =
 -- to take out a key that isn't there changes nothing
 pub removed_none : (m : Places) (key : List ℕ) → finite.get m key ≡ None → m ≡ finite.remove m key
 removed_none m key none =
-    finite.same_map nat_list_cmp_total (slice_cmp-IsAntisymmetric nat_cmp-IsAntisymmetric) m (finite.remove m key) (λ q. elim (cases_Bool (bytes_eq q key)) [
+    finite.same_map nat_list_cmp_total (slice_cmp-IsAntisymmetric nat_cmp-IsAntisymmetric) m (finite.remove m key)
+    (λ q. elim (cases_Bool (bytes_eq q key)) [
       | inl y ↦ ap (finite.get m) ((bytes_eq-Decides q key).0 y) ∙ none ∙ sym (get-remove m key q ∙ rw y refl)
       | inr n ↦ sym (get-remove m key q ∙ rw n refl)
     ])
 
 -- an item stands at a current place
-pub current_some : (p : PoolState) (index : Table) (q : List ℕ) (r : Place) → finite.get (current p index) q ≡ Some r → IsSome (item_in p r)
+pub current_some : (p : PoolState) (index : Table) (q : List ℕ) (r : Place) → finite.get (current p index) q ≡ Some r
+    → IsSome (item_in p r)
 current_some p index q r h = let x = current_item p index q r h in some_item p r x.0 x.1

@@ -29,10 +29,12 @@ use Rattle.segment_store.proofs.Showing.{get-live_in}
 use Rattle.segment_store.proofs.Tying.{current_item}
 
 -- keys of a map without a key are other ones
-other_keys : (e : Entries) (key : List ℕ) (fs : List (List ℕ)) → list_all (finite.contains_key (finite.remove e key)) fs ≡ true → contains_bytes fs key ≡ false
+other_keys : (e : Entries) (key : List ℕ) (fs : List (List ℕ))
+    → list_all (finite.contains_key (finite.remove e key)) fs ≡ true → contains_bytes fs key ≡ false
 other_keys e key [] h = refl
 other_keys e key (f ∷ fs) h =
-    let parts = and_parts (finite.contains_key (finite.remove e key) f) (list_all (finite.contains_key (finite.remove e key)) fs) h in
+    let parts = and_parts (finite.contains_key (finite.remove e key) f)
+    (list_all (finite.contains_key (finite.remove e key)) fs) h in
     let rest = other_keys e key fs parts.1 in
     elim (cases_Bool (bytes_eq key f)) [
       | inl y ↦
@@ -49,26 +51,32 @@ kept_at : (e : Entries) (key : List ℕ) (w : Entry) (f : List ℕ) → finite.c
 kept_at e key w f h =
     elim (cases_Bool (bytes_eq f key)) [
       | inl y ↦
-          let none : finite.contains_key (finite.remove e key) f ≡ false = ap is_some (get-remove e key f) ∙ rw y refl in
+          let none : finite.contains_key (finite.remove e key) f ≡ false =
+          ap is_some (get-remove e key f) ∙ rw y refl in
           absurd (false≢true (sym none ∙ h))
       | inr n ↦ get-insert e key w f ∙ rw n (sym (get-remove e key f ∙ rw n refl))
     ]
 
 -- keys that a map without some key has it also has with another entry at that key
 kept_all : (e : Entries) (key : List ℕ) (w : Entry) (fs : List (List ℕ))
-    → list_all (finite.contains_key (finite.remove e key)) fs ≡ true → list_all (finite.contains_key (finite.insert e key w)) fs ≡ true
+    → list_all (finite.contains_key (finite.remove e key)) fs ≡ true
+    → list_all (finite.contains_key (finite.insert e key w)) fs ≡ true
 kept_all e key w [] h = refl
 kept_all e key w (f ∷ fs) h =
-    let parts = and_parts (finite.contains_key (finite.remove e key) f) (list_all (finite.contains_key (finite.remove e key)) fs) h in
-    let here : finite.contains_key (finite.insert e key w) f ≡ true = ap is_some (kept_at e key w f parts.0) ∙ parts.0 in
+    let parts = and_parts (finite.contains_key (finite.remove e key) f)
+    (list_all (finite.contains_key (finite.remove e key)) fs) h in
+    let here : finite.contains_key (finite.insert e key w) f ≡ true =
+    ap is_some (kept_at e key w f parts.0) ∙ parts.0 in
     rw here (kept_all e key w fs parts.1)
 
 -- the entries of such keys have the same sizes in sum, whether that key is taken out or has another entry
-kept_sizes : (e : Entries) (key : List ℕ) (w : Entry) (fs : List (List ℕ)) → list_all (finite.contains_key (finite.remove e key)) fs ≡ true
+kept_sizes : (e : Entries) (key : List ℕ) (w : Entry) (fs : List (List ℕ))
+    → list_all (finite.contains_key (finite.remove e key)) fs ≡ true
     → sum_by (size_at (finite.insert e key w)) fs ≡ sum_by (size_at (finite.remove e key)) fs
 kept_sizes e key w [] h = refl
 kept_sizes e key w (f ∷ fs) h =
-    let parts = and_parts (finite.contains_key (finite.remove e key) f) (list_all (finite.contains_key (finite.remove e key)) fs) h in
+    let parts = and_parts (finite.contains_key (finite.remove e key) f)
+    (list_all (finite.contains_key (finite.remove e key)) fs) h in
     let here : size_at (finite.insert e key w) f ≡ size_at (finite.remove e key) f = ap
     (λ (o : Option Entry). option_map_or (entry_size f) o 0) (kept_at e key w f parts.0) in
     let rest = kept_sizes e key w fs parts.1 in
@@ -86,7 +94,8 @@ fewer e key =
     ]
 
 -- what may be forgotten of the other entries to make room may be forgotten where a key is written, which isn't forgotten itself
-forgets : (sizes : Sizes) (e : Entries) (key : List ℕ) (w : Entry) (fs : List (List ℕ)) → (fs ≡ []) ⊎ AreEvicted sizes (finite.remove e key) fs
+forgets : (sizes : Sizes) (e : Entries) (key : List ℕ) (w : Entry) (fs : List (List ℕ))
+    → (fs ≡ []) ⊎ AreEvicted sizes (finite.remove e key) fs
     → ((fs ≡ []) ⊎ MayEvict sizes e (finite.insert e key w) key fs) × (contains_bytes fs key ≡ false)
 forgets sizes e key w fs (inl none) = (inl none, ap (λ (xs : List (List ℕ)). contains_bytes xs key) none)
 forgets sizes e key w fs (inr h) =
@@ -94,8 +103,15 @@ forgets sizes e key w fs (inr h) =
     let less = fewer e key in
     let many = h.full in
     let sums = kept_sizes e key w fs h.present in
-    let small = h.bounded in
-    (inr record { not_stored = other; present = kept_all e key w fs h.present; full = omega (arith, less, many); bounded = omega (arith, sums, small) }, other)
+    let small = h.bounded in (
+      inr record {
+        not_stored = other;
+        present = kept_all e key w fs h.present;
+        full = omega (arith, less, many);
+        bounded = omega (arith, sums, small);
+      },
+      other,
+    )
 
 -- a key put into what was kept of the other entries
 inserted_kept : (e : Entries) (key : List ℕ) (w : Entry) (fs : List (List ℕ)) → contains_bytes fs key ≡ false
@@ -128,9 +144,11 @@ written_by sizes t e kept new key asked deadline k may is =
     }
 
 -- a key put where it was taken out is put
-pub insert_removed : (m : Entries) (key : List ℕ) (e : Entry) → finite.insert (finite.remove m key) key e ≡ finite.insert m key e
+pub insert_removed : (m : Entries) (key : List ℕ) (e : Entry)
+    → finite.insert (finite.remove m key) key e ≡ finite.insert m key e
 insert_removed m key e =
-    same_entries _ _ (λ q. get-insert (finite.remove m key) key e q ∙ ap (cond (bytes_eq q key) (Some e)) (get-remove m key q)
+    same_entries _ _ (λ q. get-insert (finite.remove m key) key e q
+    ∙ ap (cond (bytes_eq q key) (Some e)) (get-remove m key q)
     ∙ twice (bytes_eq q key) (finite.get m q) ∙ sym (get-insert m key e q))
   where
     twice : (b : Bool) (o : Option Entry) → cond b (Some e) (cond b None o) ≡ cond b (Some e) o
@@ -140,7 +158,8 @@ insert_removed m key e =
 -- ---- what may be written can be stored
 
 -- where something is shown of what may be a place, there is a place
-some_of : (o : Option Place) (p : PoolState) (t : ℕ) → is_some (if_live t (option_map (entry_at p) o)) ≡ true → (r : Place) × (o ≡ Some r)
+some_of : (o : Option Place) (p : PoolState) (t : ℕ) → is_some (if_live t (option_map (entry_at p) o)) ≡ true
+    → (r : Place) × (o ≡ Some r)
 some_of None p t h = absurd (false≢true h)
 some_of (Some r) p t h = (r, refl)
 
@@ -149,9 +168,17 @@ pub may_store : (p : PoolState) (index : Table) (marks : Marks) (t : ℕ) (i : I
     → MayBeWritten p.sizes (shown_entries p index t) i.key i.value
     → i.cas < 2 ^ 64 → i.flags < 2 ^ 32 → i.reads ≡ 0 → IsStorable (item_limit p.sizes) i
 may_store p index marks t i tied (inl f) cas flags reads =
-    record { cas = cas; flags = flags; some_key = f.some_key; short_key = f.short_key; reads = omega (arith, reads); small = f.small }
+    record {
+      cas = cas;
+      flags = flags;
+      some_key = f.some_key;
+      short_key = f.short_key;
+      reads = omega (arith, reads);
+      small = f.small;
+    }
 may_store p index marks t i tied (inr f) cas flags reads =
-    let r = some_of (finite.get (current p index) i.key) p t (ap is_some (sym (get-live_in p (current p index) t i.key)) ∙ f.0) in
+    let r = some_of (finite.get (current p index) i.key) p t
+    (ap is_some (sym (get-live_in p (current p index) t i.key)) ∙ f.0) in
     let x = current_item p index i.key r.0 r.1 in
     let s = item_storable p r.0 x.0 tied.known.pool x.1 in
     let key : length x.0.key ≡ length i.key = ap length x.2 in

@@ -25,20 +25,26 @@ keys_forgotten lives p bucket t i _ (gives_back after full dead given) = []
 keys_forgotten lives p bucket t i _ (evicts after full none evicted) = keys_evicted lives p after evicted
 
 -- Something was evicted, and of what was shown exactly its keys are forgotten.
-pub record IsEvicted (lives : Liveness) (p : PoolState) (index : Table) (after : PoolState) (found : Table) : Type 0 where
+pub record IsEvicted (lives : Liveness) (p : PoolState) (index : Table) (after : PoolState)
+    (found : Table) : Type 0 where
   pub evicted : Evicts lives p after
-  pub entries : (t : ℕ) → shown_entries after found t ≡ without (shown_entries p index t) (keys_evicted lives p after evicted)
+  pub entries : (t : ℕ) → shown_entries after found t
+      ≡ without (shown_entries p index t) (keys_evicted lives p after evicted)
 
 -- Room was made for an item at the moment t, and of what was shown exactly the keys are forgotten that had to be.
-pub record HasMadeRoom (lives : Liveness) (p : PoolState) (index : Table) (bucket t : ℕ) (i : Item) (after : PoolState) (found : Table) : Type 0 where
+pub record HasMadeRoom (lives : Liveness) (p : PoolState) (index : Table) (bucket t : ℕ) (i : Item) (after : PoolState)
+    (found : Table) : Type 0 where
   pub room : MakesRoom lives p bucket t i after
-  pub entries : shown_entries after found t ≡ without (shown_entries p index t) (keys_forgotten lives p bucket t i after room)
+  pub entries : shown_entries after found t
+      ≡ without (shown_entries p index t) (keys_forgotten lives p bucket t i after room)
 
 -- The item was written at the moment t and stands at its key's place; of what was shown exactly the keys are forgotten
 -- that had to be.
-pub record PlacesItem (lives : Liveness) (p : PoolState) (index : Table) (bucket t : ℕ) (i : Item) (after : PoolState) (found : Table) : Type 0 where
+pub record PlacesItem (lives : Liveness) (p : PoolState) (index : Table) (bucket t : ℕ) (i : Item) (after : PoolState)
+    (found : Table) : Type 0 where
   pub place : Place
   pub stands : finite.get (current after found) i.key ≡ Some place
   pub written : IsWrittenTo lives p bucket t i after place
   pub entries : shown_entries after found t ≡
-      finite.insert (without (shown_entries p index t) (keys_forgotten lives p bucket t i written.roomy written.room)) i.key (entry_at after place)
+      finite.insert (without (shown_entries p index t) (keys_forgotten lives p bucket t i written.roomy written.room))
+      i.key (entry_at after place)

@@ -27,15 +27,19 @@ pub record FindsLive (before : Engine SegmentMap) (t : ℕ) (found : MapState) :
 -- What an outcome leaves of what was found: where an item is stored, it is written, and room made for it; of each hit that
 -- is shown one read is counted; else, and where memory is refused, the pool stays.
 pub data LeavesSegments (found : MapState) (done : Outcome) (after : MapState) : Reply → Type 0 where
-  writes : (key : List ℕ) (entry : Entry) → done.stored ≡ Some key → done.entries ≡ finite.insert (shown_entries found.pool found.index found.moment) key entry
+  writes : (key : List ℕ) (entry : Entry) → done.stored ≡ Some key
+      → done.entries ≡ finite.insert (shown_entries found.pool found.index found.moment) key entry
       → WritesToSegments found key entry after → LeavesSegments found done after done.reply
-  reads : (hits : List Hit) → done.stored ≡ None → done.reply ≡ Values hits → CountsEach IsReadAgain found (keys_of hits) after
+  reads : (hits : List Hit) → done.stored ≡ None → done.reply ≡ Values hits
+      → CountsEach IsReadAgain found (keys_of hits) after
       → LeavesSegments found done after done.reply
-  stays : done.stored ≡ None → has_hits done.reply ≡ false → after.pool ≡ found.pool → LeavesSegments found done after done.reply
+  stays : done.stored ≡ None → has_hits done.reply ≡ false → after.pool ≡ found.pool
+      → LeavesSegments found done after done.reply
   refuses : after.pool ≡ found.pool → LeavesSegments found done after NoMemory
 
 -- the request's outcome is left of what it finds at the moment
-pub record HandlesSegments (before : Engine SegmentMap) (t : ℕ) (q : Request) (reply : Reply) (after : Engine SegmentMap) : Type 0 where
+pub record HandlesSegments (before : Engine SegmentMap) (t : ℕ) (q : Request) (reply : Reply)
+    (after : Engine SegmentMap) : Type 0 where
   pub found : MapState
   pub is_found : FindsLive before t found
   pub leaves : LeavesSegments found (outcome_at (sizes_in before) (segmented_cache before) t q) after.map reply

@@ -16,8 +16,10 @@ use Rattle.segment_store.specs.Shown.{current}
 pub record IsTied (p : PoolState) (index : Table) (tally : Marks) : Type 0 where
   pub known : KnowsPool tally p
   pub indexed : IsIndex (key_at p) index
-  pub held : (key : List ℕ) (place : Place) → finite.get (current p index) key ≡ Some place → is_marked tally place ≡ true
-  pub marked : (place : Place) (i : Item) → item_in p place ≡ Some i → is_marked tally place ≡ true → finite.get (current p index) i.key ≡ Some place
+  pub held : (key : List ℕ) (place : Place) → finite.get (current p index) key ≡ Some place
+      → is_marked tally place ≡ true
+  pub marked : (place : Place) (i : Item) → item_in p place ≡ Some i → is_marked tally place ≡ true
+      → finite.get (current p index) i.key ≡ Some place
   pub roomy : 2 * (p.sizes.segments * (p.sizes.segment_size / 32)) ≤ length index.slots
   pub layout : IsLayoutOf p.sizes index.layout
 

@@ -11,13 +11,16 @@ use Rattle.index.specs.Table.{Places}
 pub record HasLeft (segment : ℕ) (old new : Places) : Type 0 where
   pub before : (key : List ℕ) (place : Place) → finite.get new key ≡ Some place → finite.get old key ≡ Some place
   pub elsewhere : (key : List ℕ) (place : Place) → finite.get new key ≡ Some place → place.segment ≢ segment
-  pub others : (key : List ℕ) (place : Place) → finite.get old key ≡ Some place → place.segment ≢ segment → finite.get new key ≡ Some place
+  pub others : (key : List ℕ) (place : Place) → finite.get old key ≡ Some place → place.segment ≢ segment
+      → finite.get new key ≡ Some place
 
 -- exactly the keys have left whose deadline is at or before the moment t
 pub record HaveExpiredLeft (p : PoolState) (t : ℕ) (old new : Places) : Type 0 where
   pub before : (key : List ℕ) (place : Place) → finite.get new key ≡ Some place → finite.get old key ≡ Some place
-  pub waiting : (key : List ℕ) (place : Place) → finite.get new key ≡ Some place → has_arrived (place_deadline p place) t ≡ false
-  pub others : (key : List ℕ) (place : Place) → finite.get old key ≡ Some place → has_arrived (place_deadline p place) t ≡ false → finite.get new key ≡ Some place
+  pub waiting : (key : List ℕ) (place : Place) → finite.get new key ≡ Some place
+      → has_arrived (place_deadline p place) t ≡ false
+  pub others : (key : List ℕ) (place : Place) → finite.get old key ≡ Some place
+      → has_arrived (place_deadline p place) t ≡ false → finite.get new key ≡ Some place
 
 -- the marks where a place has one in place of another
 abbrev pub marked_instead : Marks → Option Place → Place → Marks

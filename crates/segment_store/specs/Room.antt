@@ -28,7 +28,8 @@ pub record AreKept (sizes : Sizes) (old new : Entries) : Type 0 where
 
 -- no current item's deadline is at or before the moment t
 abbrev pub AllWait : PoolState → Places → ℕ → Type 0
-AllWait p m t = (key : List ℕ) (place : Place) → finite.get m key ≡ Some place → has_arrived (place_deadline p place) t ≡ false
+AllWait p m t = (key : List ℕ) (place : Place) → finite.get m key ≡ Some place
+    → has_arrived (place_deadline p place) t ≡ false
 
 -- At the moment t all current items are live, and there are no fewer than segments.
 pub record IsCrowded (p : PoolState) (index : Table) (t : ℕ) : Type 0 where
@@ -46,7 +47,8 @@ pub record IsRoomMade (p : PoolState) (index : Table) (t : ℕ) (after : PoolSta
 
 -- The item was written at the moment t with a deadline that it may get in place of the one asked for; of the entries
 -- before it some may have been forgotten.
-pub record IsPut (p : PoolState) (index : Table) (t : ℕ) (i : Item) (asked : Option ℕ) (after : PoolState) (found : Table) : Type 0 where
+pub record IsPut (p : PoolState) (index : Table) (t : ℕ) (i : Item) (asked : Option ℕ) (after : PoolState)
+    (found : Table) : Type 0 where
   pub sizes : after.sizes ≡ p.sizes
   pub past : IsPast after t
   pub deadline : Option ℕ
@@ -57,7 +59,8 @@ pub record IsPut (p : PoolState) (index : Table) (t : ℕ) (i : Item) (asked : O
 
 -- The item was written at the moment t in place of its key's, with a deadline that it may get in place of the one asked for;
 -- of the other entries some may have been forgotten.
-pub record IsPutOver (p : PoolState) (index : Table) (t : ℕ) (i : Item) (asked : Option ℕ) (after : PoolState) (found : Table) : Type 0 where
+pub record IsPutOver (p : PoolState) (index : Table) (t : ℕ) (i : Item) (asked : Option ℕ) (after : PoolState)
+    (found : Table) : Type 0 where
   pub sizes : after.sizes ≡ p.sizes
   pub past : IsPast after t
   pub deadline : Option ℕ

@@ -24,7 +24,8 @@ unread key e = record { cas = e.cas; flags = e.flags; key = key; value = e.value
 -- key's old item is no longer live; the entry stands there with a deadline that it may get.
 pub record WritesToSegments (old : MapState) (key : List ℕ) (entry : Entry) (new : MapState) : Type 0 where
   pub storable : IsStorable (item_limit old.pool.sizes) (unread key entry)
-  pub placed : PlacesItem (live_others key old.tally old.moment) old.pool old.index (bucket_of (time_to_live entry.deadline old.moment)) old.moment
+  pub placed : PlacesItem (live_others key old.tally old.moment) old.pool old.index
+      (bucket_of (time_to_live entry.deadline old.moment)) old.moment
       (unread key entry) new.pool new.index
   pub deadline : Option ℕ
   pub may_live : MayLive old.moment entry.deadline deadline

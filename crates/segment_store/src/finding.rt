@@ -8,8 +8,8 @@ ghost use Rattle.tally.specs.Marks.{Marks};
 ghost use Rattle.segment_store.specs.Kept.{IsTied};
 ghost use Rattle.segment_store.specs.Shown.{current, entry_at, shown_entries};
 
-use engine::deadline::has_arrived;
-use index::index::Index;
+use engine::has_arrived;
+use index::Index;
 use segments::{Place, Pool};
 
 /// The place of the key's item, where that is live at the moment.

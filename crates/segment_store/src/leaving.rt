@@ -6,8 +6,8 @@ ghost use Rattle.segment_store.specs.Kept.{IsTied};
 ghost use Rattle.segment_store.specs.Shown.{current};
 ghost use Rattle.segment_store.specs.Leaving.{HasLeft, HaveExpiredLeft};
 
-use engine::deadline::has_arrived;
-use index::index::Index;
+use engine::has_arrived;
+use index::Index;
 use segments::{Place, Pool};
 use tally::Tally;
 

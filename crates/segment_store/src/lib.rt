@@ -2,10 +2,10 @@
 //! given back whole or merged where room is needed.
 #![tactic(auto)]
 
-pub mod finding;
-pub mod leaving;
-pub mod merging;
-pub mod room;
+mod finding;
+mod leaving;
+mod merging;
+mod room;
 mod segment_map;
 mod store;
 

@@ -7,7 +7,7 @@ ghost use Rattle.segment_store.specs.Forgetting.{IsEvicted};
 ghost use Rattle.segment_store.specs.Merging.{HasPlan};
 ghost use Rattle.segment_store.specs.Room.{IsCrowded, IsRoomMade};
 
-use index::index::Index;
+use index::Index;
 use segments::Pool;
 use tally::Tally;
 

@@ -20,7 +20,7 @@ ghost use Rattle.segment_store.specs.Forgetting.{IsEvicted, HasMadeRoom, PlacesI
 
 use crate::leaving::{leave_expired, leave_key, leave_segment};
 use crate::merging::merge;
-use index::index::Index;
+use index::Index;
 use segments::{ItemRef, NoRoom, Place, Pool};
 use tally::Tally;
 
@@ -62,7 +62,8 @@ fn make_room(pool: &mut Pool, index: &mut Index, tally: &mut Tally, now: u64)
     requires full { IsPoolFull pool.old }
     ensures tied { IsTied pool.new index.new tally.new }
     ensures made { IsRoomMade pool.old index.old now pool.new index.new }
-    ensures room { (bucket : ℕ) → (i : Item) → HasNoRoom pool.old bucket now i → HasMadeRoom (live_marks tally.old now) pool.old index.old bucket now i pool.new index.new }
+    ensures room { (bucket : ℕ) → (i : Item) → HasNoRoom pool.old bucket now i
+        → HasMadeRoom (live_marks tally.old now) pool.old index.old bucket now i pool.new index.new }
 {
     leave_expired(pool, index, tally, now);
     if pool.give_back(tally) == 0 {

@@ -1,21 +1,20 @@
 //! The map of live entries that stand in segments.
 
-ghost use Rattle.std.specs.Prelude.{◌≡◌, ◌≤◌, ◌<◌, [], false, IfOk};
+ghost use Rattle.std.specs.Prelude.{◌≡◌, ◌≤◌, ◌<◌, [], false, IfOk, IsSome};
 ghost use Rattle.proto.specs.Cache.{no_entries};
 ghost use Rattle.proto.specs.Buckets.{time_to_live};
+ghost use Rattle.segments.specs.Pools.{item_in, place_deadline};
+ghost use Rattle.engine.specs.Shown.{entry_of};
 ghost use Rattle.segment_store.specs.Kept.{IsTied};
-ghost use Rattle.segment_store.specs.Shown.{shown_entries};
+ghost use Rattle.segment_store.specs.Shown.{entry_at, shown_entries};
 ghost use Rattle.segment_store.specs.Keeping.{KeepsStored};
 
 use crate::finding::find;
 use crate::leaving::{leave_all, leave_key};
 use crate::room::write;
 use engine::{EntryRef, LiveMap};
-use index::index::Index;
-use index::layout::layout_for;
-use index::sizing::slots_for;
-use proto::geometry::Geometry;
-use proto::no_memory::NoMemory;
+use index::{Index, layout_for, slots_for};
+use proto::{Geometry, NoMemory};
 use segments::{ItemRef, Place, Pool, bucket_of};
 use std::alloc::Global;
 use std::marker::Model;
@@ -47,6 +46,21 @@ fn time_to_live(deadline: Option<u64>, now: u64) -> Option<u64>
 {
     let deadline = deadline?;
     Some(deadline.saturating_sub(now).max(1))
+}
+
+/// The entry of the item at a place, lent.
+fn entry_at<'a>(pool: &'a Pool, place: Place) -> EntryRef<'a>
+    requires { IsSome (item_in pool.now place) }
+    ensures entry { entry_of result ≡ entry_at pool.now place }
+    ensures deadline { result.deadline ≡ place_deadline pool.now place }
+{
+    let item = pool.item(place);
+    EntryRef {
+        value: item.value,
+        flags: item.flags,
+        deadline: item.deadline,
+        cas: item.cas,
+    }
 }
 
 impl SegmentMap {
@@ -106,14 +120,11 @@ impl LiveMap for SegmentMap {
 
     fn get<'a>(&'a self, key: &[u8]) -> Option<(EntryRef<'a>, Place)> {
         let place = find(&self.pool, &self.index, self.moment, key)?;
-        let item = self.pool.item(place);
-        let entry = EntryRef {
-            value: item.value,
-            flags: item.flags,
-            deadline: item.deadline,
-            cas: item.cas,
-        };
-        Some((entry, place))
+        Some((entry_at(&self.pool, place), place))
+    }
+
+    fn entry_at<'a>(&'a self, _key: &[u8], place: Place) -> EntryRef<'a> {
+        entry_at(&self.pool, place)
     }
 
     fn contains_key(&self, key: &[u8]) -> bool {

@@ -11,9 +11,7 @@ ghost use Rattle.segment_store.specs.StayingFilled.{StaysFilled};
 
 use crate::segment_map::SegmentMap;
 use engine::{Engine, StorageEngine};
-use proto::geometry::Geometry;
-use proto::message::{Reply, Request};
-use proto::no_memory::NoMemory;
+use proto::{Geometry, NoMemory, Reply, Request};
 use std::alloc::Global;
 
 /// The segmented cache.
@@ -94,7 +92,8 @@ impl Store {
         ensures bounded { StaysFilled self.old.engine now request.old result self.new.engine }
 
         // where memory was refused, what was found stays; and only what shows a hit needs any
-        ensures refused { result ≡ Reply.NoMemory → segmented_cache self.new.engine ≡ found_at (segmented_cache self.old.engine) now }
+        ensures refused { result ≡ Reply.NoMemory
+            → segmented_cache self.new.engine ≡ found_at (segmented_cache self.old.engine) now }
         ensures succeeds { needs_memory false (outcome_at (sizes_in self.old.engine) (segmented_cache self.old.engine) now request.old) ≡ false → result ≢ Reply.NoMemory }
     {
         self.engine.execute_at(now, request)

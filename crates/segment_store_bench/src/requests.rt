@@ -1,10 +1,6 @@
 //! Requests of the numbered keys.
 
-use proto::byte_string::ByteString;
-use proto::keys::Keys;
-use proto::message::{Put, Request};
-use proto::no_memory::NoMemory;
-use proto::words::Words;
+use proto::{ByteString, Keys, NoMemory, Put, Request, Words};
 use std::alloc::Global;
 
 /// How many bytes a small value has.

@@ -3,7 +3,7 @@
 use crate::requests::sets;
 use anyhow::Result;
 use engine::StorageEngine;
-use proto::message::{Reply, Request};
+use proto::{Reply, Request};
 use std::alloc::Global;
 use std::io::{Eprint, Print};
 use std::time::{Clock, Duration, Instant};

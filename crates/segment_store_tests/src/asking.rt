@@ -1,10 +1,7 @@
 //! Requests and answers as texts.
 
 use engine::{MAX_MOMENT, StorageEngine};
-use proto::message::{Message, Next};
-use proto::next::next_message;
-use proto::no_memory::NoMemory;
-use proto::show::show;
+use proto::{Message, Next, NoMemory, next_message, show};
 use std::alloc::Global;
 
 /// What the store answers to the text of one request at the moment; nothing where that isn't one, or the moment has gone by.

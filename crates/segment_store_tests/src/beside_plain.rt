@@ -4,7 +4,7 @@
 use crate::asking::answer;
 use crate::random::Random;
 use plain_store::Store as PlainStore;
-use proto::geometry::Geometry;
+use proto::Geometry;
 use segment_store::Store;
 use std::alloc::{AllocError, Global};
 use std::process::Abort;

@@ -3,7 +3,7 @@
 
 use crate::random::Random;
 use crate::session::answers;
-use proto::geometry::Geometry;
+use proto::Geometry;
 use segment_store::Store;
 use std::alloc::Global;
 use std::process::Abort;

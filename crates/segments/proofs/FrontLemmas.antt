@@ -14,7 +14,8 @@ use Rattle.segments.specs.Merges.{opened_in, front_of, merged_in}
 -- ---- the first four segments of a front
 
 -- a first number that passes or ends the run leaves a cut where it was
-while_step : (p : ℕ → Bool) (b : Bool) (x : ℕ) (xs ys : List ℕ) (n : ℕ) → xs ≡ take n ys → cond b (x ∷ xs) [] ≡ take (suc n) (cond b (x ∷ ys) [])
+while_step : (p : ℕ → Bool) (b : Bool) (x : ℕ) (xs ys : List ℕ) (n : ℕ) → xs ≡ take n ys
+    → cond b (x ∷ xs) [] ≡ take (suc n) (cond b (x ∷ ys) [])
 while_step p true x xs ys n e = ap (λ zs. x ∷ zs) e
 while_step p false x xs ys n e = refl
 
@@ -23,7 +24,8 @@ while_take : (p : ℕ → Bool) (n : ℕ) (xs : List ℕ) → take_while p (take
 while_take p zero xs = refl
 while_take p (suc n) [] = refl
 while_take p (suc n) (x ∷ xs) =
-    take_while-cons p x (take n xs) ∙ while_step p (p x) x (take_while p (take n xs)) (take_while p xs) n (while_take p n xs)
+    take_while-cons p x (take n xs) ∙ while_step p (p x) x (take_while p (take n xs)) (take_while p xs) n
+    (while_take p n xs)
     ∙ ap (take (suc n)) (sym (take_while-cons p x xs))
 
 -- a cut leaves the first number, to whose moment the others are compared
@@ -75,11 +77,13 @@ first_four xs = take (length (take 5 xs) - 1) (take 5 xs)
 -- both ways of cutting agree, whether the items have deadlines or not
 front_by : (us : List (Option Used)) (f : ℕ) (r : List ℕ) (l : Bool) (c : (k : ℕ) × IsCut (f ∷ r) (length r) k)
     → (if l then first_four (f ∷ r) else same_opening us (first_four (f ∷ r)))
-    ≡ take 4 (if l then take (length r) (f ∷ r) else take_while (λ n. eqb (opened_in us n) (opened_in us f)) (take (length r) (f ∷ r)))
+    ≡ take 4 (if l then take (length r) (f ∷ r)
+    else take_while (λ n. eqb (opened_in us n) (opened_in us f)) (take (length r) (f ∷ r)))
 front_by us f r true c = c.1.first ∙ sym c.1.four
 front_by us f r false c =
     let q : ℕ → Bool = λ n. eqb (opened_in us n) (opened_in us f) in
-    ap (same_opening us) c.1.first ∙ same_while us f r c.0 ∙ ap (take_while q) (sym c.1.four) ∙ while_take q 4 (take (length r) (f ∷ r))
+    ap (same_opening us) c.1.first ∙ same_while us f r c.0 ∙ ap (take_while q) (sym c.1.four)
+    ∙ while_take q 4 (take (length r) (f ∷ r))
 
 -- of no segments both ways leave none
 nothing_by : (us : List (Option Used)) (l : Bool) → (if l then first_four [] else same_opening us (first_four [])) ≡ []
@@ -114,7 +118,8 @@ few_by us n f r false =
     omega arith
 
 -- a number stands in the first four of a front no more often than in the chain without its tail
-pub front_few : (us : List (Option Used)) (b n : ℕ) (xs : List ℕ) → times n (take 4 (front_of us b xs)) ≤ times n (take (length xs - 1) xs)
+pub front_few : (us : List (Option Used)) (b n : ℕ) (xs : List ℕ)
+    → times n (take 4 (front_of us b xs)) ≤ times n (take (length xs - 1) xs)
 front_few us b n [] = omega arith
 front_few us b n (f ∷ r) =
     let h = few_by us n f r (eqb b lasting) in
@@ -123,7 +128,8 @@ front_few us b n (f ∷ r) =
 
 -- the first four of a front are no more than the chain
 short_by : (us : List (Option Used)) (f : ℕ) (r : List ℕ) (l : Bool)
-    → length (take 4 (if l then take (length r) (f ∷ r) else take_while (λ m. eqb (opened_in us m) (opened_in us f)) (take (length r) (f ∷ r))))
+    → length (take 4 (if l then take (length r) (f ∷ r)
+    else take_while (λ m. eqb (opened_in us m) (opened_in us f)) (take (length r) (f ∷ r))))
     ≤ length (f ∷ r)
 short_by us f r true =
     let a = length-take 4 (take (length r) (f ∷ r)) in
@@ -146,7 +152,8 @@ front_short us b (f ∷ r) = short_by us f r (eqb b lasting)
 
 -- what holds of all numbers of a chain holds of those of its front
 front_all_by : (P : ℕ → Type 0) (us : List (Option Used)) (f : ℕ) (r : List ℕ) (l : Bool) → All P (f ∷ r)
-    → All P (if l then take (length r) (f ∷ r) else take_while (λ n. eqb (opened_in us n) (opened_in us f)) (take (length r) (f ∷ r)))
+    → All P (if l then take (length r) (f ∷ r)
+    else take_while (λ n. eqb (opened_in us n) (opened_in us f)) (take (length r) (f ∷ r)))
 front_all_by P us f r true all = All-take P (length r) (f ∷ r) all
 front_all_by P us f r false all = All-take P _ (take (length r) (f ∷ r)) (All-take P (length r) (f ∷ r) all)
 
@@ -156,6 +163,8 @@ All-front P us b [] all = all
 All-front P us b (f ∷ r) all = front_all_by P us f r (eqb b lasting) all
 
 -- what holds of all numbers of the order holds of those that are merged
-pub All-merged : (P : ℕ → Type 0) (us : List (Option Used)) (order : List ℕ) (b : ℕ) → All P order → All P (merged_in us order b)
+pub All-merged : (P : ℕ → Type 0) (us : List (Option Used)) (order : List ℕ) (b : ℕ) → All P order
+    → All P (merged_in us order b)
 All-merged P us order b all =
-    All-take P 4 (front_of us b (chain_in us order b)) (All-front P us b (chain_in us order b) (All-filter (in_bucket us b) P order all))
+    All-take P 4 (front_of us b (chain_in us order b))
+    (All-front P us b (chain_in us order b) (All-filter (in_bucket us b) P order all))

@@ -59,13 +59,15 @@ until_part p q k t (n ∷ later) all =
     ]
 
 -- the numbers that stay are in the order in which they were
-in_order_of : (p q : PoolState) (k : IsPart p q) (numbers : List ℕ) → AreInTime p numbers → AreInTime q (filter k.stays numbers)
+in_order_of : (p q : PoolState) (k : IsPart p q) (numbers : List ℕ) → AreInTime p numbers
+    → AreInTime q (filter k.stays numbers)
 in_order_of p q k [] f = tt
 in_order_of p q k (n ∷ later) f =
     let rest = in_order_of p q k later f.1 in
     elim (cases_Bool (k.stays n)) [
       | inl y ↦
-          let here : All (λ m. opened_at q n ≤ opened_at p m) later = subst (λ (x : ℕ). All (λ m. x ≤ opened_at p m) later) (sym (k.opened n y)) f.0 in
+          let here : All (λ m. opened_at q n ≤ opened_at p m) later =
+          subst (λ (x : ℕ). All (λ m. x ≤ opened_at p m) later) (sym (k.opened n y)) f.0 in
           let both : AreInTime q (n ∷ filter k.stays later) = (from_part p q k (opened_at q n) later here, rest) in
           subst (λ (b : Bool). AreInTime q (passing k.stays n later b)) (sym y) both
       | inr g ↦ subst (λ (b : Bool). AreInTime q (passing k.stays n later b)) (sym g) rest
@@ -78,7 +80,10 @@ order_part p q k f = subst (AreInTime q) (sym k.order) (in_order_of p q k p.orde
 -- a part of what is in time is in time
 pub in_time_part : (p q : PoolState) (t : ℕ) → IsPart p q → IsInTime p t → IsInTime q t
 in_time_part p q t k f =
-    record { order = order_part p q k f.order; past = subst (All (λ m. opened_at q m ≤ t)) (sym k.order) (until_part p q k t p.order f.past) }
+    record {
+      order = order_part p q k f.order;
+      past = subst (All (λ m. opened_at q m ≤ t)) (sym k.order) (until_part p q k t p.order f.past);
+    }
 
 -- ---- what leaves a part
 
@@ -89,7 +94,8 @@ part_given lives p after g =
       stays = has_live lives p;
       order = g.order;
       opened = λ n y.
-          (let same : segment_at after n ≡ segment_at p n = g.segments n ∙ rw y refl in ap (λ o. option_map_or (λ (s : Used). s.opened) o 0) same);
+          (let same : segment_at after n ≡ segment_at p n = g.segments n ∙ rw y refl in
+          ap (λ o. option_map_or (λ (s : Used). s.opened) o 0) same);
     }
 
 -- a segment that is cleared leaves the others
@@ -106,14 +112,17 @@ part_cleared p n some =
 
 -- other items leave the moment at which a segment was opened
 filled_opened : (items : List Item) (o : Option Used)
-    → option_map_or (λ (s : Used). s.opened) (option_map (with_items items) o) 0 ≡ option_map_or (λ (s : Used). s.opened) o 0
+    → option_map_or (λ (s : Used). s.opened) (option_map (with_items items) o) 0
+    ≡ option_map_or (λ (s : Used). s.opened) o 0
 filled_opened items None = refl
 filled_opened items (Some u) = refl
 
 -- a merge leaves the moments of the segments that stay
 merged_opened : (items : List Item) (p : PoolState) (first n : ℕ) (b : Bool) → (n == first) ≡ b
-    → option_map_or (λ (s : Used). s.opened) (if b then option_map (with_items items) (segment_at p first) else segment_at p n) 0 ≡ opened_at p n
-merged_opened items p first n true e = filled_opened items (segment_at p first) ∙ ap (opened_at p) (sym (eqb-true n first e))
+    → option_map_or (λ (s : Used). s.opened)
+    (if b then option_map (with_items items) (segment_at p first) else segment_at p n) 0 ≡ opened_at p n
+merged_opened items p first n true e = filled_opened items (segment_at p first)
+    ∙ ap (opened_at p) (sym (eqb-true n first e))
 merged_opened items p first n false e = refl
 
 -- segments that are merged leave the first of them, and the others
@@ -126,7 +135,8 @@ part_merged p b items qualifying =
     let whole : merged_segments p b ≡ first ∷ others = f.1.1.1.whole in
     let z = eq-eqb first first refl in
     let some : 1 ≤ times first (merged_segments p b) =
-    (let e : times first (merged_segments p b) ≡ 1 + times first others = ap (times first) whole ∙ rw z refl in omega (arith, e)) in
+    (let e : times first (merged_segments p b) ≡ 1 + times first others = ap (times first) whole ∙ rw z refl in
+    omega (arith, e)) in
     let used = merged_in_chain p b first some in
     subst (λ (xs : List ℕ). IsPart p (merged_into p b xs items)) (sym whole)
     (record {
@@ -156,8 +166,10 @@ oldest_used p n k e = used_if (segment_at p n) (times n p.order) (k.named n) (ol
 
 -- an eviction leaves a part
 pub part_evicted : (lives : Liveness) (p after : PoolState) → IsPool p → Evicts lives p after → IsPart p after
-part_evicted lives p after k (inl m) = subst (IsPart p) (sym m.after_is) (part_merged p m.bucket (kept_items m.judged) m.next.qualifying)
-part_evicted lives p after k (inr c) = subst (IsPart p) (sym c.after_is) (part_cleared p c.segment (oldest_used p c.segment k c.is_oldest))
+part_evicted lives p after k (inl m) = subst (IsPart p) (sym m.after_is)
+    (part_merged p m.bucket (kept_items m.judged) m.next.qualifying)
+part_evicted lives p after k (inr c) = subst (IsPart p) (sym c.after_is)
+    (part_cleared p c.segment (oldest_used p c.segment k c.is_oldest))
 
 -- ---- what a write and a read leave
 
@@ -167,11 +179,13 @@ pub in_time_free : (p : PoolState) (b t : ℕ) (i : Item) (after : PoolState) (p
 in_time_free p b t i after place k a time =
     let n = place.segment in
     let new = opened_new p b t i after place k a in
-    let alike = alike_same p after p.order (same_all p after p.order (λ m h. new.others m (not_free p n m k a.free h))) in
+    let alike = alike_same p after p.order
+    (same_all p after p.order (λ m h. new.others m (not_free p n m k a.free h))) in
     let past = past_alike p after t p.order alike time.past in
     let opened = new.opened in
     record {
-      order = subst (AreInTime after) (sym new.order) (in_time_push after t n p.order (in_time_alike p after p.order alike time.order) past opened);
+      order = subst (AreInTime after) (sym new.order)
+          (in_time_push after t n p.order (in_time_alike p after p.order alike time.order) past opened);
       past = subst (All (λ m. opened_at after m ≤ t)) (sym new.order)
           (All-append (λ m. opened_at after m ≤ t) p.order (n ∷ []) past
           (All-cons (λ m. opened_at after m ≤ t) n [] (omega arith) (All-nil (λ m. opened_at after m ≤ t))));
@@ -186,4 +200,5 @@ in_time_appended p b t i after place k (inr a) time = in_time_free p b t i after
 
 -- a read changes no order
 pub order_touched : (p : PoolState) (place : Place) → IsInOrder p → IsInOrder (touched p place)
-order_touched p place f = in_time_alike p (touched p place) p.order (alike_all p (touched p place) p.order (λ n _. read_alike p place n)) f
+order_touched p place f = in_time_alike p (touched p place) p.order
+    (alike_all p (touched p place) p.order (λ n _. read_alike p place n)) f

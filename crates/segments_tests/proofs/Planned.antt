@@ -8,7 +8,14 @@ use Rattle.tally.proofs.MarkedPlaces.{knows_planned, knows_unplanned}
 
 -- marks that know a pool still know it once a merge was planned or none could be, and the pool's sizes stay
 pub planned_known : (t : Marks) (p q : PoolState) (b : Bool)
-    → MatchBool b ((plan : Plan) × IsPlan (lives_by t) p plan × (q ≡ planned p plan)) (NoneQualifies p × (q ≡ unplanned p))
+    → MatchBool b ((plan : Plan) × IsPlan (lives_by t) p plan × (q ≡ planned p plan))
+    (NoneQualifies p × (q ≡ unplanned p))
     → KnowsPool t p → IsPool q → KnowsPool t q × (q.sizes ≡ p.sizes)
-planned_known t p q true h known k = (subst (KnowsPool t) (sym h.2) (knows_planned t p h.0 known (subst IsPool h.2 k)), ap (λ r. r.sizes) h.2)
-planned_known t p q false h known k = (subst (KnowsPool t) (sym h.1) (knows_unplanned t p known (subst IsPool h.1 k)), ap (λ r. r.sizes) h.1)
+planned_known t p q true h known k = (
+  subst (KnowsPool t) (sym h.2) (knows_planned t p h.0 known (subst IsPool h.2 k)),
+  ap (λ r. r.sizes) h.2,
+)
+planned_known t p q false h known k = (
+  subst (KnowsPool t) (sym h.1) (knows_unplanned t p known (subst IsPool h.1 k)),
+  ap (λ r. r.sizes) h.1,
+)

@@ -3,25 +3,14 @@ use Rattle.std.proofs.Common.{◌≡◌, ℕ, ◌+◌, List, [], ◌∷◌, ◌+
 use Rattle.std.specs.Prelude.{All}
 use Rattle.std.proofs.lemmas.List.Elements.{All-cons, All-nil, All-tail}
 use Rattle.std.proofs.lemmas.List.Sums.{sum_by_push}
-use Rattle.segments.specs.Items.{Item, item_size, size_of_all, item_at}
+use Rattle.segments.specs.Items.{Item, size_of_item, size_of_all, item_at}
 use Rattle.segments.specs.Pools.{PoolState, Standing, segment_at, item_in, items_of, standing_from, standing}
 use Rattle.segments.proofs.WalkLemmas.{item_behind}
-
--- each item of a segment behind the first few is found at its place, counted from the end of those few
-found_from : (p : PoolState) (n : ℕ) (before behind : List Item) → items_of (segment_at p n) ≡ before ++ behind
-    → All (λ s. item_in p s.place ≡ Some s.item) (standing_from n (size_of_all before) behind)
-found_from p n before [] e = All-nil (λ s. item_in p s.place ≡ Some s.item)
-found_from p n before (i ∷ behind) e =
-    let here : item_in p (record { segment = n; offset = size_of_all before }) ≡ Some i = ap (λ xs. item_at xs (size_of_all before)) e
-    ∙ item_behind before i behind in
-    let next : size_of_all (before ++ i ∷ []) ≡ size_of_all before + item_size i = sum_by_push item_size before i in
-    All-cons (λ s. item_in p s.place ≡ Some s.item) (record { place = record { segment = n; offset = size_of_all before }; item = i })
-    (standing_from n (size_of_all before + item_size i) behind) here
-    (subst (λ o. All (λ s. item_in p s.place ≡ Some s.item) (standing_from n o behind)) next
-    (found_from p n (before ++ i ∷ []) behind (e ∙ sym (append_assoc before (i ∷ []) behind))))
+use Rattle.segments.proofs.PlanLemmas.{found_from}
 
 -- each item that is left of a walk from the first one on is found at its place
-pub found : (p : PoolState) (n : ℕ) (left : List Standing) → left ≡ standing p n → All (λ s. item_in p s.place ≡ Some s.item) left
+pub found : (p : PoolState) (n : ℕ) (left : List Standing) → left ≡ standing p n
+    → All (λ s. item_in p s.place ≡ Some s.item) left
 found p n left e =
     subst (All (λ s. item_in p s.place ≡ Some s.item)) (sym e) (found_from p n [] (items_of (segment_at p n)) refl)
 

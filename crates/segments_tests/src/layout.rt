@@ -1,7 +1,7 @@
 //! The bytes of one item.
 
 ghost use Rattle.std.specs.Prelude.{◌≡◌, length};
-ghost use Rattle.segments.specs.Items.{item_bytes, item_size};
+ghost use Rattle.segments.specs.Items.{item_bytes, size_of_item};
 ghost use Rattle.segments_tests.specs.Row.{row, row_bytes};
 
 /// The item with the key `a`, the value `x`, the flags 0, the cas number 1 and no read: its bytes were written down
@@ -9,7 +9,7 @@ ghost use Rattle.segments_tests.specs.Row.{row, row_bytes};
 /// say that it is these bytes.
 fn bytes_of_the_row()
     ensures bytes { item_bytes row ≡ row_bytes }
-    ensures size { item_size row ≡ 32 }
+    ensures size { size_of_item row ≡ 32 }
 {}
 
 #[test]

@@ -5,7 +5,7 @@ ghost use Rattle.tally.specs.Marks.{KnowsPool};
 
 use crate::walks::has_item;
 use crate::writes::Writes;
-use proto::geometry::Geometry;
+use proto::Geometry;
 use segments::{BUCKETS, ItemRef, Move, Place, Pool, size_of};
 use std::alloc::Global;
 use std::test::Fail;

@@ -3,7 +3,7 @@
 ghost use Rattle.std.specs.Prelude.{◌≡◌, IsTrue, IsSome};
 ghost use Rattle.segments.specs.Pools.{item_in};
 
-use proto::geometry::Geometry;
+use proto::Geometry;
 use segments::{Place, Pool};
 
 /// Whether an item stands at the place.

@@ -1,5 +1,8 @@
 //! `segcached serve`, and the seed of its keys' hash.
 #![tactic(auto)]
 
-pub mod seed;
-pub mod serve;
+mod seed;
+mod service;
+
+pub use seed::seed_of;
+pub use service::{serve, serve_geometry};

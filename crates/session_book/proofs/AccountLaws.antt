@@ -15,8 +15,9 @@ use Rattle.proto.proofs.GrammarLaws.{has_reading, has_one_reading}
 use Rattle.session_book.specs.declared.causes.EndCause.{EndCause}
 use Rattle.session_book.specs.Session.{SessionState, left, ended_by, ReadsOn}
 use Rattle.session_book.specs.Accounts.{HasRead, HasSaid, ReadKeeps, SettleKeeps, ReadBegins, ReadIsWhole, SaidBegins}
-use Rattle.session_book.proofs.Answering.{asks-append, said-append, left-append, said_more, left_more, asks-left}
+use Rattle.session_book.proofs.Answering.{said-append, left-append, said_more, left_more, asks-left}
 use Rattle.session_book.proofs.Reading.{SpellEach-append, ended_by-append, not_ended_before, EndsAtLast-append, has_ended_by}
+use Rattle.proto.proofs.AskLemmas.{asks-append}
 
 -- something has ended a session, or nothing has
 some_or_none : (o : Option EndCause) → (is_some o ≡ true) ⊎ (o ≡ None)
@@ -24,7 +25,8 @@ some_or_none None = inr refl
 some_or_none (Some c) = inl refl
 
 -- the joined list ends at its last
-joined_ends : (ms more : List Message) (ended : Option EndCause) → ended ≡ ended_by None ms → (is_some ended ≡ true → more ≡ [])
+joined_ends : (ms more : List Message) (ended : Option EndCause) → ended ≡ ended_by None ms
+    → (is_some ended ≡ true → more ≡ [])
     → EndsAtLast ms → EndsAtLast more → EndsAtLast (ms ++ more)
 joined_ends ms more ended is stops h k =
     elim (some_or_none ended) [
@@ -37,11 +39,13 @@ regroup : (p q u d : List ℕ) → p ++ (q ++ u) ++ d ≡ (p ++ q) ++ u ++ d
 regroup p q u d = simp append_assoc
 
 -- once more messages are read, the bytes fed were read as all of the messages, the new ones last
-read_more : (bytes : List ℕ) (ms more : List Message) (s after : SessionState) → ReadsOn s more after → HasRead bytes ms s → HasRead bytes (ms ++ more) after
+read_more : (bytes : List ℕ) (ms more : List Message) (s after : SessionState) → ReadsOn s more after
+    → HasRead bytes ms s → HasRead bytes (ms ++ more) after
 read_more bytes ms more s after r h = record {
   pieces = h.pieces ++ r.pieces;
   dropped = h.dropped;
-  whole = h.whole ∙ ap (λ (x : List ℕ). concat h.pieces ++ x ++ h.dropped) r.unread ∙ regroup (concat h.pieces) (concat r.pieces) after.unread h.dropped
+  whole = h.whole ∙ ap (λ (x : List ℕ). concat h.pieces ++ x ++ h.dropped) r.unread
+      ∙ regroup (concat h.pieces) (concat r.pieces) after.unread h.dropped
       ∙ ap (λ (x : List ℕ). x ++ after.unread ++ h.dropped) (sym (concat-append h.pieces r.pieces));
   spelled = SpellEach-append h.pieces r.pieces ms more h.spelled r.spelled;
   ends_at_last = joined_ends ms more s.ended h.ended r.not_ended h.ends_at_last r.ends_at_last;
@@ -50,7 +54,8 @@ read_more bytes ms more s after r h = record {
 }
 
 -- no more replies were settled than requests were read
-few : (ms : List Message) (rs : List Reply) (given : List ℕ) (s : SessionState) → HasSaid ms rs given s → length rs ≤ length (asks ms)
+few : (ms : List Message) (rs : List Reply) (given : List ℕ) (s : SessionState) → HasSaid ms rs given s
+    → length rs ≤ length (asks ms)
 few ms rs given s h = omega (arith, h.replied)
 
 -- once more messages are read, the bytes given and the output are what was said to all of them
@@ -58,8 +63,10 @@ say_more : (given : List ℕ) (ms more : List Message) (rs : List Reply) (s afte
     → HasSaid ms rs given s → HasSaid (ms ++ more) rs given after
 say_more given ms more rs s after r h =
     let le : length rs ≤ length (asks ms) = few ms rs given s h in
-    let queue : after.queue ≡ left (ms ++ more) rs = r.queue ∙ ap (λ (q : List Message). left (q ++ more) []) h.queue ∙ sym (left-append ms more rs le) in
-    let le_all : length rs ≤ length (asks (ms ++ more)) = rw asks-append (omega (arith, length-append (asks ms) (asks more))) in
+    let queue : after.queue ≡ left (ms ++ more) rs =
+    r.queue ∙ ap (λ (q : List Message). left (q ++ more) []) h.queue ∙ sym (left-append ms more rs le) in
+    let le_all : length rs ≤ length (asks (ms ++ more)) =
+    rw asks-append (omega (arith, length-append (asks ms) (asks more))) in
     record {
       whole = ap (λ (x : List ℕ). given ++ x) r.out ∙ sym (append_assoc given s.out (said (s.queue ++ more) []))
           ∙ ap (λ (x : List ℕ). x ++ said (s.queue ++ more) []) h.whole
@@ -71,12 +78,14 @@ say_more given ms more rs s after r h =
 
 -- reading keeps what is known of the bytes read and of the answers said
 pub read_keeps : ReadKeeps
-read_keeps bytes given ms more rs s after r h k = (read_more bytes ms more s after r h, say_more given ms more rs s after r k)
+read_keeps bytes given ms more rs s after r h k =
+    (read_more bytes ms more s after r h, say_more given ms more rs s after r k)
 
 -- settling a reply keeps both
 pub settle_keeps : SettleKeeps
 settle_keeps bytes given ms rs r s asked h k =
-    let queue : left s.queue (r ∷ []) ≡ left ms (rs ++ r ∷ []) = ap (λ (q : List Message). left q (r ∷ [])) k.queue ∙ sym (left_more ms rs (r ∷ [])) in
+    let queue : left s.queue (r ∷ []) ≡ left ms (rs ++ r ∷ []) =
+    ap (λ (q : List Message). left q (r ∷ [])) k.queue ∙ sym (left_more ms rs (r ∷ [])) in
     let one : length (rs ++ r ∷ []) ≡ length rs + 1 = length-append rs (r ∷ []) in (
       record {
         pieces = h.pieces;
@@ -88,7 +97,8 @@ settle_keeps bytes given ms rs r s asked h k =
         nothing_dropped = h.nothing_dropped;
       },
       record {
-        whole = sym (append_assoc given s.out (said s.queue (r ∷ []))) ∙ ap (λ (x : List ℕ). x ++ said s.queue (r ∷ [])) k.whole
+        whole = sym (append_assoc given s.out (said s.queue (r ∷ [])))
+            ∙ ap (λ (x : List ℕ). x ++ said s.queue (r ∷ [])) k.whole
             ∙ ap (λ (q : List Message). said ms rs ++ said q (r ∷ [])) k.queue ∙ sym (said_more ms rs (r ∷ []));
         queue = queue;
         replied = omega (arith, asks-left s.queue (r ∷ []) asked, k.replied, one);
@@ -98,9 +108,11 @@ settle_keeps bytes given ms rs r s asked h k =
 -- ---- beginnings
 
 -- a session that has ended has read all
-whole_ended : (bytes rest : List ℕ) (ms all : List Message) (s : SessionState) → is_some s.ended ≡ true → HasRead bytes ms s → Reads bytes all rest → all ≡ ms
+whole_ended : (bytes rest : List ℕ) (ms all : List Message) (s : SessionState) → is_some s.ended ≡ true
+    → HasRead bytes ms s → Reads bytes all rest → all ≡ ms
 whole_ended bytes rest ms all s ended h r =
-    let has : last_ends ms ≡ true = sym (has_ended_by ms h.ends_at_last) ∙ ap (λ (o : Option EndCause). is_some o) (sym h.ended) ∙ ended in
+    let has : last_ends ms ≡ true = sym (has_ended_by ms h.ends_at_last)
+    ∙ ap (λ (o : Option EndCause). is_some o) (sym h.ended) ∙ ended in
     let mine : Reads bytes ms (s.unread ++ h.dropped) = record {
       pieces = h.pieces;
       whole = h.whole ∙ append_assoc (concat h.pieces) s.unread h.dropped;
@@ -114,15 +126,18 @@ whole_ended bytes rest ms all s ended h r =
 reads_behind : (bytes rest : List ℕ) (ms more : List Message) (s : SessionState) → s.ended ≡ None → HasRead bytes ms s
     → Reads s.unread more rest → Reads bytes (ms ++ more) rest
 reads_behind bytes rest ms more s none h r =
-    let kept : bytes ≡ concat h.pieces ++ s.unread = h.whole ∙ ap (λ (d : List ℕ). concat h.pieces ++ s.unread ++ d) (h.nothing_dropped none) ∙ append-nil _ in
+    let kept : bytes ≡ concat h.pieces ++ s.unread =
+    h.whole ∙ ap (λ (d : List ℕ). concat h.pieces ++ s.unread ++ d) (h.nothing_dropped none) ∙ append-nil _ in
     let open_yet : ended_by None ms ≡ None = sym h.ended ∙ none in
     record {
       pieces = h.pieces ++ r.pieces;
-      whole = kept ∙ ap (λ (x : List ℕ). concat h.pieces ++ x) r.whole ∙ sym (append_assoc (concat h.pieces) (concat r.pieces) rest)
+      whole = kept ∙ ap (λ (x : List ℕ). concat h.pieces ++ x) r.whole
+          ∙ sym (append_assoc (concat h.pieces) (concat r.pieces) rest)
           ∙ ap (λ (x : List ℕ). x ++ rest) (sym (concat-append h.pieces r.pieces));
       spelled = SpellEach-append h.pieces r.pieces ms more h.spelled r.spelled;
       ends_at_last = EndsAtLast-append ms more open_yet r.ends_at_last;
-      no_more = λ e. r.no_more (goes_on_behind ms more open_yet r.ends_at_last (EndsAtLast-append ms more open_yet r.ends_at_last) e);
+      no_more = λ e. r.no_more (goes_on_behind ms more open_yet r.ends_at_last
+          (EndsAtLast-append ms more open_yet r.ends_at_last) e);
     }
   where
     goes_on_behind : (ms more : List Message) → ended_by None ms ≡ None → EndsAtLast more → EndsAtLast (ms ++ more)
@@ -138,8 +153,11 @@ read_begins bytes rest ms all s h r =
     elim (some_or_none s.ended) [
       | inl ended ↦ ([], whole_ended bytes rest ms all s ended h r ∙ sym (append-nil ms))
       | inr none ↦
-          let (more, left_over, below) = has_reading s.unread in
-          (more, (has_one_reading bytes rest left_over all (ms ++ more) r (reads_behind bytes left_over ms more s none h below)).0)
+          let (more, left_over, below) = has_reading s.unread in (
+            more,
+            (has_one_reading bytes rest left_over all (ms ++ more) r
+                (reads_behind bytes left_over ms more s none h below)).0,
+          )
     ]
 
 -- bytes of which no beginning spells a message are read as no messages
@@ -163,6 +181,7 @@ said_begins given ms more rs others s h = (
   s.out ++ said (left ms rs ++ more) [] ++ said (left (ms ++ more) rs) others,
   said_more (ms ++ more) rs others
       ∙ ap (λ (x : List ℕ). x ++ said (left (ms ++ more) rs) others)
-      (said-append ms more rs (few ms rs given s h) ∙ ap (λ (x : List ℕ). x ++ said (left ms rs ++ more) []) (sym h.whole))
+      (said-append ms more rs (few ms rs given s h)
+      ∙ ap (λ (x : List ℕ). x ++ said (left ms rs ++ more) []) (sym h.whole))
       ∙ simp append_assoc,
 )

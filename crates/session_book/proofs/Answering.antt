@@ -1,4 +1,4 @@
--- What is said, and what is left to say, when messages or replies come behind.
+-- What is said, and what is left to say, when messages or replies come onto.
 use Rattle.std.proofs.Common.{◌≡◌, ℕ, ◌+◌, ◌≤◌, true, false, List, [], ◌∷◌, ◌++◌, length, Some, None, refl, sym, ap, ◌∙◌, arith, append_assoc}
 use Rattle.proto.specs.declared.message.Request.{Request}
 use Rattle.proto.specs.declared.message.Reply.{Reply}
@@ -7,31 +7,23 @@ use Rattle.proto.specs.declared.message.Message.TheVariants.{Ask, Wrong, Quit, F
 use Rattle.proto.specs.Reading.{asks}
 use Rattle.proto.specs.Answers.{answer, said, is_ask}
 use Rattle.session_book.specs.Session.{left, begins_asked}
+use Rattle.proto.proofs.AskLemmas.{onto}
 
--- requests of joined lists
-pub asks-append : (ms ns : List Message) → asks (ms ++ ns) ≡ asks ms ++ asks ns
-asks-append [] ns = refl
-asks-append (Ask q quiet ∷ ms) ns = ap (λ (qs : List Request). q ∷ qs) (asks-append ms ns)
-asks-append (Wrong kind ∷ ms) ns = asks-append ms ns
-asks-append (Quit ∷ ms) ns = asks-append ms ns
-asks-append (Fatal kind ∷ ms) ns = asks-append ms ns
-
--- bytes in front of two parts go to the first part
-behind : (a b c d : List ℕ) → b ≡ c ++ d → a ++ b ≡ (a ++ c) ++ d
-behind a b c d e = ap (λ (x : List ℕ). a ++ x) e ∙ sym (append_assoc a c d)
-
--- more messages are said behind what is left, where no reply was too many
-pub said-append : (ms ns : List Message) (rs : List Reply) → length rs ≤ length (asks ms) → said (ms ++ ns) rs ≡ said ms rs ++ said (left ms rs ++ ns) []
+-- more messages are said onto what is left, where no reply was too many
+pub said-append : (ms ns : List Message) (rs : List Reply) → length rs ≤ length (asks ms)
+    → said (ms ++ ns) rs ≡ said ms rs ++ said (left ms rs ++ ns) []
 said-append [] ns [] le = refl
 said-append [] ns (r ∷ rs) le = absurd (omega arith)
 said-append (Ask q quiet ∷ ms) ns [] le = refl
-said-append (Ask q quiet ∷ ms) ns (r ∷ rs) le = behind _ _ _ _ (said-append ms ns rs (omega arith))
-said-append (Wrong kind ∷ ms) ns rs le = behind _ _ _ _ (said-append ms ns rs le)
+said-append (Ask q quiet ∷ ms) ns (r ∷ rs) le = onto _ _ _ _ (said-append ms ns rs (omega arith))
+said-append (Wrong kind ∷ ms) ns rs le = onto _ _ _ _ (said-append ms ns rs le)
 said-append (Quit ∷ ms) ns rs le = said-append ms ns rs le
-said-append (Fatal kind ∷ ms) ns rs le = behind _ _ _ _ (said-append ms ns rs le)
+said-append (Fatal kind ∷ ms) ns rs le = onto _ _ _ _ (said-append ms ns rs le)
 
--- of joined messages that is left which is left of the later ones put behind what was left of the first, where no reply was too many
-pub left-append : (ms ns : List Message) (rs : List Reply) → length rs ≤ length (asks ms) → left (ms ++ ns) rs ≡ left (left ms rs ++ ns) []
+-- of joined messages that is left which is left of the later ones put onto what was left of the first, where no reply
+-- was too many
+pub left-append : (ms ns : List Message) (rs : List Reply) → length rs ≤ length (asks ms)
+    → left (ms ++ ns) rs ≡ left (left ms rs ++ ns) []
 left-append [] ns [] le = refl
 left-append [] ns (r ∷ rs) le = absurd (omega arith)
 left-append (Ask q quiet ∷ ms) ns [] le = refl
@@ -44,10 +36,10 @@ left-append (Fatal kind ∷ ms) ns rs le = left-append ms ns rs le
 pub said_more : (ms : List Message) (rs ss : List Reply) → said ms (rs ++ ss) ≡ said ms rs ++ said (left ms rs) ss
 said_more [] rs ss = refl
 said_more (Ask q quiet ∷ ms) [] ss = refl
-said_more (Ask q quiet ∷ ms) (r ∷ rs) ss = behind _ _ _ _ (said_more ms rs ss)
-said_more (Wrong kind ∷ ms) rs ss = behind _ _ _ _ (said_more ms rs ss)
+said_more (Ask q quiet ∷ ms) (r ∷ rs) ss = onto _ _ _ _ (said_more ms rs ss)
+said_more (Wrong kind ∷ ms) rs ss = onto _ _ _ _ (said_more ms rs ss)
 said_more (Quit ∷ ms) rs ss = said_more ms rs ss
-said_more (Fatal kind ∷ ms) rs ss = behind _ _ _ _ (said_more ms rs ss)
+said_more (Fatal kind ∷ ms) rs ss = onto _ _ _ _ (said_more ms rs ss)
 
 -- what more replies leave is what they leave of that which was left
 pub left_more : (ms : List Message) (rs ss : List Reply) → left ms (rs ++ ss) ≡ left (left ms rs) ss
@@ -59,7 +51,8 @@ left_more (Quit ∷ ms) rs ss = left_more ms rs ss
 left_more (Fatal kind ∷ ms) rs ss = left_more ms rs ss
 
 -- the requests left are those without a reply
-pub asks-left : (ms : List Message) (rs : List Reply) → length rs ≤ length (asks ms) → length rs + length (asks (left ms rs)) ≡ length (asks ms)
+pub asks-left : (ms : List Message) (rs : List Reply) → length rs ≤ length (asks ms)
+    → length rs + length (asks (left ms rs)) ≡ length (asks ms)
 asks-left [] [] le = refl
 asks-left [] (r ∷ rs) le = absurd (omega arith)
 asks-left (Ask q quiet ∷ ms) [] le = omega arith
@@ -113,7 +106,8 @@ left_reply Quit ms r e = absurd cc
 left_reply (Fatal kind) ms r e = absurd cc
 
 -- a request that has its reply is answered with it, and then what follows, up to the next request
-pub said_reply : (m : Message) (ms : List Message) (r : Reply) → is_ask m ≡ true → said (m ∷ ms) (r ∷ []) ≡ answer m (Some r) ++ said ms []
+pub said_reply : (m : Message) (ms : List Message) (r : Reply) → is_ask m ≡ true
+    → said (m ∷ ms) (r ∷ []) ≡ answer m (Some r) ++ said ms []
 said_reply (Ask q quiet) ms r e = refl
 said_reply (Wrong kind) ms r e = absurd cc
 said_reply Quit ms r e = absurd cc

@@ -21,14 +21,16 @@ use Rattle.session_book.specs.declared.causes.Unsettled.{Unsettled}
 use Rattle.session_book.specs.declared.causes.FeedFault.{FeedFault}
 use Rattle.session_book.specs.declared.causes.Received.{Received}
 use Rattle.session_book.specs.declared.causes.Received.TheVariants as receptions
-use Rattle.session_book.specs.Session.{SessionState, new_session, begins_asked, left, settled, once_fed, IsInputFull, held_fed, TakesPiece, FeedsHeld}
+use Rattle.session_book.specs.Session.{SessionState, new_session, begins_asked, left, with_reply, once_fed, IsInputFull, held_fed, TakesPiece, FeedsHeld}
 use Rattle.session_book.specs.Session.{ReadsOn, ReadsAsk, given_request}
 use Rattle.session_book.specs.Book.{BookState, session_of, unsettled_in, OnlyAt, ChangesOpen, Receives, FeedsHeldOf, IsBook, GivesNone, NextAsk, given_in}
 use Rattle.session_book.specs.Book.{IsOldest, SettlesReply}
-use Rattle.session_book.proofs.Answering.{asks-append, asks-left, begins_asked_by}
+use Rattle.session_book.proofs.Answering.{asks-left, begins_asked_by}
+use Rattle.proto.proofs.AskLemmas.{asks-append}
 
 -- an open session's number is not above the greatest one
-pub open_within : (book : BookState) (session : ℕ) (s : SessionState) → IsBook book → session_of book session ≡ Some s → session ≤ book.greatest
+pub open_within : (book : BookState) (session : ℕ) (s : SessionState) → IsBook book → session_of book session ≡ Some s
+    → session ≤ book.greatest
 open_within book session s is open_now =
     elim (cases_lt book.greatest session) [
       | inl above ↦ absurd (let none = is.open_below session above in cc)
@@ -36,7 +38,8 @@ open_within book session s is open_now =
     ]
 
 -- where only one session is another one, that is what stands at its number
-pub at_session : (before after : BookState) (session : ℕ) (o : Option SessionState) → OnlyAt before after session o → session_of after session ≡ o
+pub at_session : (before after : BookState) (session : ℕ) (o : Option SessionState) → OnlyAt before after session o
+    → session_of after session ≡ o
 at_session before after session o only = only session ∙ rw (eq-eqb session session refl) refl
 
 -- and each other session is as it was
@@ -50,7 +53,8 @@ pub record FitsBook (t : SessionState) (unsettled : ℕ) : Type 0 where
   pub queued : length (asks t.queue) ≡ unsettled
 
 -- one session becomes another one, or is closed
-pub stays_book : (before after : BookState) (session : ℕ) (o : Option SessionState) → IsBook before → OnlyAt before after session o
+pub stays_book : (before after : BookState) (session : ℕ) (o : Option SessionState) → IsBook before
+    → OnlyAt before after session o
     → session ≤ after.greatest → before.greatest ≤ after.greatest
     → ((t : SessionState) → o ≡ Some t → FitsBook t (unsettled_in after.unsettled session))
     → ((other : ℕ) → (other ≡ session → ⊥) → unsettled_in after.unsettled other ≡ unsettled_in before.unsettled other)
@@ -58,17 +62,21 @@ pub stays_book : (before after : BookState) (session : ℕ) (o : Option SessionS
 stays_book before after session o is only within grows mine others = record {
   asked = λ other s open_now.
       elim (cases_eq other session) [
-        | inl same ↦ (mine s (sym (at_session before after session o only) ∙ ap (session_of after) (sym same) ∙ open_now)).asked
+        | inl same ↦ (mine s (sym (at_session before after session o only) ∙ ap (session_of after) (sym same)
+            ∙ open_now)).asked
         | inr apart ↦ is.asked other s (sym (at_other before after session other o only apart) ∙ open_now)
       ];
   queued = λ other s open_now.
       elim (cases_eq other session) [
         | inl same ↦
-            let there : o ≡ Some s = sym (at_session before after session o only) ∙ ap (session_of after) (sym same) ∙ open_now in
+            let there : o ≡ Some s = sym (at_session before after session o only) ∙ ap (session_of after) (sym same)
+            ∙ open_now in
             (mine s there).queued ∙ ap (unsettled_in after.unsettled) (sym same)
-        | inr apart ↦ is.queued other s (sym (at_other before after session other o only apart) ∙ open_now) ∙ sym (others other apart)
+        | inr apart ↦ is.queued other s (sym (at_other before after session other o only apart) ∙ open_now)
+            ∙ sym (others other apart)
       ];
-  open_below = λ other above. at_other before after session other o only (λ same. absurd (omega arith)) ∙ is.open_below other (omega arith);
+  open_below = λ other above. at_other before after session other o only (λ same. absurd (omega arith))
+      ∙ is.open_below other (omega arith);
   unsettled_below = λ other above. others other (λ same. absurd (omega arith)) ∙ is.unsettled_below other (omega arith);
 }
 
@@ -79,15 +87,18 @@ of_one t u n fits e = let u_is : t ≡ u = cc in rw (← u_is) fits
 -- a session's messages are read, and the unsettled requests stay as they are
 pub stays_unsettled : (before after : BookState) (session : ℕ) (s t : SessionState) → IsBook before
     → session_of before session ≡ Some s → OnlyAt before after session (Some t)
-    → after.greatest ≡ before.greatest → after.unsettled ≡ before.unsettled → (begins_asked s.queue ≡ true → FitsBook t (length (asks s.queue))) → IsBook after
+    → after.greatest ≡ before.greatest → after.unsettled ≡ before.unsettled
+    → (begins_asked s.queue ≡ true → FitsBook t (length (asks s.queue))) → IsBook after
 stays_unsettled before after session s t is open_now only greatest unsettled fits =
     let within = open_within before session s is open_now in
-    let fits_now : FitsBook t (unsettled_in after.unsettled session) = rw (unsettled, ← is.queued session s open_now) (fits (is.asked session s open_now)) in
+    let fits_now : FitsBook t (unsettled_in after.unsettled session) =
+    rw (unsettled, ← is.queued session s open_now) (fits (is.asked session s open_now)) in
     stays_book before after session (Some t) is only (omega (arith, greatest, within)) (omega (arith, greatest))
     (λ u e. of_one t u _ fits_now e) (λ other apart. rw unsettled refl)
 
 -- where the queue stays the session fits
-pub same_queue : (s t : SessionState) → t.queue ≡ s.queue → begins_asked s.queue ≡ true → FitsBook t (length (asks s.queue))
+pub same_queue : (s t : SessionState) → t.queue ≡ s.queue → begins_asked s.queue ≡ true
+    → FitsBook t (length (asks s.queue))
 same_queue s t same asked = record { asked = rw same asked; queued = rw same refl }
 
 -- feeding a piece leaves the queue as it is
@@ -99,25 +110,32 @@ fed_queue s piece =
     ]
 
 -- and so does a piece that was refused
-pub feed_queue : (r : Result (Unit {0}) FeedFault) (s t : SessionState) (piece : List ℕ) → OnOk r (t ≡ once_fed s piece) → OnErr r (t ≡ s) → t.queue ≡ s.queue
+pub feed_queue : (r : Result (Unit {0}) FeedFault) (s t : SessionState) (piece : List ℕ) → OnOk r (t ≡ once_fed s piece)
+    → OnErr r (t ≡ s) → t.queue ≡ s.queue
 feed_queue (Ok u) s t piece ok err = ap (λ (x : SessionState). x.queue) ok ∙ fed_queue s piece
 feed_queue (Err e) s t piece ok err = ap (λ (x : SessionState). x.queue) err
 
 -- a new session fits at a number that wasn't in use
-pub opens_book : (before after : BookState) (session : ℕ) → IsBook before → OnlyAt before after session (Some new_session)
+pub opens_book : (before after : BookState) (session : ℕ) → IsBook before
+    → OnlyAt before after session (Some new_session)
     → before.greatest < session → after.greatest ≡ session
     → after.unsettled ≡ before.unsettled → IsBook after
 opens_book before after session is only new greatest unsettled =
     stays_book before after session (Some new_session) is only (omega (arith, greatest)) (omega (arith, greatest))
-    (λ u e. of_one new_session u _ (record { asked = refl; queued = rw unsettled (sym (is.unsettled_below session new)) }) e)
+    (λ u e. of_one new_session u _ (record {
+      asked = refl;
+      queued = rw unsettled (sym (is.unsettled_below session new));
+    }) e)
     (λ other apart. rw unsettled refl)
 
 -- ---- reading and settling
 
 -- the requests read go to the queue
-asks_read : (s t : SessionState) (ms : List Message) → ReadsOn s ms t → length (asks t.queue) ≡ length (asks s.queue) + length (asks ms)
+asks_read : (s t : SessionState) (ms : List Message) → ReadsOn s ms t
+    → length (asks t.queue) ≡ length (asks s.queue) + length (asks ms)
 asks_read s t ms h = rw h.queue
-    (sym (zero-add _) ∙ asks-left (s.queue ++ ms) [] (omega arith) ∙ ap length (asks-append s.queue ms) ∙ length-append (asks s.queue) (asks ms))
+    (sym (zero-add _) ∙ asks-left (s.queue ++ ms) [] (omega arith) ∙ ap length (asks-append s.queue ms)
+    ∙ length-append (asks s.queue) (asks ms))
 
 -- the queue after reading is empty or begins with a request
 begins_read : (s t : SessionState) (ms : List Message) → ReadsOn s ms t → begins_asked t.queue ≡ true
@@ -153,10 +171,17 @@ asks_book before after session number s t q r looks looks_after is open_now only
     let mine : unsettled_in after.unsettled session ≡ unsettled_in before.unsettled session + 1 =
     rw unsettled (count_more before.unsettled number session session true (eq-eqb session session refl)) in
     let queued : length (asks t.queue) ≡ unsettled_in after.unsettled session =
-    omega (arith, asks_read s t h.messages h.reading.reads, ap length (h.reading.requests_are ∙ ap given_request r_is), is.queued session s open_now, mine) in
+    omega (
+      arith,
+      asks_read s t h.messages h.reading.reads,
+      ap length (h.reading.requests_are ∙ ap given_request r_is),
+      is.queued session s open_now,
+      mine,
+    ) in
     stays_book before after session (Some t) is only (omega (arith, greatest, within)) (omega (arith, greatest))
     (λ u e. of_one t u _ (record { asked = begins_read s t h.messages h.reading.reads; queued = queued }) e)
-    (λ other apart. rw unsettled (count_more before.unsettled number session other false (ne_eqb session other (λ e. apart (sym e))) ∙ add-zero _))
+    (λ other apart. rw unsettled (count_more before.unsettled number session other false
+    (ne_eqb session other (λ e. apart (sym e))) ∙ add-zero _))
 
 -- the first of the unsettled requests is one of its session
 first_unsettled : (us : List Unsettled) (number session other : ℕ) (b : Bool) → (session == other) ≡ b
@@ -164,18 +189,22 @@ first_unsettled : (us : List Unsettled) (number session other : ℕ) (b : Bool) 
     → unsettled_in us other ≡ unsettled_in (drop 1 us) other + cond b 1 0
 first_unsettled [] number session other b e first = absurd cc
 first_unsettled (u ∷ us) number session other true e first =
-    let at : u.session ≡ session = (let same : u ≡ record { number = number; session = session } = cc in ap (λ (v : Unsettled). v.session) same) in
+    let at : u.session ≡ session = (let same : u ≡ record { number = number; session = session } = cc in
+    ap (λ (v : Unsettled). v.session) same) in
     rw (at, e) (omega arith)
 first_unsettled (u ∷ us) number session other false e first =
-    let at : u.session ≡ session = (let same : u ≡ record { number = number; session = session } = cc in ap (λ (v : Unsettled). v.session) same) in
+    let at : u.session ≡ session = (let same : u ≡ record { number = number; session = session } = cc in
+    ap (λ (v : Unsettled). v.session) same) in
     rw (at, e) (omega arith)
 
 -- the oldest request is no longer unsettled
 pub settles_book : (before after : BookState) (session number : ℕ) (o : Option SessionState) → IsBook before
     → OnlyAt before after session o → after.greatest ≡ before.greatest
-    → slice_get before.unsettled 0 ≡ Some (record { number = number; session = session }) → after.unsettled ≡ drop 1 before.unsettled
+    → slice_get before.unsettled 0 ≡ Some (record { number = number; session = session })
+    → after.unsettled ≡ drop 1 before.unsettled
     → ((t : SessionState) → o ≡ Some t → begins_asked t.queue ≡ true)
-    → ((t : SessionState) → o ≡ Some t → length (asks t.queue) + 1 ≡ unsettled_in before.unsettled session) → IsBook after
+    → ((t : SessionState) → o ≡ Some t → length (asks t.queue) + 1 ≡ unsettled_in before.unsettled session)
+    → IsBook after
 settles_book before after session number o is only greatest oldest unsettled asked queued =
     let counted : unsettled_in before.unsettled session ≡ unsettled_in after.unsettled session + 1 =
     first_unsettled before.unsettled number session session true (eq-eqb session session refl) oldest
@@ -188,20 +217,27 @@ settles_book before after session number o is only greatest oldest unsettled ask
     stays_book before after session o is only (omega (arith, greatest, within)) (omega (arith, greatest))
     (λ t e. record { asked = asked t e; queued = omega (arith, queued t e, counted) })
     (λ other apart.
-    rw unsettled (sym (first_unsettled before.unsettled number session other false (ne_eqb session other (λ e. apart (sym e))) oldest ∙ add-zero _)))
+    rw unsettled (sym (first_unsettled before.unsettled number session other false
+    (ne_eqb session other (λ e. apart (sym e))) oldest ∙ add-zero _)))
 
 -- the session of the oldest request has a request in its queue
-pub first_asked : (before : BookState) (session number : ℕ) (s : SessionState) → IsBook before → session_of before session ≡ Some s
+pub first_asked : (before : BookState) (session number : ℕ) (s : SessionState) → IsBook before
+    → session_of before session ≡ Some s
     → slice_get before.unsettled 0 ≡ Some (record { number = number; session = session }) → 0 < length (asks s.queue)
 first_asked before session number s is open_now oldest =
-    omega (arith, is.queued session s open_now, first_unsettled before.unsettled number session session true (eq-eqb session session refl) oldest)
+    omega (
+      arith,
+      is.queued session s open_now,
+      first_unsettled before.unsettled number session session true (eq-eqb session session refl) oldest,
+    )
 
 -- it gets its reply
 pub settles_kept : (before after : BookState) (session number : ℕ) (s t : SessionState) (reply : Reply) → IsBook before
     → session_of before session ≡ Some s → OnlyAt before after session (Some t)
-    → after.greatest ≡ before.greatest → slice_get before.unsettled 0 ≡ Some (record { number = number; session = session })
+    → after.greatest ≡ before.greatest → slice_get before.unsettled 0
+    ≡ Some (record { number = number; session = session })
     → after.unsettled ≡ drop 1 before.unsettled
-    → t ≡ settled s reply → IsBook after
+    → t ≡ with_reply s reply → IsBook after
 settles_kept before after session number s t reply is open_now only greatest oldest unsettled t_is =
     let queue : t.queue ≡ left s.queue (reply ∷ []) = ap (λ (x : SessionState). x.queue) t_is in
     let one : 0 < length (asks s.queue) = first_asked before session number s is open_now oldest in
@@ -223,22 +259,27 @@ same_number a b =
 
 -- the map has another value, or none, at one number
 abbrev pub OnlySession : List (ℕ × SessionState) → List (ℕ × SessionState) → ℕ → Option SessionState → Type 0
-OnlySession before after session o = (q : ℕ) → lookup (nat_eq q) after ≡ cond (q == session) o (lookup (nat_eq q) before)
+OnlySession before after session o = (q : ℕ)
+    → lookup (nat_eq q) after ≡ cond (q == session) o (lookup (nat_eq q) before)
 
 -- a map that was updated by a session's number has the new value there, or none, and the old ones elsewhere
 pub updated_only : {S : Type 0} (m n : HashMap ℕ SessionState S) (session : ℕ) (o : Option SessionState)
     → UpdatesBy nat_eq (nat_eq session) m n o → OnlySession m.entries n.entries session o
-updated_only m n session o h q = h.0 q ∙ ap (λ (b : Bool). cond b o (lookup (nat_eq q) m.entries)) (same_number session q)
+updated_only m n session o h q = h.0 q ∙ ap (λ (b : Bool). cond b o (lookup (nat_eq q) m.entries))
+    (same_number session q)
 
 -- the session that was found was written
 pub written_only : {S : Type 0} (m n : HashMap ℕ SessionState S) (session : ℕ) (s t : SessionState)
-    → WritesThrough nat_eq (nat_eq session) m t n → Some s ≡ get_by (nat_eq session) m → OnlySession m.entries n.entries session (Some t)
-written_only m n session s t w found = updated_only m n session (Some t) (w.3 (subst (λ (o : Option SessionState). IsSome o) found refl))
+    → WritesThrough nat_eq (nat_eq session) m t n → Some s ≡ get_by (nat_eq session) m
+    → OnlySession m.entries n.entries session (Some t)
+written_only m n session s t w found = updated_only m n session (Some t)
+    (w.3 (subst (λ (o : Option SessionState). IsSome o) found refl))
 
 -- what was read and written back changes nothing
 pub written_back : {S : Type 0} (m n : HashMap ℕ SessionState S) (session : ℕ) (s t : SessionState)
     → WritesThrough nat_eq (nat_eq session) m t n → Some s ≡ get_by (nat_eq session) m → t ≡ s → n.entries ≡ m.entries
-written_back m n session s t w found same = w.0 ∙ set_value_same (nat_eq session) m.entries t (sym found ∙ ap (λ (x : SessionState). Some x) (sym same))
+written_back m n session s t w found same =
+    w.0 ∙ set_value_same (nat_eq session) m.entries t (sym found ∙ ap (λ (x : SessionState). Some x) (sym same))
 
 -- where nothing is open at the number, the map is the one without it
 pub closed_only : {S : Type 0} (m n : HashMap ℕ SessionState S) (session : ℕ) → n ≡ m → None ≡ get_by (nat_eq session) m
@@ -259,7 +300,8 @@ only_again a b c session o p h k q =
     ]
 
 -- a session that stays as it is
-pub nothing_only : (a : List (ℕ × SessionState)) (session : ℕ) (s : SessionState) → lookup (nat_eq session) a ≡ Some s → OnlySession a a session (Some s)
+pub nothing_only : (a : List (ℕ × SessionState)) (session : ℕ) (s : SessionState) → lookup (nat_eq session) a ≡ Some s
+    → OnlySession a a session (Some s)
 nothing_only a session s open_now q =
     elim (cases_eq q session) [
       | inl at ↦ rw (at, eq-eqb session session refl) open_now
@@ -271,7 +313,8 @@ nothing_only a session s open_now q =
 -- no request is given, and nothing was read
 pub idle_ask : (before : BookState) (session : ℕ) (s : SessionState) (result : Result (Option (Request × ℕ)) NoMemory)
     (after : BookState) → given_in result ≡ [] → after ≡ before → IsBook before
-    → session_of before session ≡ Some s → (result ≡ Ok None → GivesNone before s) → NextAsk before session s result after
+    → session_of before session ≡ Some s → (result ≡ Ok None → GivesNone before s)
+    → NextAsk before session s result after
 idle_ask before session s result after none same is open_now cause = record {
   messages = [];
   read = s;
@@ -292,22 +335,29 @@ idle_ask before session s result after none same is open_now cause = record {
 }
 
 -- the reply went to the session
-pub settles_reply : (before now after : BookState) (answered : Answered) (s t : SessionState) → before ≡ now → IsBook before
+pub settles_reply : (before now after : BookState) (answered : Answered) (s t : SessionState) → before ≡ now
+    → IsBook before
     → session_of before answered.session ≡ Some s
     → OnlyAt before after answered.session (Some t) → IsOldest before answered
     → after ≡ record before { sessions = after.sessions; unsettled = drop 1 before.unsettled }
-    → t ≡ settled s answered.reply → SettlesReply now after answered
+    → t ≡ with_reply s answered.reply → SettlesReply now after answered
 settles_reply before now after answered s t same is open_now only oldest rest t_is =
     subst (λ (b : BookState). SettlesReply b after answered) same (record {
       s = s;
       was_open = open_now;
       unsettled = first_asked before answered.session answered.number s is open_now oldest;
-      settles = record { oldest = oldest; only_at = subst (λ (x : SessionState). OnlyAt before after answered.session (Some x)) t_is only; rest = rest };
+      settles = record {
+        oldest = oldest;
+        only_at = subst (λ (x : SessionState). OnlyAt before after answered.session (Some x)) t_is only;
+        rest = rest;
+      };
     })
 
 -- only an open session has changed
-changed : (before after now : BookState) → before ≡ now → (session : ℕ) (s t u : SessionState) (Changes : SessionState → SessionState → Type 0)
-    → session_of before session ≡ Some s → OnlyAt before after session (Some u) → after ≡ record before { sessions = after.sessions }
+changed : (before after now : BookState) → before ≡ now
+    → (session : ℕ) (s t u : SessionState) (Changes : SessionState → SessionState → Type 0)
+    → session_of before session ≡ Some s → OnlyAt before after session (Some u)
+    → after ≡ record before { sessions = after.sessions }
     → Changes s t → u ≡ t → ChangesOpen now after session Changes
 changed before after now same session s t u Changes open_now only rest changes u_is =
     subst (λ (b : BookState). ChangesOpen b after session Changes) same (record {
@@ -315,34 +365,45 @@ changed before after now same session s t u Changes open_now only rest changes u
       t = t;
       was_open = open_now;
       changes = changes;
-      only = record { only_at = subst (λ (x : SessionState). OnlyAt before after session (Some x)) u_is only; rest = rest };
+      only = record {
+        only_at = subst (λ (x : SessionState). OnlyAt before after session (Some x)) u_is only;
+        rest = rest;
+      };
     })
 
 -- a session that is open in a book is open in the book that this is
-still_open : (before now : BookState) → before ≡ now → (session : ℕ) (s : SessionState) → session_of before session ≡ Some s → IsSome (session_of now session)
+still_open : (before now : BookState) → before ≡ now → (session : ℕ) (s : SessionState)
+    → session_of before session ≡ Some s → IsSome (session_of now session)
 still_open before now same session s open_now =
-    subst (λ (b : BookState). IsSome (session_of b session)) same (subst (λ (o : Option SessionState). IsSome o) (sym open_now) refl)
+    subst (λ (b : BookState). IsSome (session_of b session)) same
+    (subst (λ (o : Option SessionState). IsSome o) (sym open_now) refl)
 
 -- where the sessions stay the book does
 pub unchanged : (before after now : BookState) → before ≡ now → after ≡ record before { sessions = after.sessions }
     → after.sessions ≡ before.sessions → after ≡ now
-unchanged before after now same rest back = rest ∙ ap (λ (es : List (ℕ × SessionState)). record before { sessions = es }) back ∙ same
+unchanged before after now same rest back =
+    rest ∙ ap (λ (es : List (ℕ × SessionState)). record before { sessions = es }) back ∙ same
 
 -- a piece that was refused changes nothing
 pub unfed : (r : Result (Unit {0}) FeedFault) (before after now : BookState) → before ≡ now → (s t : SessionState)
     → OnErr r (t ≡ s) → (t ≡ s → after.sessions ≡ before.sessions)
     → after ≡ record before { sessions = after.sessions } → OnErr r (after ≡ now)
 unfed (Ok u) before after now same s t err back rest = tt
-unfed (Err e) before after now same s t err back rest = rest ∙ ap (λ (es : List (ℕ × SessionState)). record before { sessions = es }) (back err) ∙ same
+unfed (Err e) before after now same s t err back rest =
+    rest ∙ ap (λ (es : List (ℕ × SessionState)). record before { sessions = es }) (back err) ∙ same
 
 -- a piece came of an open session
-pub received : (r : Received) (before after now : BookState) → before ≡ now → (session : ℕ) (piece : List ℕ) (s t u : SessionState)
-    → session_of before session ≡ Some s → OnlyAt before after session (Some u) → after ≡ record before { sessions = after.sessions }
+pub received : (r : Received) (before after now : BookState) → before ≡ now
+    → (session : ℕ) (piece : List ℕ) (s t u : SessionState)
+    → session_of before session ≡ Some s → OnlyAt before after session (Some u)
+    → after ≡ record before { sessions = after.sessions }
     → TakesPiece s piece r t → u ≡ t → (u ≡ s → after.sessions ≡ before.sessions) → Receives now session piece r after
 received receptions.Fed before after now same session piece s t u open_now only rest takes u_is back =
-    changed before after now same session s t u (λ x y. TakesPiece x piece receptions.Fed y) open_now only rest takes u_is
+    changed before after now same session s t u
+    (λ x y. TakesPiece x piece receptions.Fed y) open_now only rest takes u_is
 received receptions.Held before after now same session piece s t u open_now only rest takes u_is back =
-    changed before after now same session s t u (λ x y. TakesPiece x piece receptions.Held y) open_now only rest takes u_is
+    changed before after now same session s t u
+    (λ x y. TakesPiece x piece receptions.Held y) open_now only rest takes u_is
 received receptions.Refused before after now same session piece s t u open_now only rest takes u_is back = (
   still_open before now same session s open_now,
   unchanged before after now same rest (back (u_is ∙ takes)),
@@ -350,8 +411,10 @@ received receptions.Refused before after now same session piece s t u open_now o
 received receptions.Unknown before after now same session piece s t u open_now only rest takes u_is back = absurd takes
 
 -- the held piece of an open session was tried
-pub fed_again : (r : Result Bool NoMemory) (before after now : BookState) → before ≡ now → (session : ℕ) (s t u : SessionState)
-    → session_of before session ≡ Some s → OnlyAt before after session (Some u) → after ≡ record before { sessions = after.sessions }
+pub fed_again : (r : Result Bool NoMemory) (before after now : BookState) → before ≡ now
+    → (session : ℕ) (s t u : SessionState)
+    → session_of before session ≡ Some s → OnlyAt before after session (Some u)
+    → after ≡ record before { sessions = after.sessions }
     → FeedsHeld s r t → u ≡ t → (u ≡ s → after.sessions ≡ before.sessions) → FeedsHeldOf now session r after
 fed_again (Ok true) before after now same session s t u open_now only rest feeds u_is back =
     changed before after now same session s t u (λ x y. y ≡ held_fed x) open_now only rest feeds u_is
@@ -368,12 +431,15 @@ fed_again (Err e) before after now same session s t u open_now only rest feeds u
 )
 
 -- no growth was made before the session was read
-pub refused_ask : (before after now : BookState) (session : ℕ) (s : SessionState) (result : Result (Option (Request × ℕ)) NoMemory)
+pub refused_ask : (before after now : BookState) (session : ℕ) (s : SessionState)
+    (result : Result (Option (Request × ℕ)) NoMemory)
     (e : NoMemory) → before ≡ now → result ≡ Err e → IsBook before
-    → after.sessions ≡ before.sessions → after.unsettled ≡ before.unsettled → after ≡ record before { sessions = after.sessions; unsettled = after.unsettled }
+    → after.sessions ≡ before.sessions → after.unsettled ≡ before.unsettled
+    → after ≡ record before { sessions = after.sessions; unsettled = after.unsettled }
     → session_of now session ≡ Some s → NextAsk now session s result after
 refused_ask before after now session s result e same failed is sessions unsettled rest open_now =
     let unchanged : after ≡ now =
     rest ∙ ap (λ (es : List (ℕ × SessionState)). record before { sessions = es; unsettled = after.unsettled }) sessions
     ∙ ap (λ (us : List Unsettled). record before { unsettled = us }) unsettled ∙ same in
-    idle_ask now session s result after (ap given_in failed) unchanged (subst (λ (b : BookState). IsBook b) same is) open_now (λ none. absurd cc)
+    idle_ask now session s result after (ap given_in failed) unchanged
+    (subst (λ (b : BookState). IsBook b) same is) open_now (λ none. absurd cc)

@@ -65,9 +65,11 @@ module _ (b : List ℕ) (need : ℕ) (a : AwaitsData b need) where
   front le =
       let whole : length (a.line ++ line_end ++ block ++ last) ≡ need =
       simp length-append (omega (arith, length_block le, length_last le, a.need_is)) in
-      ap (λ (x : List ℕ). take need x) cut ∙ take_at (a.line ++ line_end ++ block ++ last) (drop 2 (drop a.says.size a.rest)) need whole
+      ap (λ (x : List ℕ). take need x) cut
+      ∙ take_at (a.line ++ line_end ++ block ++ last) (drop 2 (drop a.says.size a.rest)) need whole
 
-  block_with : (P : StorageLine → List ℕ → List ℕ → Type 0) → a.says.size + 2 ≤ length a.rest → P a.says block last → IsBlockWith P (take need b)
+  block_with : (P : StorageLine → List ℕ → List ℕ → Type 0) → a.says.size + 2 ≤ length a.rest → P a.says block last
+      → IsBlockWith P (take need b)
   block_with P le has = record {
     line = a.line;
     says = a.says;

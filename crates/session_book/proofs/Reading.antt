@@ -6,16 +6,19 @@ use Rattle.proto.specs.declared.message.Message.TheVariants.{Ask, Wrong, Quit, F
 use Rattle.proto.specs.Reading.{ends_session, SpellEach, EndsAtLast, last_ends}
 use Rattle.session_book.specs.declared.causes.EndCause.{EndCause}
 use Rattle.session_book.specs.Session.{ended_by}
+use Rattle.proto.proofs.GrammarLaws.{ends_more}
 
 -- where pieces spell messages, and further pieces further messages, all of the pieces spell all of the messages
-pub SpellEach-append : (ps qs : List (List ℕ)) (ms ns : List Message) → SpellEach ps ms → SpellEach qs ns → SpellEach (ps ++ qs) (ms ++ ns)
+pub SpellEach-append : (ps qs : List (List ℕ)) (ms ns : List Message) → SpellEach ps ms → SpellEach qs ns
+    → SpellEach (ps ++ qs) (ms ++ ns)
 SpellEach-append [] qs [] ns h k = k
 SpellEach-append [] qs (m ∷ ms) ns h k = absurd h
 SpellEach-append (p ∷ ps) qs [] ns h k = absurd h
 SpellEach-append (p ∷ ps) qs (m ∷ ms) ns h k = (h.0, SpellEach-append ps qs ms ns h.1 k)
 
 -- what has ended a session behind two lists of messages is found by reading one list and then the other
-pub ended_by-append : (ended : Option EndCause) (ms ns : List Message) → ended_by ended (ms ++ ns) ≡ ended_by (ended_by ended ms) ns
+pub ended_by-append : (ended : Option EndCause) (ms ns : List Message)
+    → ended_by ended (ms ++ ns) ≡ ended_by (ended_by ended ms) ns
 ended_by-append ended [] ns = refl
 ended_by-append ended (Ask q quiet ∷ ms) ns = ended_by-append ended ms ns
 ended_by-append ended (Wrong kind ∷ ms) ns = ended_by-append ended ms ns
@@ -23,7 +26,8 @@ ended_by-append ended (Quit ∷ ms) ns = ended_by-append _ ms ns
 ended_by-append ended (Fatal kind ∷ ms) ns = ended_by-append _ ms ns
 
 -- what has ended stays so
-pub ended_stays : (ended : Option EndCause) (ms : List Message) → is_some ended ≡ true → is_some (ended_by ended ms) ≡ true
+pub ended_stays : (ended : Option EndCause) (ms : List Message) → is_some ended ≡ true
+    → is_some (ended_by ended ms) ≡ true
 ended_stays ended [] e = e
 ended_stays ended (Ask q quiet ∷ ms) e = ended_stays ended ms e
 ended_stays ended (Wrong kind ∷ ms) e = ended_stays ended ms e
@@ -52,18 +56,15 @@ rest_goes_on (Wrong kind) ms e = e
 rest_goes_on Quit ms e = absurd (let n = not_ended_before _ ms e in cc)
 rest_goes_on (Fatal kind) ms e = absurd (let n = not_ended_before _ ms e in cc)
 
--- in front of messages of which only the last may end the session, one may stand that doesn't
-ends_behind : (m : Message) (ms : List Message) → ends_session m ≡ false → EndsAtLast ms → EndsAtLast (m ∷ ms)
-ends_behind m [] e h = tt
-ends_behind m (n ∷ ms) e h = (e, h)
-
 -- behind messages that don't end the session more may come
 pub EndsAtLast-append : (ms ns : List Message) → ended_by None ms ≡ None → EndsAtLast ns → EndsAtLast (ms ++ ns)
 EndsAtLast-append [] ns none k = k
-EndsAtLast-append (m ∷ ms) ns none k = ends_behind m (ms ++ ns) (goes_on m ms none) (EndsAtLast-append ms ns (rest_goes_on m ms none) k)
+EndsAtLast-append (m ∷ ms) ns none k = ends_more m (ms ++ ns) (goes_on m ms none)
+    (EndsAtLast-append ms ns (rest_goes_on m ms none) k)
 
 -- a first message that doesn't end the session leaves to the others what ends it
-step_ended : (m n : Message) (ms : List Message) → ends_session m ≡ false → ended_by None (m ∷ n ∷ ms) ≡ ended_by None (n ∷ ms)
+step_ended : (m n : Message) (ms : List Message) → ends_session m ≡ false
+    → ended_by None (m ∷ n ∷ ms) ≡ ended_by None (n ∷ ms)
 step_ended (Ask q quiet) n ms e = refl
 step_ended (Wrong kind) n ms e = refl
 step_ended Quit n ms e = absurd cc
@@ -80,4 +81,5 @@ last_ended (Fatal kind) = refl
 pub has_ended_by : (ms : List Message) → EndsAtLast ms → is_some (ended_by None ms) ≡ last_ends ms
 has_ended_by [] h = refl
 has_ended_by (m ∷ []) h = last_ended m
-has_ended_by (m ∷ n ∷ ms) h = ap (λ (o : Option EndCause). is_some o) (step_ended m n ms h.0) ∙ has_ended_by (n ∷ ms) h.1
+has_ended_by (m ∷ n ∷ ms) h = ap (λ (o : Option EndCause). is_some o) (step_ended m n ms h.0)
+    ∙ has_ended_by (n ∷ ms) h.1

@@ -19,19 +19,23 @@ use Rattle.session_book.specs.Session.{SessionState, left, ended_by, need_after,
 use Rattle.session_book.specs.Session.{ReadsMessage, TakesLocal, TakesAsk, TakesNothing, ReadsOne, read_of}
 use Rattle.proto.specs.declared.no_memory.NoMemory.{NoMemory}
 use Rattle.session_book.proofs.Needing.{unfinished_short}
-use Rattle.session_book.proofs.Answering.{asks-append, said-append, left-append, left_waits, said_waits}
+use Rattle.session_book.proofs.Answering.{said-append, left-append, left_waits, said_waits}
 use Rattle.session_book.proofs.Reading.{SpellEach-append, ended_by-append, not_ended_before, EndsAtLast-append}
+use Rattle.proto.proofs.AskLemmas.{asks-append}
 
 -- a message that was taken is what was read
-takes_one : (before after : SessionState) (m : Message) → ReadsMessage before m after → ReadsOne before (Ok (read_of m)) after
+takes_one : (before after : SessionState) (m : Message) → ReadsMessage before m after
+    → ReadsOne before (Ok (read_of m)) after
 takes_one before after (Ask q quiet) h = record { quiet = quiet; takes = h }
 takes_one before after (Wrong kind) h = record { message = Wrong kind; no_ask = refl; takes = h }
 takes_one before after Quit h = record { message = Quit; no_ask = refl; takes = h }
 takes_one before after (Fatal kind) h = record { message = Fatal kind; no_ask = refl; takes = h }
 
 -- each message takes a byte at least
-pub takes_less : (before after : SessionState) (m : Message) → ReadsMessage before m after → length after.unread < length before.unread
-takes_less before after m h = rw h.unread (omega (arith, length-append h.piece after.unread, spelling_nonempty h.piece m h.spells))
+pub takes_less : (before after : SessionState) (m : Message) → ReadsMessage before m after
+    → length after.unread < length before.unread
+takes_less before after m h = rw h.unread
+    (omega (arith, length-append h.piece after.unread, spelling_nonempty h.piece m h.spells))
 
 -- a queue that begins with a request, or is empty, stays as it is
 pub left_stays : (queue : List Message) → begins_asked queue ≡ true → left queue [] ≡ queue
@@ -65,40 +69,49 @@ need_one need (n ∷ ms) m = refl
 
 -- what hasn't ended can't have been ended before
 never : (ended : Option EndCause) (ms : List Message) → ended_by ended ms ≡ None → is_some ended ≡ true → ⊥
-never ended ms none some = both_ways (is_some ended) (ap (λ (o : Option EndCause). is_some o) (not_ended_before ended ms none)) some
+never ended ms none some = both_ways (is_some ended)
+    (ap (λ (o : Option EndCause). is_some o) (not_ended_before ended ms none)) some
 
 -- where nothing has ended a session behind these messages, none of them ends one
 none_left : (ended : Option EndCause) (ms : List Message) → ended_by ended ms ≡ None → ended_by None ms ≡ None
 none_left ended ms e = ap (λ (o : Option EndCause). ended_by o ms) (sym (not_ended_before ended ms e)) ∙ e
 
 -- one more message is read
-pub reads_more : (before now after : SessionState) (ms : List Message) (m : Message) → ReadsOn before ms now → now.ended ≡ None
+pub reads_more : (before now after : SessionState) (ms : List Message) (m : Message) → ReadsOn before ms now
+    → now.ended ≡ None
     → ReadsMessage now m after → ReadsOn before (ms ++ m ∷ []) after
 reads_more before now after ms m h none t =
     let open_yet : ended_by before.ended ms ≡ None = sym h.ended ∙ none in
-    let grouped : (before.queue ++ ms) ++ m ∷ [] ≡ before.queue ++ (ms ++ m ∷ []) = append_assoc before.queue ms (m ∷ []) in
+    let grouped : (before.queue ++ ms) ++ m ∷ [] ≡ before.queue ++ (ms ++ m ∷ []) =
+    append_assoc before.queue ms (m ∷ []) in
     record {
       pieces = h.pieces ++ t.piece ∷ [];
       spelled = SpellEach-append h.pieces (t.piece ∷ []) ms (m ∷ []) h.spelled (t.spells, tt);
-      unread = h.unread ∙ ap (λ (x : List ℕ). concat h.pieces ++ x) t.unread ∙ sym (append_assoc (concat h.pieces) t.piece after.unread)
+      unread = h.unread ∙ ap (λ (x : List ℕ). concat h.pieces ++ x) t.unread
+          ∙ sym (append_assoc (concat h.pieces) t.piece after.unread)
           ∙ ap (λ (x : List ℕ). x ++ after.unread)
-          (ap (λ (x : List ℕ). concat h.pieces ++ x) (sym (append-nil t.piece)) ∙ sym (concat-append h.pieces (t.piece ∷ [])));
+          (ap (λ (x : List ℕ). concat h.pieces ++ x) (sym (append-nil t.piece))
+          ∙ sym (concat-append h.pieces (t.piece ∷ [])));
       ends_at_last = EndsAtLast-append ms (m ∷ []) (none_left before.ended ms open_yet) tt;
       not_ended = λ e. absurd (never before.ended ms open_yet e);
-      ended = t.ended ∙ ap (λ (e : Option EndCause). ended_by e (m ∷ [])) h.ended ∙ sym (ended_by-append before.ended ms (m ∷ []));
+      ended = t.ended ∙ ap (λ (e : Option EndCause). ended_by e (m ∷ [])) h.ended
+          ∙ sym (ended_by-append before.ended ms (m ∷ []));
       queue = t.queue ∙ ap (λ (q : List Message). left (q ++ m ∷ []) []) h.queue
-          ∙ sym (left-append (before.queue ++ ms) (m ∷ []) [] (omega arith)) ∙ ap (λ (q : List Message). left q []) grouped;
+          ∙ sym (left-append (before.queue ++ ms) (m ∷ []) [] (omega arith))
+          ∙ ap (λ (q : List Message). left q []) grouped;
       out = t.out ∙ ap (λ (x : List ℕ). x ++ said (now.queue ++ m ∷ []) []) h.out
           ∙ append_assoc before.out (said (before.queue ++ ms) []) (said (now.queue ++ m ∷ []) [])
           ∙ ap (λ (q : List Message). before.out ++ (said (before.queue ++ ms) [] ++ said (q ++ m ∷ []) [])) h.queue
           ∙ ap (λ (x : List ℕ). before.out ++ x)
-          (sym (said-append (before.queue ++ ms) (m ∷ []) [] (omega arith)) ∙ ap (λ (q : List Message). said q []) grouped);
+          (sym (said-append (before.queue ++ ms) (m ∷ []) [] (omega arith))
+          ∙ ap (λ (q : List Message). said q []) grouped);
       need = inl (t.need ∙ sym (need_one before.need ms m));
       held = t.held ∙ h.held;
     }
 
 -- the parser has found no further message
-pub reads_no_more : (before now after : SessionState) (ms : List Message) → ReadsOn before ms now → TakesNothing now after → ReadsOn before ms after
+pub reads_no_more : (before now after : SessionState) (ms : List Message) → ReadsOn before ms now
+    → TakesNothing now after → ReadsOn before ms after
 reads_no_more before now after ms h t = record {
   pieces = h.pieces;
   spelled = h.spelled;
@@ -146,7 +159,8 @@ pub record HasReadLocals (before : SessionState) (looks : ℕ) (now : SessionSta
 -- the first n bytes are taken where they spell the message
 taken : (before : SessionState) (b : List ℕ) (n : ℕ) (m seen : Message) (after : SessionState) → b ≡ before.unread
     → Spells (take n b) seen → m ≡ seen → before.ended ≡ None
-    → after.unread ≡ drop n before.unread → after.ended ≡ ended_by None (m ∷ []) → after.queue ≡ left (before.queue ++ m ∷ []) []
+    → after.unread ≡ drop n before.unread → after.ended ≡ ended_by None (m ∷ [])
+    → after.queue ≡ left (before.queue ++ m ∷ []) []
     → after.out ≡ before.out ++ said (before.queue ++ m ∷ []) []
     → after.need ≡ 1 → after.held ≡ before.held → ReadsMessage before m after
 taken before b n m seen after b_is spelled m_is open_yet unread ended queue out need held = record {
@@ -169,21 +183,25 @@ none_asked Quit e = refl
 none_asked (Fatal kind) e = refl
 
 -- a session without the bytes that it needs isn't ready at first
-too_short : (before now : SessionState) (looks looks_now : ℕ) → HasReadLocals before looks now looks_now → IsReady now → length before.unread < before.need → ⊥
+too_short : (before now : SessionState) (looks looks_now : ℕ) → HasReadLocals before looks now looks_now → IsReady now
+    → length before.unread < before.need → ⊥
 too_short before now looks looks_now h ready short =
     let same : now ≡ before = (h.nothing short).0 in
     let enough : before.need ≤ length before.unread = rw same at ready.enough in
     omega arith
 
 -- nor is one whose output waits
-too_much : (before now : SessionState) (looks looks_now : ℕ) → HasReadLocals before looks now looks_now → IsReady now → MAX_WAITING < length before.out → ⊥
+too_much : (before now : SessionState) (looks looks_now : ℕ) → HasReadLocals before looks now looks_now → IsReady now
+    → MAX_WAITING < length before.out → ⊥
 too_much before now looks looks_now h ready over =
-    let longer : length now.out ≡ length before.out + length (said (before.queue ++ h.messages) []) = ap length h.reads.out
+    let longer : length now.out ≡ length before.out + length (said (before.queue ++ h.messages) []) =
+    ap length h.reads.out
     ∙ length-append before.out (said (before.queue ++ h.messages) []) in
     omega (arith, ready.room, longer)
 
 -- a message that is no request was read
-pub reads_local : (before now after : SessionState) (looks looks_now looks_after : ℕ) → HasReadLocals before looks now looks_now
+pub reads_local : (before now after : SessionState) (looks looks_now looks_after : ℕ)
+    → HasReadLocals before looks now looks_now
     → IsReady now → looks_after ≤ looks_now + 1 → TakesLocal now after → HasReadLocals before looks after looks_after
 reads_local before now after looks looks_now looks_after h ready one t = record {
   messages = h.messages ++ t.message ∷ [];
@@ -223,8 +241,10 @@ reads_ask before now after looks looks_now looks_after q h ready one t = record 
 }
 
 -- the parser found no further message
-pub reads_none : (before now after : SessionState) (looks looks_now looks_after : ℕ) → HasReadLocals before looks now looks_now
-    → IsReady now → looks_after ≤ looks_now + 1 → TakesNothing now after → ReadsAsk before looks (Ok None) after looks_after
+pub reads_none : (before now after : SessionState) (looks looks_now looks_after : ℕ)
+    → HasReadLocals before looks now looks_now
+    → IsReady now → looks_after ≤ looks_now + 1 → TakesNothing now after
+    → ReadsAsk before looks (Ok None) after looks_after
 reads_none before now after looks looks_now looks_after h ready one t = record {
   messages = h.messages;
   reading = record {
@@ -239,7 +259,8 @@ reads_none before now after looks looks_now looks_after h ready one t = record {
 }
 
 -- the session reads no further
-pub reads_stops : (before now : SessionState) (looks looks_now : ℕ) → HasReadLocals before looks now looks_now → Stops now
+pub reads_stops : (before now : SessionState) (looks looks_now : ℕ) → HasReadLocals before looks now looks_now
+    → Stops now
     → ReadsAsk before looks (Ok None) now looks_now
 reads_stops before now looks looks_now h stops = record {
   messages = h.messages;
@@ -272,11 +293,16 @@ reads_refused before now after looks looks_now looks_after no_memory h ready one
 }
 
 -- the parser found a message, as the session's parts say
-pub read_found : (now view : SessionState) (b : List ℕ) (n : ℕ) (m seen : Message) (r : Read) (after : SessionState) → view ≡ now
+pub read_found : (now view : SessionState) (b : List ℕ) (n : ℕ) (m seen : Message) (r : Read) (after : SessionState)
+    → view ≡ now
     → r ≡ read_of m → b ≡ view.unread → Spells (take n b) seen
-    → m ≡ seen → now.ended ≡ None → after.unread ≡ drop n view.unread → after.ended ≡ ended_by None (m ∷ []) → after.queue ≡ left (view.queue ++ m ∷ []) []
-    → after.out ≡ view.out ++ said (view.queue ++ m ∷ []) [] → after.need ≡ 1 → after.held ≡ view.held → ReadsOne now (Ok r) after
+    → m ≡ seen → now.ended ≡ None → after.unread ≡ drop n view.unread → after.ended ≡ ended_by None (m ∷ [])
+    → after.queue ≡ left (view.queue ++ m ∷ []) []
+    → after.out ≡ view.out ++ said (view.queue ++ m ∷ []) [] → after.need ≡ 1 → after.held ≡ view.held
+    → ReadsOne now (Ok r) after
 read_found now view b n m seen r after same r_is b_is spelled m_is open_yet unread ended queue out need held =
     let takes : ReadsOne view (Ok (read_of m)) after = takes_one view after m
-    (taken view b n m seen after b_is spelled m_is (ap (λ (s : SessionState). s.ended) same ∙ open_yet) unread ended queue out need held) in
-    subst (λ (s : SessionState). ReadsOne s (Ok r) after) same (subst (λ (x : Read). ReadsOne view (Ok x) after) (sym r_is) takes)
+    (taken view b n m seen after b_is spelled m_is
+    (ap (λ (s : SessionState). s.ended) same ∙ open_yet) unread ended queue out need held) in
+    subst (λ (s : SessionState). ReadsOne s (Ok r) after) same
+    (subst (λ (x : Read). ReadsOne view (Ok x) after) (sym r_is) takes)

@@ -6,7 +6,7 @@ use Rattle.proto.specs.declared.message.Message.{Message}
 use Rattle.proto.specs.Grammar.{SpellsNone}
 use Rattle.proto.specs.Reading.{SpellEach, EndsAtLast, Reads, asks}
 use Rattle.proto.specs.Answers.{said}
-use Rattle.session_book.specs.Session.{SessionState, new_session, left, ended_by, once_fed, ReadsOn, settled, gave}
+use Rattle.session_book.specs.Session.{SessionState, new_session, left, ended_by, once_fed, ReadsOn, with_reply, gave}
 
 -- Of a session the bytes fed were read as the messages ms; once Quit or a fatal message was read, further bytes
 -- were dropped.
@@ -47,7 +47,7 @@ abbrev pub SettleKeeps : Type 0
 SettleKeeps =
     (bytes given : List ℕ) (ms : List Message) (replies : List Reply) (reply : Reply) (s : SessionState)
     → 0 < length (asks s.queue) → HasRead bytes ms s → HasSaid ms replies given s
-    → HasRead bytes ms (settled s reply) × HasSaid ms (replies ++ reply ∷ []) given (settled s reply)
+    → HasRead bytes ms (with_reply s reply) × HasSaid ms (replies ++ reply ∷ []) given (with_reply s reply)
 
 abbrev pub GiveKeeps : Type 0
 GiveKeeps =

@@ -14,7 +14,7 @@ use Rattle.session_book.specs.declared.causes.Received.TheVariants as received
 use Rattle.session_book.specs.declared.causes.Settled.{Settled}
 use Rattle.session_book.specs.declared.causes.Settled.TheVariants as outcomes
 use Rattle.session_book.specs.declared.limits.TheConstants.{MAX_UNSETTLED, MAX_SESSIONS, MAX_POSTS}
-use Rattle.session_book.specs.Session.{SessionState, begins_asked, TakesPiece, IsInputFull, held_fed, ReadsUpTo, Stops, settled}
+use Rattle.session_book.specs.Session.{SessionState, begins_asked, TakesPiece, IsInputFull, held_fed, ReadsUpTo, Stops, with_reply}
 
 -- A worker's book: the worker's number; the open sessions by their numbers; how many requests got a number;
 -- the unsettled requests in the order of their numbers; the greatest number of a session opened, and how many
@@ -40,7 +40,8 @@ unsettled_in unsettled session = length (filter (λ u. u.session == session) uns
 -- number above the greatest one opened is in use.
 pub record IsBook (book : BookState) : Type 0 where
   pub asked : (session : ℕ) (s : SessionState) → session_of book session ≡ Some s → begins_asked s.queue ≡ true
-  pub queued : (session : ℕ) (s : SessionState) → session_of book session ≡ Some s → length (asks s.queue) ≡ unsettled_in book.unsettled session
+  pub queued : (session : ℕ) (s : SessionState) → session_of book session ≡ Some s
+      → length (asks s.queue) ≡ unsettled_in book.unsettled session
   pub open_below : (session : ℕ) → book.greatest < session → session_of book session ≡ None
   pub unsettled_below : (session : ℕ) → book.greatest < session → unsettled_in book.unsettled session ≡ 0
 
@@ -65,7 +66,8 @@ pub record ChangesSession (before after : BookState) (session : ℕ) (s : Option
   pub rest : after ≡ record before { sessions = after.sessions }
 
 -- only the session changes, which is open, from one of these states to one of those
-pub record ChangesOpen (before after : BookState) (session : ℕ) (Changes : SessionState → SessionState → Type 0) : Type 0 where
+pub record ChangesOpen (before after : BookState) (session : ℕ)
+    (Changes : SessionState → SessionState → Type 0) : Type 0 where
   pub s : SessionState
   pub t : SessionState
   pub was_open : session_of before session ≡ Some s
@@ -74,8 +76,10 @@ pub record ChangesOpen (before after : BookState) (session : ℕ) (Changes : Ses
 
 -- What becomes of a piece that came.
 abbrev pub Receives : BookState → ℕ → List ℕ → Received → BookState → Type 0
-Receives before session piece received.Fed after = ChangesOpen before after session (λ s t. TakesPiece s piece received.Fed t)
-Receives before session piece received.Held after = ChangesOpen before after session (λ s t. TakesPiece s piece received.Held t)
+Receives before session piece received.Fed after =
+    ChangesOpen before after session (λ s t. TakesPiece s piece received.Fed t)
+Receives before session piece received.Held after =
+    ChangesOpen before after session (λ s t. TakesPiece s piece received.Held t)
 Receives before session piece received.Refused after = IsSome (session_of before session) × (after ≡ before)
 Receives before session piece received.Unknown after = (session_of before session ≡ None) × (after ≡ before)
 
@@ -108,7 +112,8 @@ pub data GivesNone (before : BookState) (s : SessionState) : Type 0 where
 
 -- The session s is read up to the request that is given, with the worker's next number. Of the rest of the book
 -- only what is said here changes.
-pub record NextAsk (before : BookState) (session : ℕ) (s : SessionState) (result : Result (Option (Request × ℕ)) NoMemory) (after : BookState) : Type 0 where
+pub record NextAsk (before : BookState) (session : ℕ) (s : SessionState)
+    (result : Result (Option (Request × ℕ)) NoMemory) (after : BookState) : Type 0 where
   pub messages : List Message
   pub read : SessionState
   pub reading : ReadsUpTo s before.looks messages (map (λ a. a.0) (given_in result)) read after.looks
@@ -140,7 +145,7 @@ pub record SettlesReply (before after : BookState) (answered : Answered) : Type 
   pub s : SessionState
   pub was_open : session_of before answered.session ≡ Some s
   pub unsettled : 0 < length (asks s.queue)
-  pub settles : SettlesOldest before after answered (Some (settled s answered.reply))
+  pub settles : SettlesOldest before after answered (Some (with_reply s answered.reply))
 
 -- What becomes of an answer: it is a stranger where it isn't that of the oldest unsettled request; else it is
 -- dropped where its session was closed, or its bytes go to its session, which is closed where they find no room.

@@ -83,8 +83,8 @@ pub record ReadsOn (before : SessionState) (ms : List Message) (after : SessionS
 
 -- The queue's first request gets its reply; then the messages before the next request leave the queue, and
 -- the answers go behind the output.
-abbrev pub settled : SessionState → Reply → SessionState
-settled s reply = record s { queue = left s.queue (reply ∷ []); out = s.out ++ said s.queue (reply ∷ []) }
+abbrev pub with_reply : SessionState → Reply → SessionState
+with_reply s reply = record s { queue = left s.queue (reply ∷ []); out = s.out ++ said s.queue (reply ∷ []) }
 
 -- so many bytes of the output were given
 abbrev pub gave : SessionState → ℕ → SessionState
@@ -141,7 +141,8 @@ pub record IsReady (s : SessionState) : Type 0 where
 
 -- Messages of a session are read, none where too much output waits, and looks counts the calls of the parser.
 -- Only the last message may be a request: these are the requests read.
-pub record ReadsUpTo (before : SessionState) (looks : ℕ) (messages : List Message) (requests : List Request) (after : SessionState)
+pub record ReadsUpTo (before : SessionState) (looks : ℕ) (messages : List Message) (requests : List Request)
+    (after : SessionState)
     (looks_after : ℕ) : Type 0 where
   pub reads : ReadsOn before messages after
   pub ask_at_last : AskAtLast messages
@@ -156,7 +157,8 @@ given_request (Ok None) = []
 given_request (Err e) = []
 
 -- A session is read up to its next request; there is none only where it stops.
-pub record ReadsAsk (before : SessionState) (looks : ℕ) (result : Result (Option Request) NoMemory) (after : SessionState) (looks_after : ℕ) : Type 0 where
+pub record ReadsAsk (before : SessionState) (looks : ℕ) (result : Result (Option Request) NoMemory)
+    (after : SessionState) (looks_after : ℕ) : Type 0 where
   pub messages : List Message
   pub reading : ReadsUpTo before looks messages (given_request result) after looks_after
   pub none : result ≡ Ok None → Stops after

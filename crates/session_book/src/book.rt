@@ -1,6 +1,7 @@
 //! The sessions of one worker: reading what they were fed, and answering in the order of their messages.
 
-ghost use Rattle.std.specs.Prelude.{◌≡◌, ◌⊎◌, ◌+◌, ◌≤◌, ◌<◌, ◌↔◌, [], length, not, false, ◌==◌, is_some, option_map, IsSomeAnd, OnOk, OnErr};
+ghost use Rattle.std.specs.Prelude.{◌≡◌, ◌⊎◌, ◌+◌, ◌≤◌, ◌<◌, ◌↔◌, [], length, not, false, ◌==◌, is_some, option_map};
+ghost use Rattle.std.specs.Prelude.{IsSomeAnd, OnOk, OnErr};
 ghost use Rattle.session_book.specs.Session.{SessionState, new_session, IsInputFull, once_fed, gave, finished_by};
 ghost use Rattle.std.specs.Option.{option_and_then, option_map_or};
 
@@ -9,10 +10,9 @@ use crate::limits::{MAX_POSTS, MAX_SESSIONS, MAX_UNSETTLED};
 use crate::load::Load;
 use crate::ready::Ready;
 use crate::session::Session;
+use crate::spares::Spares;
 use bytes::Bytes;
-use proto::history::Answered;
-use proto::message::Request;
-use proto::no_memory::NoMemory;
+use proto::{Answered, NoMemory, Request};
 use std::alloc::Global;
 use std::collections::{HashMap, VecDeque};
 use std::marker::Model;
@@ -42,6 +42,8 @@ pub struct Book {
     looks: u64,
     load: Load,
     ready: Ready,
+    inputs: Spares,
+    outputs: Spares,
     reads_on: bool,
 }
 
@@ -50,17 +52,42 @@ impl Model for Book {
 
     ghost Value = { BookState };
 
-    ghost view = { λ a. record { worker = a.worker; sessions = a.sessions.entries; posted = a.posted; unsettled = a.unsettled.items; greatest = a.greatest; opened = a.opened; looks = a.looks } };
+    ghost view = { λ a. record {
+      worker = a.worker;
+      sessions = a.sessions.entries;
+      posted = a.posted;
+      unsettled = a.unsettled.items;
+      greatest = a.greatest;
+      opened = a.opened;
+      looks = a.looks;
+    } };
 
-    ghost invariant = { λ a. IsBook (record { worker = a.worker; sessions = a.sessions.entries; posted = a.posted; unsettled = a.unsettled.items; greatest = a.greatest; opened = a.opened; looks = a.looks }) };
+    ghost invariant = { λ a. IsBook (record {
+      worker = a.worker;
+      sessions = a.sessions.entries;
+      posted = a.posted;
+      unsettled = a.unsettled.items;
+      greatest = a.greatest;
+      opened = a.opened;
+      looks = a.looks;
+    }) };
 }
 
 impl Book {
-    ghost use Rattle.session_book.specs.Book.{session_of, out_of, held_of, ChangesSession, Receives, FeedsHeldOf, OnlyAt, IsKnown, NextAsk, Settles};
+    ghost use Rattle.session_book.specs.Book.{session_of, out_of, held_of, ChangesSession, Receives, FeedsHeldOf};
+    ghost use Rattle.session_book.specs.Book.{OnlyAt, IsKnown, NextAsk, Settles};
 
     /// No session is open yet. The worker's number is kept for its owner.
     pub fn new(alloc: Global, worker: usize) -> Self
-        ensures { result ≡ record { worker = worker; sessions = []; posted = 0; unsettled = []; greatest = 0; opened = 0; looks = 0 } }
+        ensures { result ≡ record {
+          worker = worker;
+          sessions = [];
+          posted = 0;
+          unsettled = [];
+          greatest = 0;
+          opened = 0;
+          looks = 0;
+        } }
     {
         Book {
             alloc,
@@ -73,6 +100,8 @@ impl Book {
             looks: 0,
             load: Load::new(),
             ready: Ready::new(alloc),
+            inputs: Spares::new(alloc),
+            outputs: Spares::new(alloc),
             reads_on: false,
         }
     }
@@ -87,7 +116,8 @@ impl Book {
     pub fn open(&mut self, session: u64) -> Result<(), OpenFault>
         ensures known { (result ≡ Err OpenFault.Known) ↔ IsKnown self.old session }
         ensures ok { OnOk result (OnlyAt self.old self.new session (Some new_session)) }
-        ensures rest { OnOk result (self.new ≡ record self.old { sessions = self.new.sessions; greatest = session; opened = self.old.opened + 1 }) }
+        ensures rest { OnOk result (self.new
+            ≡ record self.old { sessions = self.new.sessions; greatest = session; opened = self.old.opened + 1 }) }
         ensures err { OnErr result (self.new ≡ self.old) }
     {
         if session <= self.greatest || self.opened >= MAX_SESSIONS {
@@ -127,7 +157,7 @@ impl Book {
         let Some(open) = self.sessions.get_mut(&session) else {
             return Received::Unknown;
         };
-        let received = open.receive(piece);
+        let received = open.receive(piece, &mut self.inputs);
         if received == Received::Fed {
             open.ask_later(session, &mut self.ready);
         }
@@ -175,7 +205,7 @@ impl Book {
         let before = open.out().len();
         let read = open.next_ask(&mut self.looks);
         self.load.output_changed(before, open.out().len());
-        self.reads_on = open.was_asked(session, &mut self.ready);
+        self.reads_on = open.was_asked(session, &mut self.ready, &mut self.inputs);
         let Some(request) = read? else {
             return Ok(None);
         };
@@ -204,7 +234,7 @@ impl Book {
             return Settled::Dropped;
         };
         let before = open.out().len();
-        match open.settle(&answered.reply) {
+        match open.settle(&answered.reply, &mut self.outputs) {
             Ok(()) => {
                 self.load.output_changed(before, open.out().len());
                 open.give_later(answered.session, &mut self.ready);
@@ -276,7 +306,7 @@ impl Book {
             return None;
         };
         open.gave(n);
-        open.was_given(session, n, &mut self.ready);
+        open.was_given(session, n, &mut self.ready, &mut self.outputs);
         self.load.output_changed(n, 0);
         open.finished()
     }

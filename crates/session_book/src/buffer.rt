@@ -4,14 +4,10 @@ ghost use Rattle.std.specs.Prelude.{◌≡◌, ◌++◌, [], length, drop, ◌�
 ghost use Rattle.proto.specs.Answers.{answer, is_ask, reply_bytes};
 ghost use Rattle.std.specs.Prelude.{is_some, option_copied};
 
-use proto::message::{Message, Reply};
-use proto::no_memory::NoMemory;
-use proto::show::{show, show_reply};
+use proto::{Message, NoMemory, Reply, Room, show, show_reply};
 use std::alloc::Global;
 use std::marker::Model;
-
-/// An empty buffer keeps so much of its memory at most.
-const KEPT_WHEN_EMPTY: usize = 65_536;
+use std::mem;
 
 /// A queue of bytes that lends them as one slice. The bytes in front that have gone out are kept until they are
 /// at least half of all, so each byte is moved at most once for each byte that goes out.
@@ -85,12 +81,37 @@ impl Buffer {
         ensures { self.new ≡ drop n self.old }
     {
         self.start += n;
-        if self.start >= self.bytes.len() - self.start {
+        if self.start == self.bytes.len() {
+            self.bytes.clear();
+            self.start = 0;
+        } else if self.start >= self.bytes.len() - self.start {
             self.bytes.drain(..self.start);
             self.start = 0;
         }
-        if self.bytes.is_empty() && self.bytes.capacity() > KEPT_WHEN_EMPTY {
-            self.bytes.shrink_to(KEPT_WHEN_EMPTY);
+    }
+
+    pub fn has_memory(&self) -> bool {
+        self.bytes.capacity() > 0
+    }
+
+    /// An empty buffer has the memory of the room from now on, in place of its own.
+    pub fn borrow_room(&mut self, room: Room)
+        ensures { self.new ≡ self.old }
+    {
+        if self.bytes.is_empty() {
+            self.bytes = room.into_bytes();
+            self.start = 0;
         }
+    }
+
+    /// The memory of an empty buffer, which has none from now on.
+    pub fn hand_out_room(&mut self, alloc: Global) -> Option<Room>
+        ensures { self.new ≡ self.old }
+    {
+        if !self.bytes.is_empty() || !self.has_memory() {
+            return None;
+        }
+        self.start = 0;
+        Some(Room::emptied(mem::replace(&mut self.bytes, Vec::new(alloc))))
     }
 }

@@ -1,8 +1,10 @@
 //! What a caller carries over a whole run, over the definitions alone.
 
 ghost use Rattle.std.specs.Prelude.{◌≡◌};
-ghost use Rattle.session_book.specs.declared.limits.TheConstants.{MAX_UNSETTLED, MAX_UNREAD, MAX_WAITING, MAX_KEYS, MAX_OUTPUT, MAX_SESSIONS, MAX_POSTS};
-ghost use Rattle.session_book.specs.Accounts.{StartsAccounts, FeedKeeps, ReadKeeps, SettleKeeps, GiveKeeps, ReadBegins, ReadIsWhole, SaidBegins, SaidIsWhole};
+ghost use Rattle.session_book.specs.declared.limits.TheConstants.{MAX_UNSETTLED, MAX_UNREAD, MAX_WAITING, MAX_KEYS};
+ghost use Rattle.session_book.specs.declared.limits.TheConstants.{MAX_OUTPUT, MAX_SESSIONS, MAX_POSTS};
+ghost use Rattle.session_book.specs.Accounts.{StartsAccounts, FeedKeeps, ReadKeeps, SettleKeeps, GiveKeeps, ReadBegins};
+ghost use Rattle.session_book.specs.Accounts.{ReadIsWhole, SaidBegins, SaidIsWhole};
 
 /// What was read and what was said of a session, from its opening on, through each call that changes it.
 pub fn accounts()

@@ -2,12 +2,17 @@
 //! still missing, their output, and which of them have something to do.
 #![tactic(auto)]
 
-pub mod book;
+mod book;
 mod buffer;
-pub mod causes;
-pub mod laws;
-pub mod limits;
+mod causes;
+mod laws;
+mod limits;
 mod load;
 mod place;
 mod ready;
 mod session;
+mod spares;
+
+pub use book::Book;
+pub use causes::{EndCause, FeedFault, OpenFault, Received, Settled};
+pub use limits::{MAX_POSTS, MAX_UNSETTLED};

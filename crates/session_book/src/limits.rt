@@ -1,9 +1,9 @@
 //! The limits of a book.
 
-use proto::limits;
+use proto::WINDOW;
 
 /// Requests of a worker that may be unsettled at a time, over all its sessions.
-pub const MAX_UNSETTLED: usize = limits::WINDOW as usize;
+pub const MAX_UNSETTLED: usize = WINDOW as usize;
 
 /// Unread bytes of a session. It is above the longest spelling, a line of 2,048 bytes and a data block of
 /// 131,072 with its end, so a session whose input is full always has a message to read.
@@ -22,4 +22,4 @@ pub const MAX_OUTPUT: usize = 67_108_864;
 pub const MAX_SESSIONS: u64 = 16_777_216;
 
 /// Requests that a worker numbers in a run.
-pub const MAX_POSTS: u64 = limits::MAX_POSTS;
+pub const MAX_POSTS: u64 = proto::MAX_POSTS;

@@ -1,7 +1,7 @@
 //! How much is unfinished: the keys of unsettled requests, and the output that wasn't given yet.
 
 use crate::limits::{MAX_KEYS, MAX_OUTPUT};
-use proto::message::Request;
+use proto::Request;
 
 /// Both are kept as calls change them; no clause speaks of them.
 #[derive(Clone, Copy)]

@@ -5,9 +5,7 @@ ghost use Rattle.proto.specs.Answers.{answer, is_ask};
 ghost use Rattle.session_book.specs.Place.{kind_of};
 
 use crate::buffer::Buffer;
-use proto::message::{FatalKind, Message, Reply, WrongKind};
-use proto::no_memory::NoMemory;
-use proto::show::shows_cas;
+use proto::{FatalKind, Message, NoMemory, Reply, WrongKind, shows_cas};
 use std::marker::Model;
 use std::snapshot::Snapshot;
 

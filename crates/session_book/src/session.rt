@@ -1,6 +1,7 @@
 //! One session: reading its messages and answering them in their places.
 
-ghost use Rattle.std.specs.Prelude.{◌≡◌, ◌≤◌, ◌<◌, ◌+◌, ◌↔◌, [], length, not, ◌==◌, drop, is_some, OnOk, OnErr, ◌∷◌, ◌++◌, true, None, Err};
+ghost use Rattle.std.specs.Prelude.{◌≡◌, ◌≤◌, ◌<◌, ◌+◌, ◌↔◌, [], length, not, ◌==◌, drop, is_some, OnOk, OnErr, ◌∷◌};
+ghost use Rattle.std.specs.Prelude.{◌++◌, true, None, Err};
 ghost use Rattle.std.specs.Bool.{OnTrue, OnFalse};
 ghost use Rattle.proto.specs.Answers.{said};
 ghost use Rattle.session_book.specs.Session.{begins_asked, left, ended_by, read_of};
@@ -11,17 +12,20 @@ use crate::causes::{EndCause, FeedFault, Received};
 use crate::limits::{MAX_UNREAD, MAX_WAITING};
 use crate::place::AnswerPlace;
 use crate::ready::{Places, Ready};
+use crate::spares::Spares;
 use bytes::Bytes;
-use proto::message::{Message, Reply, Request};
-use proto::next::to_message;
-use proto::no_memory::NoMemory;
-use proto::view::{NextView, next_view};
+use proto::{Message, NextView, NoMemory, Reply, Request, next_view, to_message};
 use std::alloc::Global;
 use std::collections::VecDeque;
 use std::marker::Model;
 
 /// So many bytes of output are given though more will stand behind them.
 const WORTH_GIVING: usize = 16_384;
+
+/// A held piece is fed once there is room for so many bytes, so that its port gives that many before it is paused again.
+/// What may then be left to read, 196,608 bytes, is above the longest spelling: a session that is read no further, for want
+/// of a whole message, has the room.
+const WORTH_FEEDING: usize = 65_536;
 
 /// An open session, with its places in the lines of its book. Contracts see it as a `SessionState`, without the places.
 #[derive(Drop)]
@@ -43,7 +47,14 @@ impl Model for Session {
 
     ghost Value = { SessionState };
 
-    ghost view = { λ a. record { unread = a.input; queue = a.queue.items; out = a.output; ended = a.ended; need = a.need; held = unwrap_or a.held [] } };
+    ghost view = { λ a. record {
+      unread = a.input;
+      queue = a.queue.items;
+      out = a.output;
+      ended = a.ended;
+      need = a.need;
+      held = unwrap_or a.held [];
+    } };
 
     ghost invariant = { λ a. (begins_asked a.queue.items ≡ true) × NeedsMore a.input a.need };
 }
@@ -57,7 +68,8 @@ pub enum Read {
 }
 
 impl Session {
-    ghost use Rattle.session_book.specs.Session.{new_session, once_fed, IsInputFull, TakesPiece, FeedsHeld, gave, settled, finished_by, IsReady, Stops, ReadsOne, ReadsAsk};
+    ghost use Rattle.session_book.specs.Session.{new_session, once_fed, IsInputFull, TakesPiece, FeedsHeld, gave};
+    ghost use Rattle.session_book.specs.Session.{with_reply, finished_by, IsReady, Stops, ReadsOne, ReadsAsk};
 
     pub fn new(alloc: Global) -> Self
         ensures { result ≡ new_session }
@@ -93,12 +105,13 @@ impl Session {
     }
 
     /// Feeds a piece, or holds it until it fits.
-    pub fn receive(&mut self, piece: Bytes) -> Received
+    pub fn receive(&mut self, piece: Bytes, inputs: &mut Spares) -> Received
         ensures { TakesPiece self.old piece result self.new }
     {
         if self.held.is_some() {
             return Received::Refused;
         }
+        inputs.lend(&mut self.input);
         match self.feed(&piece) {
             Ok(()) => Received::Fed,
             Err(FeedFault::Full) => {
@@ -186,10 +199,11 @@ impl Session {
 
     /// Gives the first request of the queue its reply. Where there is no memory for the bytes the session is of no
     /// further use.
-    pub fn settle(&mut self, reply: &Reply) -> Result<(), NoMemory>
+    pub fn settle(&mut self, reply: &Reply, outputs: &mut Spares) -> Result<(), NoMemory>
         requires { 0 < length (asks self.old.queue) }
-        ensures { OnOk result (self.new ≡ settled self.old reply.now) }
+        ensures { OnOk result (self.new ≡ with_reply self.old reply.now) }
     {
+        outputs.lend(&mut self.output);
         match answer_first(&mut self.queue, reply, &mut self.output) {
             Ok(()) => Ok(()),
             Err(e) => {
@@ -244,10 +258,11 @@ impl Session {
     }
 
     /// The session was asked: there may be room for its held piece, and it may have output. Whether it can be read further.
-    pub fn was_asked(&mut self, session: u64, ready: &mut Ready) -> bool
+    pub fn was_asked(&mut self, session: u64, ready: &mut Ready, inputs: &mut Spares) -> bool
         ensures { self.new ≡ self.old }
     {
-        if self.held.is_some() {
+        inputs.take_back(&mut self.input);
+        if self.held.is_some() && self.has_room() {
             ready.feed_later(session, &mut self.places);
         }
         if self.output.len() > 0 || self.ended.is_some() {
@@ -256,10 +271,22 @@ impl Session {
         self.is_ready()
     }
 
+    /// Whether it is worth feeding. A session that has ended drops what it is fed.
+    fn has_room(&self) -> bool {
+        self.ended.is_some() || self.input.len() <= MAX_UNREAD - WORTH_FEEDING
+    }
+
     /// Of the bytes offered so many were accepted. A session that had too much output is asked again.
-    pub fn was_given(&mut self, session: u64, accepted: usize, ready: &mut Ready)
+    pub fn was_given(
+        &mut self,
+        session: u64,
+        accepted: usize,
+        ready: &mut Ready,
+        outputs: &mut Spares,
+    )
         ensures { self.new ≡ self.old }
     {
+        outputs.take_back(&mut self.output);
         if self.output.len().saturating_add(accepted) > MAX_WAITING {
             ready.ask_later(session, &mut self.places);
         }

@@ -19,7 +19,7 @@ at_or (x ∷ l) zero a d e = some-injective x a e
 at_or (x ∷ l) (suc k) a d e = at_or l k a d e
 
 -- with a default, what stands at a place that is inside
-or_at : {A : Type 0} (l : List A) (k : ℕ) (d : A) → k < length l → get_elem? l k ≡ some (get_or l k d)
+pub or_at : {A : Type 0} (l : List A) (k : ℕ) (d : A) → k < length l → get_elem? l k ≡ some (get_or l k d)
 or_at [] k d h = absurd (omega arith)
 or_at (x ∷ l) zero d h = refl
 or_at (x ∷ l) (suc k) d h = or_at l k d (omega arith)
@@ -31,7 +31,8 @@ AreSame old new = (length new ≡ length old)
     × ((get_or new i d).worker ≡ (get_or old i d).worker))
 
 -- the ends that were made together still go together once they were used
-pub together : (n : ℕ) (g : Sizes) (ends now : List WorkerView) (s t : StorageView) → AreMade n g ends s → IsSameExchange s t
+pub together : (n : ℕ) (g : Sizes) (ends now : List WorkerView) (s t : StorageView) → AreMade n g ends s
+    → IsSameExchange s t
     → AreSame ends now → AreTogether now t
 together n g ends now s t made same r = record {
   exchange = λ i v at. ap (λ (z : WorkerView). z.exchange) (sym (at_or now i v v at))
@@ -46,10 +47,11 @@ together n g ends now s t made same r = record {
     was i v at = made.1 i (get_or ends i v) (or_at ends i v (below i v at))
 
     mine : (i : ℕ) (v : WorkerView) → get_elem? now i ≡ some v → v.worker ≡ i
-    mine i v at = ap (λ (z : WorkerView). z.worker) (sym (at_or now i v v at)) ∙ ((r.1 i v (below i v at)).1 ∙ ap (λ (z : WorkerView). z.worker) (was i v at))
+    mine i v at = ap (λ (z : WorkerView). z.worker) (sym (at_or now i v v at))
+        ∙ ((r.1 i v (below i v at)).1 ∙ ap (λ (z : WorkerView). z.worker) (was i v at))
 
 -- the first none
-take_zero : {A : Type 0} (m : List A) → take 0 m ≡ []
+pub take_zero : {A : Type 0} (m : List A) → take 0 m ≡ []
 take_zero [] = refl
 take_zero (x ∷ m) = refl
 

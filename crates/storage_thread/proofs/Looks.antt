@@ -12,4 +12,10 @@ same_looks v w (Bye u) = refl
 
 -- a message that the last look named was taken
 pub seen_got : (old new : StorageView) (t : Taken) → SeesNext old (Some t) new → GetsMessage old new t
-seen_got old new t s = record { lane = s.0; inside = s.3; is_next = s.5; looks = old.looks; after = s.6 ∙ same_looks old s.0 t }
+seen_got old new t s = record {
+  lane = s.0;
+  inside = s.3;
+  is_next = s.5;
+  looks = old.looks;
+  after = s.6 ∙ same_looks old s.0 t;
+}

@@ -18,16 +18,28 @@ use Rattle.engine.specs.Reaching.{moments, moment_after, moments_after, last_or,
 use Rattle.engine.proofs.ReachingLemmas.{moments_more, times_more}
 use Rattle.storage_thread.specs.Serving.{AddsAnswers, AsksClock, IsTimed, taken_as, SaidBye, IsUnused, GetsNone, GetsMessage, AnswersOpenRequest}
 use Rattle.storage_thread.specs.Serving.{IsStorageServing}
+use Rattle.proto.proofs.CountLemmas.{one_more_time, no_more_time}
 
 -- before the first request
-pub serving_first : (v : StorageView) (c : Cache) (m : ℕ) → IsUnused v → c ≡ empty_cache 0 → m ≡ 0 → IsStorageServing v v c m
+pub serving_first : (v : StorageView) (c : Cache) (m : ℕ) → IsUnused v → c ≡ empty_cache 0 → m ≡ 0
+    → IsStorageServing v v c m
 serving_first v c m u c_is m_is = record {
   same = (refl, refl, refl);
   shut = u.1;
   taken = u.0 ∙ sym (ap (map taken_as) u.2);
-  reaches = subst (λ (z : List Answered × Cache × ℕ). Reaches v.geometry z.0 z.1 z.2) (λ i. (sym u.2 i, sym c_is i, sym m_is i))
-      record { caches = []; chain = tt; cache_is = refl; moments_are = tt; moment_is = refl; small = omega arith; numbers = λ w. tt };
-  known = subst (All (λ (e : Answered). e.worker < v.workers)) (sym u.2) (All-nil (λ (e : Answered). e.worker < v.workers));
+  reaches = subst (λ (z : List Answered × Cache × ℕ). Reaches v.geometry z.0 z.1 z.2)
+      (λ i. (sym u.2 i, sym c_is i, sym m_is i))
+      record {
+        caches = [];
+        chain = tt;
+        cache_is = refl;
+        moments_are = tt;
+        moment_is = refl;
+        small = omega arith;
+        numbers = λ w. tt;
+      };
+  known = subst (All (λ (e : Answered). e.worker < v.workers)) (sym u.2)
+      (All-nil (λ (e : Answered). e.worker < v.workers));
   inside = subst (All (λ w. w < v.workers)) (sym u.3) (All-nil (λ w. w < v.workers));
   once = λ w. subst (λ (l : List ℕ). times w l ≤ 1) (sym u.3) (omega arith);
 }
@@ -79,8 +91,10 @@ module _ (old now new : StorageView) (c : Cache) (m : ℕ) (r : IsStorageServing
     taken = subst (λ (z : StorageView). z.taken ≡ map taken_as z.history) (sym whole) r.taken;
     reaches = subst (λ (z : StorageView). Reaches z.geometry z.history c m) (sym whole) r.reaches;
     known = subst (λ (z : StorageView). All (λ (e : Answered). e.worker < z.workers) z.history) (sym whole) r.known;
-    inside = subst (λ (z : StorageView). All (λ w. w < z.workers) z.byes) (sym whole) (All-cons (λ w. w < now.workers) f.lane now.byes f.inside r.inside);
-    once = λ v. subst (λ (z : StorageView). times v z.byes ≤ 1) (sym whole) (one_more f.lane v now.byes f.is_next.1 (r.once v));
+    inside = subst (λ (z : StorageView). All (λ w. w < z.workers) z.byes) (sym whole)
+        (All-cons (λ w. w < now.workers) f.lane now.byes f.inside r.inside);
+    once = λ v. subst (λ (z : StorageView). times v z.byes ≤ 1) (sym whole)
+        (one_more f.lane v now.byes f.is_next.1 (r.once v));
   }
     where
       one_more : (w v : ℕ) (byes : List ℕ) → times w byes ≡ 0 → times v byes ≤ 1 → times v (w ∷ byes) ≤ 1
@@ -104,7 +118,8 @@ module _ (now mid : StorageView) (w : ℕ) (p : Posted) (f : GetsMessage now mid
   asked_open = ap (λ (z : StorageView). z.open_request) f.after ∙ ap (λ (z : ℕ). Some (z, p)) (sym f.is_next.0)
 
   pub asked_next : p.number ≡ length (worker_share mid.history w) + 1
-  asked_next = f.is_next.2 ∙ ap (λ (z : ℕ × StorageView). length (worker_share z.1.history z.0) + 1) (λ i. (sym f.is_next.0 i, sym f.after i))
+  asked_next = f.is_next.2 ∙ ap (λ (z : ℕ × StorageView). length (worker_share z.1.history z.0) + 1)
+      (λ i. (sym f.is_next.0 i, sym f.after i))
 
   -- and answered
   module _ (new : StorageView) (m : ℕ) (a : AnswersOpenRequest mid new w p m) where
@@ -115,9 +130,11 @@ module _ (now mid : StorageView) (w : ℕ) (p : Posted) (f : GetsMessage now mid
       looks = f.looks;
       last = f.lane;
     }
-    whole = a.4 ∙ (λ i. let z : StorageView = f.after i in record z { history = z.history ++ a.0 ∷ []; open_request = None })
+    whole = a.4 ∙ (λ i. let z : StorageView = f.after i in
+        record z { history = z.history ++ a.0 ∷ []; open_request = None })
 
-    pub serving_asked : (old : StorageView) (c₀ c : Cache) (m₀ : ℕ) → IsStorageServing old now c₀ m₀ → Reaches new.geometry new.history c m → IsStorageServing old new c m
+    pub serving_asked : (old : StorageView) (c₀ c : Cache) (m₀ : ℕ) → IsStorageServing old now c₀ m₀
+        → Reaches new.geometry new.history c m → IsStorageServing old new c m
     serving_asked old c₀ c m₀ r reaches = record {
       same = (
         ap (λ (z : StorageView). z.exchange) whole ∙ r.same.0,
@@ -128,12 +145,14 @@ module _ (now mid : StorageView) (w : ℕ) (p : Posted) (f : GetsMessage now mid
       shut = ap (λ (z : StorageView). z.open_request) whole;
       taken = ap (λ (z : StorageView). z.taken) whole ∙ (ap (λ (l : List (ℕ × Posted)). l ++ (f.lane, p) ∷ []) r.taken
           ∙ ((λ i. map taken_as now.history ++ (sym (a.1 ∙ f.is_next.0) i, sym a.2 i) ∷ [])
-          ∙ (sym (map-append taken_as now.history (a.0 ∷ [])) ∙ ap (λ (z : StorageView). map taken_as z.history) (sym whole))));
+          ∙ (sym (map-append taken_as now.history (a.0 ∷ []))
+          ∙ ap (λ (z : StorageView). map taken_as z.history) (sym whole))));
       reaches = reaches;
       known = subst (λ (z : StorageView). All (λ (e : Answered). e.worker < z.workers) z.history) (sym whole)
           (All-append (λ (e : Answered). e.worker < now.workers) now.history (a.0 ∷ []) r.known
           (All-cons (λ (e : Answered). e.worker < now.workers) a.0 []
-          (subst (λ (k : ℕ). k < now.workers) (sym (a.1 ∙ f.is_next.0)) f.inside) (All-nil (λ (e : Answered). e.worker < now.workers))));
+          (subst (λ (k : ℕ). k < now.workers) (sym (a.1 ∙ f.is_next.0)) f.inside)
+          (All-nil (λ (e : Answered). e.worker < now.workers))));
       inside = subst (λ (z : StorageView). All (λ w. w < z.workers) z.byes) (sym whole) r.inside;
       once = λ v. subst (λ (z : StorageView). times v z.byes ≤ 1) (sym whole) (r.once v);
     }
@@ -160,7 +179,8 @@ module _ (now mid : StorageView) (w : ℕ) (p : Posted) (f : GetsMessage now mid
       one_answer_more before then after t.0 n t.1 asked.1,
       ap moments one_entry ∙ (moments_more now.history a.0 ∙ (ap (λ (l : List ℕ). l ++ a.0.moment ∷ []) t.2
           ∙ ((λ i. moments_after 0 t.0 ++
-          (a.3 ∙ asked.2 ∙ ap (λ (z : ℕ). moment_after z n) (sym last_is ∙ ap (last_or 0) t.2)) i ∷ []) ∙ sym (times_more 0 t.0 n)))),
+          (a.3 ∙ asked.2 ∙ ap (λ (z : ℕ). moment_after z n) (sym last_is ∙ ap (last_or 0) t.2)) i ∷ [])
+          ∙ sym (times_more 0 t.0 n)))),
     )
 
 -- one bye of each worker
@@ -170,26 +190,20 @@ abbrev among : ℕ → List ℕ → ℕ
 among zero xs = 0
 among (suc n) xs = among n xs + times n xs
 
--- a number in front counts once more, and no other number does
-one_here : (w x : ℕ) (xs : List ℕ) → x ≡ w → times w (x ∷ xs) ≡ suc (times w xs)
-one_here w x xs e = ap (λ (b : Bool). cond b 1 0 + times w xs) (eq-eqb x w e) ∙ (omega arith)
-
--- a number in front doesn't count for another one
-none_here : (w x : ℕ) (xs : List ℕ) → x ≢ w → times w (x ∷ xs) ≡ times w xs
-none_here w x xs e = ap (λ (b : Bool). cond b 1 0 + times w xs) (ne_eqb x w e) ∙ (omega arith)
-
 -- a number that isn't one of the first n changes nothing
 among_else : (n x : ℕ) (xs : List ℕ) → n ≤ x → among n (x ∷ xs) ≡ among n xs
 among_else zero x xs le = refl
 among_else (suc n) x xs le = let le' : suc n ≤ x = le in let a = among_else n x xs (omega arith) in
-    let b = none_here n x xs (λ e. omega arith) in omega (arith, a, b)
+    let b = no_more_time n x xs (λ e. omega arith) in omega (arith, a, b)
 
 -- one of the first n counts once more
 among_more : (n x : ℕ) (xs : List ℕ) → x < n → among n (x ∷ xs) ≡ suc (among n xs)
 among_more zero x xs lt = absurd (omega arith)
 among_more (suc n) x xs lt = let lt' : x < suc n = lt in dite (ℕ_discrete x n)
-    (λ e. let a = among_else n x xs (let e' : x ≡ n = e in omega arith) in let b = one_here n x xs e in omega (arith, a, b))
-    (λ ne. let ne' : x ≢ n = ne in let a = among_more n x xs (omega arith) in let b = none_here n x xs ne in omega (arith, a, b))
+    (λ e. let a = among_else n x xs (let e' : x ≡ n = e in omega arith) in let b = one_more_time n x xs e in
+    omega (arith, a, b))
+    (λ ne. let ne' : x ≢ n = ne in let a = among_more n x xs (omega arith) in let b = no_more_time n x xs ne in
+    omega (arith, a, b))
 
 -- where all are of the first n, each is counted
 among_all : (n : ℕ) (xs : List ℕ) → All (λ w. w < n) xs → among n xs ≡ length xs
@@ -198,7 +212,8 @@ among_all n [] all = none n
     none : (n : ℕ) → among n [] ≡ 0
     none zero = refl
     none (suc n) = let a = none n in omega (arith, a)
-among_all n (x ∷ xs) all = among_more n x xs (All-head (λ w. w < n) x xs all) ∙ ap suc (among_all n xs (All-tail (λ w. w < n) x xs all))
+among_all n (x ∷ xs) all = among_more n x xs (All-head (λ w. w < n) x xs all)
+    ∙ ap suc (among_all n xs (All-tail (λ w. w < n) x xs all))
 
 -- where none stands there twice, there are at most n
 among_few : (n : ℕ) (xs : List ℕ) → ((w : ℕ) → times w xs ≤ 1) → among n xs ≤ n
@@ -209,11 +224,15 @@ among_few (suc n) xs few = let a = among_few n xs few in let b = few n in omega 
 among_fewer : (n w : ℕ) (xs : List ℕ) → ((w : ℕ) → times w xs ≤ 1) → w < n → times w xs ≡ 0 → among n xs < n
 among_fewer zero w xs few lt none = absurd (omega arith)
 among_fewer (suc n) w xs few lt none = let lt' : w < suc n = lt in dite (ℕ_discrete w n)
-    (λ e. let a = among_few n xs few in let b : times n xs ≡ 0 = ap (λ (z : ℕ). times z xs) (sym e) ∙ none in omega (arith, a, b))
-    (λ ne. let ne' : w ≢ n = ne in let a = among_fewer n w xs few (omega arith) none in let b = few n in omega (arith, a, b))
+    (λ e. let a = among_few n xs few in let b : times n xs ≡ 0 = ap (λ (z : ℕ). times z xs) (sym e) ∙ none in
+    omega (arith, a, b))
+    (λ ne. let ne' : w ≢ n = ne in let a = among_fewer n w xs few (omega arith) none in let b = few n in
+    omega (arith, a, b))
 
 -- where as many byes were taken as there are workers, each worker said one
-pub all_said : (old new : StorageView) (c : Cache) (m : ℕ) → IsStorageServing old new c m → length new.byes ≡ new.workers → SaidBye new
+pub all_said : (old new : StorageView) (c : Cache) (m : ℕ) → IsStorageServing old new c m
+    → length new.byes ≡ new.workers → SaidBye new
 all_said old new c m r all w lt = let few : times w new.byes ≤ 1 = r.once w in dite (ℕ_discrete (times w new.byes) 0)
-    (λ none. let a = among_fewer new.workers w new.byes r.once lt none in let b = among_all new.workers new.byes r.inside in omega (arith, a, b, all))
+    (λ none. let a = among_fewer new.workers w new.byes r.once lt none in
+    let b = among_all new.workers new.byes r.inside in omega (arith, a, b, all))
     (λ some. let some' : times w new.byes ≢ 0 = some in omega arith)

@@ -51,7 +51,8 @@ pub record GetsMessage (old new : StorageView) (t : Taken) : Type 0 where
 
 -- the open request is the worker's next one, and was answered with an entry at this moment
 abbrev pub AnswersOpenRequest : StorageView → StorageView → ℕ → Posted → ℕ → Type 0
-AnswersOpenRequest old new worker posted moment = (e : Answered) × (e.worker ≡ worker) × (posted_of e ≡ posted) × (e.moment ≡ moment)
+AnswersOpenRequest old new worker posted moment =
+    (e : Answered) × (e.worker ≡ worker) × (posted_of e ≡ posted) × (e.moment ≡ moment)
     × (new ≡ record old { history = old.history ++ e ∷ []; open_request = None })
 
 -- What holds between two requests: all that was taken was executed, once each and in order.

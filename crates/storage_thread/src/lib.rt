@@ -2,8 +2,11 @@
 //! them.
 #![tactic(auto)]
 
-pub mod clock;
-pub mod idle;
-pub mod serving;
+mod clock;
+mod idle;
+mod serving;
 #[cfg(test)]
 mod tests;
+
+pub use clock::Clock;
+pub use serving::{StorageReport, run_storage};

@@ -5,7 +5,8 @@ ghost use Rattle.std.specs.Option.{IfNone};
 ghost use Rattle.proto.specs.Cache.{empty_cache};
 ghost use Rattle.proto.specs.History.{max_moment, worker_share, Legal};
 ghost use Rattle.engine.specs.Reaching.{Reaches};
-ghost use Rattle.storage_thread.specs.Serving.{AsksClock, IsTimed, taken_as, SaidBye, IsUnused, IsSameExchange, GetsNone, GetsMessage, AnswersOpenRequest};
+ghost use Rattle.storage_thread.specs.Serving.{AsksClock, IsTimed, taken_as, SaidBye, IsUnused, IsSameExchange};
+ghost use Rattle.storage_thread.specs.Serving.{GetsNone, GetsMessage, AnswersOpenRequest};
 ghost use Rattle.storage_thread.specs.Keeping.{LeadsKeeping, MayForgetNothing};
 
 use crate::clock::Clock;
@@ -40,7 +41,8 @@ pub(crate) fn execute<S: StorageEngine, C: Clock>(
     requires open_request { end.old.end.open_request ≡ Some (worker, posted) }
     requires next { posted.number ≡ length (worker_share end.old.end.history worker) + 1 }
     ensures reaches { Reaches end.new.end.geometry end.new.end.history (S.cache store.new) (S.moment store.new) }
-    ensures kept { LeadsKeeping end.old.end.geometry end.old.end.history (S.cache store.old) (S.keeps store.old) → LeadsKeeping end.new.end.geometry end.new.end.history (S.cache store.new) (S.keeps store.new) }
+    ensures kept { LeadsKeeping end.old.end.geometry end.old.end.history (S.cache store.old) (S.keeps store.old)
+        → LeadsKeeping end.new.end.geometry end.new.end.history (S.cache store.new) (S.keeps store.new) }
     ensures sizes { S.sizes store.new ≡ S.sizes store.old }
     ensures answered { AnswersOpenRequest end.old.end end.new.end worker posted (S.moment store.new) }
     ensures leads { C.leads_to clock.old clock.new }
@@ -112,7 +114,8 @@ pub fn run_storage<R: Wait, S: StorageEngine + Drop, C: Clock>(
     requires unused { IsUnused storage_end }
     ensures same { IsSameExchange storage_end result.storage_end }
     ensures legal { Legal storage_end.geometry result.storage_end.history }
-    ensures once_in_order { (result.storage_end.taken ≡ map taken_as result.storage_end.history) × (result.storage_end.open_request ≡ None) }
+    ensures once_in_order { (result.storage_end.taken ≡ map taken_as result.storage_end.history)
+        × (result.storage_end.open_request ≡ None) }
     ensures inside { All (λ e. e.worker < storage_end.workers) result.storage_end.history }
     ensures bye { SaidBye result.storage_end }
     ensures leads { C.leads_to clock result.clock }

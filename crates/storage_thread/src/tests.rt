@@ -10,9 +10,7 @@ use crate::serving::{StorageReport, execute, run_storage};
 use exchange::{MakeFault, Posted, StorageBatch, StorageEnd, Taken, WorkerEnd, gather, make};
 use parking::ParkingWord;
 use plain_store::Store;
-use proto::byte_string::ByteString;
-use proto::geometry::Geometry;
-use proto::message::{Reply, Request};
+use proto::{ByteString, Geometry, Reply, Request};
 use std::alloc::Global;
 use std::snapshot::Snapshot;
 use std::sync::atomic::{AtomicU64, Ordering};
@@ -102,7 +100,8 @@ fn call<R: Wait>(
 }
 
 fn made(alloc: Global, workers: usize) -> Result<(Vec<WorkerEnd>, StorageEnd, Store), MakeFault>
-    ensures { IfOk result (λ r. (g : Sizes) × AreMade workers g r.0.items r.1 × (r.2 ≡ record { sizes = g; cache = empty_cache 0; moment = 0 })) }
+    ensures { IfOk result (λ r. (g : Sizes) × AreMade workers g r.0.items r.1
+        × (r.2 ≡ record { sizes = g; cache = empty_cache 0; moment = 0 })) }
 {
     let geometry = match Geometry::new(4096, 8) {
         Ok(geometry) => geometry,
@@ -114,7 +113,8 @@ fn made(alloc: Global, workers: usize) -> Result<(Vec<WorkerEnd>, StorageEnd, St
 
 /// Executes and answers one request, and says whether there was one. Its worker isn't told yet.
 fn serve_one(store: &mut Store, clock: &mut Count, end: &mut StorageBatch) -> bool
-    requires ready { Reaches end.old.end.geometry end.old.end.history store.old.cache store.old.moment × (store.old.sizes ≡ end.old.end.geometry) × (end.old.end.open_request ≡ None) }
+    requires ready { Reaches end.old.end.geometry end.old.end.history store.old.cache store.old.moment
+        × (store.old.sizes ≡ end.old.end.geometry) × (end.old.end.open_request ≡ None) }
 {
     match end.next() {
         Some(Taken::Asked { worker, posted }) => {

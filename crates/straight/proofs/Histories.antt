@@ -19,7 +19,14 @@ use Rattle.straight.specs.Sessions.{Setup, AreTimed, LedTo, IsOf, HistoryGoesOn}
 
 -- the next entry of a session
 abbrev pub entry_of : List Answered → ℕ → ℕ → Request → Reply → Answered
-entry_of h session t q reply = record { worker = 0; session = session; number = length (worker_share h 0) + 1; request = q; moment = t; reply = reply }
+entry_of h session t q reply = record {
+  worker = 0;
+  session = session;
+  number = length (worker_share h 0) + 1;
+  request = q;
+  moment = t;
+  reply = reply;
+}
 
 -- the moments with one request more, at the moment of the clock's next answer
 timed_more : (clock : ClockState) (h : List Answered) (e : Answered) → AreTimed clock h
@@ -36,11 +43,13 @@ timed_more clock h e timed is =
     ∙ ap (λ (n : ℕ). moments_after 0 (first_answers clock n)) (sym longer)
 
 -- a history that leads further, by a request that is executed
-pub led_more : (setup : Setup) (h : List Answered) (session : ℕ) (old new : Execution) (t : ℕ) (q : Request) (reply : Reply)
+pub led_more : (setup : Setup) (h : List Answered) (session : ℕ) (old new : Execution) (t : ℕ) (q : Request)
+    (reply : Reply)
     → LedTo setup h old → Executes old t q reply new → LedTo setup (h ++ entry_of h session t q reply ∷ []) new
 led_more setup h session old new t q reply led x =
     let e = entry_of h session t q reply in
-    let next : answer_of old.clock 0 ≡ answer_of setup.clock (length h) = led.clock 0 ∙ ap (answer_of setup.clock) (omega arith) in
+    let next : answer_of old.clock 0 ≡ answer_of setup.clock (length h) =
+    led.clock 0 ∙ ap (answer_of setup.clock) (omega arith) in
     let moment_is : t ≡ moment_after (last_or 0 (moments h)) (answer_of setup.clock (length h)) =
     x.moment_is
     ∙ ap (λ (m : ℕ). moment_after m (answer_of old.clock 0)) (sym led.reaches.moment_is)
@@ -52,7 +61,8 @@ led_more setup h session old new t q reply led x =
     record {
       sizes_are = x.sizes_stay ∙ led.sizes_are;
       reaches = subst (Reaches setup.sizes (h ++ e ∷ []) new.cache) (sym x.last)
-          (reaches_more setup.sizes h old.cache new.cache old.moment e led.reaches step (omega arith) (omega arith) refl);
+          (reaches_more setup.sizes h old.cache new.cache old.moment e led.reaches step (omega arith)
+          (omega arith) refl);
       timed = timed_more setup.clock h e led.timed moment_is;
       clock = λ n. x.later n ∙ led.clock (n + 1) ∙ ap (answer_of setup.clock) (omega (arith, length-append h (e ∷ [])));
     }
@@ -60,18 +70,22 @@ led_more setup h session old new t q reply led x =
 -- ---- shares
 
 -- a session's share of two histories, joined
-pub share-append : (a b : List Answered) (session : ℕ) → session_share (a ++ b) 0 session ≡ session_share a 0 session ++ session_share b 0 session
+pub share-append : (a b : List Answered) (session : ℕ)
+    → session_share (a ++ b) 0 session ≡ session_share a 0 session ++ session_share b 0 session
 share-append a b session = filter-append (λ (e : Answered). eqb e.worker 0 && eqb e.session session) a b
 
 -- the next entry of a session is the last of its share
 pub share_one : (h : List Answered) (session t : ℕ) (q : Request) (reply : Reply)
-    → session_share (h ++ entry_of h session t q reply ∷ []) 0 session ≡ session_share h 0 session ++ entry_of h session t q reply ∷ []
+    → session_share (h ++ entry_of h session t q reply ∷ []) 0 session
+    ≡ session_share h 0 session ++ entry_of h session t q reply ∷ []
 share_one h session t q reply =
     share-append h (entry_of h session t q reply ∷ []) session
-    ∙ ap (λ (b : Bool). session_share h 0 session ++ cond b (entry_of h session t q reply ∷ []) []) (eq-eqb session session refl)
+    ∙ ap (λ (b : Bool). session_share h 0 session ++ cond b (entry_of h session t q reply ∷ []) [])
+    (eq-eqb session session refl)
 
 -- entries of another session
-pub share_other : (entries : List Answered) (session other : ℕ) → AllByRecursion (IsOf session) entries → (session ≡ other → ⊥)
+pub share_other : (entries : List Answered) (session other : ℕ) → AllByRecursion (IsOf session) entries
+    → (session ≡ other → ⊥)
     → session_share entries 0 other ≡ []
 share_other [] session other of apart = refl
 share_other (e ∷ entries) session other (first, of) apart =
@@ -86,7 +100,8 @@ pub goes_on_same : (session : ℕ) (h : List Answered) → HistoryGoesOn session
 goes_on_same session h = record { entries = []; longer = sym (append-nil h); of_session = tt }
 
 -- and with one of the session
-pub goes_on_one : (session t : ℕ) (h : List Answered) (q : Request) (reply : Reply) → HistoryGoesOn session h (h ++ entry_of h session t q reply ∷ [])
+pub goes_on_one : (session t : ℕ) (h : List Answered) (q : Request) (reply : Reply)
+    → HistoryGoesOn session h (h ++ entry_of h session t q reply ∷ [])
 goes_on_one session t h q reply = record {
   entries = entry_of h session t q reply ∷ [];
   longer = refl;
@@ -94,15 +109,18 @@ goes_on_one session t h q reply = record {
 }
 
 -- two lists of entries of one session, joined
-of-append : (session : ℕ) (a b : List Answered) → AllByRecursion (IsOf session) a → AllByRecursion (IsOf session) b → AllByRecursion (IsOf session) (a ++ b)
+of-append : (session : ℕ) (a b : List Answered) → AllByRecursion (IsOf session) a → AllByRecursion (IsOf session) b
+    → AllByRecursion (IsOf session) (a ++ b)
 of-append session [] b first second = second
 of-append session (e ∷ a) b first second = (first.0, of-append session a b first.1 second)
 
 -- a history goes on, and then on
-pub goes_on_on : (session : ℕ) (a b c : List Answered) → HistoryGoesOn session a b → HistoryGoesOn session b c → HistoryGoesOn session a c
+pub goes_on_on : (session : ℕ) (a b c : List Answered) → HistoryGoesOn session a b → HistoryGoesOn session b c
+    → HistoryGoesOn session a c
 goes_on_on session a b c first second = record {
   entries = first.entries ++ second.entries;
-  longer = second.longer ∙ ap (λ (x : List Answered). x ++ second.entries) first.longer ∙ append_assoc a first.entries second.entries;
+  longer = second.longer ∙ ap (λ (x : List Answered). x ++ second.entries) first.longer
+      ∙ append_assoc a first.entries second.entries;
   of_session = of-append session first.entries second.entries first.of_session second.of_session;
 }
 
@@ -112,5 +130,6 @@ pub share_goes_on : (session other : ℕ) (a b : List Answered) → HistoryGoesO
 share_goes_on session other a b on apart =
     ap (λ (h : List Answered). session_share h 0 other) on.longer
     ∙ share-append a on.entries other
-    ∙ ap (λ (x : List Answered). session_share a 0 other ++ x) (share_other on.entries session other on.of_session apart)
+    ∙ ap (λ (x : List Answered). session_share a 0 other ++ x)
+    (share_other on.entries session other on.of_session apart)
     ∙ append-nil (session_share a 0 other)

@@ -9,14 +9,17 @@ use Rattle.proto.specs.declared.message.Message.TheVariants.{Ask, Wrong, Quit, F
 use Rattle.proto.specs.Grammar.{Spells}
 use Rattle.proto.specs.Reading.{ends_session, SpellEach, EndsAtLast, last_ends, asks}
 use Rattle.proto.specs.Answers.{answer, is_ask, said}
+use Rattle.proto.proofs.AskLemmas.{asks-append, onto}
 
 -- one piece more, joined
 pub concat_more : (pieces : List (List ℕ)) (piece : List ℕ) → concat (pieces ++ piece ∷ []) ≡ concat pieces ++ piece
 concat_more [] piece = append-nil piece
-concat_more (p ∷ pieces) piece = ap (λ (x : List ℕ). p ++ x) (concat_more pieces piece) ∙ sym (append_assoc p (concat pieces) piece)
+concat_more (p ∷ pieces) piece = ap (λ (x : List ℕ). p ++ x) (concat_more pieces piece)
+    ∙ sym (append_assoc p (concat pieces) piece)
 
 -- one piece more, which spells one message more
-pub spell_more : (pieces : List (List ℕ)) (ms : List Message) (piece : List ℕ) (m : Message) → SpellEach pieces ms → Spells piece m
+pub spell_more : (pieces : List (List ℕ)) (ms : List Message) (piece : List ℕ) (m : Message) → SpellEach pieces ms
+    → Spells piece m
     → SpellEach (pieces ++ piece ∷ []) (ms ++ m ∷ [])
 spell_more [] [] piece m h one = (one, tt)
 spell_more [] (n ∷ ms) piece m h one = absurd h
@@ -35,28 +38,20 @@ ended_more [] m = refl
 ended_more (a ∷ []) m = refl
 ended_more (a ∷ b ∷ ms) m = ended_more (b ∷ ms) m
 
--- the requests of two lists of messages
-pub asks-append : (ms ns : List Message) → asks (ms ++ ns) ≡ asks ms ++ asks ns
-asks-append [] ns = refl
-asks-append (Ask q quiet ∷ ms) ns = ap (λ (qs : List Request). q ∷ qs) (asks-append ms ns)
-asks-append (Wrong kind ∷ ms) ns = asks-append ms ns
-asks-append (Quit ∷ ms) ns = asks-append ms ns
-asks-append (Fatal kind ∷ ms) ns = asks-append ms ns
-
--- what is joined behind a front
-onto : (front a b c : List ℕ) → a ≡ b ++ c → front ++ a ≡ (front ++ b) ++ c
-onto front a b c e = ap (λ (x : List ℕ). front ++ x) e ∙ sym (append_assoc front b c)
-
 -- one request more, and its answer
-pub said_ask : (ms : List Message) (rs : List Reply) (q : Request) (quiet : Bool) (r : Reply) → length rs ≡ length (asks ms)
+pub said_ask : (ms : List Message) (rs : List Reply) (q : Request) (quiet : Bool) (r : Reply)
+    → length rs ≡ length (asks ms)
     → said (ms ++ Ask q quiet ∷ []) (rs ++ r ∷ []) ≡ said ms rs ++ answer (Ask q quiet) (Some r)
 said_ask [] [] q quiet r e = append-nil (answer (Ask q quiet) (Some r))
 said_ask [] (x ∷ rs) q quiet r e = absurd (omega arith)
 said_ask (Ask p b ∷ ms) [] q quiet r e = absurd (omega arith)
-said_ask (Ask p b ∷ ms) (x ∷ rs) q quiet r e = onto (answer (Ask p b) (Some x)) _ (said ms rs) _ (said_ask ms rs q quiet r (omega arith))
-said_ask (Wrong kind ∷ ms) rs q quiet r e = onto (answer (Wrong kind) None) _ (said ms rs) _ (said_ask ms rs q quiet r e)
+said_ask (Ask p b ∷ ms) (x ∷ rs) q quiet r e =
+    onto (answer (Ask p b) (Some x)) _ (said ms rs) _ (said_ask ms rs q quiet r (omega arith))
+said_ask (Wrong kind ∷ ms) rs q quiet r e =
+    onto (answer (Wrong kind) None) _ (said ms rs) _ (said_ask ms rs q quiet r e)
 said_ask (Quit ∷ ms) rs q quiet r e = onto (answer Quit None) _ (said ms rs) _ (said_ask ms rs q quiet r e)
-said_ask (Fatal kind ∷ ms) rs q quiet r e = onto (answer (Fatal kind) None) _ (said ms rs) _ (said_ask ms rs q quiet r e)
+said_ask (Fatal kind ∷ ms) rs q quiet r e =
+    onto (answer (Fatal kind) None) _ (said ms rs) _ (said_ask ms rs q quiet r e)
 
 -- what is said to a message that is no request
 said_one : (m : Message) → is_ask m ≡ false → said (m ∷ []) [] ≡ answer m None
@@ -71,10 +66,13 @@ pub said_other : (ms : List Message) (rs : List Reply) (m : Message) → is_ask 
 said_other [] [] m other e = said_one m other
 said_other [] (x ∷ rs) m other e = absurd (omega arith)
 said_other (Ask p b ∷ ms) [] m other e = absurd (omega arith)
-said_other (Ask p b ∷ ms) (x ∷ rs) m other e = onto (answer (Ask p b) (Some x)) _ (said ms rs) _ (said_other ms rs m other (omega arith))
-said_other (Wrong kind ∷ ms) rs m other e = onto (answer (Wrong kind) None) _ (said ms rs) _ (said_other ms rs m other e)
+said_other (Ask p b ∷ ms) (x ∷ rs) m other e =
+    onto (answer (Ask p b) (Some x)) _ (said ms rs) _ (said_other ms rs m other (omega arith))
+said_other (Wrong kind ∷ ms) rs m other e =
+    onto (answer (Wrong kind) None) _ (said ms rs) _ (said_other ms rs m other e)
 said_other (Quit ∷ ms) rs m other e = onto (answer Quit None) _ (said ms rs) _ (said_other ms rs m other e)
-said_other (Fatal kind ∷ ms) rs m other e = onto (answer (Fatal kind) None) _ (said ms rs) _ (said_other ms rs m other e)
+said_other (Fatal kind ∷ ms) rs m other e =
+    onto (answer (Fatal kind) None) _ (said ms rs) _ (said_other ms rs m other e)
 
 -- a message that is no request adds none
 pub asks_other : (ms : List Message) (m : Message) → is_ask m ≡ false → asks (ms ++ m ∷ []) ≡ asks ms

@@ -12,7 +12,8 @@ use Rattle.straight.specs.declared.session.StraightSession.{StraightSession}
 use Rattle.straight.specs.Replays.{numbers_of, IsRising}
 
 -- where the search finds the number, it stands there
-pub place_found : (xs : List StraightSession) (n i : ℕ) → i < length xs → HoldsAt (λ (s : StraightSession). nat_cmp s.number n ≡ Equal) xs i
+pub place_found : (xs : List StraightSession) (n i : ℕ) → i < length xs
+    → HoldsAt (λ (s : StraightSession). nat_cmp s.number n ≡ Equal) xs i
     → get_or (numbers_of xs) i 0 ≡ n
 place_found [] n i lt h = absurd (omega arith)
 place_found (x ∷ xs) n zero lt h = ranked x.number n Equal (sym (h x))
@@ -23,15 +24,19 @@ higher : (a b x : ℕ) (o p : Ordering) → o ≡ nat_cmp a x → p ≡ nat_cmp 
 higher a b x Less Less eo ep le = omega arith
 higher a b x Less Equal eo ep le = omega arith
 higher a b x Less Greater eo ep le = omega arith
-higher a b x Equal Less eo ep le = let f = ranked a x Equal eo in let g = ranked b x Less ep in absurd (omega (arith, f, g))
+higher a b x Equal Less eo ep le = let f = ranked a x Equal eo in let g = ranked b x Less ep in
+    absurd (omega (arith, f, g))
 higher a b x Equal Equal eo ep le = omega arith
 higher a b x Equal Greater eo ep le = omega arith
-higher a b x Greater Less eo ep le = let f = ranked a x Greater eo in let g = ranked b x Less ep in absurd (omega (arith, f, g))
-higher a b x Greater Equal eo ep le = let f = ranked a x Greater eo in let g = ranked b x Equal ep in absurd (omega (arith, f, g))
+higher a b x Greater Less eo ep le = let f = ranked a x Greater eo in let g = ranked b x Less ep in
+    absurd (omega (arith, f, g))
+higher a b x Greater Equal eo ep le = let f = ranked a x Greater eo in let g = ranked b x Equal ep in
+    absurd (omega (arith, f, g))
 higher a b x Greater Greater eo ep le = omega arith
 
 -- numbers that rise don't fall
-not_below : (numbers : List ℕ) → IsRising numbers → (i j : ℕ) → i ≤ j → j < length numbers → get_or numbers i 0 ≤ get_or numbers j 0
+not_below : (numbers : List ℕ) → IsRising numbers → (i j : ℕ) → i ≤ j → j < length numbers
+    → get_or numbers i 0 ≤ get_or numbers j 0
 not_below numbers rising i j le lt =
     elim (cases_lt i j) [
       | inl below ↦ omega (arith, rising i j below lt)
@@ -55,6 +60,8 @@ pub place_none : (xs : List StraightSession) (n i : ℕ) → IsRising (numbers_o
 place_none xs n i rising h k d lt is =
     let parted = h (searchable xs n rising) in
     elim (cases_lt k i) [
-      | inl before ↦ let less = ranked (get_or xs k d).number n Less (sym (parted.0 k d (omega arith) before)) in omega (arith, less, is)
-      | inr behind ↦ let more = ranked (get_or xs k d).number n Greater (sym (parted.1 k d behind lt)) in omega (arith, more, is)
+      | inl before ↦ let less = ranked (get_or xs k d).number n Less (sym (parted.0 k d (omega arith) before)) in
+          omega (arith, less, is)
+      | inr behind ↦ let more = ranked (get_or xs k d).number n Greater (sym (parted.1 k d behind lt)) in
+          omega (arith, more, is)
     ]

@@ -17,19 +17,24 @@ use Rattle.straight.specs.Execution.{Execution, AnswersBehind}
 use Rattle.straight.specs.Sessions.{Setup, LedTo, AreBytesAnswered, HistoryGoesOn, LedOnTo, AnswersNext, AnswersAll, Feeds}
 use Rattle.straight.specs.declared.session.StraightSession.{StraightSession}
 use Rattle.proto.proofs.MessageReader.{spelling_nonempty}
-use Rattle.straight.proofs.MessageLists.{concat_more, spell_more, ends_more, ended_more, asks-append, said_ask, said_other, asks_other}
+use Rattle.straight.proofs.MessageLists.{concat_more, spell_more, ends_more, ended_more, said_ask, said_other, asks_other}
 use Rattle.straight.proofs.Histories.{entry_of, led_more, share_one, goes_on_same, goes_on_one, goes_on_on}
+use Rattle.proto.proofs.AskLemmas.{asks-append}
 
 -- as many replies as requests
-replies : (read : List ℕ) (share : List Answered) (output : List ℕ) (ended : Bool) (a : AreBytesAnswered read share output ended)
+replies : (read : List ℕ) (share : List Answered) (output : List ℕ) (ended : Bool)
+    (a : AreBytesAnswered read share output ended)
     → length (had share) ≡ length (asks a.messages)
 replies read share output ended a =
-    length-map {A = Answered} {B = Reply} share (λ e. e.reply) ∙ sym (length-map {A = Answered} {B = Request} share (λ e. e.request)) ∙ ap length a.asked_is
+    length-map {A = Answered} {B = Reply} share (λ e. e.reply)
+    ∙ sym (length-map {A = Answered} {B = Request} share (λ e. e.request)) ∙ ap length a.asked_is
 
 -- a request that is answered
-answered_ask : (read : List ℕ) (share : List Answered) (output piece : List ℕ) (q : Request) (quiet : Bool) (e : Answered)
+answered_ask : (read : List ℕ) (share : List Answered) (output piece : List ℕ) (q : Request) (quiet : Bool)
+    (e : Answered)
     → AreBytesAnswered read share output false → Spells piece (Ask q quiet)
-    → e.request ≡ q → AreBytesAnswered (read ++ piece) (share ++ e ∷ []) (output ++ answer (Ask q quiet) (Some e.reply)) false
+    → e.request ≡ q → AreBytesAnswered (read ++ piece) (share ++ e ∷ [])
+    (output ++ answer (Ask q quiet) (Some e.reply)) false
 answered_ask read share output piece q quiet e a spells is = record {
   messages = a.messages ++ Ask q quiet ∷ [];
   pieces = a.pieces ++ piece ∷ [];
@@ -37,11 +42,13 @@ answered_ask read share output piece q quiet e a spells is = record {
   spelled = spell_more a.pieces a.messages piece (Ask q quiet) a.spelled spells;
   ends_at_last = ends_more a.messages (Ask q quiet) a.ends_at_last a.ended_is;
   ended_is = ended_more a.messages (Ask q quiet);
-  asked_is = map-append (λ (x : Answered). x.request) share (e ∷ []) ∙ ap (λ (qs : List Request). qs ++ e.request ∷ []) a.asked_is
+  asked_is = map-append (λ (x : Answered). x.request) share (e ∷ [])
+      ∙ ap (λ (qs : List Request). qs ++ e.request ∷ []) a.asked_is
       ∙ ap (λ (x : Request). asks a.messages ++ x ∷ []) is ∙ sym (asks-append a.messages (Ask q quiet ∷ []));
   output_is = ap (λ (x : List ℕ). x ++ answer (Ask q quiet) (Some e.reply)) a.output_is
       ∙ sym (said_ask a.messages (had share) q quiet e.reply (replies read share output false a))
-      ∙ ap (λ (rs : List Reply). said (a.messages ++ Ask q quiet ∷ []) rs) (sym (map-append (λ (x : Answered). x.reply) share (e ∷ [])));
+      ∙ ap (λ (rs : List Reply). said (a.messages ++ Ask q quiet ∷ []) rs)
+      (sym (map-append (λ (x : Answered). x.reply) share (e ∷ [])));
 }
 
 -- another message that is answered
@@ -56,25 +63,30 @@ answered_other read share output piece m other a spells = record {
   ends_at_last = ends_more a.messages m a.ends_at_last a.ended_is;
   ended_is = ended_more a.messages m;
   asked_is = a.asked_is ∙ sym (asks_other a.messages m other);
-  output_is = ap (λ (x : List ℕ). x ++ answer m None) a.output_is ∙ sym (said_other a.messages (had share) m other (replies read share output false a));
+  output_is = ap (λ (x : List ℕ). x ++ answer m None) a.output_is
+      ∙ sym (said_other a.messages (had share) m other (replies read share output false a));
 }
 
 -- a message that is no request leads to the same history
 led_other : (setup : Setup) (session : ℕ) (h : List Answered) (read output piece after : List ℕ) (old new : Execution)
     (m : Message) → is_ask m ≡ false → LedTo setup h old
-    → AreBytesAnswered read (session_share h 0 session) output false → (new ≡ old) × (after ≡ output ++ answer m None) → Spells piece m
+    → AreBytesAnswered read (session_share h 0 session) output false → (new ≡ old) × (after ≡ output ++ answer m None)
+    → Spells piece m
     → LedOnTo setup session h new (read ++ piece) after (ends_session m)
 led_other setup session h read output piece after old new m other led a is spells = record {
   history = h;
   goes_on = goes_on_same session h;
   led = subst (λ (x : Execution). LedTo setup h x) (sym is.0) led;
-  answered = subst (λ (x : List ℕ). AreBytesAnswered (read ++ piece) (session_share h 0 session) x (ends_session m)) (sym is.1)
+  answered = subst (λ (x : List ℕ). AreBytesAnswered (read ++ piece) (session_share h 0 session) x (ends_session m))
+      (sym is.1)
       (answered_other read (session_share h 0 session) output piece m other a spells);
 }
 
 -- a message is answered, and the history goes on with it where it is a request
-pub led_message : (setup : Setup) (session : ℕ) (h : List Answered) (read output piece after : List ℕ) (old new : Execution) (m : Message) → LedTo setup h old
-    → AreBytesAnswered read (session_share h 0 session) output false → AnswersBehind old m new output after → Spells piece m
+pub led_message : (setup : Setup) (session : ℕ) (h : List Answered) (read output piece after : List ℕ)
+    (old new : Execution) (m : Message) → LedTo setup h old
+    → AreBytesAnswered read (session_share h 0 session) output false → AnswersBehind old m new output after
+    → Spells piece m
     → LedOnTo setup session h new (read ++ piece) after (ends_session m)
 led_message setup session h read output piece after old new (Ask q quiet) led a (t, reply, x, is) spells =
     let e = entry_of h session t q reply in
@@ -83,14 +95,19 @@ led_message setup session h read output piece after old new (Ask q quiet) led a 
       history = h ++ e ∷ [];
       goes_on = goes_on_one session t h q reply;
       led = led_more setup h session old new t q reply led x;
-      answered = subst (λ (share : List Answered). AreBytesAnswered (read ++ piece) share after false) (sym (share_one h session t q reply))
-          (subst (λ (out : List ℕ). AreBytesAnswered (read ++ piece) (session_share h 0 session ++ e ∷ []) out false) (sym is) shown);
+      answered = subst (λ (share : List Answered). AreBytesAnswered (read ++ piece) share after false)
+          (sym (share_one h session t q reply))
+          (subst (λ (out : List ℕ). AreBytesAnswered (read ++ piece) (session_share h 0 session ++ e ∷ []) out false)
+          (sym is) shown);
     }
-led_message setup session h read output piece after old new (Wrong kind) led a is spells = led_other setup session h read output piece after old new
+led_message setup session h read output piece after old new (Wrong kind) led a is spells =
+    led_other setup session h read output piece after old new
     (Wrong kind) refl led a is spells
-led_message setup session h read output piece after old new Quit led a is spells = led_other setup session h read output piece
+led_message setup session h read output piece after old new Quit led a is spells =
+    led_other setup session h read output piece
     after old new Quit refl led a is spells
-led_message setup session h read output piece after old new (Fatal kind) led a is spells = led_other setup session h read output piece after old new
+led_message setup session h read output piece after old new (Fatal kind) led a is spells =
+    led_other setup session h read output piece after old new
     (Fatal kind) refl led a is spells
 
 -- one led on to another
@@ -108,16 +125,19 @@ led_on setup session h mid new read output more after ended first second = recor
 pub answers_more : (old mid new : Execution) (unread output o1 o2 : List ℕ) (taken n : ℕ) (ended : Bool)
     → AnswersAll old unread taken false mid output o1 → AnswersNext mid (drop taken unread) (Some (n, ended)) new o1 o2
     → AnswersAll old unread (taken + n) ended new output o2
-answers_more old mid new unread output o1 o2 taken n ended before (m, within, spells, ended_is, x) = λ setup session history read led a.
+answers_more old mid new unread output o1 o2 taken n ended before (m, within, spells, ended_is, x) =
+    λ setup session history read led a.
     let first = before setup session history read led a in
     let second = led_message setup session first.history (read ++ take taken unread) o1
     (take n (drop taken unread)) o2 mid new m first.led first.answered x spells in
     let joined = led_on setup session history mid new (read ++ take taken unread) o1
     ((read ++ take taken unread) ++ take n (drop taken unread)) o2 (ends_session m) first second in
     let bytes_are : (read ++ take taken unread) ++ take n (drop taken unread) ≡ read ++ take (taken + n) unread =
-    append_assoc read (take taken unread) (take n (drop taken unread)) ∙ ap (λ (x : List ℕ). read ++ x) (sym (take-add taken n unread)) in
+    append_assoc read (take taken unread) (take n (drop taken unread))
+    ∙ ap (λ (x : List ℕ). read ++ x) (sym (take-add taken n unread)) in
     subst (λ (bytes : List ℕ). LedOnTo setup session history new bytes o2 ended) bytes_are
-    (subst (λ (b : Bool). LedOnTo setup session history new ((read ++ take taken unread) ++ take n (drop taken unread)) o2 b) (sym ended_is) joined)
+    (subst (λ (b : Bool). LedOnTo setup session history new
+    ((read ++ take taken unread) ++ take n (drop taken unread)) o2 b) (sym ended_is) joined)
 
 -- nothing was read yet
 pub answers_none : (old : Execution) (unread output : List ℕ) → AnswersAll old unread 0 false old output output
@@ -125,17 +145,21 @@ answers_none old unread output = λ setup session history read led a. record {
   history = history;
   goes_on = goes_on_same session history;
   led = led;
-  answered = subst (λ (bytes : List ℕ). AreBytesAnswered bytes (session_share history 0 session) output false) (sym (append-nil read)) a;
+  answered = subst (λ (bytes : List ℕ). AreBytesAnswered bytes (session_share history 0 session) output false)
+      (sym (append-nil read)) a;
 }
 
 -- what is found has a byte at least
-pub found_some : (mid new : Execution) (unread o1 o2 : List ℕ) (n : ℕ) (ended : Bool) → AnswersNext mid unread (Some (n, ended)) new o1 o2 → 0 < n
-found_some mid new unread o1 o2 n ended (m, within, spells, ended_is, x) = omega (arith, spelling_nonempty (take n unread) m spells, length-take n unread)
+pub found_some : (mid new : Execution) (unread o1 o2 : List ℕ) (n : ℕ) (ended : Bool)
+    → AnswersNext mid unread (Some (n, ended)) new o1 o2 → 0 < n
+found_some mid new unread o1 o2 n ended (m, within, spells, ended_is, x) =
+    omega (arith, spelling_nonempty (take n unread) m spells, length-take n unread)
 
 -- ---- a session
 
 -- a session that has ended is fed
-pub fed_ended : (s : StraightSession) (before : Execution) (piece : List ℕ) → s.ended ≡ true → Feeds s before piece s before
+pub fed_ended : (s : StraightSession) (before : Execution) (piece : List ℕ) → s.ended ≡ true
+    → Feeds s before piece s before
 fed_ended s before piece ended = record {
   number_stays = refl;
   serves = λ setup history bytes led served. record {
@@ -154,7 +178,8 @@ fed_ended s before piece ended = record {
 }
 
 -- one that goes on is fed, and its messages are answered
-pub fed_going : (old new : StraightSession) (before after : Execution) (piece : List ℕ) (taken : ℕ) → old.ended ≡ false → new.number ≡ old.number
+pub fed_going : (old new : StraightSession) (before after : Execution) (piece : List ℕ) (taken : ℕ) → old.ended ≡ false
+    → new.number ≡ old.number
     → AnswersAll before (old.unread.items ++ piece) taken new.ended after old.output.items new.output.items
     → (new.ended ≡ false → SpellsNone (drop taken (old.unread.items ++ piece)))
     → new.unread.items ≡ drop taken (old.unread.items ++ piece) → Feeds old before piece new after
@@ -167,7 +192,8 @@ fed_going old new before after piece taken going number_is all none left_is = re
       (λ (b : Bool). AreBytesAnswered served.read share old.output.items b) going served.answered in
       let on = all setup old.number history served.read led a in
       let bytes_are : bytes ++ piece ≡ (served.read ++ take taken all_bytes) ++ drop taken all_bytes =
-      ap (λ (b : List ℕ). b ++ piece) (served.bytes_are ∙ ap (λ (r : List ℕ). served.read ++ r) (served.unread_is going))
+      ap (λ (b : List ℕ). b ++ piece) (served.bytes_are
+      ∙ ap (λ (r : List ℕ). served.read ++ r) (served.unread_is going))
       ∙ append_assoc served.read old.unread.items piece
       ∙ ap (λ (x : List ℕ). served.read ++ x) (sym (take-append-drop taken all_bytes))
       ∙ sym (append_assoc served.read (take taken all_bytes) (drop taken all_bytes)) in
@@ -194,5 +220,7 @@ behind taken bytes = take_all (length bytes - taken) (drop taken bytes) (omega (
 
 -- what was found lies within the bytes
 pub found_within : (mid new : Execution) (unread o1 o2 : List ℕ) (taken n : ℕ) (ended : Bool)
-    → AnswersNext mid (drop taken unread) (Some (n, ended)) new o1 o2 → taken ≤ length unread → taken + n ≤ length unread
-found_within mid new unread o1 o2 taken n ended (m, within, spells, ended_is, x) le = omega (arith, length-drop taken unread)
+    → AnswersNext mid (drop taken unread) (Some (n, ended)) new o1 o2 → taken ≤ length unread
+    → taken + n ≤ length unread
+found_within mid new unread o1 o2 taken n ended (m, within, spells, ended_is, x) le =
+    omega (arith, length-drop taken unread)

@@ -22,7 +22,8 @@ pub record Execution : Type 0 where
 -- how it is stored, where a type is seen as one
 abbrev pub execution_code : Coded Execution
 execution_code =
-    code_by ((ℕ × ℕ) × (Cache × (ℕ × (ℕ × ℕ)))) (coded× (coded× coded_ℕ coded_ℕ) (coded× cache_code (coded× coded_ℕ (coded× coded_ℕ coded_ℕ))))
+    code_by ((ℕ × ℕ) × (Cache × (ℕ × (ℕ × ℕ))))
+    (coded× (coded× coded_ℕ coded_ℕ) (coded× cache_code (coded× coded_ℕ (coded× coded_ℕ coded_ℕ))))
     (λ x. ((x.sizes.segment_size, x.sizes.segments), (x.cache, (x.moment, (x.clock.next, x.clock.tick)))))
     (λ p. record {
       sizes = record { segment_size = p.0.0; segments = p.0.1 };

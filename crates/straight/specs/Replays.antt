@@ -10,7 +10,7 @@ use Rattle.proto.specs.Answers.{said}
 use Rattle.proto.specs.History.{Legal, session_share, had, asked}
 use Rattle.script.specs.Clocks.{ClockState}
 use Rattle.script.specs.declared.event.ScriptEvent.{ScriptEvent}
-use Rattle.script.specs.Events.{newest_of, is_open, MayFollow, sessions_opened, sent}
+use Rattle.script.specs.Events.{newest_of, is_open_in_script, MayFollow, sessions_opened, sent}
 use Rattle.straight.specs.declared.session.StraightSession.{StraightSession}
 use Rattle.straight.specs.declared.replay.SessionOutput.{SessionOutput}
 use Rattle.straight.specs.Execution.{Execution}
@@ -34,7 +34,8 @@ pub record IsAmong (sessions : List ℕ) (e : Answered) : Type 0 where
 
 -- Some legal history has entries of worker 0 and of these sessions alone, and the clock's moments. In it each
 -- session that was opened has exactly the requests that its bytes spell, and was given exactly their answers.
-pub record IsReplay (sizes : Sizes) (clock : ClockState) (events : List ScriptEvent) (given : List SessionOutput) : Type 0 where
+pub record IsReplay (sizes : Sizes) (clock : ClockState) (events : List ScriptEvent)
+    (given : List SessionOutput) : Type 0 where
   pub history : List Answered
   pub legal : Legal sizes history
   pub among : AllByRecursion (IsAmong (sessions_opened events)) history
@@ -53,10 +54,12 @@ IsRising numbers = (i j : ℕ) → i < j → j < length numbers → slice_index 
 
 -- a session with a higher number is neither open nor has sent anything
 abbrev pub IsFresh : List ScriptEvent → Type 0
-IsFresh events = (session : ℕ) → newest_of events < session → (sent events session ≡ []) × (is_open events session ≡ false)
+IsFresh events = (session : ℕ) → newest_of events < session
+    → (sent events session ≡ []) × (is_open_in_script events session ≡ false)
 
 -- where the events have led: to this cache and clock, and these sessions
-pub record HasRun (setup : Setup) (events : List ScriptEvent) (now : Execution) (sessions : List StraightSession) : Type 0 where
+pub record HasRun (setup : Setup) (events : List ScriptEvent) (now : Execution)
+    (sessions : List StraightSession) : Type 0 where
   pub history : List Answered
   pub led : LedTo setup history now
   pub among : AllByRecursion (IsAmong (sessions_opened events)) history
@@ -64,7 +67,8 @@ pub record HasRun (setup : Setup) (events : List ScriptEvent) (now : Execution) 
   pub rising : IsRising (sessions_opened events)
   pub highest : All (λ (n : ℕ). n ≤ newest_of events) (sessions_opened events)
   pub fresh : IsFresh events
-  pub each : All (λ (s : StraightSession). AreBytesServed (sent events s.number) (session_share history 0 s.number) s) sessions
+  pub each : All (λ (s : StraightSession). AreBytesServed (sent events s.number) (session_share history 0 s.number) s)
+      sessions
 
 -- the place of a session, if it is there
 abbrev pub IsSessionAt : List StraightSession → ℕ → Option ℕ → Type 0
@@ -73,7 +77,8 @@ IsSessionAt sessions number place =
     (λ at. (at < length sessions) × (slice_index (numbers_of sessions) at ≡ number))
 
 -- the session at a place is fed, and the others stay
-pub record FeedsAt (before : List StraightSession) (at : ℕ) (from : Execution) (piece : List ℕ) (after : List StraightSession) (to : Execution) : Type 0 where
+pub record FeedsAt (before : List StraightSession) (at : ℕ) (from : Execution) (piece : List ℕ)
+    (after : List StraightSession) (to : Execution) : Type 0 where
   pub old : StraightSession
   pub new : StraightSession
   pub old_is : old ≡ slice_index_or before at old

@@ -53,7 +53,8 @@ pub record HistoryGoesOn (session : ℕ) (old new : List Answered) : Type 0 wher
 
 -- with further entries of the session the history leads to this, and what was read of the session is
 -- answered
-pub record LedOnTo (setup : Setup) (session : ℕ) (old : List Answered) (now : Execution) (read output : List ℕ) (ended : Bool) : Type 0 where
+pub record LedOnTo (setup : Setup) (session : ℕ) (old : List Answered) (now : Execution) (read output : List ℕ)
+    (ended : Bool) : Type 0 where
   pub history : List Answered
   pub goes_on : HistoryGoesOn session old history
   pub led : LedTo setup history now
@@ -64,7 +65,8 @@ pub record LedOnTo (setup : Setup) (session : ℕ) (old : List Answered) (now : 
 abbrev pub AnswersNext : Execution → List ℕ → Option (ℕ × Bool) → Execution → List ℕ → List ℕ → Type 0
 AnswersNext old unread None new output after = SpellsNone unread × (new ≡ old) × (after ≡ output)
 AnswersNext old unread (Some (n, ended)) new output after =
-    (m : Message) × (n ≤ length unread) × Spells (take n unread) m × (ended ≡ ends_session m) × AnswersBehind old m new output after
+    (m : Message) × (n ≤ length unread) × Spells (take n unread) m × (ended ≡ ends_session m)
+    × AnswersBehind old m new output after
 
 -- So many of the unread bytes are messages, which were executed and answered, whatever history and bytes of
 -- a session there were before.
@@ -92,14 +94,16 @@ pub record AreBytesServed (bytes : List ℕ) (share : List Answered) (session : 
   pub no_more : session.ended ≡ false → SpellsNone rest
 
 -- with further entries of the session the history leads to this, and the bytes of the session are served
-pub record ServedBy (setup : Setup) (old : List Answered) (now : Execution) (bytes : List ℕ) (session : StraightSession) : Type 0 where
+pub record ServedBy (setup : Setup) (old : List Answered) (now : Execution) (bytes : List ℕ)
+    (session : StraightSession) : Type 0 where
   pub history : List Answered
   pub goes_on : HistoryGoesOn session.number old history
   pub led : LedTo setup history now
   pub served : AreBytesServed bytes (session_share history 0 session.number) session
 
 -- the session is fed a piece, whatever history there was before
-pub record Feeds (old : StraightSession) (before : Execution) (piece : List ℕ) (new : StraightSession) (after : Execution) : Type 0 where
+pub record Feeds (old : StraightSession) (before : Execution) (piece : List ℕ) (new : StraightSession)
+    (after : Execution) : Type 0 where
   pub number_stays : new.number ≡ old.number
   pub serves : (setup : Setup) (history : List Answered) (bytes : List ℕ)
       → LedTo setup history before → AreBytesServed bytes (session_share history 0 old.number) old

@@ -4,10 +4,8 @@ ghost use Rattle.std.specs.Prelude.{◌≡◌, ℕ, ◌++◌, is_some, IsTrue, O
 ghost use Rattle.straight.specs.Execution.{Execution, Executes, AnswersBehind};
 
 use engine::{MAX_MOMENT, StorageEngine};
-use proto::message::{Message, Reply, Request};
-use proto::no_memory::NoMemory;
-use proto::show::show;
-use script::clock::ScriptClock;
+use proto::{Message, NoMemory, Reply, Request, show};
+use script::ScriptClock;
 use std::marker::Model;
 
 /// A store, and the clock that tells its moments.
@@ -26,7 +24,12 @@ impl<E: StorageEngine + Drop> Model for Executor<E> {
 
     ghost coded = { execution_code };
 
-    ghost view = { λ x. record { sizes = E.sizes x.engine; cache = E.cache x.engine; moment = E.moment x.engine; clock = x.clock } };
+    ghost view = { λ x. record {
+      sizes = E.sizes x.engine;
+      cache = E.cache x.engine;
+      moment = E.moment x.engine;
+      clock = x.clock;
+    } };
 
     ghost invariant = { λ x. E.moment x.engine ≤ max_moment };
 }

@@ -11,10 +11,8 @@ ghost use Rattle.straight.specs.Replays.{FeedsAt, IsSessionAt, IsReplay, IsRisin
 use crate::executor::Executor;
 use crate::session::StraightSession;
 use engine::StorageEngine;
-use proto::byte_string::ByteString;
-use proto::no_memory::NoMemory;
-use script::clock::ScriptClock;
-use script::event::ScriptEvent;
+use proto::{ByteString, NoMemory};
+use script::{ScriptClock, ScriptEvent};
 use std::alloc::Global;
 
 /// A session, and all bytes that it was given.

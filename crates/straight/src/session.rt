@@ -7,9 +7,7 @@ ghost use Rattle.straight.specs.Sessions.{AnswersNext, AnswersAll, IsNew, Feeds}
 
 use crate::executor::Executor;
 use engine::StorageEngine;
-use proto::message::{Message, Next};
-use proto::next::next_message;
-use proto::no_memory::NoMemory;
+use proto::{Message, Next, NoMemory, next_message};
 use std::alloc::Global;
 
 /// Whether nothing of the session is read after the message.

@@ -27,11 +27,13 @@ in_hexadecimal bytes = if length bytes == 0 then codes "-" else encode_lower byt
 
 -- the line of a worker's session that was given these bytes
 abbrev pub printed_line : ℕ → ℕ → List ℕ → List ℕ
-printed_line worker session bytes = decimal worker ++ codes " " ++ decimal session ++ codes " " ++ in_hexadecimal bytes ++ codes "\n"
+printed_line worker session bytes = decimal worker ++ codes " " ++ decimal session ++ codes " " ++ in_hexadecimal bytes
+    ++ codes "\n"
 
 -- the lines of a worker's sessions, in the order in which they were opened
 abbrev pub printed_lines : ℕ → List PortRecord → List ℕ
-printed_lines worker events = flat_map (λ (session : ℕ). printed_line worker session (given session events)) (opened events)
+printed_lines worker events = flat_map (λ (session : ℕ). printed_line worker session (given session events))
+    (opened events)
 
 -- the lines of the workers from this one on
 abbrev pub lines_from : ℕ → List (List PortRecord) → List ℕ
@@ -45,7 +47,15 @@ events_of worker = worker.port.records
 abbrev pub IsPort : ℕ → ℕ → List ScriptEvent → PortState → Type 0
 IsPort accept fail_give events port =
     (is_playable events ≡ true)
-    × (port ≡ record { script = events; left = events; sessions = []; records = []; accept = accept; fail_give = fail_give; can_fail = nat_lt 0 fail_give })
+    × (port ≡ record {
+      script = events;
+      left = events;
+      sessions = [];
+      records = [];
+      accept = accept;
+      fail_give = fail_give;
+      can_fail = nat_lt 0 fail_give;
+    })
 
 -- where the script may be played as it stands, the port's list is what the script does
 abbrev pub IsPlayedAt : PortState → Type 0
@@ -57,7 +67,8 @@ ArePlayed workers = (k : ℕ) (x : GroupWorker PortState) → get_elem? workers 
 
 -- The script has these events for so many workers. A group of them ran over ports with these events, and over a new
 -- clock; and what each session was given is printed, in order of worker and session.
-pub record IsPrinted (sizes : Sizes) (clock : ClockState) (workers accept fail_give : ℕ) (text printed : List ℕ) : Type 0 where
+pub record IsPrinted (sizes : Sizes) (clock : ClockState) (workers accept fail_give : ℕ)
+    (text printed : List ℕ) : Type 0 where
   pub scripts : Workers
   pub read : AreEventsOf workers text scripts
   pub ports : List PortState

@@ -40,7 +40,8 @@ MayEnd messages causes.NoMemory = ⊤
 
 -- What came of a session spells some messages. Its requests in the history are the first of theirs, and it was given a
 -- beginning of their answers there; of all messages, and all answers, where it drained or ended by Quit or a fatal line.
-pub record GivesAnswersOf (history : List Answered) (worker : ℕ) (outcome : SessionOutcome) (cause : EndCause) : Type 0 where
+pub record GivesAnswersOf (history : List Answered) (worker : ℕ) (outcome : SessionOutcome)
+    (cause : EndCause) : Type 0 where
   pub messages : List Message
   pub rest : List ℕ
   pub reads : Reads outcome.came messages rest
@@ -54,7 +55,8 @@ pub record GivesAnswersOf (history : List Answered) (worker : ℕ) (outcome : Se
 -- A beginning of the bytes that the script sends a session came, and all of them where it drained. One that found no
 -- room was given nothing; each other one was given its answers. It ended as gone only where the script says that its peer
 -- goes, or a `give` was asked to fail.
-pub record IsOutcomeOf (history : List Answered) (worker fail_give : ℕ) (script : List ScriptEvent) (outcome : SessionOutcome) : Type 0 where
+pub record IsOutcomeOf (history : List Answered) (worker fail_give : ℕ) (script : List ScriptEvent)
+    (outcome : SessionOutcome) : Type 0 where
   pub came_first : StartsWith (sent script outcome.number) outcome.came
   pub came_all : outcome.cause ≡ Some causes.Drained → outcome.came ≡ sent script outcome.number
   pub no_room : outcome.cause ≡ None → outcome.given ≡ []
@@ -63,10 +65,12 @@ pub record IsOutcomeOf (history : List Answered) (worker fail_give : ℕ) (scrip
 
 -- Each session that the script opens has its outcome, once and in order, and each request of the worker in the history is
 -- of one of them.
-pub record AreOutcomesOf (history : List Answered) (worker fail_give : ℕ) (script : List ScriptEvent) (outcomes : List SessionOutcome) : Type 0 where
+pub record AreOutcomesOf (history : List Answered) (worker fail_give : ℕ) (script : List ScriptEvent)
+    (outcomes : List SessionOutcome) : Type 0 where
   pub opened_are : map (λ (o : SessionOutcome). o.number) outcomes ≡ sessions_opened script
   pub each : All (IsOutcomeOf history worker fail_give script) outcomes
-  pub no_other : (e : Answered) → Contains (worker_share history worker) e → list_any (λ s. s == e.session) (sessions_opened script) ≡ true
+  pub no_other : (e : Answered) → Contains (worker_share history worker) e
+      → list_any (λ s. s == e.session) (sessions_opened script) ≡ true
 
 -- the lines of the workers from this one on
 abbrev pub outcome_lines : ℕ → List (List SessionOutcome) → List ℕ
@@ -74,11 +78,13 @@ outcome_lines worker [] = []
 outcome_lines worker (outcomes ∷ more) =
     flat_map (λ (o : SessionOutcome). printed_line worker o.number o.given) outcomes ++ outcome_lines (worker + 1) more
 
--- What is printed for a script with these bytes where this `give` was asked to fail, or none for 0: some legal history has the moments of the clock's answers; by it each
+-- What is printed for a script with these bytes where this `give` was asked to fail, or none for 0: some legal history
+-- has the moments of the clock's answers; by it each
 -- worker's sessions, those that the script opens, have their outcomes; it may be read as one that forgets nothing, where no
 -- request sets a deadline and little is stored; and a line for each session tells what it was given, in order of worker and
 -- session.
-pub record IsReplayOf (sizes : Sizes) (clock : ClockState) (workers fail_give : ℕ) (text printed : List ℕ) : Type 0 where
+pub record IsReplayOf (sizes : Sizes) (clock : ClockState) (workers fail_give : ℕ)
+    (text printed : List ℕ) : Type 0 where
   pub scripts : Workers
   pub read : AreEventsOf workers text scripts
   pub history : List Answered

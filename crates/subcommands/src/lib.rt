@@ -1,4 +1,6 @@
 //! `segcached replay`.
 #![tactic(auto)]
 
-pub mod replay;
+mod replaying;
+
+pub use replaying::{cannot_read, geometry_of, replay};

@@ -3,14 +3,13 @@
 ghost use Rattle.std.specs.Prelude.{◌<◌};
 
 use crate::common::{options, printed};
-use command_line::words::Options;
-use script::clock::ScriptClock;
-use script::reader::read_script;
+use command_line::Options;
+use script::{ScriptClock, read_script};
 use segment_store::Store;
 use std::alloc::Global;
 use std::test::Fail;
-use straight::replay::replay_straight;
-use subcommands::replay::geometry_of;
+use straight::replay_straight;
+use subcommands::geometry_of;
 
 /// Numbers that look random, by xorshift.
 #[derive(Drop)]

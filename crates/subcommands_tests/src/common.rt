@@ -1,13 +1,13 @@
 //! What the tests share.
 
-use command_line::words::{Job, Options, parse_words};
-use faults::fault::Fault;
+use command_line::{Job, Options, parse_words};
+use faults::Fault;
 use std::alloc::Global;
 use std::sync::Wait;
 use std::test::Fail;
 use std::thread::Threads;
 use std::time;
-use subcommands::replay::{geometry_of, replay};
+use subcommands::{geometry_of, replay};
 
 /// The options of these words behind `replay script`.
 pub fn options(alloc: Global, words: &str) -> Result<Options, Fail> {

@@ -3,7 +3,7 @@
 use crate::common::options;
 use std::io::{self, ErrorKind, Read, Write};
 use std::test::Fail;
-use subcommands::replay::{cannot_read, geometry_of, replay};
+use subcommands::{cannot_read, geometry_of, replay};
 
 /// Gives some bytes, and then fails.
 #[derive(Drop)]

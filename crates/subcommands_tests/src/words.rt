@@ -1,7 +1,7 @@
 //! The words of the program.
 
 use crate::common::options;
-use command_line::words::{Job, WordsFault, parse_words, unreadable_words};
+use command_line::{Job, WordsFault, parse_words, unreadable_words};
 use std::alloc::Global;
 use std::io::{self, ErrorKind};
 use std::process::Abort;

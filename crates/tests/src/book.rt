@@ -1,8 +1,7 @@
 //! A book at its limits, and answers out of order or to closed sessions.
 
 use crate::player::Player;
-use session_book::book::Book;
-use session_book::causes::{FeedFault, OpenFault, Settled};
+use session_book::{Book, FeedFault, OpenFault, Settled};
 use std::process::Abort;
 use std::test::Fail;
 

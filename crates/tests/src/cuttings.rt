@@ -1,7 +1,7 @@
 //! However the bytes are cut, and whenever answers come and output is given, what is given is the same.
 
 use crate::player::Player;
-use session_book::causes::EndCause;
+use session_book::EndCause;
 use std::alloc::Global;
 use std::test::Fail;
 

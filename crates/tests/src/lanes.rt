@@ -3,9 +3,7 @@
 ghost use Rattle.std.specs.Prelude.{◌≡◌, None};
 
 use exchange::{MakeFault, Posted, StorageEnd, Taken, WorkerEnd, make};
-use proto::byte_string::ByteString;
-use proto::geometry::Geometry;
-use proto::message::Request;
+use proto::{ByteString, Geometry, Request};
 use std::alloc::Global;
 use std::test::Fail;
 

@@ -3,9 +3,7 @@
 ghost use Rattle.std.specs.Prelude.{◌<◌, IfSome, vec_len};
 
 use itoa::Buffer;
-use proto::byte_string::ByteString;
-use proto::keys::Keys;
-use proto::message::{Put, Request};
+use proto::{ByteString, Keys, Put, Request};
 use std::alloc::{AllocError, Global};
 
 /// An entry and its key. An entry without a deadline has the greatest number.

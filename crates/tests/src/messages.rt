@@ -3,14 +3,10 @@
 ghost use Rattle.std.specs.Prelude.{◌≡◌, is_some};
 ghost use Rattle.proto.specs.Answers.{is_ask};
 
-use proto::hits::{HitRef, HitWriter, Hits};
-use proto::keys::Keys;
-use proto::message::{Message, Next, Reply, Request};
-use proto::next::next_message;
-use proto::no_memory::NoMemory;
-use proto::room::Room;
-use proto::show::show;
-use proto::view::{NextView, next_view};
+use proto::{
+    HitRef, HitWriter, Hits, Keys, Message, Next, NextView, NoMemory, Reply, Request, Room,
+    next_message, next_view, show,
+};
 use std::alloc::{AllocError, Global};
 use std::process::Abort;
 use std::test::Fail;

@@ -1,12 +1,7 @@
 //! A book with the requests that it has given, and a store that knows one value.
 
-use proto::history::{Answered, Posted};
-use proto::hits::{HitRef, HitWriter};
-use proto::message::{Reply, Request};
-use proto::no_memory::NoMemory;
-use proto::room::Room;
-use session_book::book::Book;
-use session_book::causes::{EndCause, FeedFault, OpenFault, Settled};
+use proto::{Answered, HitRef, HitWriter, NoMemory, Posted, Reply, Request, Room};
+use session_book::{Book, EndCause, FeedFault, OpenFault, Settled};
 use std::alloc::{AllocError, Global};
 
 #[derive(Drop)]

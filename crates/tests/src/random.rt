@@ -2,13 +2,7 @@
 
 use crate::list_cache::ListCache;
 use plain_store::Store;
-use proto::byte_string::ByteString;
-use proto::geometry::Geometry;
-use proto::keys::Keys;
-use proto::message::{Message, Put, Request};
-use proto::no_memory::NoMemory;
-use proto::show::show;
-use proto::words::Words;
+use proto::{ByteString, Geometry, Keys, Message, NoMemory, Put, Request, Words, show};
 use std::alloc::{AllocError, Global};
 use std::test::Fail;
 

@@ -1,10 +1,7 @@
 //! The memory of hits goes round: of that no clause speaks.
 
 use plain_store::Store;
-use proto::geometry::Geometry;
-use proto::message::{Message, Next, Request};
-use proto::next::next_message;
-use proto::room::Room;
+use proto::{Geometry, Message, Next, Request, Room, next_message};
 use std::alloc::Global;
 use std::process::Abort;
 use std::test::Fail;

@@ -4,10 +4,7 @@ ghost use Rattle.std.specs.Prelude.{◌≡◌, is_some};
 ghost use Rattle.proto.specs.Answers.{is_ask};
 
 use engine::{MAX_MOMENT, StorageEngine};
-use proto::message::{Message, Next, Reply};
-use proto::next::next_message;
-use proto::no_memory::NoMemory;
-use proto::show::show;
+use proto::{Message, Next, NoMemory, Reply, next_message, show};
 use std::alloc::Global;
 
 /// Executes the message, if it is a request; the moment is not before the last one.

@@ -1,6 +1,6 @@
 //! The sizes of a cache at their limits.
 
-use proto::geometry::Geometry;
+use proto::Geometry;
 use std::process::Abort;
 use std::test::Fail;
 

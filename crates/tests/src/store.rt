@@ -2,9 +2,7 @@
 
 use crate::session::replay;
 use plain_store::Store;
-use proto::byte_string::ByteString;
-use proto::geometry::Geometry;
-use proto::message::{Put, Reply, Request};
+use proto::{ByteString, Geometry, Put, Reply, Request};
 use std::alloc::Global;
 use std::process::Abort;
 use std::test::Fail;

@@ -1,5 +1,5 @@
 -- How the answers grow with the replies.
-use Rattle.std.proofs.Common.{◌≡◌, ℕ, ◌≤◌, List, [], ◌∷◌, ◌++◌, length, refl, sym, ap, ◌∙◌, append_assoc, arith}
+use Rattle.std.proofs.Common.{◌≡◌, ℕ, ◌≤◌, List, [], ◌∷◌, ◌++◌, length, refl, ap, ◌∙◌, append_assoc, arith}
 use Rattle.proto.specs.declared.message.Reply.{Reply}
 use Rattle.proto.specs.declared.message.Message.{Message}
 use Rattle.proto.specs.declared.message.Message.TheVariants.{Ask, Wrong, Quit, Fatal}
@@ -7,47 +7,42 @@ use Rattle.std.specs.Prelude.{Some, None}
 use Rattle.proto.specs.Reading.{asks}
 use Rattle.proto.specs.Answers.{said, answer}
 use Rattle.exchange.specs.Beginnings.{StartsWith}
-
--- a list put in front of c ++ d is put in front of c, with d still behind
-behind : (a b c d : List ℕ) → b ≡ c ++ d → a ++ b ≡ (a ++ c) ++ d
-behind a b c d e = ap (λ (x : List ℕ). a ++ x) e ∙ sym (append_assoc a c d)
+use Rattle.proto.proofs.AskLemmas.{onto}
 
 -- with more replies more is said
 pub said_more : (ms : List Message) (rs more : List Reply) → StartsWith (said ms (rs ++ more)) (said ms rs)
 said_more [] rs more = ([], refl)
 said_more (Ask q quiet ∷ ms) [] more = (said (Ask q quiet ∷ ms) more, refl)
 said_more (Ask q quiet ∷ ms) (r ∷ rs) more = let h = said_more ms rs more in
-    (h.0, behind (answer (Ask q quiet) (Some r)) (said ms (rs ++ more)) (said ms rs) h.0 h.1)
-said_more (Wrong kind ∷ ms) rs more = let h = said_more ms rs more in (h.0, behind (answer (Wrong kind) None) (said ms (rs ++ more)) (said ms rs) h.0 h.1)
+    (h.0, onto (answer (Ask q quiet) (Some r)) (said ms (rs ++ more)) (said ms rs) h.0 h.1)
+said_more (Wrong kind ∷ ms) rs more = let h = said_more ms rs more in
+    (h.0, onto (answer (Wrong kind) None) (said ms (rs ++ more)) (said ms rs) h.0 h.1)
 said_more (Quit ∷ ms) rs more = said_more ms rs more
-said_more (Fatal kind ∷ ms) rs more = let h = said_more ms rs more in (h.0, behind (answer (Fatal kind) None) (said ms (rs ++ more)) (said ms rs) h.0 h.1)
+said_more (Fatal kind ∷ ms) rs more = let h = said_more ms rs more in
+    (h.0, onto (answer (Fatal kind) None) (said ms (rs ++ more)) (said ms rs) h.0 h.1)
 
 -- with more messages too
 pub said_further : (ms ns : List Message) (rs : List Reply) → StartsWith (said (ms ++ ns) rs) (said ms rs)
 said_further [] ns rs = (said ns rs, refl)
 said_further (Ask q quiet ∷ ms) ns [] = ([], refl)
 said_further (Ask q quiet ∷ ms) ns (r ∷ rs) = let h = said_further ms ns rs in
-    (h.0, behind (answer (Ask q quiet) (Some r)) (said (ms ++ ns) rs) (said ms rs) h.0 h.1)
-said_further (Wrong kind ∷ ms) ns rs = let h = said_further ms ns rs in (h.0, behind (answer (Wrong kind) None) (said (ms ++ ns) rs) (said ms rs) h.0 h.1)
+    (h.0, onto (answer (Ask q quiet) (Some r)) (said (ms ++ ns) rs) (said ms rs) h.0 h.1)
+said_further (Wrong kind ∷ ms) ns rs = let h = said_further ms ns rs in
+    (h.0, onto (answer (Wrong kind) None) (said (ms ++ ns) rs) (said ms rs) h.0 h.1)
 said_further (Quit ∷ ms) ns rs = said_further ms ns rs
-said_further (Fatal kind ∷ ms) ns rs = let h = said_further ms ns rs in (h.0, behind (answer (Fatal kind) None) (said (ms ++ ns) rs) (said ms rs) h.0 h.1)
+said_further (Fatal kind ∷ ms) ns rs = let h = said_further ms ns rs in
+    (h.0, onto (answer (Fatal kind) None) (said (ms ++ ns) rs) (said ms rs) h.0 h.1)
 
 -- nothing more where each request has its reply
-pub said_all : (ms : List Message) (rs more : List Reply) → length (asks ms) ≤ length rs → said ms (rs ++ more) ≡ said ms rs
+pub said_all : (ms : List Message) (rs more : List Reply) → length (asks ms) ≤ length rs
+    → said ms (rs ++ more) ≡ said ms rs
 said_all [] rs more le = refl
 said_all (Ask q quiet ∷ ms) [] more le = absurd (omega arith)
-said_all (Ask q quiet ∷ ms) (r ∷ rs) more le = ap (λ (x : List ℕ). answer (Ask q quiet) (Some r) ++ x) (said_all ms rs more (omega arith))
+said_all (Ask q quiet ∷ ms) (r ∷ rs) more le =
+    ap (λ (x : List ℕ). answer (Ask q quiet) (Some r) ++ x) (said_all ms rs more (omega arith))
 said_all (Wrong kind ∷ ms) rs more le = ap (λ (x : List ℕ). answer (Wrong kind) None ++ x) (said_all ms rs more le)
 said_all (Quit ∷ ms) rs more le = said_all ms rs more le
 said_all (Fatal kind ∷ ms) rs more le = ap (λ (x : List ℕ). answer (Fatal kind) None ++ x) (said_all ms rs more le)
-
--- the requests in two lists of messages, one behind the other, are those of the first and then those of the second
-pub asks-append : (ms ns : List Message) → asks (ms ++ ns) ≡ asks ms ++ asks ns
-asks-append [] ns = refl
-asks-append (Ask q quiet ∷ ms) ns = ap (λ qs. q ∷ qs) (asks-append ms ns)
-asks-append (Wrong kind ∷ ms) ns = asks-append ms ns
-asks-append (Quit ∷ ms) ns = asks-append ms ns
-asks-append (Fatal kind ∷ ms) ns = asks-append ms ns
 
 -- a beginning of a beginning of a list is a beginning of the list
 pub begins_on : {A : Type 0} (a b c : List A) → StartsWith b a → StartsWith c b → StartsWith c a

@@ -28,33 +28,43 @@ use Rattle.worker.proofs.WorkerSteps.{steps_on, steady_same, same_end}
 use Rattle.worker.proofs.OutputSteps.{told_within}
 
 -- a worker that went on from a to b, and from b to c, went on from a to c
-pub goes_on_trans : {P : Type 0} (told : P → Option PortStory) (a b c : Worker P) → WorkerGoesOn told a b → WorkerGoesOn told b c → WorkerGoesOn told a c
+pub goes_on_trans : {P : Type 0} (told : P → Option PortStory) (a b c : Worker P) → WorkerGoesOn told a b
+    → WorkerGoesOn told b c → WorkerGoesOn told a c
 goes_on_trans told a b c h k = record {
   tells = k.tells ∙ h.tells;
-  same_end = record { exchange = k.same_end.exchange ∙ h.same_end.exchange; worker = k.same_end.worker ∙ h.same_end.worker };
+  same_end = record {
+    exchange = k.same_end.exchange ∙ h.same_end.exchange;
+    worker = k.same_end.worker ∙ h.same_end.worker;
+  };
   serving = k.serving;
 }
 
 -- ---- the session reads on
 
 -- where the new requests are just that of one post, they add this one request behind any others
-one_request : (qs : List Request) (p : Posted) → qs ≡ p.request ∷ [] → (xs : List Request) → xs ++ qs ≡ xs ++ p.request ∷ []
+one_request : (qs : List Request) (p : Posted) → qs ≡ p.request ∷ [] → (xs : List Request)
+    → xs ++ qs ≡ xs ++ p.request ∷ []
 one_request qs p e xs = ap (λ (y : List Request). xs ++ y) e
 
 -- the requests of the messages read are those that were posted or are held
-pub told_read : (v v' : RunView) (unopened : ℕ) (ended : Bool) (t : ℕ) (s read : SessionState) (ms : List Message) → IsStoryKnown v unopened ended
+pub told_read : (v v' : RunView) (unopened : ℕ) (ended : Bool) (t : ℕ) (s read : SessionState) (ms : List Message)
+    → IsStoryKnown v unopened ended
     → session_of v.book t ≡ Some s → ReadsOn s ms read → asked_by v'.posted t ≡ asked_by v.posted t ++ asks ms
     → ((k : ℕ) → t ≢ k → asked_by v'.posted k ≡ asked_by v.posted k)
     → v'.events ≡ v.events → v'.back ≡ v.back → v'.sessions ≡ v.sessions
-    → ((k : ℕ) → session_of v'.book k ≡ cond (k == t) (Some read) (session_of v.book k)) → v'.piece ≡ v.piece → IsStoryKnown v' unopened ended
+    → ((k : ℕ) → session_of v'.book k ≡ cond (k == t) (Some read) (session_of v.book k)) → v'.piece ≡ v.piece
+    → IsStoryKnown v' unopened ended
 told_read v v' unopened ended t s read ms h open_is reads here_asked other_asked e b r book piece =
     let run = runs (facts v t) s (h.each t) open_is in
     let s_is : Some run.running.s ≡ Some s = sym run.running.state ∙ open_is in
-    let reads' : ReadsOn run.running.s ms read = subst (λ (x : SessionState). ReadsOn x ms read) (some_is s run.running.s (sym s_is)) reads in
+    let reads' : ReadsOn run.running.s ms read =
+    subst (λ (x : SessionState). ReadsOn x ms read) (some_is s run.running.s (sym s_is)) reads in
     let served = served_read (facts v t) run.running.s read (v.piece t) ms reads' run.running.served in
     let f' = record (facts v t) { asked = asked_by v.posted t ++ asks ms; state = Some read } in
-    let here : facts v' t ≡ f' = facts_equal (facts v' t) f' (ap (λ l. port_facts l t) e) here_asked (λ i. (facts (record v { back = b i }) t).had)
-    (λ i. (facts (record v { sessions = r i }) t).cause) (book t ∙ at_same t (Some read) (session_of v.book t)) (λ i. piece i t) in
+    let here : facts v' t ≡ f' = facts_equal (facts v' t) f' (ap (λ l. port_facts l t) e) here_asked
+    (λ i. (facts (record v { back = b i }) t).had)
+    (λ i. (facts (record v { sessions = r i }) t).cause) (book t ∙ at_same t (Some read) (session_of v.book t))
+    (λ i. piece i t) in
     let now : AreFactsConsistent f' = is_running f' run.opened run.cause
     (record {
       gone = run.running.gone;
@@ -71,35 +81,47 @@ told_read v v' unopened ended t s read ms h open_is reads here_asked other_asked
       };
     }) in
     let others : (k : ℕ) → t ≢ k → facts v' k ≡ facts v k =
-    λ k ne. facts_equal (facts v' k) (facts v k) (ap (λ l. port_facts l k) e) (other_asked k ne) (λ i. (facts (record v { back = b i }) k).had)
-    (λ i. (facts (record v { sessions = r i }) k).cause) (book k ∙ at_other t k (Some read) (session_of v.book k) ne) (λ i. piece i k) in
-    told_within v v' unopened ended h e r (change_at t v v' others (subst AreFactsConsistent (sym here) now) (λ k ne. h.each k))
+    λ k ne. facts_equal (facts v' k) (facts v k) (ap (λ l. port_facts l k) e) (other_asked k ne)
+    (λ i. (facts (record v { back = b i }) k).had)
+    (λ i. (facts (record v { sessions = r i }) k).cause) (book k ∙ at_other t k (Some read) (session_of v.book k) ne)
+    (λ i. piece i k) in
+    told_within v v' unopened ended h e r
+    (change_at t v v' others (subst AreFactsConsistent (sym here) now) (λ k ne. h.each k))
 
 -- with no request
 pub none_goes_on : {P : Type 0} (told : P → Option PortStory) (old new : Worker P) (t : ℕ) (s : SessionState)
-    (result : Result (Option (Request × ℕ)) NoMemory) → new.port ≡ old.port → new.worker_end ≡ old.worker_end → new.request ≡ old.request
+    (result : Result (Option (Request × ℕ)) NoMemory) → new.port ≡ old.port → new.worker_end ≡ old.worker_end
+    → new.request ≡ old.request
     → new.sessions ≡ old.sessions → new.unopened ≡ old.unopened → new.strangers ≡ old.strangers → new.ended ≡ old.ended
-    → IsWorkerServing told old → session_of old.book t ≡ Some s → NextAsk old.book t s result new.book → given_in result ≡ [] → WorkerGoesOn told old new
+    → IsWorkerServing told old → session_of old.book t ≡ Some s → NextAsk old.book t s result new.book
+    → given_in result ≡ [] → WorkerGoesOn told old new
 none_goes_on told old new t s result port end request sessions unopened strangers ended h open_is a none =
-    let pieces = pieces_kept old.book new.book t (Some a.read) a.only_at (a.reading.reads.held ∙ sym (ap held_of open_is)) in
-    let no_asks : asks a.messages ≡ [] = a.reading.requests_are ∙ ap (λ (x : List (Request × ℕ)). map (λ (y : Request × ℕ). y.0) x) none in
-    let no_more : (k : ℕ) → asked_by (posted_by new.worker_end new.request) k ≡ asked_by (posted_by old.worker_end old.request) k = λ k i. asked_by
+    let pieces = pieces_kept old.book new.book t (Some a.read) a.only_at
+    (a.reading.reads.held ∙ sym (ap held_of open_is)) in
+    let no_asks : asks a.messages ≡ [] =
+    a.reading.requests_are ∙ ap (λ (x : List (Request × ℕ)). map (λ (y : Request × ℕ). y.0) x) none in
+    let no_more : (k : ℕ) → asked_by (posted_by new.worker_end new.request) k
+    ≡ asked_by (posted_by old.worker_end old.request) k = λ k i. asked_by
     (posted_by (end i) (request i)) k in
     steps_on told old new (λ story. story) (same_story (told old.port) (told new.port) (ap told port)) (record {
       same_end = same_end old new end;
       steady = subst (λ (y : WorkerView × Option Posted). IsSteady y.0 y.1 new.book) (λ i. (sym end i, sym request i))
           (steady_same old.worker_end old.request old.book new.book
-          (ap (λ (x : BookState). x.posted) a.rest ∙ ap (λ (x : List (Request × ℕ)). old.book.posted + length x) none ∙ omega arith)
-          (ap (λ (x : BookState). x.unsettled) a.rest ∙ ap (λ (x : List (Request × ℕ)). old.book.unsettled ++ map (unsettled_at t) x) none
+          (ap (λ (x : BookState). x.posted) a.rest ∙ ap (λ (x : List (Request × ℕ)). old.book.posted + length x) none
+          ∙ omega arith)
+          (ap (λ (x : BookState). x.unsettled) a.rest
+          ∙ ap (λ (x : List (Request × ℕ)). old.book.unsettled ++ map (unsettled_at t) x) none
           ∙ append-nil old.book.unsettled) h.steady);
       strangers = strangers ∙ h.strangers;
       unopened = unopened;
       ended = ended;
     }) h
     (λ story e was_so. (
-      told_read (run_view story old) (run_view story new) old.unopened old.ended t s a.read a.messages was_so.0 open_is a.reading.reads
+      told_read (run_view story old) (run_view story new) old.unopened old.ended t s a.read a.messages was_so.0 open_is
+          a.reading.reads
           (no_more t ∙ sym (append-nil (asked_by (posted_by old.worker_end old.request) t))
-          ∙ ap (λ (x : List Request). asked_by (posted_by old.worker_end old.request) t ++ x) (sym no_asks)) (λ k ne. no_more k) refl
+          ∙ ap (λ (x : List Request). asked_by (posted_by old.worker_end old.request) t ++ x) (sym no_asks))
+          (λ k ne. no_more k) refl
           (ap (λ (w : WorkerView). w.back) end) (λ i. (sessions i).items) a.only_at (λ i q. pieces q i),
       paused_kept story story (piece_of old.book) (piece_of new.book) pieces (λ q. refl) was_so.1,
     ))
@@ -112,69 +134,83 @@ asked_length [] = refl
 asked_length (a ∷ l) = let h = asked_length l in omega arith
 
 -- no more answers came back than requests were sent, as they answer the first of these
-pub back_le : (end : WorkerView) → asked_posted end.back ≡ take (length end.back) end.sent → length end.back ≤ length end.sent
+pub back_le : (end : WorkerView) → asked_posted end.back ≡ take (length end.back) end.sent
+    → length end.back ≤ length end.sent
 back_le end e =
     let same : length (asked_posted end.back) ≡ length end.back = asked_length end.back in
     let h : length (asked_posted end.back) ≡ length (take (length end.back) end.sent) = ap (length {A = Posted}) e in
     omega (arith, length-take (length end.back) end.sent)
 
 -- the worker goes on where a session gives a request, which is held from then on
-pub one_goes_on : {P : Type 0} (told : P → Option PortStory) (old new : Worker P) (t : ℕ) (s : SessionState) (q : Request) (n : ℕ)
+pub one_goes_on : {P : Type 0} (told : P → Option PortStory) (old new : Worker P) (t : ℕ) (s : SessionState)
+    (q : Request) (n : ℕ)
     → new.port ≡ old.port → new.worker_end ≡ old.worker_end → old.request ≡ None
     → new.request ≡ Some (record { session = t; number = n; request = q }) → new.sessions ≡ old.sessions
-    → new.unopened ≡ old.unopened → new.strangers ≡ old.strangers → new.ended ≡ old.ended → IsWorkerServing told old → session_of old.book t ≡ Some s
+    → new.unopened ≡ old.unopened → new.strangers ≡ old.strangers → new.ended ≡ old.ended → IsWorkerServing told old
+    → session_of old.book t ≡ Some s
     → NextAsk old.book t s (Ok (Some (q, n))) new.book → WorkerGoesOn told old new
 one_goes_on told old new t s q n port end was_none request sessions unopened strangers ended h open_is a =
     let p : Posted = record { session = t; number = n; request = q } in
-    let pieces = pieces_kept old.book new.book t (Some a.read) a.only_at (a.reading.reads.held ∙ sym (ap held_of open_is)) in
+    let pieces = pieces_kept old.book new.book t (Some a.read) a.only_at
+    (a.reading.reads.held ∙ sym (ap held_of open_is)) in
     let sent = old.worker_end.sent in
-    let before : posted_by old.worker_end old.request ≡ sent = (λ i. posted_by old.worker_end (was_none i)) ∙ append-nil sent in
+    let before : posted_by old.worker_end old.request ≡ sent =
+    (λ i. posted_by old.worker_end (was_none i)) ∙ append-nil sent in
     let after : posted_by new.worker_end new.request ≡ sent ++ p ∷ [] = λ i. posted_by (end i) (request i) in
-    let more : asked_by (posted_by new.worker_end new.request) t ≡ asked_by (posted_by old.worker_end old.request) t ++ asks a.messages =
+    let more : asked_by (posted_by new.worker_end new.request) t
+    ≡ asked_by (posted_by old.worker_end old.request) t ++ asks a.messages =
     ap (λ l. asked_by l t) after ∙ asked_here sent p t refl ∙ ap (λ l. asked_by l t ++ q ∷ []) (sym before)
     ∙ ap (λ (x : List Request). asked_by (posted_by old.worker_end old.request) t ++ x) (sym a.reading.requests_are) in
-    let others : (k : ℕ) → t ≢ k → asked_by (posted_by new.worker_end new.request) k ≡ asked_by (posted_by old.worker_end old.request) k =
+    let others : (k : ℕ) → t ≢ k → asked_by (posted_by new.worker_end new.request) k
+    ≡ asked_by (posted_by old.worker_end old.request) k =
     λ k ne. ap (λ l. asked_by l k) after ∙ asked_elsewhere sent p k ne ∙ ap (λ l. asked_by l k) (sym before) in
     let le = back_le old.worker_end h.steady.back in
     let posted : old.book.posted ≡ length sent = h.steady.posted ∙ ap (length {A = Posted}) before in
     let numbered : n ≡ old.book.posted + 1 = ap (λ (l : List ℕ). get_or l 0 0) a.numbers in
     steps_on told old new (λ story. story) (same_story (told old.port) (told new.port) (ap told port)) (record {
       same_end = same_end old new end;
-      steady = subst (λ (y : WorkerView × Option Posted). IsSteady y.0 y.1 new.book) (λ i. (sym end i, sym request i)) (record {
-        running = h.steady.running;
-        posted = ap (λ (x : BookState). x.posted) a.rest ∙ (let len = length-append sent (p ∷ []) in omega (arith, posted));
-        numbered = omega (arith, numbered, posted);
-        unsettled = ap (λ (x : BookState). x.unsettled) a.rest
-            ∙ ap (λ (x : List Unsettled). x ++ unsettled_post p ∷ []) (h.steady.unsettled
-            ∙ ap (λ (l : List Posted). map unsettled_post (drop (length old.worker_end.back) l)) before)
-            ∙ sym (map-append unsettled_post (drop (length old.worker_end.back) sent) (p ∷ []))
-            ∙ ap (map unsettled_post) (sym (drop-append-le (length old.worker_end.back) sent (p ∷ []) le));
-        back = h.steady.back;
-      });
+      steady = subst (λ (y : WorkerView × Option Posted). IsSteady y.0 y.1 new.book) (λ i. (sym end i, sym request i))
+          (record {
+            running = h.steady.running;
+            posted = ap (λ (x : BookState). x.posted) a.rest
+                ∙ (let len = length-append sent (p ∷ []) in omega (arith, posted));
+            numbered = omega (arith, numbered, posted);
+            unsettled = ap (λ (x : BookState). x.unsettled) a.rest
+                ∙ ap (λ (x : List Unsettled). x ++ unsettled_post p ∷ []) (h.steady.unsettled
+                ∙ ap (λ (l : List Posted). map unsettled_post (drop (length old.worker_end.back) l)) before)
+                ∙ sym (map-append unsettled_post (drop (length old.worker_end.back) sent) (p ∷ []))
+                ∙ ap (map unsettled_post) (sym (drop-append-le (length old.worker_end.back) sent (p ∷ []) le));
+            back = h.steady.back;
+          });
       strangers = strangers ∙ h.strangers;
       unopened = unopened;
       ended = ended;
     }) h
     (λ story e was_so. (
       told_read (run_view story old)
-          (run_view story new) old.unopened old.ended t s a.read a.messages was_so.0 open_is a.reading.reads more others refl
+          (run_view story new) old.unopened old.ended t s a.read a.messages was_so.0 open_is a.reading.reads more
+          others refl
           (ap (λ (w : WorkerView). w.back) end) (λ i. (sessions i).items) a.only_at (λ i q. pieces q i),
       paused_kept story story (piece_of old.book) (piece_of new.book) pieces (λ q. refl) was_so.1,
     ))
 
 -- no request is left, or the session isn't open
-pub quiet_goes_on : {P : Type 0} (told : P → Option PortStory) (old new : Worker P) (t : ℕ) (o : Option SessionState) → o ≡ session_of old.book t
+pub quiet_goes_on : {P : Type 0} (told : P → Option PortStory) (old new : Worker P) (t : ℕ) (o : Option SessionState)
+    → o ≡ session_of old.book t
     → new.port ≡ old.port → new.worker_end ≡ old.worker_end → new.request ≡ old.request → new.sessions ≡ old.sessions
     → new.unopened ≡ old.unopened → new.strangers ≡ old.strangers → new.ended ≡ old.ended → IsWorkerServing told old
     → (session_of old.book t ≡ None → new.book ≡ old.book) → ((s : SessionState) → session_of old.book t ≡ Some s
     → NextAsk old.book t s (Ok None) new.book) → WorkerGoesOn told old new
-quiet_goes_on told old new t (Some s) o port end request sessions unopened strangers ended h closed open_is = none_goes_on told old new t s
+quiet_goes_on told old new t (Some s) o port end request sessions unopened strangers ended h closed open_is =
+    none_goes_on told old new t s
     (Ok None) port end request sessions unopened strangers ended h (sym o) (open_is s (sym o)) refl
 quiet_goes_on told old new t None o port end request sessions unopened strangers ended h closed open_is =
-    let book = closed (sym o) in let pieces : (q : ℕ) → piece_of new.book q ≡ piece_of old.book q = λ q i. piece_of (book i) q in
+    let book = closed (sym o) in let pieces : (q : ℕ) → piece_of new.book q ≡ piece_of old.book q =
+    λ q i. piece_of (book i) q in
     steps_on told old new (λ story. story) (same_story (told old.port) (told new.port) (ap told port)) (record {
       same_end = same_end old new end;
-      steady = subst (λ (y : WorkerView × Option Posted × BookState). IsSteady y.0 y.1 y.2) (λ i. (sym end i, sym request i, sym book i)) h.steady;
+      steady = subst (λ (y : WorkerView × Option Posted × BookState). IsSteady y.0 y.1 y.2)
+          (λ i. (sym end i, sym request i, sym book i)) h.steady;
       strangers = strangers ∙ h.strangers;
       unopened = unopened;
       ended = ended;
@@ -193,17 +229,23 @@ quiet_goes_on told old new t None o port end request sessions unopened strangers
     ))
 
 -- the held request is sent
-pub posted_goes_on : {P : Type 0} (told : P → Option PortStory) (old : Worker P) (p : Posted) (end : WorkerView) (request : Option Posted)
-    → old.request ≡ Some p → request ≡ None → end ≡ record old.worker_end { sent = old.worker_end.sent ++ p ∷ [] } → IsWorkerServing told old
+pub posted_goes_on : {P : Type 0} (told : P → Option PortStory) (old : Worker P) (p : Posted) (end : WorkerView)
+    (request : Option Posted)
+    → old.request ≡ Some p → request ≡ None → end ≡ record old.worker_end { sent = old.worker_end.sent ++ p ∷ [] }
+    → IsWorkerServing told old
     → WorkerGoesOn told old (record old { worker_end = end; request = request })
 posted_goes_on told old p end request held taken sent h =
     let w = old.worker_end in let new = record old { worker_end = end; request = request } in
-    let all : posted_by end request ≡ posted_by w old.request = (λ i. posted_by (sent i) (taken i)) ∙ append-nil (w.sent ++ p ∷ [])
+    let all : posted_by end request ≡ posted_by w old.request =
+    (λ i. posted_by (sent i) (taken i)) ∙ append-nil (w.sent ++ p ∷ [])
     ∙ (λ i. posted_by w (sym held i)) in
     let back : end.back ≡ w.back = ap (λ (x : WorkerView). x.back) sent in
     let le = back_le w h.steady.back in
     steps_on told old new (λ story. story) (same_story (told old.port) (told old.port) refl) (record {
-      same_end = record { exchange = ap (λ (x : WorkerView). x.exchange) sent; worker = ap (λ (x : WorkerView). x.worker) sent };
+      same_end = record {
+        exchange = ap (λ (x : WorkerView). x.exchange) sent;
+        worker = ap (λ (x : WorkerView). x.worker) sent;
+      };
       steady = record {
         running = ap (λ (x : WorkerView). x.said_bye) sent ∙ h.steady.running;
         posted = h.steady.posted ∙ ap (length {A = Posted}) (sym all);
@@ -223,20 +265,26 @@ posted_goes_on told old p end request held taken sent h =
     ))
 
 -- a worker that doesn't change goes on
-pub goes_on_same : {P : Type 0} (told : P → Option PortStory) (a : Worker P) → IsWorkerServing told a → WorkerGoesOn told a a
+pub goes_on_same : {P : Type 0} (told : P → Option PortStory) (a : Worker P) → IsWorkerServing told a
+    → WorkerGoesOn told a a
 goes_on_same told a h = record { tells = refl; same_end = record { exchange = refl; worker = refl }; serving = h }
 
 -- what a session that gives no request leaves of the book
 pub quiet_elsewhere : (old new : BookState) (t s : ℕ) (o : Option SessionState) → o ≡ session_of old t → (s ≡ t → ⊥)
-    → (session_of old t ≡ None → new ≡ old) → ((st : SessionState) → session_of old t ≡ Some st → (x : SessionState) × OnlyAt old new t (Some x))
+    → (session_of old t ≡ None → new ≡ old)
+    → ((st : SessionState) → session_of old t ≡ Some st → (x : SessionState) × OnlyAt old new t (Some x))
     → session_of new s ≡ session_of old s
 quiet_elsewhere old new t s None o ne closed only = ap (λ b. session_of b s) (closed (sym o))
-quiet_elsewhere old new t s (Some st) o ne closed only = let x = only st (sym o) in x.1 s ∙ at_other t s (Some x.0) (session_of old s) (λ e. ne (sym e))
+quiet_elsewhere old new t s (Some st) o ne closed only = let x = only st (sym o) in
+    x.1 s ∙ at_other t s (Some x.0) (session_of old s) (λ e. ne (sym e))
 
 -- a session that is open after it was asked and gave no request has a reason to give none
-pub quiet_here : (old new : BookState) (t : ℕ) (s : SessionState) (o : Option SessionState) → o ≡ session_of old t → session_of new t ≡ Some s
-    → (session_of old t ≡ None → new ≡ old) → ((st : SessionState) → session_of old t ≡ Some st → NextAsk old t st (Ok None) new) → GivesNone old s
-quiet_here old new t s None o q closed open_is = absurd (not_both (session_of new t) s (ap (λ b. session_of b t) (closed (sym o)) ∙ sym o) q)
+pub quiet_here : (old new : BookState) (t : ℕ) (s : SessionState) (o : Option SessionState) → o ≡ session_of old t
+    → session_of new t ≡ Some s
+    → (session_of old t ≡ None → new ≡ old)
+    → ((st : SessionState) → session_of old t ≡ Some st → NextAsk old t st (Ok None) new) → GivesNone old s
+quiet_here old new t s None o q closed open_is =
+    absurd (not_both (session_of new t) s (ap (λ b. session_of b t) (closed (sym o)) ∙ sym o) q)
 quiet_here old new t s (Some st) o q closed open_is =
     let a = open_is st (sym o) in subst (λ (x : SessionState). GivesNone old x)
     (some_is a.read s (sym (a.only_at t ∙ at_same t (Some a.read) (session_of old t)) ∙ q)) (a.none refl)

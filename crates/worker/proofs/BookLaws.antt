@@ -11,20 +11,32 @@ use Rattle.session_book.specs.Accounts.{HasRead, HasSaid, StartsAccounts, FeedKe
 -- of a new session, fed nothing, no message was read and nothing was said
 pub starts_accounts : StartsAccounts
 starts_accounts = (
-  record { pieces = []; dropped = []; whole = refl; spelled = tt; ends_at_last = tt; ended = refl; nothing_dropped = λ e. refl },
+  record {
+    pieces = [];
+    dropped = [];
+    whole = refl;
+    spelled = tt;
+    ends_at_last = tt;
+    ended = refl;
+    nothing_dropped = λ e. refl;
+  },
   record { whole = refl; queue = refl; replied = refl },
 )
 
 -- by whether the session has ended
-fed_by : (o : Option EndCause) (bytes piece given : List ℕ) (ms : List Message) (replies : List Reply) (s : SessionState) → s.ended ≡ o
-    → HasRead bytes ms s → HasSaid ms replies given s → HasRead (bytes ++ piece) ms (cond (is_some o) s (record s { unread = s.unread ++ piece }))
+fed_by : (o : Option EndCause) (bytes piece given : List ℕ) (ms : List Message) (replies : List Reply)
+    (s : SessionState) → s.ended ≡ o
+    → HasRead bytes ms s → HasSaid ms replies given s
+    → HasRead (bytes ++ piece) ms (cond (is_some o) s (record s { unread = s.unread ++ piece }))
     × HasSaid ms replies given (cond (is_some o) s (record s { unread = s.unread ++ piece }))
 fed_by None bytes piece given ms replies s e h k = (
   record {
     pieces = h.pieces;
     dropped = [];
-    whole = ap (λ (x : List ℕ). x ++ piece) (h.whole ∙ ap (λ (x : List ℕ). (concat h.pieces ++ s.unread) ++ x) (h.nothing_dropped e)
-        ∙ append-nil (concat h.pieces ++ s.unread)) ∙ append_assoc (concat h.pieces) s.unread piece ∙ sym (append-nil (concat h.pieces ++ (s.unread ++ piece)));
+    whole = ap (λ (x : List ℕ). x ++ piece)
+        (h.whole ∙ ap (λ (x : List ℕ). (concat h.pieces ++ s.unread) ++ x) (h.nothing_dropped e)
+        ∙ append-nil (concat h.pieces ++ s.unread)) ∙ append_assoc (concat h.pieces) s.unread piece
+        ∙ sym (append-nil (concat h.pieces ++ (s.unread ++ piece)));
     spelled = h.spelled;
     ends_at_last = h.ends_at_last;
     ended = h.ended;
@@ -62,7 +74,8 @@ give_keeps bytes given n ms replies s h k = (
     nothing_dropped = h.nothing_dropped;
   },
   record {
-    whole = append_assoc given (take n s.out) (drop n s.out) ∙ ap (λ (x : List ℕ). given ++ x) (take-append-drop n s.out)
+    whole = append_assoc given (take n s.out) (drop n s.out)
+        ∙ ap (λ (x : List ℕ). given ++ x) (take-append-drop n s.out)
         ∙ k.whole;
     queue = k.queue;
     replied = k.replied;

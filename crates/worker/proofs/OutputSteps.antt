@@ -16,36 +16,42 @@ use Rattle.worker.specs.Ports.{PortStory, then_told, with_pause, is_open, give_r
 use Rattle.worker.specs.Sessions.{port_facts, RunView, facts, AreFactsConsistent, IsSessionServed}
 use Rattle.worker.specs.Places.{Rises, piece_of}
 use Rattle.worker.specs.Workers.{posted_by, IsSteady, AreSessionsCounted, IsStoryKnown, run_view, IsWorkerServing, WorkerGoesOn, Closes, LeavesWorker}
-use Rattle.worker.proofs.PlaceLemmas.{either_way}
 use Rattle.worker.proofs.Facts.{elsewhere, accepted_here}
 use Rattle.worker.proofs.SessionSteps.{runs, served_fed, served_holding, served_gave}
 use Rattle.worker.proofs.RunViews.{facts_equal, change_at, at_other, at_same, ended_same, count_same, accepts_more}
 use Rattle.worker.proofs.StoryLaws.{paused_but, paused_elsewhere}
 use Rattle.worker.proofs.PieceLaws.{pieces_at}
 use Rattle.worker.proofs.WorkerSteps.{StoryFacts, steps_on, closes_in, steady_same, steady_closed, same_end, told_gone, told_open, fact_at, running_on}
+use Rattle.proto.proofs.CountLemmas.{either_way}
 
 -- ---- a held piece is fed
 
 -- the view changes at one session, and the list not at all
-pub told_within : (v v' : RunView) (unopened : ℕ) (ended : Bool) → IsStoryKnown v unopened ended → v'.events ≡ v.events → v'.sessions ≡ v.sessions
+pub told_within : (v v' : RunView) (unopened : ℕ) (ended : Bool) → IsStoryKnown v unopened ended → v'.events ≡ v.events
+    → v'.sessions ≡ v.sessions
     → ((s : ℕ) → AreFactsConsistent (facts v' s)) → IsStoryKnown v' unopened ended
 told_within v v' unopened ended h e r each = record {
   each = each;
   rising = subst Rises (sym r) h.rising;
-  counted = subst (λ (y : List PortRecord × List (ℕ × EndCause)). AreSessionsCounted y.0 y.1 unopened) (λ i. (sym e i, sym r i)) h.counted;
+  counted = subst (λ (y : List PortRecord × List (ℕ × EndCause)). AreSessionsCounted y.0 y.1 unopened)
+      (λ i. (sym e i, sym r i)) h.counted;
   at_end = ap has_ended e ∙ h.at_end;
   accepts = subst AcceptsOnlyOpen (sym e) h.accepts;
 }
 
 -- where nothing changes but the book and the held piece of one session, what is known of the others stays
-pub others_within : (v v' : RunView) (t : ℕ) → v'.events ≡ v.events → v'.posted ≡ v.posted → v'.back ≡ v.back → v'.sessions ≡ v.sessions
-    → ((s : ℕ) → t ≢ s → session_of v'.book s ≡ session_of v.book s) → ((s : ℕ) → t ≢ s → v'.piece s ≡ v.piece s) → (s : ℕ) → t ≢ s → facts v' s ≡ facts v s
+pub others_within : (v v' : RunView) (t : ℕ) → v'.events ≡ v.events → v'.posted ≡ v.posted → v'.back ≡ v.back
+    → v'.sessions ≡ v.sessions
+    → ((s : ℕ) → t ≢ s → session_of v'.book s ≡ session_of v.book s) → ((s : ℕ) → t ≢ s → v'.piece s ≡ v.piece s)
+    → (s : ℕ) → t ≢ s → facts v' s ≡ facts v s
 others_within v v' t e p b r book piece s ne =
     facts_equal (facts v' s) (facts v s) (ap (λ l. port_facts l s) e) (λ i. (facts (record v { posted = p i }) s).asked)
-    (λ i. (facts (record v { back = b i }) s).had) (λ i. (facts (record v { sessions = r i }) s).cause) (book s ne) (piece s ne)
+    (λ i. (facts (record v { back = b i }) s).had) (λ i. (facts (record v { sessions = r i }) s).cause) (book s ne)
+    (piece s ne)
 
 -- all that is known stays true where an open session is fed its held piece
-pub told_refed : (v v' : RunView) (unopened : ℕ) (ended : Bool) (t : ℕ) (s : SessionState) → IsStoryKnown v unopened ended → session_of v.book t ≡ Some s
+pub told_refed : (v v' : RunView) (unopened : ℕ) (ended : Bool) (t : ℕ) (s : SessionState)
+    → IsStoryKnown v unopened ended → session_of v.book t ≡ Some s
     → v.piece t ≡ s.held → v'.events ≡ v.events → v'.posted ≡ v.posted → v'.back ≡ v.back → v'.sessions ≡ v.sessions
     → ((k : ℕ) → session_of v'.book k ≡ cond (k == t) (Some (held_fed s)) (session_of v.book k))
     → ((k : ℕ) → v'.piece k ≡ cond (k == t) [] (v.piece k)) → IsStoryKnown v' unopened ended
@@ -53,24 +59,31 @@ told_refed v v' unopened ended t s h open_is held e p b r book piece =
     let run = runs (facts v t) s (h.each t) open_is in
     let same : run.running.s ≡ s = some_is run.running.s s (sym run.running.state ∙ open_is) in
     let was_served : IsSessionServed s.held (facts v t) s =
-    subst (λ (y : List ℕ × SessionState). IsSessionServed y.0 (facts v t) y.1) (λ i. (held i, same i)) run.running.served in
+    subst (λ (y : List ℕ × SessionState). IsSessionServed y.0 (facts v t) y.1)
+    (λ i. (held i, same i)) run.running.served in
     let served = served_holding (facts v t) (once_fed s s.held) [] [] (served_fed (facts v t) s s.held was_served) in
-    let state : session_of v'.book t ≡ Some (held_fed s) = book t ∙ at_same t (Some (held_fed s)) (session_of v.book t) in
+    let state : session_of v'.book t ≡ Some (held_fed s) =
+    book t ∙ at_same t (Some (held_fed s)) (session_of v.book t) in
     let here = fact_at v v' t (port_facts v.events t) (Some (held_fed s)) [] (ap (λ l. port_facts l t) e) p b r state
     (piece t ∙ at_same t [] (v.piece t)) in
     let now = running_on (facts v t) (port_facts v.events t) (held_fed s) [] run refl refl refl served in
     told_within v v' unopened ended h e r
-    (change_at t v v' (others_within v v' t e p b r (λ k ne. book k ∙ at_other t k (Some (held_fed s)) (session_of v.book k) ne)
+    (change_at t v v' (others_within v v' t e p b r
+    (λ k ne. book k ∙ at_other t k (Some (held_fed s)) (session_of v.book k) ne)
     (λ k ne. piece k ∙ at_other t k [] (v.piece k) ne)) (subst AreFactsConsistent (sym here) now) (λ k ne. h.each k))
 
 -- what goes on where only the port and the book change
-pub within_goes_on : {P : Type 0} (told : P → Option PortStory) (old new : Worker P) (f : PortStory → PortStory) → LeavesWorker old new
-    → told new.port ≡ option_map f (told old.port) → new.book.posted ≡ old.book.posted → new.book.unsettled ≡ old.book.unsettled → IsWorkerServing told old
-    → ((story : PortStory) → StoryFacts story old old.unopened old.ended → StoryFacts (f story) new old.unopened old.ended) → WorkerGoesOn told old new
+pub within_goes_on : {P : Type 0} (told : P → Option PortStory) (old new : Worker P) (f : PortStory → PortStory)
+    → LeavesWorker old new
+    → told new.port ≡ option_map f (told old.port) → new.book.posted ≡ old.book.posted
+    → new.book.unsettled ≡ old.book.unsettled → IsWorkerServing told old
+    → ((story : PortStory) → StoryFacts story old old.unopened old.ended
+    → StoryFacts (f story) new old.unopened old.ended) → WorkerGoesOn told old new
 within_goes_on told old new f rest port p u h each =
     steps_on told old new f port (record {
       same_end = same_end old new rest.end;
-      steady = subst (λ (y : WorkerView × Option Posted). IsSteady y.0 y.1 new.book) (λ i. (sym rest.end i, sym rest.request i))
+      steady = subst (λ (y : WorkerView × Option Posted). IsSteady y.0 y.1 new.book)
+          (λ i. (sym rest.end i, sym rest.request i))
           (steady_same old.worker_end old.request old.book new.book p u h.steady);
       strangers = rest.strangers ∙ h.strangers;
       unopened = rest.unopened;
@@ -85,16 +98,20 @@ gave_facts : (l : List PortRecord) (t n : ℕ) (out : List ℕ) → port_facts (
 gave_facts l t n out =
     either_way n 0
     (λ (e : n ≡ 0).
-    ap (λ b. port_facts (l ++ cond b [] (was.Accepted t (take n out) ∷ [])) t) (eq-eqb n 0 e) ∙ ap (λ m. port_facts m t) (append-nil l)
+    ap (λ b. port_facts (l ++ cond b [] (was.Accepted t (take n out) ∷ [])) t) (eq-eqb n 0 e)
+    ∙ ap (λ m. port_facts m t) (append-nil l)
     ∙ (λ i. record (port_facts l t) { given = sym (append-nil (port_facts l t).given) i })
     ∙ (λ i. record (port_facts l t) { given = (port_facts l t).given ++ take (sym e i) out }))
-    (λ (ne : n ≢ 0). ap (λ b. port_facts (l ++ cond b [] (was.Accepted t (take n out) ∷ [])) t) (ne_eqb n 0 ne) ∙ accepted_here l t (take n out))
+    (λ (ne : n ≢ 0). ap (λ b. port_facts (l ++ cond b [] (was.Accepted t (take n out) ∷ [])) t) (ne_eqb n 0 ne)
+    ∙ accepted_here l t (take n out))
 
 -- a `give` to one session leaves what the list says of another
-gave_elsewhere : (l : List PortRecord) (t n : ℕ) (out : List ℕ) (s : ℕ) → t ≢ s → port_facts (l ++ give_records t out (Ok n)) s ≡ port_facts l s
+gave_elsewhere : (l : List PortRecord) (t n : ℕ) (out : List ℕ) (s : ℕ) → t ≢ s
+    → port_facts (l ++ give_records t out (Ok n)) s ≡ port_facts l s
 gave_elsewhere l t n out s ne =
     either_way n 0
-    (λ (e : n ≡ 0). ap (λ b. port_facts (l ++ cond b [] (was.Accepted t (take n out) ∷ [])) s) (eq-eqb n 0 e) ∙ ap (λ m. port_facts m s) (append-nil l))
+    (λ (e : n ≡ 0). ap (λ b. port_facts (l ++ cond b [] (was.Accepted t (take n out) ∷ [])) s) (eq-eqb n 0 e)
+    ∙ ap (λ m. port_facts m s) (append-nil l))
     (λ (some : n ≢ 0). ap (λ b. port_facts (l ++ cond b [] (was.Accepted t (take n out) ∷ [])) s) (ne_eqb n 0 some)
     ∙ elsewhere l (was.Accepted t (take n out)) s (ne_eqb t s ne))
 
@@ -105,10 +122,12 @@ record ListSame (l m : List PortRecord) : Type 0 where
   accepts : AcceptsOnlyOpen l → AcceptsOnlyOpen m
 
 -- a `give` to an open session neither ends the list nor opens a session, and bytes are still accepted for open sessions only
-gave_list : (l : List PortRecord) (t n : ℕ) (out : List ℕ) → is_open t l ≡ true → ListSame l (l ++ give_records t out (Ok n))
+gave_list : (l : List PortRecord) (t n : ℕ) (out : List ℕ) → is_open t l ≡ true
+    → ListSame l (l ++ give_records t out (Ok n))
 gave_list l t n out opened =
     either_way n 0
-    (λ (e : n ≡ 0). subst (λ m. ListSame l m) (sym (ap (λ b. l ++ cond b [] (was.Accepted t (take n out) ∷ [])) (eq-eqb n 0 e) ∙ append-nil l))
+    (λ (e : n ≡ 0). subst (λ m. ListSame l m)
+    (sym (ap (λ b. l ++ cond b [] (was.Accepted t (take n out) ∷ [])) (eq-eqb n 0 e) ∙ append-nil l))
     (record { ended = refl; count = refl; accepts = λ h. h }))
     (λ (ne : n ≢ 0).
     let x = was.Accepted t (take n out) in
@@ -116,9 +135,12 @@ gave_list l t n out opened =
     (record { ended = ended_same l x refl; count = count_same l x refl; accepts = λ h. accepts_more l x h opened }))
 
 -- all that is known stays true where n bytes of an open session's output are given
-pub told_gave : (v v' : RunView) (unopened : ℕ) (ended : Bool) (t n : ℕ) (s : SessionState) → IsStoryKnown v unopened ended → session_of v.book t ≡ Some s
-    → v'.events ≡ v.events ++ give_records t s.out (Ok n) → v'.posted ≡ v.posted → v'.back ≡ v.back → v'.sessions ≡ v.sessions
-    → ((k : ℕ) → session_of v'.book k ≡ cond (k == t) (option_map (λ (x : SessionState). gave x n) (session_of v.book t)) (session_of v.book k))
+pub told_gave : (v v' : RunView) (unopened : ℕ) (ended : Bool) (t n : ℕ) (s : SessionState)
+    → IsStoryKnown v unopened ended → session_of v.book t ≡ Some s
+    → v'.events ≡ v.events ++ give_records t s.out (Ok n) → v'.posted ≡ v.posted → v'.back ≡ v.back
+    → v'.sessions ≡ v.sessions
+    → ((k : ℕ) → session_of v'.book k ≡ cond (k == t)
+    (option_map (λ (x : SessionState). gave x n) (session_of v.book t)) (session_of v.book k))
     → v'.piece ≡ v.piece → IsStoryKnown v' unopened ended
 told_gave v v' unopened ended t n s h open_is e p b r book piece =
     let l = v.events in
@@ -126,11 +148,13 @@ told_gave v v' unopened ended t n s h open_is e p b r book piece =
     let s_is : Some s ≡ Some st = sym open_is ∙ run.running.state in
     let opened = told_open v unopened ended t s h open_is in
     let same = gave_list l t n s.out opened in
-    let served : IsSessionServed (v.piece t) (record (facts v t) { port = record (port_facts l t) { given = (port_facts l t).given ++ take n st.out } })
+    let served : IsSessionServed (v.piece t)
+    (record (facts v t) { port = record (port_facts l t) { given = (port_facts l t).given ++ take n st.out } })
     (gave st n) = served_gave (facts v t) st (v.piece t) n run.running.served in
     let outs : s.out ≡ st.out = ap out_of s_is in
     let port = record (port_facts l t) { given = (port_facts l t).given ++ take n st.out } in
-    let state : session_of v'.book t ≡ Some (gave st n) = book t ∙ at_same t (option_map (λ (x : SessionState). gave x n) (session_of v.book t))
+    let state : session_of v'.book t ≡ Some (gave st n) =
+    book t ∙ at_same t (option_map (λ (x : SessionState). gave x n) (session_of v.book t))
     (session_of v.book t) ∙ ap (option_map (λ (x : SessionState). gave x n)) run.running.state in
     let here = fact_at v v' t port (Some (gave st n)) (v.piece t)
     (ap (λ m. port_facts m t) e ∙ gave_facts l t n s.out ∙ ap (λ (o : List ℕ). record
@@ -140,18 +164,22 @@ told_gave v v' unopened ended t n s h open_is e p b r book piece =
     λ k ne. facts_equal (facts v' k) (facts v k) (ap (λ m. port_facts m k) e ∙ gave_elsewhere l t n s.out k ne)
     (λ i. (facts (record v { posted = p i }) k).asked) (λ i. (facts (record v { back = b i }) k).had)
     (λ i. (facts (record v { sessions = r i }) k).cause) (book k ∙ at_other t k
-    (option_map (λ (x : SessionState). gave x n) (session_of v.book t)) (session_of v.book k) ne) (λ i. piece i k) in record {
+    (option_map (λ (x : SessionState). gave x n) (session_of v.book t)) (session_of v.book k) ne) (λ i. piece i k) in
+    record {
       each = change_at t v v' others (subst AreFactsConsistent (sym here) now) (λ k ne. h.each k);
       rising = subst Rises (sym r) h.rising;
-      counted = subst (λ (y : List PortRecord × List (ℕ × EndCause)). AreSessionsCounted y.0 y.1 unopened) (λ i. (sym e i, sym r i))
-          (subst (λ (y : ℕ). (length v.sessions ≤ y) × (unopened ≡ min (y - length v.sessions) (2 ^ 64 - 1))) (sym same.count) h.counted);
+      counted = subst (λ (y : List PortRecord × List (ℕ × EndCause)). AreSessionsCounted y.0 y.1 unopened)
+          (λ i. (sym e i, sym r i))
+          (subst (λ (y : ℕ). (length v.sessions ≤ y) × (unopened ≡ min (y - length v.sessions) (2 ^ 64 - 1)))
+          (sym same.count) h.counted);
       at_end = ap has_ended e ∙ same.ended ∙ h.at_end;
       accepts = subst AcceptsOnlyOpen (sym e) (same.accepts h.accepts);
     }
 
 -- a session whose peer has gone at a `give`
 pub lost_goes_on : {P : Type 0} (told : P → Option PortStory) (old new : Worker P) (port : P) (t : ℕ) (s : SessionState)
-    → session_of old.book t ≡ Some s → told port ≡ option_map (then_told (was.Gone t ∷ [])) (told old.port) → IsWorkerServing told old → new.port ≡ port
+    → session_of old.book t ≡ Some s → told port ≡ option_map (then_told (was.Gone t ∷ [])) (told old.port)
+    → IsWorkerServing told old → new.port ≡ port
     → Closes (record old { port = port }) new t causes.Gone → WorkerGoesOn told old new
 lost_goes_on told old new port t s open_is told_is h port_is k =
     let f = then_told (was.Gone t ∷ []) in
@@ -166,14 +194,16 @@ lost_goes_on told old new port t s open_is told_is h port_is k =
     let run = runs (facts (run_view story old) t) s (was_so.0.each t) open_is in (
       told_gone (run_view story old) (run_view (f story) new) old.unopened old.ended t was_so.0
           (closes_in story (record old { port = port }) new t causes.Gone (was.Gone t) k was_so.0.rising) run,
-      paused_but story (f story) t (piece_of old.book) (piece_of new.book) (pieces_at old.book new.book t None k.book.only_at)
+      paused_but story (f story) t (piece_of old.book) (piece_of new.book)
+          (pieces_at old.book new.book t None k.book.only_at)
           (λ q ne. paused_elsewhere story (was.Gone t) q (ne_eqb t q ne)) was_so.1,
     ))
 
 -- ---- which session it was
 
 -- output that isn't empty is that of a session that is open
-pub some_out : (o : Option SessionState) (out : List ℕ) → out ≡ out_of o → length out ≢ 0 → (s : SessionState) × (o ≡ Some s) × (out ≡ s.out)
+pub some_out : (o : Option SessionState) (out : List ℕ) → out ≡ out_of o → length out ≢ 0
+    → (s : SessionState) × (o ≡ Some s) × (out ≡ s.out)
 some_out None out e ne = absurd (ne (ap (length {A = ℕ}) e))
 some_out (Some s) out e ne = (s, refl, e)
 
@@ -207,8 +237,10 @@ refed_goes_on told old new t rest port h k =
     (ap (λ (b : BookState). b.posted) k.only.rest) (ap (λ (b : BookState). b.unsettled) k.only.rest) h
     (λ story was_so. (
       told_refed (run_view story old)
-          (run_view (with_pause t false story) new) old.unopened old.ended t k.s was_so.0 k.was_open (ap held_of k.was_open) refl
-          (λ i. posted_by (rest.end i) (rest.request i)) (ap (λ (w : WorkerView). w.back) rest.end) rest.sessions only pieces,
+          (run_view (with_pause t false story) new) old.unopened old.ended t k.s was_so.0 k.was_open
+          (ap held_of k.was_open) refl
+          (λ i. posted_by (rest.end i) (rest.request i))
+          (ap (λ (w : WorkerView). w.back) rest.end) rest.sessions only pieces,
       paused_but story (with_pause t false story) t (piece_of old.book) (piece_of new.book) pieces
           (λ q ne. at_other t q false (story.paused q) ne) was_so.1,
     ))

@@ -4,8 +4,8 @@ use Rattle.std.specs.Option.{option_map}
 use Rattle.session_book.specs.Session.{SessionState, once_fed, gave}
 use Rattle.session_book.specs.Book.{BookState, session_of, held_of, OnlyAt}
 use Rattle.worker.specs.Places.{piece_of}
-use Rattle.worker.proofs.PlaceLemmas.{either_way}
 use Rattle.worker.proofs.RunViews.{at_other}
+use Rattle.proto.proofs.CountLemmas.{either_way}
 
 -- of two sessions one is chosen by a test: its held piece is the one of the two pieces that the test chooses
 held_if : (b : Bool) (x y : Option SessionState) → held_of (cond b x y) ≡ cond b (held_of x) (held_of y)
@@ -18,7 +18,8 @@ pub pieces_at : (old new : BookState) (t : ℕ) (o : Option SessionState) → On
 pieces_at old new t o only s = ap held_of (only s) ∙ held_if (s == t) o (session_of old s)
 
 -- and none where that stays
-pub pieces_kept : (old new : BookState) (t : ℕ) (o : Option SessionState) → OnlyAt old new t o → held_of o ≡ piece_of old t → (s : ℕ)
+pub pieces_kept : (old new : BookState) (t : ℕ) (o : Option SessionState) → OnlyAt old new t o
+    → held_of o ≡ piece_of old t → (s : ℕ)
     → piece_of new s ≡ piece_of old s
 pieces_kept old new t o only same s =
     pieces_at old new t o only s
@@ -35,15 +36,18 @@ twice false x = refl
 pub pieces_gone : (old mid new : BookState) (t : ℕ) → OnlyAt old mid t None → OnlyAt mid new t None → (s : ℕ)
     → piece_of new s ≡ cond (s == t) [] (piece_of old s)
 pieces_gone old mid new t first second s =
-    pieces_at mid new t None second s ∙ ap (λ (x : List ℕ). cond (s == t) [] x) (pieces_at old mid t None first s) ∙ twice (s == t) (piece_of old s)
+    pieces_at mid new t None second s ∙ ap (λ (x : List ℕ). cond (s == t) [] x) (pieces_at old mid t None first s)
+    ∙ twice (s == t) (piece_of old s)
 
 -- new bytes, dropped by a session that has ended and else put behind its unread ones, leave its held piece
-fed_if : (ended : Bool) (s : SessionState) (b : List ℕ) → (cond ended s (record s { unread = s.unread ++ b })).held ≡ s.held
+fed_if : (ended : Bool) (s : SessionState) (b : List ℕ)
+    → (cond ended s (record s { unread = s.unread ++ b })).held ≡ s.held
 fed_if true s b = refl
 fed_if false s b = refl
 
 -- feeding and giving leave the piece
-pub fed_piece : (o : Option SessionState) (b : List ℕ) → held_of (option_map (λ (s : SessionState). once_fed s b) o) ≡ held_of o
+pub fed_piece : (o : Option SessionState) (b : List ℕ)
+    → held_of (option_map (λ (s : SessionState). once_fed s b) o) ≡ held_of o
 fed_piece None b = refl
 fed_piece (Some s) b = fed_if (is_some s.ended) s b
 

@@ -1,19 +1,14 @@
 -- What a cause written at its place makes of the report.
-use Rattle.std.proofs.Common.{◌≡◌, ◌≢◌, ℕ, zero, suc, ◌+◌, ◌<◌, ◌≤◌, ◌==◌, cond, eq-eqb, ne_eqb, List, [], ◌∷◌, ◌++◌, length, get_or, slice_set, refl, sym}
+use Rattle.std.proofs.Common.{◌≡◌, ◌≢◌, ℕ, zero, suc, ◌<◌, ◌≤◌, ◌==◌, cond, eq-eqb, ne_eqb, List, [], ◌∷◌, ◌++◌, length, get_or, slice_set, refl, sym}
 use Rattle.std.proofs.Common.{ap, subst, ◌∙◌, arith, Some, None}
-use mathlib.Core.Logic.{dite}
-use native.Mathlib.Decide.{ℕ_discrete}
 use Rattle.session_book.specs.declared.causes.EndCause.{EndCause}
 use Rattle.worker.specs.Sessions.{cause_of}
 use Rattle.worker.specs.Places.{ReportRisesFrom, Rises, with_cause, IsFirstFrom}
+use Rattle.proto.proofs.CountLemmas.{either_way}
 
 -- the report: the numbers of sessions, each with its cause
 abbrev Places : Type 0
 Places = List (ℕ × EndCause)
-
--- what follows from two numbers being equal, and from their being apart, is so
-pub either_way : {A : Type 0} (a b : ℕ) → (a ≡ b → A) → (a ≢ b → A) → A
-either_way {A} a b equal apart = dite (ℕ_discrete a b) equal apart
 
 -- ---- rising numbers
 
@@ -24,22 +19,13 @@ above n (x ∷ xs) zero d h lt = h.0
 above n (x ∷ xs) (suc j) d h lt = let k = above x.0 xs j d h.1 (omega arith) in omega (arith, h.0, k)
 
 -- where the numbers rise, the one at a later place is no smaller
-pub rises_on : (n : ℕ) (xs : Places) (i j : ℕ) (d : ℕ × EndCause) → ReportRisesFrom n xs → i ≤ j → j < length xs → (get_or xs i d).0 ≤ (get_or xs j d).0
+pub rises_on : (n : ℕ) (xs : Places) (i j : ℕ) (d : ℕ × EndCause) → ReportRisesFrom n xs → i ≤ j → j < length xs
+    → (get_or xs i d).0 ≤ (get_or xs j d).0
 rises_on n [] i j d h le lt = absurd (omega arith)
 rises_on n (x ∷ xs) zero zero d h le lt = omega arith
 rises_on n (x ∷ xs) zero (suc j) d h le lt = let k = above x.0 xs j d h.1 (omega arith) in omega (arith, k)
 rises_on n (x ∷ xs) (suc i) zero d h le lt = absurd (omega arith)
 rises_on n (x ∷ xs) (suc i) (suc j) d h le lt = rises_on x.0 xs i j d h.1 (omega arith) (omega arith)
-
--- one half of the search
-pub below_middle : (xs : Places) (s middle : ℕ) (e : ℕ × EndCause) → Rises xs → middle < length xs
-    → ((d : ℕ × EndCause) → (get_or xs middle d).0 < s) → (k : ℕ) (d : ℕ × EndCause) → k < middle + 1 → (get_or xs k d).0 < s
-below_middle xs s middle e h lt at k d k_lt = let r = rises_on 0 xs k middle d h (omega arith) lt in omega (arith, r, at d)
-
--- the other half: where the number in the middle isn't below the session's, none from there on is
-pub from_middle : (xs : Places) (s middle : ℕ) → Rises xs → ((d : ℕ × EndCause) → s ≤ (get_or xs middle d).0) → (k : ℕ) (d : ℕ × EndCause)
-    → middle ≤ k → k < length xs → s ≤ (get_or xs k d).0
-from_middle xs s middle h at k d le lt = let r = rises_on 0 xs middle k d h le lt in omega (arith, r, at d)
 
 -- ---- writing a cause
 
@@ -59,10 +45,12 @@ absent_above n (x ∷ xs) s c h le =
     let rest = absent_above x.0 xs s c h.1 (omega (arith, h.0)) in λ i. kept_apart x s c ne i ∷ rest i
 
 -- where the numbers rise from one above n, to set the place at which the session's number stands is to write its cause
-set_from : (n : ℕ) (xs : Places) (i s : ℕ) (c : EndCause) → ReportRisesFrom n xs → i < length xs → ((d : ℕ × EndCause) → (get_or xs i d).0 ≡ s)
+set_from : (n : ℕ) (xs : Places) (i s : ℕ) (c : EndCause) → ReportRisesFrom n xs → i < length xs
+    → ((d : ℕ × EndCause) → (get_or xs i d).0 ≡ s)
     → slice_set xs i (s, c) ≡ with_cause xs s c
 set_from n [] i s c h lt at = absurd (omega arith)
-set_from n (x ∷ xs) zero s c h lt at = let here : x.0 ≡ s = at x in let rest = absent_above x.0 xs s c h.1 (omega (arith, here)) in
+set_from n (x ∷ xs) zero s c h lt at = let here : x.0 ≡ s = at x in
+    let rest = absent_above x.0 xs s c h.1 (omega (arith, here)) in
     λ i. sym (written x s c here) i ∷ sym rest i
 set_from n (x ∷ xs) (suc i) s c h lt at =
     let k = above x.0 xs i x h.1 (omega arith) in let e = at x in
@@ -70,14 +58,17 @@ set_from n (x ∷ xs) (suc i) s c h lt at =
     let rest = set_from x.0 xs i s c h.1 (omega arith) (λ d. at d) in λ j. sym (kept_apart x s c ne) j ∷ rest j
 
 -- in a report whose numbers rise, to set the place at which the session's number stands is to write its cause
-pub set_found : (xs : Places) (i s : ℕ) (c : EndCause) → Rises xs → i < length xs → ((d : ℕ × EndCause) → (get_or xs i d).0 ≡ s)
+pub set_found : (xs : Places) (i s : ℕ) (c : EndCause) → Rises xs → i < length xs
+    → ((d : ℕ × EndCause) → (get_or xs i d).0 ≡ s)
     → slice_set xs i (s, c) ≡ with_cause xs s c
 set_found xs i s c h lt at = set_from 0 xs i s c h lt at
 
 -- writing the cause of a session whose number stands nowhere in the report changes nothing
-absent : (xs : Places) (s : ℕ) (c : EndCause) → ((j : ℕ) (d : ℕ × EndCause) → j < length xs → (get_or xs j d).0 ≢ s) → with_cause xs s c ≡ xs
+absent : (xs : Places) (s : ℕ) (c : EndCause) → ((j : ℕ) (d : ℕ × EndCause) → j < length xs → (get_or xs j d).0 ≢ s)
+    → with_cause xs s c ≡ xs
 absent [] s c h = refl
-absent (x ∷ xs) s c h = let rest = absent xs s c (λ j d lt. h (suc j) d (omega arith)) in λ i. kept_apart x s c (h 0 x (omega arith)) i ∷ rest i
+absent (x ∷ xs) s c h = let rest = absent xs s c (λ j d lt. h (suc j) d (omega arith)) in
+    λ i. kept_apart x s c (h 0 x (omega arith)) i ∷ rest i
 
 -- where no number, or another one, is the first that isn't below the session's, writing the session's cause changes nothing
 pub set_absent : (xs : Places) (i s : ℕ) (c : EndCause) → Rises xs → IsFirstFrom xs s i
@@ -108,7 +99,8 @@ cause_apart (x ∷ xs) s t c ne =
     ∙ ap (λ k. cond (x.0 == s) (Some x.1) k) below)
 
 -- a session that has a place in the report has the cause that was written for it
-pub cause_here : (xs : Places) (s : ℕ) (c old : EndCause) → cause_of xs s ≡ Some old → cause_of (with_cause xs s c) s ≡ Some c
+pub cause_here : (xs : Places) (s : ℕ) (c old : EndCause) → cause_of xs s ≡ Some old
+    → cause_of (with_cause xs s c) s ≡ Some c
 cause_here [] s c old e = absurd (cc)
 cause_here (x ∷ xs) s c old e =
     either_way x.0 s
@@ -124,7 +116,8 @@ cause_here (x ∷ xs) s c old e =
 with_rises : (n : ℕ) (xs : Places) (s : ℕ) (c : EndCause) → ReportRisesFrom n xs → ReportRisesFrom n (with_cause xs s c)
 with_rises n [] s c h = tt
 with_rises n (x ∷ xs) s c h =
-    let same : (cond (x.0 == s) (s, c) x).0 ≡ x.0 = either_way x.0 s (λ (e : x.0 ≡ s). ap (λ (y : ℕ × EndCause). y.0) (written x s c e) ∙ sym e)
+    let same : (cond (x.0 == s) (s, c) x).0 ≡ x.0 =
+    either_way x.0 s (λ (e : x.0 ≡ s). ap (λ (y : ℕ × EndCause). y.0) (written x s c e) ∙ sym e)
     (λ (ne : x.0 ≢ s). ap (λ (y : ℕ × EndCause). y.0) (kept_apart x s c ne)) in (
       subst (λ k. n < k) (sym same) h.0,
       subst (λ k. ReportRisesFrom k (with_cause xs s c)) (sym same) (with_rises x.0 xs s c h.1),
@@ -149,23 +142,27 @@ pub cause_new : (xs : Places) (s : ℕ) (c : EndCause) → cause_of xs s ≡ Non
 cause_new [] s c e = ap (λ b. cond b (Some c) None) (eq-eqb s s refl)
 cause_new (x ∷ xs) s c e =
     either_way x.0 s
-    (λ (q : x.0 ≡ s). let bad : Some x.1 ≡ None = sym (ap (λ b. cond b (Some x.1) (cause_of xs s)) (eq-eqb x.0 s q)) ∙ e in absurd (cc))
+    (λ (q : x.0 ≡ s). let bad : Some x.1 ≡ None = sym (ap (λ b. cond b (Some x.1) (cause_of xs s)) (eq-eqb x.0 s q))
+    ∙ e in absurd (cc))
     (λ (ne : x.0 ≢ s).
     ap (λ b. cond b (Some x.1) (cause_of (xs ++ (s, c) ∷ []) s)) (ne_eqb x.0 s ne)
     ∙ cause_new xs s c (sym (ap (λ b. cond b (Some x.1) (cause_of xs s)) (ne_eqb x.0 s ne)) ∙ e))
 
 -- numbers that rise from one above n do so with one more at the end that is above n and above them all
-more_from : (n : ℕ) (xs : Places) (t : ℕ) (c : EndCause) → ReportRisesFrom n xs → n < t → ((s : ℕ) (d : EndCause) → cause_of xs s ≡ Some d → s < t)
+more_from : (n : ℕ) (xs : Places) (t : ℕ) (c : EndCause) → ReportRisesFrom n xs → n < t
+    → ((s : ℕ) (d : EndCause) → cause_of xs s ≡ Some d → s < t)
     → ReportRisesFrom n (xs ++ (t, c) ∷ [])
 more_from n [] t c h lt below = (lt, tt)
 more_from n (x ∷ xs) t c h lt below = (
   h.0,
   more_from x.0 xs t c h.1 (below x.0 x.1 (ap (λ b. cond b (Some x.1) (cause_of xs x.0)) (eq-eqb x.0 x.0 refl)))
       (λ s d e.
-      either_way x.0 s (λ (q : x.0 ≡ s). subst (λ k. k < t) q (below x.0 x.1 (ap (λ b. cond b (Some x.1) (cause_of xs x.0)) (eq-eqb x.0 x.0 refl))))
+      either_way x.0 s (λ (q : x.0 ≡ s). subst (λ k. k < t) q
+      (below x.0 x.1 (ap (λ b. cond b (Some x.1) (cause_of xs x.0)) (eq-eqb x.0 x.0 refl))))
       (λ (ne : x.0 ≢ s). below s d (ap (λ b. cond b (Some x.1) (cause_of xs s)) (ne_eqb x.0 s ne) ∙ e))),
 )
 
 -- the numbers of a report rise with one more at the end that is above 0 and above them all
-pub rises_more : (xs : Places) (t : ℕ) (c : EndCause) → Rises xs → 0 < t → ((s : ℕ) (d : EndCause) → cause_of xs s ≡ Some d → s < t) → Rises (xs ++ (t, c) ∷ [])
+pub rises_more : (xs : Places) (t : ℕ) (c : EndCause) → Rises xs → 0 < t
+    → ((s : ℕ) (d : EndCause) → cause_of xs s ≡ Some d → s < t) → Rises (xs ++ (t, c) ∷ [])
 rises_more xs t c h lt below = more_from 0 xs t c h lt below

@@ -17,8 +17,8 @@ use Rattle.worker.specs.Ports.{PortStory, then_told, with_pause, IsOpenIn, is_op
 use Rattle.worker.specs.Sessions.{PortFacts, port_facts, RunView, facts, cause_of, AreFactsConsistent}
 use Rattle.worker.specs.Places.{Rises, piece_of}
 use Rattle.worker.specs.Workers.{posted_by, IsSteady, AreSessionsCounted, IsStoryKnown, run_view, IsWorkerServing, WorkerGoesOn, Closes, Shuts, LeavesWorker}
-use Rattle.worker.specs.Workers.{Receives, feeds, holds, shuts, drops, Admits, Refuses, SameRest}
-use Rattle.worker.proofs.PlaceLemmas.{either_way, rises_more, rises_with, length-with, cause_more, cause_new}
+use Rattle.worker.specs.Workers.{HandlesData, feeds, holds, shuts, drops, Admits, Refuses, SameRest}
+use Rattle.worker.proofs.PlaceLemmas.{rises_more, rises_with, length-with, cause_more, cause_new}
 use Rattle.worker.proofs.Facts.{elsewhere, opened_here, fed_here, shut_here}
 use Rattle.worker.proofs.SessionSteps.{Stays, served_came, closed_no_memory, runs, runs_at_port, untouched, is_running, is_unopened, served_new}
 use Rattle.worker.proofs.SessionSteps.{opened_if_placed}
@@ -28,6 +28,7 @@ use Rattle.worker.proofs.StoryLaws.{told_before, two_calls, paused_elsewhere, pa
 use Rattle.worker.proofs.PieceLaws.{pieces_at, pieces_kept, fed_piece}
 use Rattle.worker.proofs.WorkerSteps.{OwnFacts, StoryFacts, steps, steps_on, steady_same, same_end, told_finished, told_gone, closes_in, steady_closed}
 use Rattle.worker.proofs.WorkerSteps.{shut_goes_on, told_fed, told_held, open_here, open_at}
+use Rattle.proto.proofs.CountLemmas.{either_way}
 
 -- a truth value that can't be true is false
 bool_false : (b : Bool) → (b ≡ true → ⊥) → b ≡ false
@@ -57,17 +58,21 @@ finished_is : (o : Option SessionState) (c : EndCause) → option_and_then finis
     → (s : SessionState) × (o ≡ Some s) × (s.queue ≡ []) × (s.out ≡ []) × (s.ended ≡ Some c)
 finished_is None c e = absurd (cc)
 finished_is (Some s) c e =
-    let p = finished_if (length s.queue == 0 && length s.out == 0) s.ended c e in let q = and_parts (length s.queue == 0) (length s.out == 0) p.0 in
+    let p = finished_if (length s.queue == 0 && length s.out == 0) s.ended c e in
+    let q = and_parts (length s.queue == 0) (length s.out == 0) p.0 in
     (s, refl, no_length s.queue q.0, no_length s.out q.1, p.1)
 
 -- a session that has finished is still open at a port that tells its list
-pub finished_open : {P : Type 0} (told : P → Option PortStory) (w : Worker P) (t : ℕ) (c : EndCause) → IsWorkerServing told w
+pub finished_open : {P : Type 0} (told : P → Option PortStory) (w : Worker P) (t : ℕ) (c : EndCause)
+    → IsWorkerServing told w
     → option_and_then finished_by (session_of w.book t) ≡ Some c → IsOpenIn t (told w.port)
 finished_open told w t c h e = let f = finished_is (session_of w.book t) c e in open_at told w t f.0 h f.1
 
 -- the worker goes on where it shuts a session that has finished, with the cause by which that ended
-pub finish_goes_on : {P : Type 0} (told : P → Option PortStory) (old new : Worker P) (t : ℕ) (c : EndCause) → Shuts told old new t c
-    → IsWorkerServing told old → option_and_then finished_by (session_of old.book t) ≡ Some c → WorkerGoesOn told old new
+pub finish_goes_on : {P : Type 0} (told : P → Option PortStory) (old new : Worker P) (t : ℕ) (c : EndCause)
+    → Shuts told old new t c
+    → IsWorkerServing told old → option_and_then finished_by (session_of old.book t) ≡ Some c
+    → WorkerGoesOn told old new
 finish_goes_on told old new t c k h e =
     let f = finished_is (session_of old.book t) c e in
     shut_goes_on told old new t c k h
@@ -90,39 +95,55 @@ pub fresh : (l : List PortRecord) (t : ℕ) → MayOpen l t → was_opened t l �
 fresh l t may = bool_false (was_opened t l) (λ e. let lt = may.1 t e in omega (arith, lt))
 
 -- all that is known stays true where a session is opened and gets a place in the report and in the book
-pub told_admitted : (v v' : RunView) (unopened : ℕ) (ended : Bool) (t : ℕ) → IsStoryKnown v unopened ended → MayOpen v.events t
-    → v'.events ≡ v.events ++ was.Opened t ∷ [] → v'.posted ≡ v.posted → v'.back ≡ v.back → v'.sessions ≡ v.sessions ++ (t, causes.Drained) ∷ []
-    → ((s : ℕ) → session_of v'.book s ≡ cond (s == t) (Some new_session) (session_of v.book s)) → v'.piece ≡ v.piece → IsStoryKnown v' unopened ended
+pub told_admitted : (v v' : RunView) (unopened : ℕ) (ended : Bool) (t : ℕ) → IsStoryKnown v unopened ended
+    → MayOpen v.events t
+    → v'.events ≡ v.events ++ was.Opened t ∷ [] → v'.posted ≡ v.posted → v'.back ≡ v.back
+    → v'.sessions ≡ v.sessions ++ (t, causes.Drained) ∷ []
+    → ((s : ℕ) → session_of v'.book s ≡ cond (s == t) (Some new_session) (session_of v.book s)) → v'.piece ≡ v.piece
+    → IsStoryKnown v' unopened ended
 told_admitted v v' unopened ended t h may e p k r book piece =
     let l = v.events in let x = was.Opened t in
     let u = untouched (facts v t) (h.each t) (fresh l t may) in
     let port = record (port_facts l t) { opened = true } in
     let f' = record (facts v t) { port = port; cause = Some causes.Drained; state = Some new_session } in
     let here : facts v' t ≡ f' =
-    facts_equal (facts v' t) f' (ap (λ y. port_facts y t) e ∙ opened_here l t) (λ i. (facts (record v { posted = p i }) t).asked)
-    (λ i. (facts (record v { back = k i }) t).had) (ap (λ y. cause_of y t) r ∙ cause_new v.sessions t causes.Drained u.1)
+    facts_equal (facts v' t) f' (ap (λ y. port_facts y t) e ∙ opened_here l t)
+    (λ i. (facts (record v { posted = p i }) t).asked)
+    (λ i. (facts (record v { back = k i }) t).had)
+    (ap (λ y. cause_of y t) r ∙ cause_new v.sessions t causes.Drained u.1)
     (book t ∙ at_same t (Some new_session) (session_of v.book t)) (λ i. piece i t) in
     let served = served_new f' u.0.fed u.0.given u.0.had u.0.asked u.0.piece in
-    let now = is_running f' refl refl (record { gone = u.0.gone; shut = u.0.shut; s = new_session; state = refl; served = served }) in
+    let now = is_running f' refl refl (record {
+      gone = u.0.gone;
+      shut = u.0.shut;
+      s = new_session;
+      state = refl;
+      served = served;
+    }) in
     let others : (s : ℕ) → t ≢ s → facts v' s ≡ facts v s =
     λ s ne.
     facts_equal (facts v' s) (facts v s) (ap (λ y. port_facts y s) e ∙ elsewhere l x s (ne_eqb t s ne))
     (λ i. (facts (record v { posted = p i }) s).asked) (λ i. (facts (record v { back = k i }) s).had)
-    (ap (λ y. cause_of y s) r ∙ cause_more v.sessions s t causes.Drained ne) (book s ∙ at_other t s (Some new_session) (session_of v.book s) ne)
+    (ap (λ y. cause_of y s) r ∙ cause_more v.sessions s t causes.Drained ne)
+    (book s ∙ at_other t s (Some new_session) (session_of v.book s) ne)
     (λ i. piece i s) in
-    let below : (s : ℕ) (d : EndCause) → cause_of v.sessions s ≡ Some d → s < t = λ s d q. may.1 s (opened_if_placed (facts v s) d (h.each s) q) in
+    let below : (s : ℕ) (d : EndCause) → cause_of v.sessions s ≡ Some d → s < t =
+    λ s d q. may.1 s (opened_if_placed (facts v s) d (h.each s) q) in
     let len = length-append v.sessions ((t, causes.Drained) ∷ []) in let more = count_more l t in record {
       each = change_at t v v' others (subst AreFactsConsistent (sym here) now) (λ s ne. h.each s);
       rising = subst Rises (sym r) (rises_more v.sessions t causes.Drained h.rising may.0 below);
-      counted = subst (λ (y : List PortRecord × List (ℕ × EndCause)). AreSessionsCounted y.0 y.1 unopened) (λ i. (sym e i, sym r i))
+      counted = subst (λ (y : List PortRecord × List (ℕ × EndCause)). AreSessionsCounted y.0 y.1 unopened)
+          (λ i. (sym e i, sym r i))
           (omega (arith, len, more, h.counted.0), omega (arith, len, more, h.counted.0, h.counted.1));
       at_end = ap has_ended e ∙ ended_same l x refl ∙ h.at_end;
       accepts = subst AcceptsOnlyOpen (sym e) (accepts_more l x h.accepts tt);
     }
 
 -- all that is known stays true where a session is opened, shut at once, and counted as unopened
-pub told_refused : (v v' : RunView) (unopened : ℕ) (ended : Bool) (t : ℕ) → IsStoryKnown v unopened ended → MayOpen v.events t
-    → v'.events ≡ (v.events ++ was.Opened t ∷ []) ++ was.Shut t ∷ [] → v'.posted ≡ v.posted → v'.back ≡ v.back → v'.sessions ≡ v.sessions
+pub told_refused : (v v' : RunView) (unopened : ℕ) (ended : Bool) (t : ℕ) → IsStoryKnown v unopened ended
+    → MayOpen v.events t
+    → v'.events ≡ (v.events ++ was.Opened t ∷ []) ++ was.Shut t ∷ [] → v'.posted ≡ v.posted → v'.back ≡ v.back
+    → v'.sessions ≡ v.sessions
     → v'.book ≡ v.book → v'.piece ≡ v.piece → IsStoryKnown v' (min (unopened + 1) (2 ^ 64 - 1)) ended
 told_refused v v' unopened ended t h may e p k r book piece =
     let l = v.events in let x = was.Opened t in let y = was.Shut t in let m = l ++ x ∷ [] in
@@ -130,19 +151,29 @@ told_refused v v' unopened ended t h may e p k r book piece =
     let port = record (port_facts l t) { opened = true; shut = true } in
     let f' = record (facts v t) { port = port } in
     let here : facts v' t ≡ f' =
-    facts_equal (facts v' t) f' (ap (λ z. port_facts z t) e ∙ shut_here m t ∙ ap (λ (q : PortFacts). record q { shut = true }) (opened_here l t))
-    (λ i. (facts (record v { posted = p i }) t).asked) (λ i. (facts (record v { back = k i }) t).had) (ap (λ z. cause_of z t) r)
+    facts_equal (facts v' t) f' (ap (λ z. port_facts z t) e ∙ shut_here m t
+    ∙ ap (λ (q : PortFacts). record q { shut = true }) (opened_here l t))
+    (λ i. (facts (record v { posted = p i }) t).asked) (λ i. (facts (record v { back = k i }) t).had)
+    (ap (λ z. cause_of z t) r)
     (ap (λ z. session_of z t) book) (λ i. piece i t) in
-    let now = is_unopened f' refl u.1 (record { given = u.0.given; shut = refl; asked = u.0.asked; state = u.0.state }) in
+    let now = is_unopened f' refl u.1 (record {
+      given = u.0.given;
+      shut = refl;
+      asked = u.0.asked;
+      state = u.0.state;
+    }) in
     let others : (s : ℕ) → t ≢ s → facts v' s ≡ facts v s =
     λ s ne.
-    facts_equal (facts v' s) (facts v s) (ap (λ z. port_facts z s) e ∙ elsewhere m y s (ne_eqb t s ne) ∙ elsewhere l x s (ne_eqb t s ne))
-    (λ i. (facts (record v { posted = p i }) s).asked) (λ i. (facts (record v { back = k i }) s).had) (ap (λ z. cause_of z s) r)
+    facts_equal (facts v' s) (facts v s)
+    (ap (λ z. port_facts z s) e ∙ elsewhere m y s (ne_eqb t s ne) ∙ elsewhere l x s (ne_eqb t s ne))
+    (λ i. (facts (record v { posted = p i }) s).asked) (λ i. (facts (record v { back = k i }) s).had)
+    (ap (λ z. cause_of z s) r)
     (ap (λ z. session_of z s) book) (λ i. piece i s) in
     let more = count_more l t in let same = count_same m y refl in record {
       each = change_at t v v' others (subst AreFactsConsistent (sym here) now) (λ s ne. h.each s);
       rising = subst Rises (sym r) h.rising;
-      counted = subst (λ (z : List PortRecord × List (ℕ × EndCause)). AreSessionsCounted z.0 z.1 (min (unopened + 1) (2 ^ 64 - 1))) (λ i. (sym e i, sym r i))
+      counted = subst (λ (z : List PortRecord × List (ℕ × EndCause)). AreSessionsCounted z.0 z.1
+          (min (unopened + 1) (2 ^ 64 - 1))) (λ i. (sym e i, sym r i))
           (omega (arith, same, more, h.counted.0), omega (arith, same, more, h.counted.0, h.counted.1));
       at_end = ap has_ended e ∙ ended_same m y refl ∙ ended_same l x refl ∙ h.at_end;
       accepts = subst AcceptsOnlyOpen (sym e) (accepts_more m y (accepts_more l x h.accepts tt) tt);
@@ -156,61 +187,84 @@ pub record OpensAt {P : Type 0} (told : P → Option PortStory) (old port : P) (
   pub may : (story : PortStory) → told old ≡ Some story → MayOpen story.events t
 
 -- the worker goes on where it admits the session that the port opened
-admit_goes_on : {P : Type 0} (told : P → Option PortStory) (old new : Worker P) (port : P) (t : ℕ) → OpensAt told old.port port t
-    → SameRest (record old { port = port }) new → IsWorkerServing told old → Admits told (record old { port = port }) new t → WorkerGoesOn told old new
+admit_goes_on : {P : Type 0} (told : P → Option PortStory) (old new : Worker P) (port : P) (t : ℕ)
+    → OpensAt told old.port port t
+    → SameRest (record old { port = port }) new → IsWorkerServing told old
+    → Admits told (record old { port = port }) new t → WorkerGoesOn told old new
 admit_goes_on told old new port t opens rest h k =
     let f = then_told (was.Opened t ∷ []) in
     steps_on told old new f (ap told k.port ∙ opens.told_is) (record {
       same_end = same_end old new rest.end;
-      steady = subst (λ (y : WorkerView × Option Posted). IsSteady y.0 y.1 new.book) (λ i. (sym rest.end i, sym rest.request i))
+      steady = subst (λ (y : WorkerView × Option Posted). IsSteady y.0 y.1 new.book)
+          (λ i. (sym rest.end i, sym rest.request i))
           (steady_same old.worker_end old.request old.book new.book k.counts.0 k.counts.1 h.steady);
       strangers = rest.strangers ∙ h.strangers;
       unopened = k.unopened;
       ended = rest.ended;
     }) h
     (λ story e was_so.
-    let none : piece_of old.book t ≡ [] = (untouched (facts (run_view story old) t) (was_so.0.each t) (fresh story.events t (opens.may story e))).0.piece in
+    let none : piece_of old.book t ≡ [] =
+    (untouched (facts (run_view story old) t) (was_so.0.each t)
+    (fresh story.events t (opens.may story e))).0.piece in
     let pieces = pieces_kept old.book new.book t (Some new_session) k.book (sym none) in (
-      told_admitted (run_view story old) (run_view (f story) new) old.unopened old.ended t was_so.0 (opens.may story e) refl
-          (λ i. posted_by (rest.end i) (rest.request i)) (ap (λ (w : WorkerView). w.back) rest.end) k.sessions k.book (λ i s. pieces s i),
+      told_admitted (run_view story old) (run_view (f story) new) old.unopened old.ended t was_so.0
+          (opens.may story e) refl
+          (λ i. posted_by (rest.end i) (rest.request i)) (ap (λ (w : WorkerView). w.back) rest.end) k.sessions k.book
+          (λ i s. pieces s i),
       paused_kept story (f story) (piece_of old.book) (piece_of new.book) pieces (λ s. refl) was_so.1,
     ))
 
 -- the worker goes on where it refuses the session that the port opened
-refuse_goes_on : {P : Type 0} (told : P → Option PortStory) (old new : Worker P) (port : P) (t : ℕ) → OpensAt told old.port port t
-    → SameRest (record old { port = port }) new → IsWorkerServing told old → Refuses told (record old { port = port }) new t → WorkerGoesOn told old new
+refuse_goes_on : {P : Type 0} (told : P → Option PortStory) (old new : Worker P) (port : P) (t : ℕ)
+    → OpensAt told old.port port t
+    → SameRest (record old { port = port }) new → IsWorkerServing told old
+    → Refuses told (record old { port = port }) new t → WorkerGoesOn told old new
 refuse_goes_on told old new port t opens rest h k =
     let f = then_told (was.Opened t ∷ []) in let g = then_told (was.Shut t ∷ []) in
-    steps told old new (λ story. g (f story)) (two_calls f g (told old.port) (told port) (told new.port) opens.told_is k.port) (same_end old new rest.end)
-    (subst (λ (y : WorkerView × Option Posted × BookState). IsSteady y.0 y.1 y.2) (λ i. (sym rest.end i, sym rest.request i, sym k.book i)) h.steady)
+    steps told old new (λ story. g (f story))
+    (two_calls f g (told old.port) (told port) (told new.port) opens.told_is k.port) (same_end old new rest.end)
+    (subst (λ (y : WorkerView × Option Posted × BookState). IsSteady y.0 y.1 y.2)
+    (λ i. (sym rest.end i, sym rest.request i, sym k.book i)) h.steady)
     (rest.strangers ∙ h.strangers) h
     (λ story e was_so.
-    let none : piece_of old.book t ≡ [] = (untouched (facts (run_view story old) t) (was_so.0.each t) (fresh story.events t (opens.may story e))).0.piece in (
-      subst (λ (y : ℕ × Bool). IsStoryKnown (run_view (g (f story)) new) y.0 y.1) (λ i. (sym k.unopened i, sym rest.ended i))
-          (told_refused (run_view story old) (run_view (g (f story)) new) old.unopened old.ended t was_so.0 (opens.may story e) refl
-          (λ i. posted_by (rest.end i) (rest.request i)) (ap (λ (w : WorkerView). w.back) rest.end) k.sessions k.book (ap piece_of k.book)),
+    let none : piece_of old.book t ≡ [] =
+    (untouched (facts (run_view story old) t) (was_so.0.each t)
+    (fresh story.events t (opens.may story e))).0.piece in (
+      subst (λ (y : ℕ × Bool). IsStoryKnown (run_view (g (f story)) new) y.0 y.1)
+          (λ i. (sym k.unopened i, sym rest.ended i))
+          (told_refused (run_view story old) (run_view (g (f story)) new) old.unopened old.ended t was_so.0
+          (opens.may story e) refl
+          (λ i. posted_by (rest.end i) (rest.request i)) (ap (λ (w : WorkerView). w.back) rest.end) k.sessions k.book
+          (ap piece_of k.book)),
       paused_but story (g (f story)) t (piece_of old.book) (piece_of new.book)
           (λ s. ap (λ p. piece_of p s) k.book ∙ still_none t s (piece_of old.book) none)
           (λ s ne. paused_elsewhere (f story) (was.Shut t) s (ne_eqb t s ne)) was_so.1,
     ))
   where
     still_none : (t s : ℕ) (piece : ℕ → List ℕ) → piece t ≡ [] → piece s ≡ cond (s == t) [] (piece s)
-    still_none t s piece none = either_way t s (λ (e : t ≡ s). ap piece (sym e) ∙ none ∙ sym (ap (λ b. cond b [] (piece s)) (eq-eqb s t (sym e))))
+    still_none t s piece none = either_way t s
+        (λ (e : t ≡ s). ap piece (sym e) ∙ none ∙ sym (ap (λ b. cond b [] (piece s)) (eq-eqb s t (sym e))))
         (λ (ne : t ≢ s). sym (at_other t s [] (piece s) ne))
 
 -- the worker goes on where the port opened a session, whether it admits or refuses it
-pub opened_goes_on : {P : Type 0} (told : P → Option PortStory) (old new : Worker P) (port : P) (t : ℕ) → OpensAt told old.port port t
+pub opened_goes_on : {P : Type 0} (told : P → Option PortStory) (old new : Worker P) (port : P) (t : ℕ)
+    → OpensAt told old.port port t
     → SameRest (record old { port = port }) new → IsWorkerServing told old
-    → Admits told (record old { port = port }) new t ⊎ Refuses told (record old { port = port }) new t → WorkerGoesOn told old new
-opened_goes_on told old new port t opens rest h k = ⊎_elim (admit_goes_on told old new port t opens rest h) (refuse_goes_on told old new port t opens rest h) k
+    → Admits told (record old { port = port }) new t ⊎ Refuses told (record old { port = port }) new t
+    → WorkerGoesOn told old new
+opened_goes_on told old new port t opens rest h k =
+    ⊎_elim (admit_goes_on told old new port t opens rest h) (refuse_goes_on told old new port t opens rest h) k
 
 -- a session that has just been opened is open
-pub opened_is_open : {P : Type 0} (told : P → Option PortStory) (w : Worker P) (port : P) (t : ℕ) → IsWorkerServing told w → OpensAt told w.port port t
+pub opened_is_open : {P : Type 0} (told : P → Option PortStory) (w : Worker P) (port : P) (t : ℕ)
+    → IsWorkerServing told w → OpensAt told w.port port t
     → IsOpenIn t (told port)
 opened_is_open told w port t h opens =
     λ after e.
-    let b = told_before (then_told (was.Opened t ∷ [])) (told w.port) (told port) opens.told_is after e in let story = b.0 in
-    let u = untouched (facts (run_view story w) t) ((h.known story b.1).each t) (fresh story.events t (opens.may story b.1)) in
+    let b = told_before (then_told (was.Opened t ∷ [])) (told w.port) (told port) opens.told_is after e in
+    let story = b.0 in
+    let u = untouched (facts (run_view story w) t) ((h.known story b.1).each t)
+    (fresh story.events t (opens.may story b.1)) in
     let o = opened_here story.events t in
     ap (λ (y : PortStory). is_open t y.events) (sym b.2) ∙ ap (λ (p : PortFacts). p.opened && not (p.gone || p.shut)) o
     ∙ ap (λ (b : Bool × Bool). true && not (b.0 || b.1)) (λ i. (u.0.gone i, u.0.shut i))
@@ -222,11 +276,14 @@ pub still_open : {P : Type 0} (told : P → Option PortStory) (old port : P) (t 
 still_open told old port t b told_is opened =
     λ after e.
     let q = told_before (then_told (was.Data t b ∷ [])) (told old) (told port) told_is after e in
-    ap (λ (y : PortStory). is_open t y.events) (sym q.2) ∙ ap (λ (p : PortFacts). p.opened && not (p.gone || p.shut)) (fed_here q.0.events t b) ∙ opened q.0 q.1
+    ap (λ (y : PortStory). is_open t y.events) (sym q.2)
+    ∙ ap (λ (p : PortFacts). p.opened && not (p.gone || p.shut)) (fed_here q.0.events t b) ∙ opened q.0 q.1
 
 -- of a session whose data came no bytes are held
-pub came_unheld : {P : Type 0} (told : P → Option PortStory) (w : Worker P) (port : P) (t : ℕ) (b : List ℕ) → IsWorkerServing told w
-    → told port ≡ option_map (then_told (was.Data t b ∷ [])) (told w.port) → ((story : PortStory) → told w.port ≡ Some story → story.paused t ≡ false)
+pub came_unheld : {P : Type 0} (told : P → Option PortStory) (w : Worker P) (port : P) (t : ℕ) (b : List ℕ)
+    → IsWorkerServing told w
+    → told port ≡ option_map (then_told (was.Data t b ∷ [])) (told w.port)
+    → ((story : PortStory) → told w.port ≡ Some story → story.paused t ≡ false)
     → (after : PortStory) → told port ≡ Some after → piece_of w.book t ≡ []
 came_unheld told w port t b h told_is resumed =
     λ after e.
@@ -234,11 +291,14 @@ came_unheld told w port t b h told_is resumed =
     resumed_holds_none (piece_of w.book t) (q.0.paused t) (h.paused q.0 q.1 t) (resumed q.0 q.1)
 
 -- receiving leaves the rest
-rest_facts : {P : Type 0} (told : P → Option PortStory) (old new : Worker P) (port : P) → LeavesWorker (record old { port = port }) new
-    → (new.book.posted ≡ old.book.posted) × (new.book.unsettled ≡ old.book.unsettled) → IsWorkerServing told old → OwnFacts old new
+rest_facts : {P : Type 0} (told : P → Option PortStory) (old new : Worker P) (port : P)
+    → LeavesWorker (record old { port = port }) new
+    → (new.book.posted ≡ old.book.posted) × (new.book.unsettled ≡ old.book.unsettled) → IsWorkerServing told old
+    → OwnFacts old new
 rest_facts told old new port rest b h = record {
   same_end = same_end old new rest.end;
-  steady = subst (λ (y : WorkerView × Option Posted). IsSteady y.0 y.1 new.book) (λ i. (sym rest.end i, sym rest.request i))
+  steady = subst (λ (y : WorkerView × Option Posted). IsSteady y.0 y.1 new.book)
+      (λ i. (sym rest.end i, sym rest.request i))
       (steady_same old.worker_end old.request old.book new.book b.0 b.1 h.steady);
   strangers = rest.strangers ∙ h.strangers;
   unopened = rest.unopened;
@@ -246,8 +306,10 @@ rest_facts told old new port rest b h = record {
 }
 
 -- a session of which bytes just came, and which is shut
-told_data_shut : (v v' : RunView) (unopened : ℕ) (ended : Bool) (t : ℕ) (b : List ℕ) → IsStoryKnown v unopened ended → is_open t v.events ≡ true
-    → ClosesIn (record v { events = v.events ++ was.Data t b ∷ [] }) v' t causes.NoMemory (was.Shut t) → IsStoryKnown v' unopened ended
+told_data_shut : (v v' : RunView) (unopened : ℕ) (ended : Bool) (t : ℕ) (b : List ℕ) → IsStoryKnown v unopened ended
+    → is_open t v.events ≡ true
+    → ClosesIn (record v { events = v.events ++ was.Data t b ∷ [] }) v' t causes.NoMemory (was.Shut t)
+    → IsStoryKnown v' unopened ended
 told_data_shut v v' unopened ended t b h opened k =
     let l = v.events in let m = l ++ was.Data t b ∷ [] in let u = record v { events = m } in
     let o = open_here l t opened in
@@ -263,21 +325,29 @@ told_data_shut v v' unopened ended t b h opened k =
       had = here.had;
       state = here.state;
     } in
-    let closed = closed_no_memory f (facts v' t) run.running.s ((facts v t).piece ++ b) served st (ap (λ (p : PortFacts). p.shut) here.port_is) in
+    let closed = closed_no_memory f (facts v' t) run.running.s ((facts v t).piece ++ b) served st
+    (ap (λ (p : PortFacts). p.shut) here.port_is) in
     let before : (s : ℕ) → t ≢ s → AreFactsConsistent (facts u s) = λ s ne. subst AreFactsConsistent
-    (ap (λ (p : PortFacts). record (facts v s) { port = p }) (sym (elsewhere l (was.Data t b) s (ne_eqb t s ne)))) (h.each s) in
-    let len = length-with v.sessions t causes.NoMemory in let one = count_same l (was.Data t b) refl in let two = count_same m (was.Shut t) refl in record {
-      each = close_all u v' t causes.NoMemory (was.Shut t) (record (port_facts m t) { shut = true }) k (apart_shut t) here
+    (ap (λ (p : PortFacts). record (facts v s) { port = p }) (sym (elsewhere l (was.Data t b) s (ne_eqb t s ne))))
+    (h.each s) in
+    let len = length-with v.sessions t causes.NoMemory in let one = count_same l (was.Data t b) refl in
+    let two = count_same m (was.Shut t) refl in record {
+      each = close_all u v' t causes.NoMemory (was.Shut t) (record (port_facts m t) { shut = true }) k
+          (apart_shut t) here
           (ap (λ (p : PortFacts). p.opened) came ∙ run.opened) closed before;
       rising = subst Rises (sym k.sessions) (rises_with v.sessions t causes.NoMemory h.rising);
-      counted = subst (λ (y : List PortRecord × List (ℕ × EndCause)). AreSessionsCounted y.0 y.1 unopened) (λ i. (sym k.events i, sym k.sessions i))
-          (subst (λ (y : ℕ × ℕ). (y.1 ≤ y.0) × (unopened ≡ min (y.0 - y.1) (2 ^ 64 - 1))) (λ i. (sym (two ∙ one) i, sym len i)) h.counted);
+      counted = subst (λ (y : List PortRecord × List (ℕ × EndCause)). AreSessionsCounted y.0 y.1 unopened)
+          (λ i. (sym k.events i, sym k.sessions i))
+          (subst (λ (y : ℕ × ℕ). (y.1 ≤ y.0) × (unopened ≡ min (y.0 - y.1) (2 ^ 64 - 1)))
+          (λ i. (sym (two ∙ one) i, sym len i)) h.counted);
       at_end = ap has_ended k.events ∙ ended_same m (was.Shut t) refl ∙ ended_same l (was.Data t b) refl ∙ h.at_end;
-      accepts = subst AcceptsOnlyOpen (sym k.events) (accepts_more m (was.Shut t) (accepts_more l (was.Data t b) h.accepts tt) tt);
+      accepts = subst AcceptsOnlyOpen (sym k.events)
+          (accepts_more m (was.Shut t) (accepts_more l (was.Data t b) h.accepts tt) tt);
     }
 
 -- a session that is open at a port that tells is open in the book
-pub open_in_book : {P : Type 0} (story : PortStory) (w : Worker P) (t : ℕ) → IsStoryKnown (run_view story w) w.unopened w.ended
+pub open_in_book : {P : Type 0} (story : PortStory) (w : Worker P) (t : ℕ)
+    → IsStoryKnown (run_view story w) w.unopened w.ended
     → is_open t story.events ≡ true → session_of w.book t ≡ None → ⊥
 open_in_book story w t h opened none =
     let o = open_here story.events t opened in
@@ -289,24 +359,31 @@ pub record FeedsAt {P : Type 0} (told : P → Option PortStory) (old port : P) (
   pub told_is : told port ≡ option_map (then_told (was.Data t b ∷ [])) (told old)
   pub opened : (story : PortStory) → told old ≡ Some story → is_open t story.events ≡ true
 
--- the worker goes on where data of a session came, whether they are fed, held or dropped, or the session is shut for want of memory
+-- the worker goes on where data of a session came, whether they are fed, held or dropped, or the session is shut for
+-- want of memory
 pub received_goes_on : {P : Type 0} (told : P → Option PortStory) (old new : Worker P) (port : P) (t : ℕ) (b : List ℕ)
-    → FeedsAt told old.port port t b → IsWorkerServing told old → Receives told (record old { port = port }) t b new → WorkerGoesOn told old new
+    → FeedsAt told old.port port t b → IsWorkerServing told old → HandlesData told (record old { port = port }) t b new
+    → WorkerGoesOn told old new
 received_goes_on told old new port t b came h (feeds none book port_is rest) =
     let f = then_told (was.Data t b ∷ []) in
     let pieces = pieces_kept old.book new.book t
-    (option_map (λ (s : SessionState). once_fed s b) (session_of old.book t)) book.only_at (fed_piece (session_of old.book t) b) in
+    (option_map (λ (s : SessionState). once_fed s b) (session_of old.book t)) book.only_at
+    (fed_piece (session_of old.book t) b) in
     steps_on told old new f (ap told port_is ∙ came.told_is) (rest_facts told old new port rest
     (ap (λ (x : BookState). x.posted) book.rest, ap (λ (x : BookState). x.unsettled) book.rest) h) h
     (λ story e was_so. (
-      told_fed (run_view story old) (run_view (f story) new) old.unopened old.ended t b was_so.0 (came.opened story e) none refl
-          (λ i. posted_by (rest.end i) (rest.request i)) (ap (λ (w : WorkerView). w.back) rest.end) rest.sessions book.only_at pieces,
+      told_fed (run_view story old) (run_view (f story) new) old.unopened old.ended t b was_so.0
+          (came.opened story e) none refl
+          (λ i. posted_by (rest.end i) (rest.request i))
+          (ap (λ (w : WorkerView). w.back) rest.end) rest.sessions book.only_at pieces,
       paused_kept story (f story) (piece_of old.book) (piece_of new.book) pieces (λ s. refl) was_so.1,
     ))
 received_goes_on told old new port t b came h (holds none k) =
     let f = then_told (was.Data t b ∷ []) in let g = with_pause t true in
-    steps_on told old new (λ story. g (f story)) (two_calls f g (told old.port) (told port) (told new.port) came.told_is k.port)
-    (rest_facts told old new port k.leaves (ap (λ (x : BookState). x.posted) k.book.rest, ap (λ (x : BookState). x.unsettled) k.book.rest) h) h
+    steps_on told old new (λ story. g (f story))
+    (two_calls f g (told old.port) (told port) (told new.port) came.told_is k.port)
+    (rest_facts told old new port k.leaves
+    (ap (λ (x : BookState). x.posted) k.book.rest, ap (λ (x : BookState). x.unsettled) k.book.rest) h) h
     (λ story e was_so.
     let o = open_here story.events t (came.opened story e) in
     let run = runs_at_port (facts (run_view story old) t) (was_so.0.each t) o.0 o.1 o.2 in
@@ -314,14 +391,18 @@ received_goes_on told old new port t b came h (holds none k) =
     let pieces : (s : ℕ) → piece_of new.book s ≡ cond (s == t) b (piece_of old.book s) = λ s.
     pieces_at old.book new.book t (held (session_of old.book t)) k.book.only_at s
     ∙ ap (λ (x : Option SessionState). cond (s == t) (held_of (held x)) (piece_of old.book s)) run.running.state in (
-      told_held (run_view story old) (run_view (g (f story)) new) old.unopened old.ended t b was_so.0 (came.opened story e) none refl
-          (λ i. posted_by (k.leaves.end i) (k.leaves.request i)) (ap (λ (w : WorkerView). w.back) k.leaves.end) k.leaves.sessions k.book.only_at pieces,
-      paused_more story (g (f story)) t b (piece_of old.book) (piece_of new.book) pieces (at_same t true (story.paused t))
+      told_held (run_view story old) (run_view (g (f story)) new) old.unopened old.ended t b was_so.0
+          (came.opened story e) none refl
+          (λ i. posted_by (k.leaves.end i) (k.leaves.request i))
+          (ap (λ (w : WorkerView). w.back) k.leaves.end) k.leaves.sessions k.book.only_at pieces,
+      paused_more story (g (f story)) t b (piece_of old.book) (piece_of new.book) pieces
+          (at_same t true (story.paused t))
           (λ s ne. at_other t s true (story.paused s) ne) was_so.1,
     ))
 received_goes_on told old new port t b came h (shuts why k) =
     let f = then_told (was.Data t b ∷ []) in let g = then_told (was.Shut t ∷ []) in
-    steps_on told old new (λ story. g (f story)) (two_calls f g (told old.port) (told port) (told new.port) came.told_is k.port) (record {
+    steps_on told old new (λ story. g (f story))
+    (two_calls f g (told old.port) (told port) (told new.port) came.told_is k.port) (record {
       same_end = same_end old new k.closes.end;
       steady = steady_closed (record old { port = port }) new t causes.NoMemory k.closes h.steady;
       strangers = k.closes.strangers ∙ h.strangers;
@@ -329,8 +410,10 @@ received_goes_on told old new port t b came h (shuts why k) =
       ended = k.closes.ended;
     }) h
     (λ story e was_so. (
-      told_data_shut (run_view story old) (run_view (g (f story)) new) old.unopened old.ended t b was_so.0 (came.opened story e)
-          (closes_in (f story) (record old { port = port }) new t causes.NoMemory (was.Shut t) k.closes was_so.0.rising),
+      told_data_shut (run_view story old) (run_view (g (f story)) new) old.unopened old.ended t b was_so.0
+          (came.opened story e)
+          (closes_in (f story) (record old { port = port }) new t causes.NoMemory
+          (was.Shut t) k.closes was_so.0.rising),
       paused_but story (g (f story)) t (piece_of old.book) (piece_of new.book)
           (pieces_at old.book new.book t None k.closes.book.only_at)
           (λ s ne. paused_elsewhere (f story) (was.Shut t) s (ne_eqb t s ne)) was_so.1,
@@ -347,8 +430,10 @@ pub record LosesAt {P : Type 0} (told : P → Option PortStory) (old port : P) (
   pub opened : (story : PortStory) → told old ≡ Some story → is_open t story.events ≡ true
 
 -- a session goes
-pub gone_goes_on : {P : Type 0} (told : P → Option PortStory) (old new : Worker P) (port : P) (t : ℕ) → LosesAt told old.port port t
-    → IsWorkerServing told old → new.port ≡ port → Closes (record old { port = port }) new t causes.Gone → WorkerGoesOn told old new
+pub gone_goes_on : {P : Type 0} (told : P → Option PortStory) (old new : Worker P) (port : P) (t : ℕ)
+    → LosesAt told old.port port t
+    → IsWorkerServing told old → new.port ≡ port → Closes (record old { port = port }) new t causes.Gone
+    → WorkerGoesOn told old new
 gone_goes_on told old new port t loses h port_is k =
     let f = then_told (was.Gone t ∷ []) in
     steps_on told old new f (ap told port_is ∙ loses.told_is) (record {
@@ -363,34 +448,52 @@ gone_goes_on told old new port t loses h port_is k =
     let run = runs_at_port (facts (run_view story old) t) (was_so.0.each t) o.0 o.1 o.2 in (
       told_gone (run_view story old) (run_view (f story) new) old.unopened old.ended t was_so.0
           (closes_in story (record old { port = port }) new t causes.Gone (was.Gone t) k was_so.0.rising) run,
-      paused_but story (f story) t (piece_of old.book) (piece_of new.book) (pieces_at old.book new.book t None k.book.only_at)
+      paused_but story (f story) t (piece_of old.book) (piece_of new.book)
+          (pieces_at old.book new.book t None k.book.only_at)
           (λ s ne. paused_elsewhere story (was.Gone t) s (ne_eqb t s ne)) was_so.1,
     ))
 
 -- what a port that tells nothing has gone of
-pub stranger_goes_on : {P : Type 0} (told : P → Option PortStory) (old : Worker P) (port : P) (t : ℕ) → LosesAt told old.port port t
+pub stranger_goes_on : {P : Type 0} (told : P → Option PortStory) (old : Worker P) (port : P) (t : ℕ)
+    → LosesAt told old.port port t
     → IsWorkerServing told old → session_of old.book t ≡ None → WorkerGoesOn told old (record old { port = port })
 stranger_goes_on told old port t loses h none =
     let f = then_told (was.Gone t ∷ []) in
     steps_on told old (record old { port = port }) f loses.told_is
-    (record { same_end = record { exchange = refl; worker = refl }; steady = h.steady; strangers = h.strangers; unopened = refl; ended = refl }) h
+    (record {
+      same_end = record { exchange = refl; worker = refl };
+      steady = h.steady;
+      strangers = h.strangers;
+      unopened = refl;
+      ended = refl;
+    }) h
     (λ story e was_so. absurd (open_in_book story old t was_so.0 (loses.opened story e) none))
 
 -- what the worker does where a session has gone
-pub lose_goes_on : {P : Type 0} (told : P → Option PortStory) (old new : Worker P) (port : P) (t : ℕ) (o : Option SessionState)
+pub lose_goes_on : {P : Type 0} (told : P → Option PortStory) (old new : Worker P) (port : P) (t : ℕ)
+    (o : Option SessionState)
     → o ≡ session_of old.book t → LosesAt told old.port port t → IsWorkerServing told old → new.port ≡ port
     → (is_some (session_of old.book t) ≡ true → Closes (record old { port = port }) new t causes.Gone)
     → (session_of old.book t ≡ None → new ≡ record old { port = port }) → WorkerGoesOn told old new
-lose_goes_on told old new port t None o loses h port_is closes keeps = subst (λ w. WorkerGoesOn told old w) (sym (keeps (sym o)))
+lose_goes_on told old new port t None o loses h port_is closes keeps =
+    subst (λ w. WorkerGoesOn told old w) (sym (keeps (sym o)))
     (stranger_goes_on told old port t loses h (sym o))
-lose_goes_on told old new port t (Some s) o loses h port_is closes keeps = gone_goes_on told old new port t loses h port_is (closes (ap is_some (sym o)))
+lose_goes_on told old new port t (Some s) o loses h port_is closes keeps =
+    gone_goes_on told old new port t loses h port_is (closes (ap is_some (sym o)))
 
 -- nothing came
-pub idle_goes_on : {P : Type 0} (told : P → Option PortStory) (old : Worker P) (port : P) → told port ≡ option_map (then_told []) (told old.port)
+pub idle_goes_on : {P : Type 0} (told : P → Option PortStory) (old : Worker P) (port : P)
+    → told port ≡ option_map (then_told []) (told old.port)
     → IsWorkerServing told old → WorkerGoesOn told old (record old { port = port })
 idle_goes_on told old port told_is h =
     steps_on told old (record old { port = port }) (then_told []) told_is
-    (record { same_end = record { exchange = refl; worker = refl }; steady = h.steady; strangers = h.strangers; unopened = refl; ended = refl }) h
+    (record {
+      same_end = record { exchange = refl; worker = refl };
+      steady = h.steady;
+      strangers = h.strangers;
+      unopened = refl;
+      ended = refl;
+    }) h
     (λ story e was_so. subst (λ (l : List PortRecord). StoryFacts (record { events = l; paused = story.paused })
     (record old { port = port }) old.unopened old.ended) (sym (append-nil story.events)) was_so)
 
@@ -408,7 +511,8 @@ ended_goes_on told old port told_is h =
         each = λ s. subst AreFactsConsistent (ap (λ (p : PortFacts). record (facts (run_view story old) s) { port = p })
             (sym (elsewhere l was.Ended s refl))) (k.each s);
         rising = k.rising;
-        counted = subst (λ (y : ℕ). (length old.sessions.items ≤ y) × (old.unopened ≡ min (y - length old.sessions.items) (2 ^ 64 - 1))) (sym same) k.counted;
+        counted = subst (λ (y : ℕ). (length old.sessions.items ≤ y)
+            × (old.unopened ≡ min (y - length old.sessions.items) (2 ^ 64 - 1))) (sym same) k.counted;
         at_end = ended_now l;
         accepts = accepts_more l was.Ended k.accepts tt;
       },

@@ -4,23 +4,19 @@ use Rattle.std.specs.List.{concat}
 use Rattle.std.proofs.lemmas.Bool.{cases_Bool, both_ways}
 use Rattle.proto.specs.declared.message.Message.{Message}
 use Rattle.proto.specs.Grammar.{SpellsNone}
-use Rattle.proto.specs.Reading.{SpellEach, EndsAtLast, last_ends, Reads}
+use Rattle.proto.specs.Reading.{EndsAtLast, last_ends, Reads}
 use Rattle.proto.proofs.GrammarLaws.{has_reading, has_one_reading}
 use Rattle.worker.specs.Sessions.{BeginsWith}
+use Rattle.session_book.proofs.Reading.{SpellEach-append}
 
 -- the bytes of two lists of pieces, one behind the other, are those of the first list and then those of the second
 concat-append : (ps qs : List (List ℕ)) → concat (ps ++ qs) ≡ concat ps ++ concat qs
 concat-append [] qs = refl
-concat-append (p ∷ ps) qs = ap (λ (x : List ℕ). p ++ x) (concat-append ps qs) ∙ sym (append_assoc p (concat ps) (concat qs))
+concat-append (p ∷ ps) qs = ap (λ (x : List ℕ). p ++ x) (concat-append ps qs)
+    ∙ sym (append_assoc p (concat ps) (concat qs))
 
--- where pieces spell messages, and further pieces further messages, all of the pieces spell all of the messages
-spelled-append : (ps qs : List (List ℕ)) (ms ns : List Message) → SpellEach ps ms → SpellEach qs ns → SpellEach (ps ++ qs) (ms ++ ns)
-spelled-append [] qs [] ns h k = k
-spelled-append [] qs (m ∷ ms) ns h k = absurd h
-spelled-append (p ∷ ps) qs [] ns h k = absurd h
-spelled-append (p ∷ ps) qs (m ∷ ms) ns h k = (h.0, spelled-append ps qs ms ns h.1 k)
-
--- two lists in which only the last message may end the session make such a list together, where the first one's last doesn't end it
+-- two lists in which only the last message may end the session make such a list together, where the first one's last
+-- doesn't end it
 ends-append : (ms ns : List Message) → last_ends ms ≡ false → EndsAtLast ms → EndsAtLast ns → EndsAtLast (ms ++ ns)
 ends-append [] ns e h k = k
 ends-append (m ∷ []) [] e h k = tt
@@ -35,18 +31,21 @@ ended-append (m ∷ []) (n ∷ ns) e = refl
 ended-append (m ∷ n ∷ ms) ns e = ended-append (n ∷ ms) ns e
 
 -- read on behind what was read, where it has not ended
-pub read_on : (b middle rest : List ℕ) (ms ns : List Message) → last_ends ms ≡ false → BeginsWith b ms middle → BeginsWith middle ns rest
+pub read_on : (b middle rest : List ℕ) (ms ns : List Message) → last_ends ms ≡ false → BeginsWith b ms middle
+    → BeginsWith middle ns rest
     → BeginsWith b (ms ++ ns) rest
 read_on b middle rest ms ns e h k = record {
   pieces = h.pieces ++ k.pieces;
-  whole = h.whole ∙ ap (λ (x : List ℕ). concat h.pieces ++ x) k.whole ∙ sym (append_assoc (concat h.pieces) (concat k.pieces) rest)
+  whole = h.whole ∙ ap (λ (x : List ℕ). concat h.pieces ++ x) k.whole
+      ∙ sym (append_assoc (concat h.pieces) (concat k.pieces) rest)
       ∙ ap (λ (x : List ℕ). x ++ rest) (sym (concat-append h.pieces k.pieces));
-  spelled = spelled-append h.pieces k.pieces ms ns h.spelled k.spelled;
+  spelled = SpellEach-append h.pieces k.pieces ms ns h.spelled k.spelled;
   ends_at_last = ends-append ms ns e h.ends_at_last k.ends_at_last;
 }
 
 -- more bytes came
-pub fed_on : (b rest more : List ℕ) (ms : List Message) → BeginsWith b ms rest → BeginsWith (b ++ more) ms (rest ++ more)
+pub fed_on : (b rest more : List ℕ) (ms : List Message) → BeginsWith b ms rest
+    → BeginsWith (b ++ more) ms (rest ++ more)
 fed_on b rest more ms h = record {
   pieces = h.pieces;
   whole = ap (λ (x : List ℕ). x ++ more) h.whole ∙ append_assoc (concat h.pieces) rest more;
@@ -61,18 +60,31 @@ nothing_read b = record { pieces = []; whole = refl; spelled = tt; ends_at_last 
 -- ---- beside a whole reading
 
 -- a beginning is a whole reading where its last message ends the session, or no beginning of the rest spells a message
-pub whole_reading : (b rest : List ℕ) (ms : List Message) → BeginsWith b ms rest → (last_ends ms ≡ false → SpellsNone rest) → Reads b ms rest
-whole_reading b rest ms h none = record { pieces = h.pieces; whole = h.whole; spelled = h.spelled; ends_at_last = h.ends_at_last; no_more = none }
+pub whole_reading : (b rest : List ℕ) (ms : List Message) → BeginsWith b ms rest
+    → (last_ends ms ≡ false → SpellsNone rest) → Reads b ms rest
+whole_reading b rest ms h none = record {
+  pieces = h.pieces;
+  whole = h.whole;
+  spelled = h.spelled;
+  ends_at_last = h.ends_at_last;
+  no_more = none;
+}
 
 -- what was read is all of it
-pub same_reading : (b rest left : List ℕ) (ms ns : List Message) → BeginsWith b ms rest → (last_ends ms ≡ false → SpellsNone rest) → Reads b ns left → ns ≡ ms
+pub same_reading : (b rest left : List ℕ) (ms ns : List Message) → BeginsWith b ms rest
+    → (last_ends ms ≡ false → SpellsNone rest) → Reads b ns left → ns ≡ ms
 same_reading b rest left ms ns h none r = sym (has_one_reading b rest left ms ns (whole_reading b rest ms h none) r).0
 
 -- what was read is the beginning of it
-pub first_of_reading : (b rest left : List ℕ) (ms ns : List Message) → BeginsWith b ms rest → Reads b ns left → (more : List Message) × (ns ≡ ms ++ more)
+pub first_of_reading : (b rest left : List ℕ) (ms ns : List Message) → BeginsWith b ms rest → Reads b ns left
+    → (more : List Message) × (ns ≡ ms ++ more)
 first_of_reading b rest left ms ns h r =
     elim (cases_Bool (last_ends ms)) [
-      | inl ended ↦ ([], same_reading b rest left ms ns h (λ e. absurd (both_ways (last_ends ms) e ended)) r ∙ sym (append-nil ms))
+      | inl ended ↦ (
+        [],
+        same_reading b rest left ms ns h (λ e. absurd (both_ways (last_ends ms) e ended)) r
+            ∙ sym (append-nil ms),
+      )
       | inr goes_on ↦
           let on = has_reading rest in
           let further : BeginsWith rest on.0 on.1 = record {
@@ -83,6 +95,7 @@ first_of_reading b rest left ms ns h r =
           } in
           let joined = read_on b rest on.1 ms on.0 goes_on h further in (
             on.0,
-            same_reading b on.1 left (ms ++ on.0) ns joined (λ e. on.2.no_more (sym (ended-append ms on.0 goes_on) ∙ e)) r,
+            same_reading b on.1 left (ms ++ on.0) ns joined
+                (λ e. on.2.no_more (sym (ended-append ms on.0 goes_on) ∙ e)) r,
           )
     ]

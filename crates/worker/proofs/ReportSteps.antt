@@ -24,44 +24,54 @@ use Rattle.worker.specs.Sessions.{SessionFacts, RunView, facts, asked_by, had_by
 use Rattle.worker.specs.Sessions.{BeginsWith}
 use Rattle.worker.specs.Workers.{IsEmptied, IsStoryKnown}
 use Rattle.worker.specs.Reports.{IsReported, IsCauseOf, is_complete}
-use Rattle.worker.proofs.Answering.{said_further, asks-append, begins_on}
+use Rattle.worker.proofs.Answering.{said_further, begins_on}
 use Rattle.worker.proofs.Readings.{same_reading, first_of_reading}
-use Rattle.worker.proofs.PlaceLemmas.{either_way}
 use Rattle.worker.proofs.SessionSteps.{not_both, opened_if_placed}
+use Rattle.proto.proofs.CountLemmas.{either_way}
+use Rattle.proto.proofs.AskLemmas.{asks-append}
 
 -- ---- the share of a session
 
 -- of one more entry, testing worker and session at once picks what testing the worker first and then the session picks
-by_worker : (b c : Bool) (e : Answered) (ss fs : List Answered) (s : ℕ) (ws : List Answered) → ss ≡ filter (λ (e : Answered). e.session == s) ws
+by_worker : (b c : Bool) (e : Answered) (ss fs : List Answered) (s : ℕ) (ws : List Answered)
+    → ss ≡ filter (λ (e : Answered). e.session == s) ws
     → cond (b && (e.session == s)) (e ∷ ss) ss ≡ filter (λ (e : Answered). e.session == s) (cond b (e ∷ ws) ws)
 by_worker true c e ss fs s ws h = ap (λ (x : List Answered). cond (e.session == s) (e ∷ x) x) h
 by_worker false c e ss fs s ws h = h
 
 -- a session's share of a history is what its worker's share has of the session
-share_of : (history : List Answered) (w s : ℕ) → session_share history w s ≡ filter (λ (e : Answered). e.session == s) (worker_share history w)
+share_of : (history : List Answered) (w s : ℕ)
+    → session_share history w s ≡ filter (λ (e : Answered). e.session == s) (worker_share history w)
 share_of [] w s = refl
-share_of (e ∷ history) w s = by_worker (e.worker == w) true e (session_share history w s) [] s (worker_share history w) (share_of history w s)
+share_of (e ∷ history) w s = by_worker (e.worker == w) true e (session_share history w s) [] s (worker_share history w)
+    (share_of history w s)
 
 -- one more entry, taken on both sides or on neither, leaves the requests answered the same as those posted
-asked_if : (c : Bool) (e : Answered) (l : List Answered) (m : List Posted) → map (λ (x : Answered). x.request) l ≡ map (λ (p : Posted). p.request) m
-    → map (λ (x : Answered). x.request) (cond c (e ∷ l) l) ≡ map (λ (p : Posted). p.request) (cond c (posted_of e ∷ m) m)
+asked_if : (c : Bool) (e : Answered) (l : List Answered) (m : List Posted)
+    → map (λ (x : Answered). x.request) l ≡ map (λ (p : Posted). p.request) m
+    → map (λ (x : Answered). x.request) (cond c (e ∷ l) l)
+    ≡ map (λ (p : Posted). p.request) (cond c (posted_of e ∷ m) m)
 asked_if true e l m h = ap (λ (x : List Request). e.request ∷ x) h
 asked_if false e l m h = h
 
 -- the requests of a session, from those that were posted
-asked_from : (l : List Answered) (s : ℕ) → asked (filter (λ (e : Answered). e.session == s) l) ≡ asked_by (asked_posted l) s
+asked_from : (l : List Answered) (s : ℕ)
+    → asked (filter (λ (e : Answered). e.session == s) l) ≡ asked_by (asked_posted l) s
 asked_from [] s = refl
 asked_from (e ∷ l) s = asked_if (e.session == s) e (filter (λ (x : Answered). x.session == s) l)
     (filter (λ (p : Posted). p.session == s) (asked_posted l)) (asked_from l s)
 
 -- answered requests have as many requests as replies
-same_count : (l : List Answered) → length (map (λ (e : Answered). e.request) l) ≡ length (map (λ (e : Answered). e.reply) l)
+same_count : (l : List Answered) → length (map (λ (e : Answered). e.request) l)
+    ≡ length (map (λ (e : Answered). e.reply) l)
 same_count [] = refl
 same_count (e ∷ l) = let h = same_count l in omega arith
 
 -- where each posted request came back, a session has as many replies as requests
-pub as_many : (back : List Answered) (posted : List Posted) (s : ℕ) → asked_posted back ≡ posted → length (asked_by posted s) ≡ length (had_by back s)
-as_many back posted s e = ap (λ (p : List Posted). length (asked_by p s)) (sym e) ∙ ap (length {A = Request}) (sym (asked_from back s))
+pub as_many : (back : List Answered) (posted : List Posted) (s : ℕ) → asked_posted back ≡ posted
+    → length (asked_by posted s) ≡ length (had_by back s)
+as_many back posted s e = ap (λ (p : List Posted). length (asked_by p s)) (sym e)
+    ∙ ap (length {A = Request}) (sym (asked_from back s))
     ∙ same_count (filter (λ (x : Answered). x.session == s) back)
 
 -- ---- the messages
@@ -94,15 +104,18 @@ ended_true (Fatal kind ∷ n ∷ ms) c e h = absurd (true≢false h.0)
 record IsFinal (v : RunView) (s : ℕ) (cause : EndCause) (messages : List Message) : Type 0 where
   first : StartsWith (asks messages) (asked_by v.posted s)
   beginning : StartsWith (said messages (had_by v.back s)) (given s v.events)
-  complete : is_complete cause ≡ true → (asked_by v.posted s ≡ asks messages) × (given s v.events ≡ said messages (had_by v.back s))
+  complete : is_complete cause ≡ true → (asked_by v.posted s ≡ asks messages)
+      × (given s v.events ≡ said messages (had_by v.back s))
   caused : IsCauseOf v.events s messages cause
 
 -- where all of the messages were read, asked and answered
-final_whole : (v : RunView) (s : ℕ) (cause : EndCause) (messages read : List Message) → messages ≡ read → asked_by v.posted s ≡ asks read
+final_whole : (v : RunView) (s : ℕ) (cause : EndCause) (messages read : List Message) → messages ≡ read
+    → asked_by v.posted s ≡ asks read
     → given s v.events ≡ said read (had_by v.back s) → IsCauseOf v.events s read cause → IsFinal v s cause messages
 final_whole v s cause messages read same asked_is given_is caused =
     let a : asked_by v.posted s ≡ asks messages = asked_is ∙ ap asks (sym same) in
-    let b : given s v.events ≡ said messages (had_by v.back s) = given_is ∙ ap (λ (ms : List Message). said ms (had_by v.back s)) (sym same) in record {
+    let b : given s v.events ≡ said messages (had_by v.back s) =
+    given_is ∙ ap (λ (ms : List Message). said ms (had_by v.back s)) (sym same) in record {
       first = ([], sym a ∙ sym (append-nil (asked_by v.posted s)));
       beginning = ([], sym b ∙ sym (append-nil (given s v.events)));
       complete = λ e. (a, b);
@@ -111,14 +124,20 @@ final_whole v s cause messages read same asked_is given_is caused =
 
 -- where only the first were
 final_begun : (v : RunView) (s : ℕ) (cause : EndCause) (messages read more : List Message) → messages ≡ read ++ more
-    → asked_by v.posted s ≡ asks read → StartsWith (said read (had_by v.back s)) (given s v.events) → is_complete cause ≡ false
+    → asked_by v.posted s ≡ asks read → StartsWith (said read (had_by v.back s)) (given s v.events)
+    → is_complete cause ≡ false
     → IsCauseOf v.events s messages cause → IsFinal v s cause messages
 final_begun v s cause messages read more split asked_is said_is partial caused =
     let on : StartsWith (said messages (had_by v.back s)) (said read (had_by v.back s)) = subst
     (λ (ms : List Message). StartsWith (said ms (had_by v.back s)) (said read (had_by v.back s))) (sym split)
     (said_further read more (had_by v.back s)) in record {
-      first = (asks more, ap asks split ∙ asks-append read more ∙ ap (λ (x : List Request). x ++ asks more) (sym asked_is));
-      beginning = begins_on (given s v.events) (said read (had_by v.back s)) (said messages (had_by v.back s)) said_is on;
+      first = (
+        asks more,
+        ap asks split ∙ asks-append read more
+            ∙ ap (λ (x : List Request). x ++ asks more) (sym asked_is),
+      );
+      beginning = begins_on (given s v.events) (said read (had_by v.back s))
+          (said messages (had_by v.back s)) said_is on;
       complete = λ e. absurd (true≢false (sym e ∙ partial));
       caused = caused;
     }
@@ -135,12 +154,16 @@ final_closed : (v : RunView) (s : ℕ) (c : EndCause) (messages : List Message) 
     → Reads (fed s v.events) messages rest → IsFinal v s c messages
 final_closed v s causes.Drained messages rest h reads = absurd h.caused
 final_closed v s causes.Quit messages rest h reads = let w = h.caused.1 in
-    final_whole v s causes.Quit messages h.messages (whole_read v s causes.Quit messages rest h reads w.2) h.asked w.0 (h.caused.0, w.2)
+    final_whole v s causes.Quit messages h.messages (whole_read v s causes.Quit messages rest h reads w.2) h.asked w.0
+    (h.caused.0, w.2)
 final_closed v s causes.Fatal messages rest h reads = let w = h.caused.1 in
-    final_whole v s causes.Fatal messages h.messages (whole_read v s causes.Fatal messages rest h reads w.2) h.asked w.0 (h.caused.0, w.2)
-final_closed v s causes.Gone messages rest h reads = let m = first_of_reading (fed s v.events) h.rest rest h.messages messages h.read reads in
+    final_whole v s causes.Fatal messages h.messages (whole_read v s causes.Fatal messages rest h reads w.2) h.asked w.0
+    (h.caused.0, w.2)
+final_closed v s causes.Gone messages rest h reads = let m =
+    first_of_reading (fed s v.events) h.rest rest h.messages messages h.read reads in
     final_begun v s causes.Gone messages h.messages m.0 m.1 h.asked h.said refl h.caused
-final_closed v s causes.NoMemory messages rest h reads = let m = first_of_reading (fed s v.events) h.rest rest h.messages messages h.read reads in
+final_closed v s causes.NoMemory messages rest h reads = let m =
+    first_of_reading (fed s v.events) h.rest rest h.messages messages h.read reads in
     final_begun v s causes.NoMemory messages h.messages m.0 m.1 h.asked h.said refl h.caused
 
 -- a session that is still open has read all that spells a message
@@ -156,7 +179,8 @@ no_more s o e (no_message h none) = none
 -- a running session that is emptied, and has as many replies as requests, is final with the cause Drained
 final_drained : (v : RunView) (s : ℕ) (messages : List Message) (rest : List ℕ) → (run : IsRunning (facts v s))
     → v.piece s ≡ held_of (session_of v.book s) → IsEmptied run.s
-    → length (asked_by v.posted s) ≡ length (had_by v.back s) → Reads (fed s v.events) messages rest → IsFinal v s causes.Drained messages
+    → length (asked_by v.posted s) ≡ length (had_by v.back s) → Reads (fed s v.events) messages rest
+    → IsFinal v s causes.Drained messages
 final_drained v s messages rest run held emptied many reads =
     let st = run.s in
     let none : v.piece s ≡ [] = held ∙ ap held_of run.state ∙ emptied.held in
@@ -169,37 +193,48 @@ final_drained v s messages rest run held emptied many reads =
     let spelled_none = no_more st emptied.out ends emptied.stops in
     let begun : BeginsWith (fed s v.events) r.messages st.unread = record {
       pieces = r.has_read.pieces;
-      whole = r.fed ∙ append-nil r.bytes ∙ r.has_read.whole ∙ ap (λ (x : List ℕ). (concat r.has_read.pieces ++ st.unread) ++ x)
+      whole = r.fed ∙ append-nil r.bytes ∙ r.has_read.whole
+          ∙ ap (λ (x : List ℕ). (concat r.has_read.pieces ++ st.unread) ++ x)
           (r.has_read.nothing_dropped ends) ∙ append-nil (concat r.has_read.pieces ++ st.unread);
       spelled = r.has_read.spelled;
       ends_at_last = r.has_read.ends_at_last;
     } in
     let same = same_reading (fed s v.events) st.unread rest r.messages messages begun (λ e. spelled_none) reads in
     final_whole v s causes.Drained messages r.messages same r.asked
-    (sym (append-nil (given s v.events)) ∙ ap (λ (x : List ℕ). given s v.events ++ x) (sym emptied.out) ∙ r.has_said.whole)
+    (sym (append-nil (given s v.events)) ∙ ap (λ (x : List ℕ). given s v.events ++ x) (sym emptied.out)
+    ∙ r.has_said.whole)
     (run.gone, run.shut, sym r.has_read.ended ∙ ends)
 
 -- a session with a place in the report is final, where it has as many replies as requests and, if it is still open,
 -- is emptied
-final_placed : (v : RunView) (s : ℕ) (c : EndCause) (messages : List Message) (rest : List ℕ) → IsReportedAs (facts v s) (Some c)
+final_placed : (v : RunView) (s : ℕ) (c : EndCause) (messages : List Message) (rest : List ℕ)
+    → IsReportedAs (facts v s) (Some c)
     → v.piece s ≡ held_of (session_of v.book s)
     → (c ≡ causes.Drained → (st : SessionState) → session_of v.book s ≡ Some st → IsEmptied st)
-    → length (asked_by v.posted s) ≡ length (had_by v.back s) → Reads (fed s v.events) messages rest → IsFinal v s c messages
-final_placed v s causes.Drained messages rest h none emptied many reads = final_drained v s messages rest h none (emptied refl h.s h.state) many reads
-final_placed v s causes.Quit messages rest h none emptied many reads = final_closed v s causes.Quit messages rest h reads
-final_placed v s causes.Fatal messages rest h none emptied many reads = final_closed v s causes.Fatal messages rest h reads
-final_placed v s causes.Gone messages rest h none emptied many reads = final_closed v s causes.Gone messages rest h reads
-final_placed v s causes.NoMemory messages rest h none emptied many reads = final_closed v s causes.NoMemory messages rest h reads
+    → length (asked_by v.posted s) ≡ length (had_by v.back s) → Reads (fed s v.events) messages rest
+    → IsFinal v s c messages
+final_placed v s causes.Drained messages rest h none emptied many reads =
+    final_drained v s messages rest h none (emptied refl h.s h.state) many reads
+final_placed v s causes.Quit messages rest h none emptied many reads =
+    final_closed v s causes.Quit messages rest h reads
+final_placed v s causes.Fatal messages rest h none emptied many reads =
+    final_closed v s causes.Fatal messages rest h reads
+final_placed v s causes.Gone messages rest h none emptied many reads =
+    final_closed v s causes.Gone messages rest h reads
+final_placed v s causes.NoMemory messages rest h none emptied many reads =
+    final_closed v s causes.NoMemory messages rest h reads
 
 -- a session at whose place in the report a cause stands is running or closed, as that cause says
-placed_as : (f : SessionFacts) (c : EndCause) (o : Bool) (k : Option EndCause) → IsKnownAs o k f → k ≡ Some c → IsReportedAs f (Some c)
+placed_as : (f : SessionFacts) (c : EndCause) (o : Bool) (k : Option EndCause) → IsKnownAs o k f → k ≡ Some c
+    → IsReportedAs f (Some c)
 placed_as f c false k h e = absurd (not_both k c h.1 e)
 placed_as f c true k h e = subst (λ x. IsReportedAs f x) e h
 
 -- ---- sessions that aren't in the report
 
 -- for a session that isn't in the report no bytes were accepted and no request was asked
-unplaced_given : (f : SessionFacts) (o : Bool) (k : Option EndCause) → IsKnownAs o k f → k ≡ None → (f.port.given ≡ []) × (f.asked ≡ [])
+unplaced_given : (f : SessionFacts) (o : Bool) (k : Option EndCause) → IsKnownAs o k f → k ≡ None
+    → (f.port.given ≡ []) × (f.asked ≡ [])
 unplaced_given f false k h e = (h.0.given, h.0.asked)
 unplaced_given f true k h e = let u = subst (λ x. IsReportedAs f x) e h in (u.given, u.asked)
 
@@ -208,16 +243,19 @@ asked_some : (before after : List Posted) (p : Posted) → asked_by (before ++ p
 asked_some [] after p e = let bad : p.request ∷ asked_by after p.session ≡ [] = sym
     (ap (λ b. map (λ (x : Posted). x.request) (cond b (p ∷ filter (λ (x : Posted). x.session == p.session) after)
     (filter (λ (x : Posted). x.session == p.session) after))) (eq-eqb p.session p.session refl)) ∙ e in absurd (cc)
-asked_some (x ∷ before) after p e = asked_some before after p (behind_none (x.session == p.session) x (before ++ p ∷ after) p.session e)
+asked_some (x ∷ before) after p e = asked_some before after p
+    (behind_none (x.session == p.session) x (before ++ p ∷ after) p.session e)
   where
     behind_none : (b : Bool) (x : Posted) (l : List Posted) (t : ℕ)
-        → map (λ (y : Posted). y.request) (cond b (x ∷ filter (λ (y : Posted). y.session == t) l) (filter (λ (y : Posted). y.session == t) l)) ≡ []
+        → map (λ (y : Posted). y.request)
+        (cond b (x ∷ filter (λ (y : Posted). y.session == t) l) (filter (λ (y : Posted). y.session == t) l)) ≡ []
         → asked_by l t ≡ []
     behind_none true x l t e = absurd (cc)
     behind_none false x l t e = e
 
 -- an opened one was shut
-unplaced_shut : (f : SessionFacts) (o : Bool) (k : Option EndCause) → IsKnownAs o k f → o ≡ true → k ≡ None → f.port.shut ≡ true
+unplaced_shut : (f : SessionFacts) (o : Bool) (k : Option EndCause) → IsKnownAs o k f → o ≡ true → k ≡ None
+    → f.port.shut ≡ true
 unplaced_shut f false k h o e = absurd (true≢false (sym o))
 unplaced_shut f true k h o e = let u = subst (λ x. IsReportedAs f x) e h in u.shut
 
@@ -235,9 +273,11 @@ is_there (Some c) h = refl
 
 -- the report is right where the port has ended and all is known, each request came back, and each session that is still
 -- open is emptied
-pub reported : (v : RunView) (end : WorkerView) (unopened : ℕ) → IsStoryKnown v unopened true → v.posted ≡ end.sent → v.back ≡ end.back
+pub reported : (v : RunView) (end : WorkerView) (unopened : ℕ) → IsStoryKnown v unopened true → v.posted ≡ end.sent
+    → v.back ≡ end.back
     → asked_posted end.back ≡ end.sent → ((s : ℕ) → v.piece s ≡ held_of (session_of v.book s))
-    → ((s : ℕ) → cause_of v.sessions s ≡ Some causes.Drained → (st : SessionState) → session_of v.book s ≡ Some st → IsEmptied st)
+    → ((s : ℕ) → cause_of v.sessions s ≡ Some causes.Drained → (st : SessionState) → session_of v.book s ≡ Some st
+    → IsEmptied st)
     → IsReported v.events end v.sessions unopened
 reported v end unopened h posted back all none emptied = record {
   ended = h.at_end;
@@ -250,13 +290,17 @@ reported v end unopened h posted back all none emptied = record {
   placed = λ p before after split.
       is_there (cause_of v.sessions p.session)
       (λ e. asked_some before after p (ap (λ (l : List Posted). asked_by l p.session) (sym split ∙ sym posted)
-      ∙ (unplaced_given (facts v p.session) (facts v p.session).port.opened (facts v p.session).cause (h.each p.session).known e).1));
+      ∙ (unplaced_given (facts v p.session) (facts v p.session).port.opened (facts v p.session).cause
+      (h.each p.session).known e).1));
   answered = λ s c e history share asks_all messages rest reads.
-      let many : length (asked_by v.posted s) ≡ length (had_by v.back s) = as_many v.back v.posted s (ap asked_posted back ∙ all ∙ sym posted) in
+      let many : length (asked_by v.posted s) ≡ length (had_by v.back s) =
+      as_many v.back v.posted s (ap asked_posted back ∙ all ∙ sym posted) in
       let placed = placed_as (facts v s) c (facts v s).port.opened (facts v s).cause (h.each s).known e in
       let k = final_placed v s c messages rest placed (none s) (λ d. emptied s (e ∙ ap Some d)) many reads in
-      let qa : asked (session_share history end.worker s) ≡ asked_by v.posted s = ap asked (share_of history end.worker s)
-      ∙ asked_from (worker_share history end.worker) s ∙ ap (λ (l : List Posted). asked_by l s) (asks_all ∙ sym posted) in
+      let qa : asked (session_share history end.worker s) ≡ asked_by v.posted s =
+      ap asked (share_of history end.worker s)
+      ∙ asked_from (worker_share history end.worker) s
+      ∙ ap (λ (l : List Posted). asked_by l s) (asks_all ∙ sym posted) in
       let qh : had (session_share history end.worker s) ≡ had_by v.back s = ap had (share_of history end.worker s)
       ∙ ap (λ (l : List Answered). had_by l s) (share ∙ sym back) in record {
         first = subst (λ x. StartsWith (asks messages) x) (sym qa) k.first;
@@ -272,6 +316,8 @@ pub place_of_cause : (xs : List (ℕ × EndCause)) (s : ℕ) (c : EndCause) → 
 place_of_cause [] s c e = absurd (cc)
 place_of_cause (x ∷ xs) s c e =
     either_way x.0 s
-    (λ (q : x.0 ≡ s). let here : Some x.1 ≡ Some c = sym (ap (λ b. cond b (Some x.1) (cause_of xs s)) (eq-eqb x.0 s q)) ∙ e in (0, omega arith, λ d. (q, cc)))
-    (λ (ne : x.0 ≢ s). let k = place_of_cause xs s c (sym (ap (λ b. cond b (Some x.1) (cause_of xs s)) (ne_eqb x.0 s ne)) ∙ e) in
+    (λ (q : x.0 ≡ s). let here : Some x.1 ≡ Some c = sym (ap (λ b. cond b (Some x.1) (cause_of xs s)) (eq-eqb x.0 s q))
+    ∙ e in (0, omega arith, λ d. (q, cc)))
+    (λ (ne : x.0 ≢ s). let k = place_of_cause xs s c
+    (sym (ap (λ b. cond b (Some x.1) (cause_of xs s)) (ne_eqb x.0 s ne)) ∙ e) in
     (suc k.0, omega (arith, k.1), k.2))

@@ -11,17 +11,20 @@ use Rattle.worker.specs.Ports.{has_ended, is_end, opened_count, opens, IsProper,
 use Rattle.worker.specs.Sessions.{PortFacts, port_facts, SessionFacts, asked_by, had_by, cause_of, RunView, facts, AreFactsConsistent, IsClosed}
 use Rattle.worker.specs.Places.{with_cause}
 use Rattle.worker.proofs.Facts.{about, elsewhere, shut_here, gone_here, any_no, any_yes}
-use Rattle.worker.proofs.PlaceLemmas.{either_way, cause_apart, cause_here}
+use Rattle.worker.proofs.PlaceLemmas.{cause_apart, cause_here}
 use Rattle.worker.proofs.SessionSteps.{Stays, is_closed}
+use Rattle.proto.proofs.CountLemmas.{either_way}
 
 -- what is known of two sessions is the same where each part of it is
-pub facts_equal : (f g : SessionFacts) → f.port ≡ g.port → f.asked ≡ g.asked → f.had ≡ g.had → f.cause ≡ g.cause → f.state ≡ g.state → f.piece ≡ g.piece → f ≡ g
+pub facts_equal : (f g : SessionFacts) → f.port ≡ g.port → f.asked ≡ g.asked → f.had ≡ g.had → f.cause ≡ g.cause
+    → f.state ≡ g.state → f.piece ≡ g.piece → f ≡ g
 facts_equal f g p a h c s q = λ i. record { port = p i; asked = a i; had = h i; cause = c i; state = s i; piece = q i }
 
 -- one session changes
 pub change_at : (t : ℕ) (w w' : RunView) → ((s : ℕ) → t ≢ s → facts w' s ≡ facts w s) → AreFactsConsistent (facts w' t)
     → ((s : ℕ) → t ≢ s → AreFactsConsistent (facts w s)) → (s : ℕ) → AreFactsConsistent (facts w' s)
-change_at t w w' same here h s = either_way t s (λ e. subst (λ k. AreFactsConsistent (facts w' k)) e here) (λ ne. subst AreFactsConsistent (sym (same s ne)) (h s ne))
+change_at t w w' same here h s = either_way t s (λ e. subst (λ k. AreFactsConsistent (facts w' k)) e here)
+    (λ ne. subst AreFactsConsistent (sym (same s ne)) (h s ne))
 
 -- a choice that is made at one number takes the other value at each other number
 pub at_other : {A : Type 0} (t s : ℕ) (x y : A) → t ≢ s → cond (s == t) x y ≡ y
@@ -44,19 +47,25 @@ ended_now l = any_yes is_end l Ended refl
 -- an entry that opens nothing leaves how many sessions were opened
 pub count_same : (l : List PortRecord) (x : PortRecord) → opens x ≡ false → opened_count (l ++ x ∷ []) ≡ opened_count l
 count_same l x e = let h = sum_by-append (λ (y : PortRecord). cond (opens y) 1 0) l (x ∷ []) in
-    let k : sum_by (λ (y : PortRecord). cond (opens y) 1 0) (x ∷ []) ≡ 0 = ap (λ b. 0 + cond b 1 0) e in omega (arith, h, k)
+    let k : sum_by (λ (y : PortRecord). cond (opens y) 1 0) (x ∷ []) ≡ 0 = ap (λ b. 0 + cond b 1 0) e in
+    omega (arith, h, k)
 
 -- an entry that opens a session counts one more
 pub count_more : (l : List PortRecord) (t : ℕ) → opened_count (l ++ Opened t ∷ []) ≡ opened_count l + 1
 count_more l t = let h = sum_by-append (λ (y : PortRecord). cond (opens y) 1 0) l (Opened t ∷ []) in omega (arith, h)
 
 -- behind proper entries one may come that is proper after all that stand before it
-proper_after : (before l : List PortRecord) (x : PortRecord) → AreProperAfter before l → IsProper (before ++ l) x → AreProperAfter before (l ++ x ∷ [])
+proper_after : (before l : List PortRecord) (x : PortRecord) → AreProperAfter before l → IsProper (before ++ l) x
+    → AreProperAfter before (l ++ x ∷ [])
 proper_after before [] x h k = (subst (λ y. IsProper y x) (append-nil before) k, tt)
-proper_after before (y ∷ l) x h k = (h.0, proper_after (before ++ y ∷ []) l x h.1 (subst (λ z. IsProper z x) (sym (append_assoc before (y ∷ []) l)) k))
+proper_after before (y ∷ l) x h k = (
+  h.0,
+  proper_after (before ++ y ∷ []) l x h.1 (subst (λ z. IsProper z x) (sym (append_assoc before (y ∷ []) l)) k),
+)
 
 -- where bytes were accepted for open sessions only, they are so behind one more proper entry
-pub accepts_more : (l : List PortRecord) (x : PortRecord) → AcceptsOnlyOpen l → IsProper l x → AcceptsOnlyOpen (l ++ x ∷ [])
+pub accepts_more : (l : List PortRecord) (x : PortRecord) → AcceptsOnlyOpen l → IsProper l x
+    → AcceptsOnlyOpen (l ++ x ∷ [])
 accepts_more l x h k = proper_after [] l x h k
 
 -- ---- a session is closed
@@ -72,7 +81,8 @@ pub record ClosesIn (w w' : RunView) (t : ℕ) (cause : EndCause) (x : PortRecor
   pub piece : (s : ℕ) → w'.piece s ≡ cond (s == t) [] (w.piece s)
 
 -- closing a session by an entry that is about no other leaves what is known of the others
-pub closes_elsewhere : (w w' : RunView) (t : ℕ) (c : EndCause) (x : PortRecord) → ClosesIn w w' t c x → ((s : ℕ) → t ≢ s → about s x ≡ false)
+pub closes_elsewhere : (w w' : RunView) (t : ℕ) (c : EndCause) (x : PortRecord) → ClosesIn w w' t c x
+    → ((s : ℕ) → t ≢ s → about s x ≡ false)
     → (s : ℕ) → t ≢ s → facts w' s ≡ facts w s
 closes_elsewhere w w' t c x h other s ne =
     facts_equal (facts w' s) (facts w s)
@@ -92,7 +102,8 @@ pub record ClosedHere (f g : SessionFacts) (port : PortFacts) (cause : EndCause)
 
 -- of the session that is closed the cause stands, it has no state, and what was asked and had for it stays
 closes_here : (w w' : RunView) (t : ℕ) (c old : EndCause) (x : PortRecord) (port : PortFacts) → ClosesIn w w' t c x
-    → port_facts (w.events ++ x ∷ []) t ≡ port → cause_of w.sessions t ≡ Some old → ClosedHere (facts w t) (facts w' t) port c
+    → port_facts (w.events ++ x ∷ []) t ≡ port → cause_of w.sessions t ≡ Some old
+    → ClosedHere (facts w t) (facts w' t) port c
 closes_here w w' t c old x port h p e = record {
   port_is = ap (λ l. port_facts l t) h.events ∙ p;
   asked = ap (λ l. asked_by l t) h.posted;
@@ -102,17 +113,22 @@ closes_here w w' t c old x port h p e = record {
 }
 
 -- so it is of one that is shut, and of what the port's list says only that it was shut is new
-pub shuts_here : (w w' : RunView) (t : ℕ) (c old : EndCause) → ClosesIn w w' t c (Shut t) → cause_of w.sessions t ≡ Some old
+pub shuts_here : (w w' : RunView) (t : ℕ) (c old : EndCause) → ClosesIn w w' t c (Shut t)
+    → cause_of w.sessions t ≡ Some old
     → ClosedHere (facts w t) (facts w' t) (record (port_facts w.events t) { shut = true }) c
-shuts_here w w' t c old h e = closes_here w w' t c old (Shut t) (record (port_facts w.events t) { shut = true }) h (shut_here w.events t) e
+shuts_here w w' t c old h e = closes_here w w' t c old (Shut t) (record (port_facts w.events t) { shut = true }) h
+    (shut_here w.events t) e
 
 -- so it is of one that goes, and of what the port's list says only that it has gone is new
-pub goes_here : (w w' : RunView) (t : ℕ) (c old : EndCause) → ClosesIn w w' t c (Gone t) → cause_of w.sessions t ≡ Some old
+pub goes_here : (w w' : RunView) (t : ℕ) (c old : EndCause) → ClosesIn w w' t c (Gone t)
+    → cause_of w.sessions t ≡ Some old
     → ClosedHere (facts w t) (facts w' t) (record (port_facts w.events t) { gone = true }) c
-goes_here w w' t c old h e = closes_here w w' t c old (Gone t) (record (port_facts w.events t) { gone = true }) h (gone_here w.events t) e
+goes_here w w' t c old h e = closes_here w w' t c old (Gone t) (record (port_facts w.events t) { gone = true }) h
+    (gone_here w.events t) e
 
 -- what came, was given, asked and had for a session stays when it is closed, where the port's list adds no bytes
-pub stays : (f g : SessionFacts) (port : PortFacts) (c : EndCause) → ClosedHere f g port c → port.fed ≡ f.port.fed → port.given ≡ f.port.given → Stays f g
+pub stays : (f g : SessionFacts) (port : PortFacts) (c : EndCause) → ClosedHere f g port c → port.fed ≡ f.port.fed
+    → port.given ≡ f.port.given → Stays f g
 stays f g port c h fed given = record {
   fed = ap (λ (p : PortFacts). p.fed) h.port_is ∙ fed;
   given = ap (λ (p : PortFacts). p.given) h.port_is ∙ given;
@@ -123,7 +139,8 @@ stays f g port c h fed given = record {
 
 -- all are consistent afterwards
 pub close_all : (w w' : RunView) (t : ℕ) (c : EndCause) (x : PortRecord) (port : PortFacts) → ClosesIn w w' t c x
-    → ((s : ℕ) → t ≢ s → about s x ≡ false) → ClosedHere (facts w t) (facts w' t) port c → port.opened ≡ true → IsClosed (facts w' t) c
+    → ((s : ℕ) → t ≢ s → about s x ≡ false) → ClosedHere (facts w t) (facts w' t) port c → port.opened ≡ true
+    → IsClosed (facts w' t) c
     → ((s : ℕ) → t ≢ s → AreFactsConsistent (facts w s)) → (s : ℕ) → AreFactsConsistent (facts w' s)
 close_all w w' t c x port h other k opened closed before =
     change_at t w w' (closes_elsewhere w w' t c x h other) (is_closed (facts w' t) c

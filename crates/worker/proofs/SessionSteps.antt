@@ -12,13 +12,14 @@ use Rattle.proto.specs.Answers.{said}
 use Rattle.exchange.specs.Beginnings.{StartsWith}
 use Rattle.session_book.specs.declared.causes.EndCause.{EndCause}
 use Rattle.session_book.specs.declared.causes.EndCause.TheVariants as causes
-use Rattle.session_book.specs.Session.{SessionState, ended_by, new_session, once_fed, holding, ReadsOn, settled, gave}
+use Rattle.session_book.specs.Session.{SessionState, ended_by, new_session, once_fed, holding, ReadsOn, with_reply, gave}
 use Rattle.session_book.specs.Accounts.{HasRead, HasSaid}
 use Rattle.worker.specs.Sessions.{SessionFacts, IsUntouched, IsUnopened, IsSessionServed, IsRunning, BeginsWith, IsWhole, IsCaused, IsClosed, IsReportedAs}
 use Rattle.worker.specs.Sessions.{IsKnownAs, AreFactsConsistent}
-use Rattle.worker.proofs.Answering.{said_more, said_all, asks-append, begins_on}
+use Rattle.worker.proofs.Answering.{said_more, said_all, begins_on}
 use Rattle.session_book.proofs.AccountLaws.{read_keeps, settle_keeps}
 use Rattle.worker.proofs.BookLaws.{starts_accounts, feed_keeps, give_keeps}
+use Rattle.proto.proofs.AskLemmas.{asks-append}
 
 -- nothing is both there and missing
 pub not_both : {A : Type 0} (o : Option A) (x : A) → o ≡ None → o ≡ Some x → ⊥
@@ -45,10 +46,12 @@ runs_as f s true (Some causes.NoMemory) h e = absurd (not_both f.state s h.state
 
 -- a session that is open in the book runs, where its facts are consistent
 pub runs : (f : SessionFacts) (s : SessionState) → AreFactsConsistent f → f.state ≡ Some s → Runs f
-runs f s h e = let r = runs_as f s f.port.opened f.cause h.known e in record { opened = r.0; cause = r.1; running = r.2 }
+runs f s h e = let r = runs_as f s f.port.opened f.cause h.known e in
+    record { opened = r.0; cause = r.1; running = r.2 }
 
 -- the same of a session that the port's list has open
-runs_from : (f : SessionFacts) (o : Bool) (c : Option EndCause) → IsKnownAs o c f → o ≡ true → f.port.gone ≡ false → f.port.shut ≡ false
+runs_from : (f : SessionFacts) (o : Bool) (c : Option EndCause) → IsKnownAs o c f → o ≡ true → f.port.gone ≡ false
+    → f.port.shut ≡ false
     → (c ≡ Some causes.Drained) × IsRunning f
 runs_from f false c h o g s = absurd (true≢false (sym o))
 runs_from f true None h o g s = absurd (true≢false (sym h.shut ∙ s))
@@ -59,11 +62,14 @@ runs_from f true (Some causes.Gone) h o g s = absurd (true≢false (sym h.caused
 runs_from f true (Some causes.NoMemory) h o g s = absurd (true≢false (sym h.caused ∙ s))
 
 -- a session that the port's list has opened, and neither gone nor shut, runs, where its facts are consistent
-pub runs_at_port : (f : SessionFacts) → AreFactsConsistent f → f.port.opened ≡ true → f.port.gone ≡ false → f.port.shut ≡ false → Runs f
-runs_at_port f h o g s = let r = runs_from f f.port.opened f.cause h.known o g s in record { opened = o; cause = r.0; running = r.1 }
+pub runs_at_port : (f : SessionFacts) → AreFactsConsistent f → f.port.opened ≡ true → f.port.gone ≡ false
+    → f.port.shut ≡ false → Runs f
+runs_at_port f h o g s = let r = runs_from f f.port.opened f.cause h.known o g s in
+    record { opened = o; cause = r.0; running = r.1 }
 
 -- a session that was never opened
-untouched_as : (f : SessionFacts) (o : Bool) (c : Option EndCause) → IsKnownAs o c f → o ≡ false → IsUntouched f × (c ≡ None)
+untouched_as : (f : SessionFacts) (o : Bool) (c : Option EndCause) → IsKnownAs o c f → o ≡ false
+    → IsUntouched f × (c ≡ None)
 untouched_as f false c h e = h
 untouched_as f true c h e = absurd (true≢false e)
 
@@ -72,8 +78,12 @@ pub untouched : (f : SessionFacts) → AreFactsConsistent f → f.port.opened �
 untouched f h e = untouched_as f f.port.opened f.cause h.known e
 
 -- the facts of a running session are consistent where it was opened and has the cause Drained
-pub is_running : (f : SessionFacts) → f.port.opened ≡ true → f.cause ≡ Some causes.Drained → IsRunning f → AreFactsConsistent f
-is_running f o c h = record { known = subst (λ b. IsKnownAs b f.cause f) (sym o) (subst (λ k. IsReportedAs f k) (sym c) h) }
+pub is_running : (f : SessionFacts) → f.port.opened ≡ true → f.cause ≡ Some causes.Drained → IsRunning f
+    → AreFactsConsistent f
+is_running f o c h = record {
+  known = subst (λ b. IsKnownAs b f.cause f) (sym o)
+      (subst (λ k. IsReportedAs f k) (sym c) h);
+}
 
 -- a closed session is as its cause in the report says
 placed_closed : (f : SessionFacts) (c : EndCause) → IsClosed f c → IsReportedAs f (Some c)
@@ -84,23 +94,32 @@ placed_closed f causes.Gone h = h
 placed_closed f causes.NoMemory h = h
 
 -- the facts of a closed session are consistent where it was opened and has its cause in the report
-pub is_closed : (f : SessionFacts) (c : EndCause) → f.port.opened ≡ true → f.cause ≡ Some c → IsClosed f c → AreFactsConsistent f
-is_closed f c o e h = record { known = subst (λ b. IsKnownAs b f.cause f) (sym o) (subst (λ k. IsReportedAs f k) (sym e) (placed_closed f c h)) }
+pub is_closed : (f : SessionFacts) (c : EndCause) → f.port.opened ≡ true → f.cause ≡ Some c → IsClosed f c
+    → AreFactsConsistent f
+is_closed f c o e h = record {
+  known = subst (λ b. IsKnownAs b f.cause f) (sym o)
+      (subst (λ k. IsReportedAs f k) (sym e) (placed_closed f c h));
+}
 
 -- the facts of a session that was shut at once are consistent where it was opened and isn't in the report
 pub is_unopened : (f : SessionFacts) → f.port.opened ≡ true → f.cause ≡ None → IsUnopened f → AreFactsConsistent f
-is_unopened f o e h = record { known = subst (λ b. IsKnownAs b f.cause f) (sym o) (subst (λ k. IsReportedAs f k) (sym e) h) }
+is_unopened f o e h = record {
+  known = subst (λ b. IsKnownAs b f.cause f) (sym o)
+      (subst (λ k. IsReportedAs f k) (sym e) h);
+}
 
 -- ---- the accounts of a session
 
 -- a session of which nothing came, and for which nothing was asked, had or given, is served in the state of a new one
-pub served_new : (f : SessionFacts) → f.port.fed ≡ [] → f.port.given ≡ [] → f.had ≡ [] → f.asked ≡ [] → f.piece ≡ [] → IsSessionServed f.piece f new_session
+pub served_new : (f : SessionFacts) → f.port.fed ≡ [] → f.port.given ≡ [] → f.had ≡ [] → f.asked ≡ [] → f.piece ≡ []
+    → IsSessionServed f.piece f new_session
 served_new f fed_is given_is had_is asked_is piece_is = record {
   bytes = [];
   messages = [];
   fed = fed_is ∙ sym piece_is;
   has_read = starts_accounts.0;
-  has_said = subst (λ (x : List Reply × List ℕ). HasSaid [] x.0 x.1 new_session) (λ i. (sym had_is i, sym given_is i)) starts_accounts.1;
+  has_said = subst (λ (x : List Reply × List ℕ). HasSaid [] x.0 x.1 new_session)
+      (λ i. (sym had_is i, sym given_is i)) starts_accounts.1;
   asked = asked_is;
 }
 
@@ -117,7 +136,8 @@ served_came f s held more h = record {
 }
 
 -- held bytes are fed
-pub served_fed : (f : SessionFacts) (s : SessionState) (held : List ℕ) → IsSessionServed held f s → IsSessionServed [] f (once_fed s held)
+pub served_fed : (f : SessionFacts) (s : SessionState) (held : List ℕ) → IsSessionServed held f s
+    → IsSessionServed [] f (once_fed s held)
 served_fed f s held h =
     let k = feed_keeps h.bytes held f.port.given h.messages f.had s h.has_read h.has_said in record {
       bytes = h.bytes ++ held;
@@ -129,7 +149,8 @@ served_fed f s held h =
     }
 
 -- a piece is held, or no longer
-pub served_holding : (f : SessionFacts) (s : SessionState) (held piece : List ℕ) → IsSessionServed held f s → IsSessionServed held f (holding s piece)
+pub served_holding : (f : SessionFacts) (s : SessionState) (held piece : List ℕ) → IsSessionServed held f s
+    → IsSessionServed held f (holding s piece)
 served_holding f s held piece h = record {
   bytes = h.bytes;
   messages = h.messages;
@@ -148,7 +169,8 @@ served_holding f s held piece h = record {
 }
 
 -- messages are read, and their requests asked
-pub served_read : (f : SessionFacts) (s after : SessionState) (held : List ℕ) (more : List Message) → ReadsOn s more after → IsSessionServed held f s
+pub served_read : (f : SessionFacts) (s after : SessionState) (held : List ℕ) (more : List Message)
+    → ReadsOn s more after → IsSessionServed held f s
     → IsSessionServed held (record f { asked = f.asked ++ asks more }) after
 served_read f s after held more r h =
     let k = read_keeps h.bytes f.port.given h.messages more f.had s after r h.has_read h.has_said in record {
@@ -161,8 +183,9 @@ served_read f s after held more r h =
     }
 
 -- a reply is settled
-pub served_settled : (f : SessionFacts) (s : SessionState) (held : List ℕ) (r : Reply) → 0 < length (asks s.queue) → IsSessionServed held f s
-    → IsSessionServed held (record f { had = f.had ++ r ∷ [] }) (settled s r)
+pub served_settled : (f : SessionFacts) (s : SessionState) (held : List ℕ) (r : Reply) → 0 < length (asks s.queue)
+    → IsSessionServed held f s
+    → IsSessionServed held (record f { had = f.had ++ r ∷ [] }) (with_reply s r)
 served_settled f s held r some h =
     let k = settle_keeps h.bytes f.port.given h.messages f.had r s some h.has_read h.has_said in record {
       bytes = h.bytes;
@@ -211,7 +234,8 @@ pub record Stays (f g : SessionFacts) : Type 0 where
   pub state : g.state ≡ None
 
 -- a served session that is gone or shut is closed with a cause that is one of it, where what came, was given, asked and had stays
-closed_as : (f g : SessionFacts) (s : SessionState) (held : List ℕ) (c : EndCause) (h : IsSessionServed held f s) → Stays f g → IsCaused g h.messages c
+closed_as : (f g : SessionFacts) (s : SessionState) (held : List ℕ) (c : EndCause) (h : IsSessionServed held f s)
+    → Stays f g → IsCaused g h.messages c
     → (g.port.gone ≡ true) ⊎ (g.port.shut ≡ true) → IsClosed g c
 closed_as f g s held c h k caused over =
     let b = begins h.bytes held g.port.fed h.messages s (k.fed ∙ h.fed) h.has_read in record {
@@ -226,11 +250,13 @@ closed_as f g s held c h k caused over =
     }
 
 -- a served session that has gone is closed with the cause Gone
-pub closed_gone : (f g : SessionFacts) (s : SessionState) (held : List ℕ) → IsSessionServed held f s → Stays f g → g.port.gone ≡ true → IsClosed g causes.Gone
+pub closed_gone : (f g : SessionFacts) (s : SessionState) (held : List ℕ) → IsSessionServed held f s → Stays f g
+    → g.port.gone ≡ true → IsClosed g causes.Gone
 closed_gone f g s held h k gone = closed_as f g s held causes.Gone h k gone (inl gone)
 
 -- a served session that was shut may be closed with the cause NoMemory
-pub closed_no_memory : (f g : SessionFacts) (s : SessionState) (held : List ℕ) → IsSessionServed held f s → Stays f g → g.port.shut ≡ true
+pub closed_no_memory : (f g : SessionFacts) (s : SessionState) (held : List ℕ) → IsSessionServed held f s → Stays f g
+    → g.port.shut ≡ true
     → IsClosed g causes.NoMemory
 closed_no_memory f g s held h k shut = closed_as f g s held causes.NoMemory h k shut (inr shut)
 
@@ -240,7 +266,8 @@ pub closed_starved : (f g : SessionFacts) (s : SessionState) (held : List ℕ) (
 closed_starved f g s held r h k shut =
     let b = begins h.bytes held g.port.fed h.messages s (k.fed ∙ h.fed) h.has_read in
     let first : StartsWith (said h.messages f.had) f.port.given = (s.out, sym h.has_said.whole) in
-    let more = begins_on f.port.given (said h.messages f.had) (said h.messages (f.had ++ r ∷ [])) first (said_more h.messages f.had (r ∷ [])) in record {
+    let more = begins_on f.port.given (said h.messages f.had) (said h.messages (f.had ++ r ∷ [])) first
+    (said_more h.messages f.had (r ∷ [])) in record {
       messages = h.messages;
       rest = b.0;
       read = b.1;
@@ -272,17 +299,20 @@ ending o (Quit ∷ ms) h = ending (Some causes.Quit) ms quits
 ending o (Fatal kind ∷ ms) h = ending (Some causes.Fatal) ms fails
 
 -- all was answered and given: it is closed with what has ended it
-whole_as : (f g : SessionFacts) (s : SessionState) (held : List ℕ) (c : EndCause) (h : IsSessionServed held f s) → Stays f g → s.queue ≡ [] → s.out ≡ []
+whole_as : (f g : SessionFacts) (s : SessionState) (held : List ℕ) (c : EndCause) (h : IsSessionServed held f s)
+    → Stays f g → s.queue ≡ [] → s.out ≡ []
     → s.ended ≡ Some c → IsWhole g h.messages c
 whole_as f g s held c h k queue out ended = (
-  k.given ∙ sym (append-nil f.port.given) ∙ ap (λ (x : List ℕ). f.port.given ++ x) (sym out) ∙ h.has_said.whole ∙ ap (said h.messages) (sym k.had),
+  k.given ∙ sym (append-nil f.port.given) ∙ ap (λ (x : List ℕ). f.port.given ++ x) (sym out) ∙ h.has_said.whole
+      ∙ ap (said h.messages) (sym k.had),
   (let none : length (asks s.queue) ≡ 0 = ap (λ ms. length (asks ms)) queue in
       let had_is : length g.had ≡ length f.had = ap (length {A = Reply}) k.had in omega (arith, h.has_said.replied)),
   sym h.has_read.ended ∙ ended,
 )
 
 -- Quit or Fatal is the cause of closing a session that it has ended, where that was shut with all answered and given
-caused_by : (g : SessionFacts) (ms : List Message) (c : EndCause) → IsEnding (Some c) → g.port.shut ≡ true → IsWhole g ms c → IsCaused g ms c
+caused_by : (g : SessionFacts) (ms : List Message) (c : EndCause) → IsEnding (Some c) → g.port.shut ≡ true
+    → IsWhole g ms c → IsCaused g ms c
 caused_by g ms causes.Quit e shut w = (shut, w)
 caused_by g ms causes.Fatal e shut w = (shut, w)
 caused_by g ms causes.Drained (inl e) shut w = cc
@@ -296,7 +326,8 @@ caused_by g ms causes.NoMemory (inr (inl e)) shut w = cc
 caused_by g ms causes.NoMemory (inr (inr e)) shut w = cc
 
 -- a served session without queue and output that was shut is closed with what has ended it
-pub closed_finished : (f g : SessionFacts) (s : SessionState) (held : List ℕ) (c : EndCause) → IsSessionServed held f s → Stays f g → s.queue ≡ []
+pub closed_finished : (f g : SessionFacts) (s : SessionState) (held : List ℕ) (c : EndCause) → IsSessionServed held f s
+    → Stays f g → s.queue ≡ []
     → s.out ≡ [] → s.ended ≡ Some c → g.port.shut ≡ true → IsClosed g c
 closed_finished f g s held c h k queue out ended shut =
     let is : IsEnding (Some c) = subst IsEnding (sym h.has_read.ended ∙ ended) (ending None h.messages (inl refl)) in
@@ -305,28 +336,38 @@ closed_finished f g s held c h k queue out ended shut =
 -- ---- an answer to a closed session is dropped
 
 -- one more reply leaves why a session was closed
-caused_more : (f : SessionFacts) (r : Reply) (ms : List Message) (c : EndCause) → IsCaused f ms c → IsCaused (record f { had = f.had ++ r ∷ [] }) ms c
+caused_more : (f : SessionFacts) (r : Reply) (ms : List Message) (c : EndCause) → IsCaused f ms c
+    → IsCaused (record f { had = f.had ++ r ∷ [] }) ms c
 caused_more f r ms causes.Drained h = h
-caused_more f r ms causes.Quit h = (h.0, (h.1.0 ∙ sym (said_all ms f.had (r ∷ []) h.1.1), omega (arith, h.1.1, length-append f.had (r ∷ [])), h.1.2))
-caused_more f r ms causes.Fatal h = (h.0, (h.1.0 ∙ sym (said_all ms f.had (r ∷ []) h.1.1), omega (arith, h.1.1, length-append f.had (r ∷ [])), h.1.2))
+caused_more f r ms causes.Quit h = (
+  h.0,
+  (h.1.0 ∙ sym (said_all ms f.had (r ∷ []) h.1.1), omega (arith, h.1.1, length-append f.had (r ∷ [])), h.1.2),
+)
+caused_more f r ms causes.Fatal h = (
+  h.0,
+  (h.1.0 ∙ sym (said_all ms f.had (r ∷ []) h.1.1), omega (arith, h.1.1, length-append f.had (r ∷ [])), h.1.2),
+)
 caused_more f r ms causes.Gone h = h
 caused_more f r ms causes.NoMemory h = h
 
 -- a closed session is closed still when one more reply came back for it
-pub closed_dropped : (f : SessionFacts) (r : Reply) (c : EndCause) → IsClosed f c → IsClosed (record f { had = f.had ++ r ∷ [] }) c
+pub closed_dropped : (f : SessionFacts) (r : Reply) (c : EndCause) → IsClosed f c
+    → IsClosed (record f { had = f.had ++ r ∷ [] }) c
 closed_dropped f r c h = record {
   messages = h.messages;
   rest = h.rest;
   read = h.read;
   asked = h.asked;
-  said = begins_on f.port.given (said h.messages f.had) (said h.messages (f.had ++ r ∷ [])) h.said (said_more h.messages f.had (r ∷ []));
+  said = begins_on f.port.given (said h.messages f.had) (said h.messages (f.had ++ r ∷ [])) h.said
+      (said_more h.messages f.had (r ∷ []));
   caused = caused_more f r h.messages c h.caused;
   over = h.over;
   state = h.state;
 }
 
 -- one more reply leaves what is known of a session that isn't open and has asked something
-dropped_as : (f : SessionFacts) (r : Reply) (o : Bool) (c : Option EndCause) → f.state ≡ None → (f.asked ≡ [] → ⊥) → IsKnownAs o c f
+dropped_as : (f : SessionFacts) (r : Reply) (o : Bool) (c : Option EndCause) → f.state ≡ None → (f.asked ≡ [] → ⊥)
+    → IsKnownAs o c f
     → IsKnownAs o c (record f { had = f.had ++ r ∷ [] })
 dropped_as f r false c none some h = absurd (some h.0.asked)
 dropped_as f r true None none some h = absurd (some h.asked)
@@ -342,10 +383,12 @@ pub dropped : (f : SessionFacts) (r : Reply) → f.state ≡ None → (f.asked �
 dropped f r none some h = record { known = dropped_as f r f.port.opened f.cause none some h.known }
 
 -- a session with a place was opened
-placed_opened : (f : SessionFacts) (d : EndCause) (o : Bool) (c : Option EndCause) → IsKnownAs o c f → c ≡ Some d → o ≡ true
+placed_opened : (f : SessionFacts) (d : EndCause) (o : Bool) (c : Option EndCause) → IsKnownAs o c f → c ≡ Some d
+    → o ≡ true
 placed_opened f d false c h e = absurd (not_both c d h.1 e)
 placed_opened f d true c h e = refl
 
 -- a session that has a cause in the report was opened, where its facts are consistent
-pub opened_if_placed : (f : SessionFacts) (d : EndCause) → AreFactsConsistent f → f.cause ≡ Some d → f.port.opened ≡ true
+pub opened_if_placed : (f : SessionFacts) (d : EndCause) → AreFactsConsistent f → f.cause ≡ Some d
+    → f.port.opened ≡ true
 opened_if_placed f d h e = placed_opened f d f.port.opened f.cause h.known e

@@ -17,7 +17,7 @@ use Rattle.exchange.proofs.Lists.{take_more}
 use Rattle.session_book.specs.declared.causes.EndCause.{EndCause}
 use Rattle.session_book.specs.declared.causes.EndCause.TheVariants as causes
 use Rattle.session_book.specs.declared.causes.Unsettled.{Unsettled}
-use Rattle.session_book.specs.Session.{SessionState, settled}
+use Rattle.session_book.specs.Session.{SessionState, with_reply}
 use Rattle.session_book.specs.Book.{BookState, session_of, held_of, IsOldest, SettlesOldest, SettlesReply}
 use Rattle.worker.specs.declared.port.PortRecord.{PortRecord}
 use Rattle.worker.specs.declared.port.PortRecord.TheVariants as was
@@ -44,13 +44,15 @@ some_same x y e = cc
 
 -- a list without a request of a session has none behind its first element either
 none_behind : (b : Bool) (x : Posted) (l : List Posted) (t : ℕ)
-    → map (λ (y : Posted). y.request) (cond b (x ∷ filter (λ (y : Posted). y.session == t) l) (filter (λ (y : Posted). y.session == t) l)) ≡ []
+    → map (λ (y : Posted). y.request) (cond b (x ∷ filter (λ (y : Posted). y.session == t) l)
+    (filter (λ (y : Posted). y.session == t) l)) ≡ []
     → asked_by l t ≡ []
 none_behind true x l t e = absurd (cc)
 none_behind false x l t e = e
 
 -- a held request has the next number still where the end has sent as many requests as before
-numbered_as : (end end' : WorkerView) (request : Option Posted) → length end'.sent ≡ length end.sent → IsNumbered end request → IsNumbered end' request
+numbered_as : (end end' : WorkerView) (request : Option Posted) → length end'.sent ≡ length end.sent
+    → IsNumbered end request → IsNumbered end' request
 numbered_as end end' None e h = h
 numbered_as end end' (Some p) e h = omega (arith, e, h)
 
@@ -69,9 +71,11 @@ rest_at (y ∷ l) (suc n) x e = rest_at l n x e
 some_asked : (l : List Posted) (n t : ℕ) (p : Posted) → get_elem? l n ≡ some p → p.session ≡ t → asked_by l t ≡ [] → ⊥
 some_asked [] n t p e q none = absurd (cc)
 some_asked (x ∷ l) zero t p e q none =
-    let same : x ≡ p = some_same x p e in let here : (x.session == t) ≡ true = eq-eqb x.session t (ap (λ (y : Posted). y.session) same ∙ q) in
+    let same : x ≡ p = some_same x p e in
+    let here : (x.session == t) ≡ true = eq-eqb x.session t (ap (λ (y : Posted). y.session) same ∙ q) in
     let bad : x.request ∷ asked_by l t ≡ [] = sym (ap (λ b. map (λ (y : Posted). y.request)
-    (cond b (x ∷ filter (λ (y : Posted). y.session == t) l) (filter (λ (y : Posted). y.session == t) l))) here) ∙ none in absurd (cc)
+    (cond b (x ∷ filter (λ (y : Posted). y.session == t) l) (filter (λ (y : Posted). y.session == t) l))) here)
+    ∙ none in absurd (cc)
 some_asked (x ∷ l) (suc n) t p e q none = some_asked l n t p e q (none_behind (x.session == t) x l t none)
 
 -- ---- what was taken
@@ -83,32 +87,41 @@ at_append (y ∷ l) m zero x e = e
 at_append (y ∷ l) m (suc n) x e = at_append l m n x e
 
 -- a request has its place among those sent also where the held one is counted with them
-pub at_posted : (end : WorkerView) (request : Option Posted) (a : Answered) → get_elem? end.sent (length end.back) ≡ some (posted_of a)
+pub at_posted : (end : WorkerView) (request : Option Posted) (a : Answered)
+    → get_elem? end.sent (length end.back) ≡ some (posted_of a)
     → get_elem? (posted_by end request) (length end.back) ≡ some (posted_of a)
 at_posted end request a e = at_append end.sent (option_to_list request) (length end.back) (posted_of a) e
 
 -- the answer is that of the book's oldest unsettled request
-pub oldest_first : (end : WorkerView) (request : Option Posted) (book : BookState) (a : Answered) → IsSteady end request book
-    → get_elem? end.sent (length end.back) ≡ some (posted_of a) → book.unsettled ≡ unsettled_post (posted_of a) ∷ map unsettled_post
+pub oldest_first : (end : WorkerView) (request : Option Posted) (book : BookState) (a : Answered)
+    → IsSteady end request book
+    → get_elem? end.sent (length end.back) ≡ some (posted_of a)
+    → book.unsettled ≡ unsettled_post (posted_of a) ∷ map unsettled_post
     (drop (suc (length end.back)) (posted_by end request))
 oldest_first end request book a h e = h.unsettled ∙ ap (map unsettled_post)
     (rest_at (posted_by end request) (length end.back) (posted_of a) (at_posted end request a e))
 
 -- an answer to the first request that hadn't come back is that of the book's oldest unsettled request
-pub is_oldest : (end : WorkerView) (request : Option Posted) (book : BookState) (a : Answered) → IsSteady end request book
+pub is_oldest : (end : WorkerView) (request : Option Posted) (book : BookState) (a : Answered)
+    → IsSteady end request book
     → get_elem? end.sent (length end.back) ≡ some (posted_of a) → IsOldest book a
 is_oldest end request book a h e = ap (λ (l : List Unsettled). slice_get l 0) (oldest_first end request book a h e)
 
 -- the end and the book agree still once the end took back an answer and the book's oldest request is no longer unsettled
-pub steady_taken : (end end' : WorkerView) (request : Option Posted) (book book' : BookState) (a : Answered) → IsSteady end request book
-    → TakesBack end end' a → book'.posted ≡ book.posted → book'.unsettled ≡ drop 1 book.unsettled → IsSteady end' request book'
+pub steady_taken : (end end' : WorkerView) (request : Option Posted) (book book' : BookState) (a : Answered)
+    → IsSteady end request book
+    → TakesBack end end' a → book'.posted ≡ book.posted → book'.unsettled ≡ drop 1 book.unsettled
+    → IsSteady end' request book'
 steady_taken end end' request book book' a h k p u =
-    let len : length end'.back ≡ suc (length end.back) = ap (length {A = Answered}) k.back ∙ (let x = length-append end.back (a ∷ []) in omega arith) in
-    let posted : posted_by end' request ≡ posted_by end request = ap (λ (l : List Posted). l ++ option_to_list request) k.sent in record {
+    let len : length end'.back ≡ suc (length end.back) =
+    ap (length {A = Answered}) k.back ∙ (let x = length-append end.back (a ∷ []) in omega arith) in
+    let posted : posted_by end' request ≡ posted_by end request =
+    ap (λ (l : List Posted). l ++ option_to_list request) k.sent in record {
       running = k.running ∙ h.running;
       posted = p ∙ h.posted ∙ ap (length {A = Posted}) (sym posted);
       numbered = numbered_as end end' request (ap (length {A = Posted}) k.sent) h.numbered;
-      unsettled = u ∙ ap (drop 1) (oldest_first end request book a h k.own) ∙ (λ i. map unsettled_post (drop (sym len i) (sym posted i)));
+      unsettled = u ∙ ap (drop 1) (oldest_first end request book a h k.own)
+          ∙ (λ i. map unsettled_post (drop (sym len i) (sym posted i)));
       back = ap asked_posted k.back ∙ asked_more end.back a ∙ ap (λ (l : List Posted). l ++ posted_of a ∷ []) h.back
           ∙ sym (take_more end.sent (length end.back) (posted_of a) k.own) ∙ (λ i. take (sym len i) (sym k.sent i));
     }
@@ -125,10 +138,13 @@ record TakesIn (v v' : RunView) (a : Answered) (st : Option SessionState) : Type
   piece : v'.piece ≡ v.piece
 
 -- an answer that came back leaves what is known of the other sessions
-taken_elsewhere : (v v' : RunView) (a : Answered) (st : Option SessionState) → TakesIn v v' a st → (k : ℕ) → a.session ≢ k → facts v' k ≡ facts v k
+taken_elsewhere : (v v' : RunView) (a : Answered) (st : Option SessionState) → TakesIn v v' a st → (k : ℕ)
+    → a.session ≢ k → facts v' k ≡ facts v k
 taken_elsewhere v v' a st h k ne =
-    facts_equal (facts v' k) (facts v k) (ap (λ l. port_facts l k) h.events) (λ i. (facts (record v { posted = h.posted i }) k).asked)
-    (ap (λ l. had_by l k) h.back ∙ had_elsewhere v.back a k ne) (λ i. (facts (record v { sessions = h.sessions i }) k).cause)
+    facts_equal (facts v' k) (facts v k) (ap (λ l. port_facts l k) h.events)
+    (λ i. (facts (record v { posted = h.posted i }) k).asked)
+    (ap (λ l. had_by l k) h.back ∙ had_elsewhere v.back a k ne)
+    (λ i. (facts (record v { sessions = h.sessions i }) k).cause)
     (h.book k ∙ at_other a.session k st (session_of v.book k) ne) (λ i. h.piece i k)
 
 -- of its own session it changes the replies and the state alone
@@ -136,25 +152,30 @@ taken_here : (v v' : RunView) (a : Answered) (st : Option SessionState) → Take
     → facts v' a.session ≡ record (facts v a.session) { had = had_by v.back a.session ++ a.reply ∷ []; state = st }
 taken_here v v' a st h =
     let t = a.session in
-    facts_equal (facts v' t) (record (facts v t) { had = had_by v.back t ++ a.reply ∷ []; state = st }) (ap (λ l. port_facts l t) h.events)
+    facts_equal (facts v' t) (record (facts v t) { had = had_by v.back t ++ a.reply ∷ []; state = st })
+    (ap (λ l. port_facts l t) h.events)
     (λ i. (facts (record v { posted = h.posted i }) t).asked) (ap (λ l. had_by l t) h.back ∙ had_here v.back a t refl)
-    (λ i. (facts (record v { sessions = h.sessions i }) t).cause) (h.book t ∙ at_same t st (session_of v.book t)) (λ i. h.piece i t)
+    (λ i. (facts (record v { sessions = h.sessions i }) t).cause) (h.book t ∙ at_same t st (session_of v.book t))
+    (λ i. h.piece i t)
 
 -- all is known still once an open session with an unsettled request got the reply that came back
-told_kept : (v v' : RunView) (unopened : ℕ) (ended : Bool) (a : Answered) (s : SessionState) → IsStoryKnown v unopened ended
-    → session_of v.book a.session ≡ Some s → 0 < length (asks s.queue) → TakesIn v v' a (Some (settled s a.reply)) → IsStoryKnown v' unopened ended
+told_kept : (v v' : RunView) (unopened : ℕ) (ended : Bool) (a : Answered) (s : SessionState)
+    → IsStoryKnown v unopened ended
+    → session_of v.book a.session ≡ Some s → 0 < length (asks s.queue) → TakesIn v v' a (Some (with_reply s a.reply))
+    → IsStoryKnown v' unopened ended
 told_kept v v' unopened ended a s h open_is has k =
     let t = a.session in
     let run = runs (facts v t) s (h.each t) open_is in
     let same : s ≡ run.running.s = some_is s run.running.s (sym open_is ∙ run.running.state) in
-    let was_served : IsSessionServed (v.piece t) (facts v t) s = subst (λ (x : SessionState). IsSessionServed (v.piece t) (facts v t) x) (sym same) run.running.served in
+    let was_served : IsSessionServed (v.piece t) (facts v t) s =
+    subst (λ (x : SessionState). IsSessionServed (v.piece t) (facts v t) x) (sym same) run.running.served in
     let served = served_settled (facts v t) s (v.piece t) a.reply has was_served in
-    let f' = record (facts v t) { had = had_by v.back t ++ a.reply ∷ []; state = Some (settled s a.reply) } in
+    let f' = record (facts v t) { had = had_by v.back t ++ a.reply ∷ []; state = Some (with_reply s a.reply) } in
     let now : AreFactsConsistent f' = is_running f' run.opened run.cause
     (record {
       gone = run.running.gone;
       shut = run.running.shut;
-      s = settled s a.reply;
+      s = with_reply s a.reply;
       state = refl;
       served = record {
         bytes = served.bytes;
@@ -165,18 +186,22 @@ told_kept v v' unopened ended a s h open_is has k =
         asked = served.asked;
       };
     }) in
-    told_within v v' unopened ended h k.events k.sessions (change_at t v v' (taken_elsewhere v v' a (Some (settled s a.reply)) k)
-    (subst AreFactsConsistent (sym (taken_here v v' a (Some (settled s a.reply)) k)) now) (λ j ne. h.each j))
+    told_within v v' unopened ended h k.events k.sessions
+    (change_at t v v' (taken_elsewhere v v' a (Some (with_reply s a.reply)) k)
+    (subst AreFactsConsistent (sym (taken_here v v' a (Some (with_reply s a.reply)) k)) now) (λ j ne. h.each j))
 
 -- all is known still once an answer came back for a session that is no longer open and has asked something
-told_dropped : (v v' : RunView) (unopened : ℕ) (ended : Bool) (a : Answered) → IsStoryKnown v unopened ended → session_of v.book a.session ≡ None
+told_dropped : (v v' : RunView) (unopened : ℕ) (ended : Bool) (a : Answered) → IsStoryKnown v unopened ended
+    → session_of v.book a.session ≡ None
     → (asked_by v.posted a.session ≡ [] → ⊥) → TakesIn v v' a None → IsStoryKnown v' unopened ended
 told_dropped v v' unopened ended a h closed has k =
     let t = a.session in
     let now = dropped (facts v t) a.reply closed has (h.each t) in
     let here : facts v' t ≡ record (facts v t) { had = had_by v.back t ++ a.reply ∷ [] } = taken_here v v' a None k
-    ∙ ap (λ (o : Option SessionState). record (facts v t) { had = had_by v.back t ++ a.reply ∷ []; state = o }) (sym closed) in
-    told_within v v' unopened ended h k.events k.sessions (change_at t v v' (taken_elsewhere v v' a None k) (subst AreFactsConsistent (sym here) now)
+    ∙ ap (λ (o : Option SessionState). record (facts v t) { had = had_by v.back t ++ a.reply ∷ []; state = o })
+    (sym closed) in
+    told_within v v' unopened ended h k.events k.sessions
+    (change_at t v v' (taken_elsewhere v v' a None k) (subst AreFactsConsistent (sym here) now)
     (λ j ne. h.each j))
 
 -- ---- the worker after an answer
@@ -191,8 +216,10 @@ pub record KeepsRest {P : Type 0} (old new : Worker P) : Type 0 where
   pub ended : new.ended ≡ old.ended
 
 -- what taking back an answer makes of the worker's view, the held pieces left as they were
-taken_in : {P : Type 0} (story : PortStory) (old new : Worker P) (a : Answered) (st : Option SessionState) → KeepsRest old new
-    → TakesBack old.worker_end new.worker_end a → ((k : ℕ) → session_of new.book k ≡ cond (k == a.session) st (session_of old.book k))
+taken_in : {P : Type 0} (story : PortStory) (old new : Worker P) (a : Answered) (st : Option SessionState)
+    → KeepsRest old new
+    → TakesBack old.worker_end new.worker_end a
+    → ((k : ℕ) → session_of new.book k ≡ cond (k == a.session) st (session_of old.book k))
     → TakesIn (run_view story old) (record (run_view story new) { piece = piece_of old.book }) a st
 taken_in story old new a st k b book = record {
   events = refl;
@@ -206,10 +233,12 @@ taken_in story old new a st k b book = record {
 -- a worker that took back an answer goes on, where the book's oldest request is no longer unsettled, the held pieces stay, and
 -- all is known still
 answer_goes_on : {P : Type 0} (told : P → Option PortStory) (old new : Worker P) (a : Answered) → KeepsRest old new
-    → TakesBack old.worker_end new.worker_end a → IsWorkerServing told old → new.book.posted ≡ old.book.posted → new.book.unsettled ≡ drop 1 old.book.unsettled
+    → TakesBack old.worker_end new.worker_end a → IsWorkerServing told old → new.book.posted ≡ old.book.posted
+    → new.book.unsettled ≡ drop 1 old.book.unsettled
     → ((s : ℕ) → piece_of new.book s ≡ piece_of old.book s)
     → ((story : PortStory) → IsStoryKnown (run_view story old) old.unopened old.ended
-    → IsStoryKnown (record (run_view story new) { piece = piece_of old.book }) old.unopened old.ended) → WorkerGoesOn told old new
+    → IsStoryKnown (record (run_view story new) { piece = piece_of old.book }) old.unopened old.ended)
+    → WorkerGoesOn told old new
 answer_goes_on told old new a k b h p u pieces is_told =
     steps_on told old new (λ story. story) (same_story (told old.port) (told new.port) (ap told k.port)) (record {
       same_end = b.same;
@@ -220,16 +249,19 @@ answer_goes_on told old new a k b h p u pieces is_told =
       ended = k.ended;
     }) h
     (λ story e was_so. (
-      subst (λ (x : ℕ → List ℕ). IsStoryKnown (record (run_view story new) { piece = x }) old.unopened old.ended) (λ i s. sym (pieces s) i)
+      subst (λ (x : ℕ → List ℕ). IsStoryKnown (record (run_view story new) { piece = x }) old.unopened old.ended)
+          (λ i s. sym (pieces s) i)
           (is_told story was_so.0),
       paused_kept story story (piece_of old.book) (piece_of new.book) pieces (λ q. refl) was_so.1,
     ))
 
 -- the end and the book agree still where the end looked for an answer and found none
-steady_still : (end end' : WorkerView) (request : Option Posted) (book : BookState) → TakesNone end end' → IsSteady end request book
+steady_still : (end end' : WorkerView) (request : Option Posted) (book : BookState) → TakesNone end end'
+    → IsSteady end request book
     → IsSteady end' request book
 steady_still end end' request book k h =
-    let posted : posted_by end' request ≡ posted_by end request = ap (λ (l : List Posted). l ++ option_to_list request) k.sent in record {
+    let posted : posted_by end' request ≡ posted_by end request =
+    ap (λ (l : List Posted). l ++ option_to_list request) k.sent in record {
       running = k.running ∙ h.running;
       posted = h.posted ∙ ap (length {A = Posted}) (sym posted);
       numbered = numbered_as end end' request (ap (length {A = Posted}) k.sent) h.numbered;
@@ -238,7 +270,8 @@ steady_still end end' request book k h =
     }
 
 -- a worker whose end found no answer goes on
-pub none_taken_goes_on : {P : Type 0} (told : P → Option PortStory) (old : Worker P) (end : WorkerView) → TakesNone old.worker_end end
+pub none_taken_goes_on : {P : Type 0} (told : P → Option PortStory) (old : Worker P) (end : WorkerView)
+    → TakesNone old.worker_end end
     → IsWorkerServing told old → WorkerGoesOn told old (record old { worker_end = end })
 none_taken_goes_on told old end k h =
     let new = record old { worker_end = end } in
@@ -251,34 +284,46 @@ none_taken_goes_on told old end k h =
     }) h
     (λ story e was_so. (
       subst (λ (v : RunView). IsStoryKnown v old.unopened old.ended)
-          (λ i. record (run_view story old) { posted = sym k.sent i ++ option_to_list old.request; back = sym k.back i }) was_so.0,
+          (λ i. record (run_view story old) {
+            posted = sym k.sent i ++ option_to_list old.request;
+            back = sym k.back i;
+          }) was_so.0,
       was_so.1,
     ))
 
 -- a worker goes on where the answer that came back went to its session
 pub kept_goes_on : {P : Type 0} (told : P → Option PortStory) (old new : Worker P) (a : Answered) → KeepsRest old new
-    → TakesBack old.worker_end new.worker_end a → IsWorkerServing told old → SettlesReply old.book new.book a → WorkerGoesOn told old new
+    → TakesBack old.worker_end new.worker_end a → IsWorkerServing told old → SettlesReply old.book new.book a
+    → WorkerGoesOn told old new
 kept_goes_on told old new a k b h r =
-    answer_goes_on told old new a k b h (ap (λ (x : BookState). x.posted) r.settles.rest) (ap (λ (x : BookState). x.unsettled) r.settles.rest)
-    (pieces_kept old.book new.book a.session (Some (settled r.s a.reply)) r.settles.only_at (sym (ap held_of r.was_open)))
-    (λ story was_told. told_kept (run_view story old) (record (run_view story new) { piece = piece_of old.book }) old.unopened old.ended a r.s was_told r.was_open r.unsettled
-    (taken_in story old new a (Some (settled r.s a.reply)) k b r.settles.only_at))
+    answer_goes_on told old new a k b h (ap (λ (x : BookState). x.posted) r.settles.rest)
+    (ap (λ (x : BookState). x.unsettled) r.settles.rest)
+    (pieces_kept old.book new.book a.session (Some (with_reply r.s a.reply)) r.settles.only_at
+    (sym (ap held_of r.was_open)))
+    (λ story was_told. told_kept (run_view story old) (record (run_view story new) { piece = piece_of old.book })
+    old.unopened old.ended a r.s was_told r.was_open r.unsettled
+    (taken_in story old new a (Some (with_reply r.s a.reply)) k b r.settles.only_at))
 
 -- a worker goes on where the answer that came back was dropped, as its session was closed
 pub dropped_goes_on : {P : Type 0} (told : P → Option PortStory) (old new : Worker P) (a : Answered) → KeepsRest old new
-    → TakesBack old.worker_end new.worker_end a → IsWorkerServing told old → session_of old.book a.session ≡ None → SettlesOldest old.book new.book a None
+    → TakesBack old.worker_end new.worker_end a → IsWorkerServing told old → session_of old.book a.session ≡ None
+    → SettlesOldest old.book new.book a None
     → WorkerGoesOn told old new
 dropped_goes_on told old new a k b h closed r =
-    answer_goes_on told old new a k b h (ap (λ (x : BookState). x.posted) r.rest) (ap (λ (x : BookState). x.unsettled) r.rest)
+    answer_goes_on told old new a k b h (ap (λ (x : BookState). x.posted) r.rest)
+    (ap (λ (x : BookState). x.unsettled) r.rest)
     (pieces_kept old.book new.book a.session None r.only_at (sym (ap held_of closed)))
     (λ story was_told.
-    told_dropped (run_view story old) (record (run_view story new) { piece = piece_of old.book }) old.unopened old.ended a was_told closed
+    told_dropped (run_view story old) (record (run_view story new) { piece = piece_of old.book }) old.unopened old.ended
+    a was_told closed
     (some_asked (posted_by old.worker_end old.request) (length old.worker_end.back) a.session (posted_of a)
     (at_posted old.worker_end old.request a b.own) refl) (taken_in story old new a None k b r.only_at))
 
 -- all is known still once a reply came back that found no memory, and its session was shut
-told_starved : (v u v' : RunView) (unopened : ℕ) (ended : Bool) (a : Answered) (s : SessionState) → IsStoryKnown v unopened ended
-    → session_of v.book a.session ≡ Some s → TakesIn v u a None → ClosesIn u v' a.session causes.NoMemory (was.Shut a.session) → IsStoryKnown v' unopened ended
+told_starved : (v u v' : RunView) (unopened : ℕ) (ended : Bool) (a : Answered) (s : SessionState)
+    → IsStoryKnown v unopened ended
+    → session_of v.book a.session ≡ Some s → TakesIn v u a None
+    → ClosesIn u v' a.session causes.NoMemory (was.Shut a.session) → IsStoryKnown v' unopened ended
 told_starved v u v' unopened ended a s h open_is k c =
     let t = a.session in
     let run = runs (facts v t) s (h.each t) open_is in
@@ -295,25 +340,35 @@ told_starved v u v' unopened ended a s h open_is k c =
     } in
     let closed = closed_starved (facts v t) (facts v' t) run.running.s (v.piece t) a.reply run.running.served st
     (ap (λ (p : PortFacts). p.shut) here.port_is) in
-    let before : (j : ℕ) → t ≢ j → AreFactsConsistent (facts u j) = λ j ne. subst AreFactsConsistent (sym (taken_elsewhere v u a None k j ne)) (h.each j) in
-    let l = u.events in let len = length-with u.sessions t causes.NoMemory in let one = count_same l (was.Shut t) refl in record {
-      each = close_all u v' t causes.NoMemory (was.Shut t) (record (port_facts l t) { shut = true }) c (apart_shut t) here
+    let before : (j : ℕ) → t ≢ j → AreFactsConsistent (facts u j) =
+    λ j ne. subst AreFactsConsistent (sym (taken_elsewhere v u a None k j ne)) (h.each j) in
+    let l = u.events in let len = length-with u.sessions t causes.NoMemory in
+    let one = count_same l (was.Shut t) refl in record {
+      each = close_all u v' t causes.NoMemory (was.Shut t) (record (port_facts l t) { shut = true }) c
+          (apart_shut t) here
           (ap (λ (p : PortFacts). p.opened) port_same ∙ run.opened) closed before;
-      rising = subst Rises (sym c.sessions) (rises_with u.sessions t causes.NoMemory (subst Rises (sym k.sessions) h.rising));
-      counted = subst (λ (y : List PortRecord × List (ℕ × EndCause)). AreSessionsCounted y.0 y.1 unopened) (λ i. (sym c.events i, sym c.sessions i))
+      rising = subst Rises (sym c.sessions)
+          (rises_with u.sessions t causes.NoMemory (subst Rises (sym k.sessions) h.rising));
+      counted = subst (λ (y : List PortRecord × List (ℕ × EndCause)). AreSessionsCounted y.0 y.1 unopened)
+          (λ i. (sym c.events i, sym c.sessions i))
           (subst (λ (y : ℕ × ℕ). (y.1 ≤ y.0) × (unopened ≡ min (y.0 - y.1) (2 ^ 64 - 1))) (λ i. (sym one i, sym len i))
-          (subst (λ (y : List PortRecord × List (ℕ × EndCause)). AreSessionsCounted y.0 y.1 unopened) (λ i. (sym k.events i, sym k.sessions i)) h.counted));
+          (subst (λ (y : List PortRecord × List (ℕ × EndCause)). AreSessionsCounted y.0 y.1 unopened)
+          (λ i. (sym k.events i, sym k.sessions i)) h.counted));
       at_end = ap has_ended c.events ∙ ended_same l (was.Shut t) refl ∙ ap has_ended k.events ∙ h.at_end;
-      accepts = subst AcceptsOnlyOpen (sym c.events) (accepts_more l (was.Shut t) (subst AcceptsOnlyOpen (sym k.events) h.accepts) tt);
+      accepts = subst AcceptsOnlyOpen (sym c.events)
+          (accepts_more l (was.Shut t) (subst AcceptsOnlyOpen (sym k.events) h.accepts) tt);
     }
 
 -- a worker goes on where the answer that came back found no memory, and its session was shut
-pub starved_goes_on : {P : Type 0} (told : P → Option PortStory) (old mid new : Worker P) (a : Answered) (s : SessionState) → KeepsRest old mid
+pub starved_goes_on : {P : Type 0} (told : P → Option PortStory) (old mid new : Worker P) (a : Answered)
+    (s : SessionState) → KeepsRest old mid
     → TakesBack old.worker_end mid.worker_end a → IsWorkerServing told old → session_of old.book a.session ≡ Some s
     → SettlesOldest old.book mid.book a None → Shuts told mid new a.session causes.NoMemory → WorkerGoesOn told old new
 starved_goes_on {P} told old mid new a s k b h open_is r c =
-    let steady : IsSteady mid.worker_end mid.request mid.book = subst (λ (q : Option Posted). IsSteady mid.worker_end q mid.book) (sym k.request)
-    (steady_taken old.worker_end mid.worker_end old.request old.book mid.book a h.steady b (ap (λ (x : BookState). x.posted) r.rest)
+    let steady : IsSteady mid.worker_end mid.request mid.book =
+    subst (λ (q : Option Posted). IsSteady mid.worker_end q mid.book) (sym k.request)
+    (steady_taken old.worker_end mid.worker_end old.request old.book mid.book a h.steady b
+    (ap (λ (x : BookState). x.posted) r.rest)
     (ap (λ (x : BookState). x.unsettled) r.rest)) in
     let same = same_end mid new c.closes.end in let f = then_told (was.Shut a.session ∷ []) in
     steps_on told old new f (c.port ∙ ap (λ (p : P). option_map f (told p)) k.port) (record {
@@ -328,7 +383,8 @@ starved_goes_on {P} told old mid new a s k b h open_is r c =
     let closes = closes_in story mid new a.session causes.NoMemory (was.Shut a.session) c.closes rising in
     let pieces = pieces_gone old.book mid.book new.book a.session r.only_at c.closes.book.only_at in (
       told_starved (run_view story old)
-          (record (run_view story mid) { piece = piece_of old.book }) (run_view (f story) new) old.unopened old.ended a s was_so.0 open_is
+          (record (run_view story mid) { piece = piece_of old.book })
+          (run_view (f story) new) old.unopened old.ended a s was_so.0 open_is
           (taken_in story old mid a None k b r.only_at) (record {
             events = closes.events;
             posted = closes.posted;

@@ -8,11 +8,12 @@ use Rattle.worker.specs.declared.port.PortRecord.TheVariants as was
 use Rattle.worker.specs.Ports.{PortStory, are_end_of, then_told, give_records}
 use Rattle.worker.specs.Workers.{ArePaused}
 use Rattle.worker.proofs.Facts.{about}
-use Rattle.worker.proofs.PlaceLemmas.{either_way}
 use Rattle.worker.proofs.RunViews.{at_other}
+use Rattle.proto.proofs.CountLemmas.{either_way}
 
 -- what a port tells after a call, it told before but for what the call added
-pub told_before : (f : PortStory → PortStory) (o o' : Option PortStory) → o' ≡ option_map f o → (after : PortStory) → o' ≡ Some after
+pub told_before : (f : PortStory → PortStory) (o o' : Option PortStory) → o' ≡ option_map f o → (after : PortStory)
+    → o' ≡ Some after
     → (story : PortStory) × (o ≡ Some story) × (f story ≡ after)
 told_before f None o' e after h = absurd (cc)
 told_before f (Some story) o' e after h = (story, refl, some_is (f story) after (sym e ∙ h))
@@ -28,7 +29,8 @@ same_story None o' e = e
 same_story (Some story) o' e = e
 
 -- two calls
-pub two_calls : (f g : PortStory → PortStory) (o m o' : Option PortStory) → m ≡ option_map f o → o' ≡ option_map g m → o' ≡ option_map (λ story. g (f story)) o
+pub two_calls : (f g : PortStory → PortStory) (o m o' : Option PortStory) → m ≡ option_map f o → o' ≡ option_map g m
+    → o' ≡ option_map (λ story. g (f story)) o
 two_calls f g None m o' e h = h ∙ ap (option_map g) e
 two_calls f g (Some story) m o' e h = h ∙ ap (option_map g) e
 
@@ -49,7 +51,8 @@ ends_elsewhere (was.Accepted t b) s e = refl
 ends_elsewhere (was.Shut t) s e = ap (λ b. (false || b) || false) e
 
 -- an entry about another session leaves a session paused, or not
-pub paused_elsewhere : (story : PortStory) (x : PortRecord) (s : ℕ) → about s x ≡ false → (then_told (x ∷ []) story).paused s ≡ story.paused s
+pub paused_elsewhere : (story : PortStory) (x : PortRecord) (s : ℕ) → about s x ≡ false
+    → (then_told (x ∷ []) story).paused s ≡ story.paused s
 paused_elsewhere story x s e = ap (λ b. cond b false (story.paused s)) (ends_elsewhere x s e)
 
 -- accepted bytes, whether there are any or not, end no session, and leave each one paused, or not
@@ -59,13 +62,15 @@ accepted_if story true t s bytes = refl
 accepted_if story false t s bytes = refl
 
 -- accepted bytes leave all paused, or not
-pub paused_given : (story : PortStory) (t n : ℕ) (out : List ℕ) (s : ℕ) → (then_told (give_records t out (Ok n)) story).paused s ≡ story.paused s
+pub paused_given : (story : PortStory) (t n : ℕ) (out : List ℕ) (s : ℕ)
+    → (then_told (give_records t out (Ok n)) story).paused s ≡ story.paused s
 paused_given story t n out s = accepted_if story (n == 0) t s (take n out)
 
 -- ---- the sessions of which bytes are held are paused
 
 -- nothing more is held, and nothing is resumed
-pub paused_kept : (story after : PortStory) (old new : ℕ → List ℕ) → ((s : ℕ) → new s ≡ old s) → ((s : ℕ) → after.paused s ≡ story.paused s)
+pub paused_kept : (story after : PortStory) (old new : ℕ → List ℕ) → ((s : ℕ) → new s ≡ old s)
+    → ((s : ℕ) → after.paused s ≡ story.paused s)
     → ArePaused story old → ArePaused after new
 paused_kept story after old new held same h = λ s some. same s ∙ h s (λ e. some (held s ∙ e))
 
@@ -79,8 +84,10 @@ paused_but story after t old new held same h =
     (λ (ne : t ≢ s). same s ne ∙ h s (λ e. some (held s ∙ at_other t s [] (old s) ne ∙ e)))
 
 -- bytes are held of one more session, which is paused
-pub paused_more : (story after : PortStory) (t : ℕ) (b : List ℕ) (old new : ℕ → List ℕ) → ((s : ℕ) → new s ≡ cond (s == t) b (old s))
-    → after.paused t ≡ true → ((s : ℕ) → t ≢ s → after.paused s ≡ story.paused s) → ArePaused story old → ArePaused after new
+pub paused_more : (story after : PortStory) (t : ℕ) (b : List ℕ) (old new : ℕ → List ℕ)
+    → ((s : ℕ) → new s ≡ cond (s == t) b (old s))
+    → after.paused t ≡ true → ((s : ℕ) → t ≢ s → after.paused s ≡ story.paused s) → ArePaused story old
+    → ArePaused after new
 paused_more story after t b old new held here same h =
     λ s some.
     either_way t s
@@ -88,6 +95,7 @@ paused_more story after t b old new held here same h =
     (λ (ne : t ≢ s). same s ne ∙ h s (λ e. some (held s ∙ at_other t s b (old s) ne ∙ e)))
 
 -- of a session that isn't paused no bytes are held
-pub resumed_holds_none : (piece : List ℕ) (paused : Bool) → ((piece ≡ [] → ⊥) → paused ≡ true) → paused ≡ false → piece ≡ []
+pub resumed_holds_none : (piece : List ℕ) (paused : Bool) → ((piece ≡ [] → ⊥) → paused ≡ true) → paused ≡ false
+    → piece ≡ []
 resumed_holds_none [] paused h e = refl
 resumed_holds_none (x ∷ xs) paused h e = absurd (true≢false (sym (h (λ q. absurd (cc))) ∙ e))

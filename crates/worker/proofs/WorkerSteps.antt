@@ -54,40 +54,50 @@ steady_same end request book book' p u h = record {
 
 -- all is known still once a session is closed by a proper entry that opens nothing and isn't the end, where the facts of all
 -- sessions are consistent
-told_closed : (v v' : RunView) (unopened : ℕ) (ended : Bool) (t : ℕ) (c : EndCause) (x : PortRecord) → IsStoryKnown v unopened ended → ClosesIn v v' t c x
-    → has_ended (v.events ++ x ∷ []) ≡ has_ended v.events → opened_count (v.events ++ x ∷ []) ≡ opened_count v.events → IsProper v.events x
+told_closed : (v v' : RunView) (unopened : ℕ) (ended : Bool) (t : ℕ) (c : EndCause) (x : PortRecord)
+    → IsStoryKnown v unopened ended → ClosesIn v v' t c x
+    → has_ended (v.events ++ x ∷ []) ≡ has_ended v.events → opened_count (v.events ++ x ∷ []) ≡ opened_count v.events
+    → IsProper v.events x
     → ((s : ℕ) → AreFactsConsistent (facts v' s)) → IsStoryKnown v' unopened ended
 told_closed v v' unopened ended t c x h k same count proper each = record {
   each = each;
   rising = subst Rises (sym k.sessions) (rises_with v.sessions t c h.rising);
-  counted = subst (λ (y : List PortRecord × List (ℕ × EndCause)). AreSessionsCounted y.0 y.1 unopened) (λ i. (sym k.events i, sym k.sessions i))
-      (let len = length-with v.sessions t c in subst (λ (y : ℕ × ℕ). (y.1 ≤ y.0) × (unopened ≡ min (y.0 - y.1) (2 ^ 64 - 1)))
+  counted = subst (λ (y : List PortRecord × List (ℕ × EndCause)). AreSessionsCounted y.0 y.1 unopened)
+      (λ i. (sym k.events i, sym k.sessions i))
+      (let len = length-with v.sessions t c in
+      subst (λ (y : ℕ × ℕ). (y.1 ≤ y.0) × (unopened ≡ min (y.0 - y.1) (2 ^ 64 - 1)))
       (λ i. (sym count i, sym len i)) h.counted);
   at_end = ap has_ended k.events ∙ same ∙ h.at_end;
   accepts = subst AcceptsOnlyOpen (sym k.events) (accepts_more v.events x h.accepts proper);
 }
 
 -- all is known still once a running session was shut, and is closed
-pub told_shut : (v v' : RunView) (unopened : ℕ) (ended : Bool) (t : ℕ) (c : EndCause) → IsStoryKnown v unopened ended → ClosesIn v v' t c (was.Shut t)
+pub told_shut : (v v' : RunView) (unopened : ℕ) (ended : Bool) (t : ℕ) (c : EndCause) → IsStoryKnown v unopened ended
+    → ClosesIn v v' t c (was.Shut t)
     → Runs (facts v t) → IsClosed (facts v' t) c → IsStoryKnown v' unopened ended
 told_shut v v' unopened ended t c h k r closed =
-    told_closed v v' unopened ended t c (was.Shut t) h k (ended_same v.events (was.Shut t) refl) (count_same v.events (was.Shut t) refl) tt
+    told_closed v v' unopened ended t c (was.Shut t) h k (ended_same v.events (was.Shut t) refl)
+    (count_same v.events (was.Shut t) refl) tt
     (close_all v v' t c (was.Shut t) (record (port_facts v.events t) { shut = true }) k (apart_shut t)
     (shuts_here v v' t c causes.Drained k r.cause) r.opened closed (λ s ne. h.each s))
 
 -- all is known still once a running session has gone
-pub told_gone : (v v' : RunView) (unopened : ℕ) (ended : Bool) (t : ℕ) → IsStoryKnown v unopened ended → ClosesIn v v' t causes.Gone (was.Gone t)
+pub told_gone : (v v' : RunView) (unopened : ℕ) (ended : Bool) (t : ℕ) → IsStoryKnown v unopened ended
+    → ClosesIn v v' t causes.Gone (was.Gone t)
     → Runs (facts v t) → IsStoryKnown v' unopened ended
 told_gone v v' unopened ended t h k r =
     let here = goes_here v v' t causes.Gone causes.Drained k r.cause in
     let port = record (port_facts v.events t) { gone = true } in
     let st = stays (facts v t) (facts v' t) port causes.Gone here refl refl in
-    let closed = closed_gone (facts v t) (facts v' t) r.running.s (facts v t).piece r.running.served st (ap (λ (p : PortFacts). p.gone) here.port_is) in
-    told_closed v v' unopened ended t causes.Gone (was.Gone t) h k (ended_same v.events (was.Gone t) refl) (count_same v.events (was.Gone t) refl) tt
+    let closed = closed_gone (facts v t) (facts v' t) r.running.s (facts v t).piece r.running.served st
+    (ap (λ (p : PortFacts). p.gone) here.port_is) in
+    told_closed v v' unopened ended t causes.Gone (was.Gone t) h k (ended_same v.events (was.Gone t) refl)
+    (count_same v.events (was.Gone t) refl) tt
     (close_all v v' t causes.Gone (was.Gone t) port k (apart_gone t) here r.opened closed (λ s ne. h.each s))
 
 -- shut for want of memory
-pub told_no_memory : (v v' : RunView) (unopened : ℕ) (ended : Bool) (t : ℕ) → IsStoryKnown v unopened ended → ClosesIn v v' t causes.NoMemory (was.Shut t)
+pub told_no_memory : (v v' : RunView) (unopened : ℕ) (ended : Bool) (t : ℕ) → IsStoryKnown v unopened ended
+    → ClosesIn v v' t causes.NoMemory (was.Shut t)
     → Runs (facts v t) → IsStoryKnown v' unopened ended
 told_no_memory v v' unopened ended t h k r =
     let here = shuts_here v v' t causes.NoMemory causes.Drained k r.cause in
@@ -97,8 +107,10 @@ told_no_memory v v' unopened ended t h k r =
     (facts v t).piece r.running.served st (ap (λ (p : PortFacts). p.shut) here.port_is))
 
 -- shut as it has finished
-pub told_finished : (v v' : RunView) (unopened : ℕ) (ended : Bool) (t : ℕ) (c : EndCause) → IsStoryKnown v unopened ended → ClosesIn v v' t c (was.Shut t)
-    → (r : Runs (facts v t)) → r.running.s.queue ≡ [] → r.running.s.out ≡ [] → r.running.s.ended ≡ Some c → IsStoryKnown v' unopened ended
+pub told_finished : (v v' : RunView) (unopened : ℕ) (ended : Bool) (t : ℕ) (c : EndCause)
+    → IsStoryKnown v unopened ended → ClosesIn v v' t c (was.Shut t)
+    → (r : Runs (facts v t)) → r.running.s.queue ≡ [] → r.running.s.out ≡ [] → r.running.s.ended ≡ Some c
+    → IsStoryKnown v' unopened ended
 told_finished v v' unopened ended t c h k r queue out ends =
     let here = shuts_here v v' t c causes.Drained k r.cause in
     let port = record (port_facts v.events t) { shut = true } in
@@ -107,7 +119,8 @@ told_finished v v' unopened ended t c h k r queue out ends =
     (facts v t).piece c r.running.served st queue out ends (ap (λ (p : PortFacts). p.shut) here.port_is))
 
 -- what a closing of the worker makes of its view
-pub closes_in : {P : Type 0} (story : PortStory) (old new : Worker P) (t : ℕ) (c : EndCause) (x : PortRecord) → Closes old new t c
+pub closes_in : {P : Type 0} (story : PortStory) (old new : Worker P) (t : ℕ) (c : EndCause) (x : PortRecord)
+    → Closes old new t c
     → Rises old.sessions.items → ClosesIn (run_view story old) (run_view (then_told (x ∷ []) story) new) t c x
 closes_in story old new t c x k rises = record {
   events = refl;
@@ -119,7 +132,8 @@ closes_in story old new t c x k rises = record {
 }
 
 -- the end and the book agree still once a session is closed
-pub steady_closed : {P : Type 0} (old new : Worker P) (t : ℕ) (c : EndCause) → Closes old new t c → IsSteady old.worker_end old.request old.book
+pub steady_closed : {P : Type 0} (old new : Worker P) (t : ℕ) (c : EndCause) → Closes old new t c
+    → IsSteady old.worker_end old.request old.book
     → IsSteady new.worker_end new.request new.book
 steady_closed old new t c k h =
     subst (λ (y : WorkerView × Option Posted). IsSteady y.0 y.1 new.book) (λ i. (sym k.end i, sym k.request i))
@@ -127,8 +141,12 @@ steady_closed old new t c k h =
     (ap (λ (b : BookState). b.unsettled) k.book.rest) h)
 
 -- an end that hasn't changed is the same end
-pub same_end : {P : Type 0} (old new : Worker P) → new.worker_end ≡ old.worker_end → IsSameEnd old.worker_end new.worker_end
-same_end old new e = record { exchange = ap (λ (w : WorkerView). w.exchange) e; worker = ap (λ (w : WorkerView). w.worker) e }
+pub same_end : {P : Type 0} (old new : Worker P) → new.worker_end ≡ old.worker_end
+    → IsSameEnd old.worker_end new.worker_end
+same_end old new e = record {
+  exchange = ap (λ (w : WorkerView). w.exchange) e;
+  worker = ap (λ (w : WorkerView). w.worker) e;
+}
 
 -- ---- a worker goes on
 
@@ -145,13 +163,15 @@ abbrev pub StoryFacts : {P : Type 0} → PortStory → Worker P → ℕ → Bool
 StoryFacts story w unopened ended = IsStoryKnown (run_view story w) unopened ended × ArePaused story (piece_of w.book)
 
 -- of a serving worker all is known at the story that its port tells, and each session of which bytes are held is paused
-pub story_facts : {P : Type 0} (told : P → Option PortStory) (w : Worker P) → IsWorkerServing told w → (story : PortStory) → told w.port ≡ Some story
+pub story_facts : {P : Type 0} (told : P → Option PortStory) (w : Worker P) → IsWorkerServing told w
+    → (story : PortStory) → told w.port ≡ Some story
     → StoryFacts story w w.unopened w.ended
 story_facts told w h story e = (h.known story e, h.paused story e)
 
 -- a step that makes of each story what f does
 pub steps : {P : Type 0} (told : P → Option PortStory) (old new : Worker P) (f : PortStory → PortStory)
-    → told new.port ≡ option_map f (told old.port) → IsSameEnd old.worker_end new.worker_end → IsSteady new.worker_end new.request new.book
+    → told new.port ≡ option_map f (told old.port) → IsSameEnd old.worker_end new.worker_end
+    → IsSteady new.worker_end new.request new.book
     → new.strangers ≡ 0 → IsWorkerServing told old
     → ((story : PortStory) → told old.port ≡ Some story → StoryFacts story old old.unopened old.ended
     → StoryFacts (f story) new new.unopened new.ended) → WorkerGoesOn told old new
@@ -159,7 +179,8 @@ steps told old new f port same steady strangers h each =
     let at : (after : PortStory) → told new.port ≡ Some after → StoryFacts after new new.unopened new.ended =
     λ after e.
     let b = told_before f (told old.port) (told new.port) port after e in
-    subst (λ (y : PortStory). StoryFacts y new new.unopened new.ended) b.2 (each b.0 b.1 (story_facts told old h b.0 b.1)) in record {
+    subst (λ (y : PortStory). StoryFacts y new new.unopened new.ended) b.2
+    (each b.0 b.1 (story_facts told old h b.0 b.1)) in record {
       tells = tells_as f (told old.port) (told new.port) port;
       same_end = same;
       serving = record {
@@ -177,13 +198,16 @@ pub steps_on : {P : Type 0} (told : P → Option PortStory) (old new : Worker P)
     → StoryFacts (f story) new old.unopened old.ended) → WorkerGoesOn told old new
 steps_on told old new f port own h each =
     steps told old new f port own.same_end own.steady own.strangers h
-    (λ story e k. subst (λ (y : ℕ × Bool). StoryFacts (f story) new y.0 y.1) (λ i. (sym own.unopened i, sym own.ended i)) (each story e k))
+    (λ story e k. subst (λ (y : ℕ × Bool). StoryFacts (f story) new y.0 y.1)
+    (λ i. (sym own.unopened i, sym own.ended i)) (each story e k))
 
 -- a worker whose session was shut goes on, if all is told of it
-pub shut_goes_on : {P : Type 0} (told : P → Option PortStory) (old new : Worker P) (t : ℕ) (c : EndCause) → Shuts told old new t c → IsWorkerServing told old
+pub shut_goes_on : {P : Type 0} (told : P → Option PortStory) (old new : Worker P) (t : ℕ) (c : EndCause)
+    → Shuts told old new t c → IsWorkerServing told old
     → ((story : PortStory) → IsStoryKnown (run_view story old) old.unopened old.ended
     → ClosesIn (run_view story old) (run_view (then_told (was.Shut t ∷ []) story) new) t c (was.Shut t)
-    → IsStoryKnown (run_view (then_told (was.Shut t ∷ []) story) new) old.unopened old.ended) → WorkerGoesOn told old new
+    → IsStoryKnown (run_view (then_told (was.Shut t ∷ []) story) new) old.unopened old.ended)
+    → WorkerGoesOn told old new
 shut_goes_on told old new t c k h is_told =
     steps_on told old new (then_told (was.Shut t ∷ [])) k.port (record {
       same_end = same_end old new k.closes.end;
@@ -201,59 +225,74 @@ shut_goes_on told old new t c k h is_told =
 
 -- a worker that has shut an open session for want of memory goes on
 pub no_memory_goes_on : {P : Type 0} (told : P → Option PortStory) (old new : Worker P) (t : ℕ) (s : SessionState)
-    → Shuts told old new t causes.NoMemory → IsWorkerServing told old → session_of old.book t ≡ Some s → WorkerGoesOn told old new
+    → Shuts told old new t causes.NoMemory → IsWorkerServing told old → session_of old.book t ≡ Some s
+    → WorkerGoesOn told old new
 no_memory_goes_on told old new t s k h e =
     shut_goes_on told old new t causes.NoMemory k h (λ story was_told closes. told_no_memory (run_view story old)
-    (run_view (then_told (was.Shut t ∷ []) story) new) old.unopened old.ended t was_told closes (runs (facts (run_view story old) t) s (was_told.each t) e))
+    (run_view (then_told (was.Shut t ∷ []) story) new) old.unopened old.ended t was_told closes
+    (runs (facts (run_view story old) t) s (was_told.each t) e))
 
 -- ---- an event of the port
 
 -- a session that the port's list has open was opened there, and has neither gone nor been shut
-pub open_here : (l : List PortRecord) (t : ℕ) → is_open t l ≡ true → (was_opened t l ≡ true) × (has_gone t l ≡ false) × (was_shut t l ≡ false)
+pub open_here : (l : List PortRecord) (t : ℕ) → is_open t l ≡ true
+    → (was_opened t l ≡ true) × (has_gone t l ≡ false) × (was_shut t l ≡ false)
 open_here l t e = open_parts (was_opened t l) (has_gone t l) (was_shut t l) e
 
 -- a session that is open in the book is open at the port
-pub told_open : (v : RunView) (unopened : ℕ) (ended : Bool) (t : ℕ) (s : SessionState) → IsStoryKnown v unopened ended → session_of v.book t ≡ Some s
+pub told_open : (v : RunView) (unopened : ℕ) (ended : Bool) (t : ℕ) (s : SessionState) → IsStoryKnown v unopened ended
+    → session_of v.book t ≡ Some s
     → is_open t v.events ≡ true
 told_open v unopened ended t s h e =
     let r = runs (facts v t) s (h.each t) e in open_of (was_opened t v.events) (has_gone t v.events)
     (was_shut t v.events) r.opened r.running.gone r.running.shut
 
 -- the same of a worker
-pub open_at : {P : Type 0} (told : P → Option PortStory) (w : Worker P) (t : ℕ) (s : SessionState) → IsWorkerServing told w → session_of w.book t ≡ Some s
+pub open_at : {P : Type 0} (told : P → Option PortStory) (w : Worker P) (t : ℕ) (s : SessionState)
+    → IsWorkerServing told w → session_of w.book t ≡ Some s
     → IsOpenIn t (told w.port)
 open_at told w t s h e = λ story q. told_open (run_view story w) w.unopened w.ended t s (h.known story q) e
 
 -- the other facts stay where only the port's list, the book and a piece change at one session
-pub others_same : (v v' : RunView) (t : ℕ) (x : PortRecord) → v'.events ≡ v.events ++ x ∷ [] → v'.posted ≡ v.posted → v'.back ≡ v.back
-    → v'.sessions ≡ v.sessions → ((s : ℕ) → t ≢ s → about s x ≡ false) → ((s : ℕ) → t ≢ s → session_of v'.book s ≡ session_of v.book s)
+pub others_same : (v v' : RunView) (t : ℕ) (x : PortRecord) → v'.events ≡ v.events ++ x ∷ [] → v'.posted ≡ v.posted
+    → v'.back ≡ v.back
+    → v'.sessions ≡ v.sessions → ((s : ℕ) → t ≢ s → about s x ≡ false)
+    → ((s : ℕ) → t ≢ s → session_of v'.book s ≡ session_of v.book s)
     → ((s : ℕ) → t ≢ s → v'.piece s ≡ v.piece s) → (s : ℕ) → t ≢ s → facts v' s ≡ facts v s
 others_same v v' t x e p b r other book piece s ne =
-    facts_equal (facts v' s) (facts v s) (ap (λ l. port_facts l s) e ∙ elsewhere v.events x s (other s ne)) (ap (λ l. asked_by l s) p)
+    facts_equal (facts v' s) (facts v s) (ap (λ l. port_facts l s) e ∙ elsewhere v.events x s (other s ne))
+    (ap (λ l. asked_by l s) p)
     (ap (λ l. had_by l s) b) (ap (λ l. cause_of l s) r) (book s ne) (piece s ne)
 
 -- the view but for its list, where an entry that opens nothing was added
-pub told_same : (v v' : RunView) (unopened : ℕ) (ended : Bool) (x : PortRecord) → IsStoryKnown v unopened ended → v'.events ≡ v.events ++ x ∷ []
-    → v'.sessions ≡ v.sessions → has_ended (v.events ++ x ∷ []) ≡ has_ended v.events → opened_count (v.events ++ x ∷ []) ≡ opened_count v.events
+pub told_same : (v v' : RunView) (unopened : ℕ) (ended : Bool) (x : PortRecord) → IsStoryKnown v unopened ended
+    → v'.events ≡ v.events ++ x ∷ []
+    → v'.sessions ≡ v.sessions → has_ended (v.events ++ x ∷ []) ≡ has_ended v.events
+    → opened_count (v.events ++ x ∷ []) ≡ opened_count v.events
     → IsProper v.events x → ((s : ℕ) → AreFactsConsistent (facts v' s)) → IsStoryKnown v' unopened ended
 told_same v v' unopened ended x h e r same count proper each = record {
   each = each;
   rising = subst Rises (sym r) h.rising;
-  counted = subst (λ (y : List PortRecord × List (ℕ × EndCause)). AreSessionsCounted y.0 y.1 unopened) (λ i. (sym e i, sym r i))
-      (subst (λ (y : ℕ). (length v.sessions ≤ y) × (unopened ≡ min (y - length v.sessions) (2 ^ 64 - 1))) (sym count) h.counted);
+  counted = subst (λ (y : List PortRecord × List (ℕ × EndCause)). AreSessionsCounted y.0 y.1 unopened)
+      (λ i. (sym e i, sym r i))
+      (subst (λ (y : ℕ). (length v.sessions ≤ y) × (unopened ≡ min (y - length v.sessions) (2 ^ 64 - 1)))
+      (sym count) h.counted);
   at_end = ap has_ended e ∙ same ∙ h.at_end;
   accepts = subst AcceptsOnlyOpen (sym e) (accepts_more v.events x h.accepts proper);
 }
 
 -- the facts of the session at which something came
-pub fact_at : (v v' : RunView) (t : ℕ) (port : PortFacts) (st : Option SessionState) (q : List ℕ) → port_facts v'.events t ≡ port
+pub fact_at : (v v' : RunView) (t : ℕ) (port : PortFacts) (st : Option SessionState) (q : List ℕ)
+    → port_facts v'.events t ≡ port
     → v'.posted ≡ v.posted → v'.back ≡ v.back → v'.sessions ≡ v.sessions → session_of v'.book t ≡ st → v'.piece t ≡ q
     → facts v' t ≡ record (facts v t) { port = port; state = st; piece = q }
-fact_at v v' t port st q e p b r s k = facts_equal (facts v' t) (record (facts v t) { port = port; state = st; piece = q }) e
+fact_at v v' t port st q e p b r s k = facts_equal (facts v' t)
+    (record (facts v t) { port = port; state = st; piece = q }) e
     (ap (λ l. asked_by l t) p) (ap (λ l. had_by l t) b) (ap (λ l. cause_of l t) r) s k
 
 -- running on in another state
-pub running_on : (f : SessionFacts) (port : PortFacts) (s : SessionState) (q : List ℕ) → Runs f → port.opened ≡ f.port.opened
+pub running_on : (f : SessionFacts) (port : PortFacts) (s : SessionState) (q : List ℕ) → Runs f
+    → port.opened ≡ f.port.opened
     → port.gone ≡ f.port.gone → port.shut ≡ f.port.shut → IsSessionServed q (record f { port = port }) s
     → AreFactsConsistent (record f { port = port; state = Some s; piece = q })
 running_on f port s q r o g h served =
@@ -275,45 +314,63 @@ running_on f port s q r o g h served =
     })
 
 -- bytes came and were fed
-pub told_fed : (v v' : RunView) (unopened : ℕ) (ended : Bool) (t : ℕ) (b : List ℕ) → IsStoryKnown v unopened ended → is_open t v.events ≡ true
-    → v.piece t ≡ [] → v'.events ≡ v.events ++ was.Data t b ∷ [] → v'.posted ≡ v.posted → v'.back ≡ v.back → v'.sessions ≡ v.sessions
-    → ((s : ℕ) → session_of v'.book s ≡ cond (s == t) (option_map (λ (x : SessionState). once_fed x b) (session_of v.book t)) (session_of v.book s))
+pub told_fed : (v v' : RunView) (unopened : ℕ) (ended : Bool) (t : ℕ) (b : List ℕ) → IsStoryKnown v unopened ended
+    → is_open t v.events ≡ true
+    → v.piece t ≡ [] → v'.events ≡ v.events ++ was.Data t b ∷ [] → v'.posted ≡ v.posted → v'.back ≡ v.back
+    → v'.sessions ≡ v.sessions
+    → ((s : ℕ) → session_of v'.book s ≡ cond (s == t)
+    (option_map (λ (x : SessionState). once_fed x b) (session_of v.book t)) (session_of v.book s))
     → ((s : ℕ) → v'.piece s ≡ v.piece s) → IsStoryKnown v' unopened ended
 told_fed v v' unopened ended t b h opened none e p k r book piece =
     let o = open_here v.events t opened in
     let run = runs_at_port (facts v t) (h.each t) o.0 o.1 o.2 in
     let s = run.running.s in
     let port = record (port_facts v.events t) { fed = (port_facts v.events t).fed ++ b } in
-    let was_served : IsSessionServed [] (facts v t) s = subst (λ q. IsSessionServed q (facts v t) s) none run.running.served in
+    let was_served : IsSessionServed [] (facts v t) s =
+    subst (λ q. IsSessionServed q (facts v t) s) none run.running.served in
     let f' = record (facts v t) { port = port } in
-    let now_served : IsSessionServed [] f' (once_fed s b) = served_fed f' s b (served_came (facts v t) s [] b was_served) in
-    let state : session_of v'.book t ≡ Some (once_fed s b) = book t ∙ at_same t (option_map (λ (x : SessionState). once_fed x b) (session_of v.book t))
+    let now_served : IsSessionServed [] f' (once_fed s b) =
+    served_fed f' s b (served_came (facts v t) s [] b was_served) in
+    let state : session_of v'.book t ≡ Some (once_fed s b) =
+    book t ∙ at_same t (option_map (λ (x : SessionState). once_fed x b) (session_of v.book t))
     (session_of v.book t) ∙ ap (option_map (λ (x : SessionState). once_fed x b)) run.running.state in
-    let here = fact_at v v' t port (Some (once_fed s b)) [] (ap (λ l. port_facts l t) e ∙ fed_here v.events t b) p k r state (piece t ∙ none) in
+    let here = fact_at v v' t port (Some (once_fed s b)) []
+    (ap (λ l. port_facts l t) e ∙ fed_here v.events t b) p k r state (piece t ∙ none) in
     let now = running_on (facts v t) port (once_fed s b) [] run refl refl refl now_served in
-    told_same v v' unopened ended (was.Data t b) h e r (ended_same v.events (was.Data t b) refl) (count_same v.events (was.Data t b) refl) tt
+    told_same v v' unopened ended (was.Data t b) h e r (ended_same v.events (was.Data t b) refl)
+    (count_same v.events (was.Data t b) refl) tt
     (change_at t v v' (others_same v v' t (was.Data t b) e p k r (λ s ne. ne_eqb t s ne)
-    (λ s ne. book s ∙ at_other t s (option_map (λ (x : SessionState). once_fed x b) (session_of v.book t)) (session_of v.book s) ne)
+    (λ s ne. book s ∙ at_other t s (option_map (λ (x : SessionState). once_fed x b) (session_of v.book t))
+    (session_of v.book s) ne)
     (λ s ne. piece s)) (subst AreFactsConsistent (sym here) now) (λ s ne. h.each s))
 
 -- bytes came and are held
-pub told_held : (v v' : RunView) (unopened : ℕ) (ended : Bool) (t : ℕ) (b : List ℕ) → IsStoryKnown v unopened ended → is_open t v.events ≡ true
-    → v.piece t ≡ [] → v'.events ≡ v.events ++ was.Data t b ∷ [] → v'.posted ≡ v.posted → v'.back ≡ v.back → v'.sessions ≡ v.sessions
-    → ((s : ℕ) → session_of v'.book s ≡ cond (s == t) (option_map (λ (x : SessionState). holding x b) (session_of v.book t)) (session_of v.book s))
+pub told_held : (v v' : RunView) (unopened : ℕ) (ended : Bool) (t : ℕ) (b : List ℕ) → IsStoryKnown v unopened ended
+    → is_open t v.events ≡ true
+    → v.piece t ≡ [] → v'.events ≡ v.events ++ was.Data t b ∷ [] → v'.posted ≡ v.posted → v'.back ≡ v.back
+    → v'.sessions ≡ v.sessions
+    → ((s : ℕ) → session_of v'.book s ≡ cond (s == t)
+    (option_map (λ (x : SessionState). holding x b) (session_of v.book t)) (session_of v.book s))
     → ((s : ℕ) → v'.piece s ≡ cond (s == t) b (v.piece s)) → IsStoryKnown v' unopened ended
 told_held v v' unopened ended t b h opened none e p k r book piece =
     let o = open_here v.events t opened in
     let run = runs_at_port (facts v t) (h.each t) o.0 o.1 o.2 in
     let s = run.running.s in
     let port = record (port_facts v.events t) { fed = (port_facts v.events t).fed ++ b } in
-    let was_served : IsSessionServed [] (facts v t) s = subst (λ q. IsSessionServed q (facts v t) s) none run.running.served in
+    let was_served : IsSessionServed [] (facts v t) s =
+    subst (λ q. IsSessionServed q (facts v t) s) none run.running.served in
     let f' = record (facts v t) { port = port } in
-    let now_served : IsSessionServed b f' (holding s b) = served_holding f' s b b (served_came (facts v t) s [] b was_served) in
-    let state : session_of v'.book t ≡ Some (holding s b) = book t ∙ at_same t (option_map (λ (x : SessionState). holding x b) (session_of v.book t))
+    let now_served : IsSessionServed b f' (holding s b) =
+    served_holding f' s b b (served_came (facts v t) s [] b was_served) in
+    let state : session_of v'.book t ≡ Some (holding s b) =
+    book t ∙ at_same t (option_map (λ (x : SessionState). holding x b) (session_of v.book t))
     (session_of v.book t) ∙ ap (option_map (λ (x : SessionState). holding x b)) run.running.state in
-    let here = fact_at v v' t port (Some (holding s b)) b (ap (λ l. port_facts l t) e ∙ fed_here v.events t b) p k r state (piece t ∙ at_same t b (v.piece t)) in
+    let here = fact_at v v' t port (Some (holding s b)) b
+    (ap (λ l. port_facts l t) e ∙ fed_here v.events t b) p k r state (piece t ∙ at_same t b (v.piece t)) in
     let now = running_on (facts v t) port (holding s b) b run refl refl refl now_served in
-    told_same v v' unopened ended (was.Data t b) h e r (ended_same v.events (was.Data t b) refl) (count_same v.events (was.Data t b) refl) tt
+    told_same v v' unopened ended (was.Data t b) h e r (ended_same v.events (was.Data t b) refl)
+    (count_same v.events (was.Data t b) refl) tt
     (change_at t v v' (others_same v v' t (was.Data t b) e p k r (λ s ne. ne_eqb t s ne)
-    (λ s ne. book s ∙ at_other t s (option_map (λ (x : SessionState). holding x b) (session_of v.book t)) (session_of v.book s) ne)
+    (λ s ne. book s ∙ at_other t s (option_map (λ (x : SessionState). holding x b) (session_of v.book t))
+    (session_of v.book s) ne)
     (λ s ne. piece s ∙ at_other t s b (v.piece s) ne)) (subst AreFactsConsistent (sym here) now) (λ s ne. h.each s))

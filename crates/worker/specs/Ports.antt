@@ -160,7 +160,8 @@ abbrev pub MayCome : PortStory → PortEvent → Type 0
 MayCome story (event.Opened s) =
     (0 < s) × ((t : ℕ) → was_opened t story.events ≡ true → t < s) × (has_ended story.events ≡ false)
 MayCome story (event.Data s bytes) =
-    (is_open s story.events ≡ true) × (story.paused s ≡ false) × (length bytes ≤ 16384) × (has_ended story.events ≡ false)
+    (is_open s story.events ≡ true) × (story.paused s ≡ false) × (length bytes ≤ 16384)
+    × (has_ended story.events ≡ false)
 MayCome story (event.Gone s) = (is_open s story.events ≡ true) × (has_ended story.events ≡ false)
 MayCome story event.Idle = ⊤
 MayCome story event.Ended = has_ended story.events ≡ false

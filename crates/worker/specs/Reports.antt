@@ -39,7 +39,8 @@ IsCauseOf events s messages causes.NoMemory = was_shut s events ≡ true
 -- Of a session whose bytes spell these messages: its requests in the history are the first of theirs, the bytes given
 -- are a beginning of their answers, both are complete where the session was answered to its end, and the cause is
 -- one of it.
-pub record IsSessionAnswered (events : List PortRecord) (history : List Answered) (worker s : ℕ) (cause : EndCause) (messages : List Message) : Type 0 where
+pub record IsSessionAnswered (events : List PortRecord) (history : List Answered) (worker s : ℕ) (cause : EndCause)
+    (messages : List Message) : Type 0 where
   pub first : StartsWith (asks messages) (asked (session_share history worker s))
   pub beginning : StartsWith (said messages (had (session_share history worker s))) (given s events)
   pub complete : is_complete cause ≡ true → (asked (session_share history worker s) ≡ asks messages)
@@ -50,14 +51,16 @@ pub record IsSessionAnswered (events : List PortRecord) (history : List Answered
 -- back, and asks what it sent
 abbrev pub SessionHolds : List PortRecord → WorkerView → ℕ → EndCause → Type 0
 SessionHolds events end s cause =
-    (history : List Answered) → worker_share history end.worker ≡ end.back → asked_posted (worker_share history end.worker) ≡ end.sent
+    (history : List Answered) → worker_share history end.worker ≡ end.back
+    → asked_posted (worker_share history end.worker) ≡ end.sent
     → (messages : List Message) (rest : List ℕ) → Reads (fed s events) messages rest
     → IsSessionAnswered events history end.worker s cause messages
 
 -- What a worker's report says of a port that tells its list: the list has Ended; each session of the report was
 -- opened; each opened session stands in the report once, or was shut and is counted; nothing was accepted for a session
 -- after its close, nor for one that isn't in the report, and nothing was asked for one; and the sessions were answered.
-pub record IsReported (events : List PortRecord) (end : WorkerView) (sessions : List (ℕ × EndCause)) (unopened : ℕ) : Type 0 where
+pub record IsReported (events : List PortRecord) (end : WorkerView) (sessions : List (ℕ × EndCause))
+    (unopened : ℕ) : Type 0 where
   pub ended : has_ended events ≡ true
   pub once : Rises sessions
   pub opened : (s : ℕ) → IsSome (cause_of sessions s) → was_opened s events ≡ true
@@ -65,7 +68,8 @@ pub record IsReported (events : List PortRecord) (end : WorkerView) (sessions : 
   pub counted : AreSessionsCounted events sessions unopened
   pub accepts : AcceptsOnlyOpen events
   pub no_stranger : (s : ℕ) → cause_of sessions s ≡ None → given s events ≡ []
-  pub placed : (p : Posted) → (before after : List Posted) → end.sent ≡ before ++ p ∷ after → IsSome (cause_of sessions p.session)
+  pub placed : (p : Posted) → (before after : List Posted) → end.sent ≡ before ++ p ∷ after
+      → IsSome (cause_of sessions p.session)
   pub answered : (s : ℕ) (cause : EndCause) → cause_of sessions s ≡ Some cause → SessionHolds events end s cause
 
 -- the end has said bye, and nothing is outstanding

@@ -27,7 +27,13 @@ pub record PortFacts : Type 0 where
 
 abbrev pub port_facts : List PortRecord → ℕ → PortFacts
 port_facts events s =
-    record { opened = was_opened s events; gone = has_gone s events; shut = was_shut s events; fed = fed s events; given = given s events }
+    record {
+      opened = was_opened s events;
+      gone = has_gone s events;
+      shut = was_shut s events;
+      fed = fed s events;
+      given = given s events;
+    }
 
 -- the requests that were posted for a session
 abbrev pub asked_by : List Posted → ℕ → List Request
@@ -99,7 +105,8 @@ pub record BeginsWith (b : List ℕ) (messages : List Message) (rest : List ℕ)
 -- all was answered and given before the session was shut with a cause that it read itself
 abbrev pub IsWhole : SessionFacts → List Message → EndCause → Type 0
 IsWhole f messages cause =
-    (f.port.given ≡ said messages f.had) × (length (asks messages) ≤ length f.had) × (ended_by None messages ≡ Some cause)
+    (f.port.given ≡ said messages f.had) × (length (asks messages) ≤ length f.had)
+    × (ended_by None messages ≡ Some cause)
 
 -- why the session was closed
 abbrev pub IsCaused : SessionFacts → List Message → EndCause → Type 0

@@ -1,6 +1,6 @@
 -- What stays true of a worker while it runs.
 use Rattle.std.specs.Prelude.{◌≡◌, ℕ, ◌+◌, ◌-◌, ◌^◌, ◌<◌, ◌≤◌, slice_index_or, ⊤, Bool, true, false, is_some, List, [], ◌∷◌, ◌++◌, length, map, take, drop}
-use Rattle.std.specs.Prelude.{min, Option, Some, None, ◌==◌, if◌then◌else◌}
+use Rattle.std.specs.Prelude.{min, Option, Some, None}
 use Rattle.std.specs.Option.{option_to_list, option_map}
 use mathlib.Core.Option.{some}
 use lib.ListN.{get_elem?}
@@ -115,7 +115,8 @@ pub record Closes {P : Type 0} (old new : Worker P) (session : ℕ) (cause : End
   pub ended : new.ended ≡ old.ended
 
 -- the session is shut at the port, and closed
-pub record Shuts {P : Type 0} (told : P → Option PortStory) (old new : Worker P) (session : ℕ) (cause : EndCause) : Type 0 where
+pub record Shuts {P : Type 0} (told : P → Option PortStory) (old new : Worker P) (session : ℕ)
+    (cause : EndCause) : Type 0 where
   pub port : told new.port ≡ option_map (then_told (was.Shut session ∷ [])) (told old.port)
   pub closes : Closes old new session cause
 
@@ -150,20 +151,26 @@ pub record LeavesWorker {P : Type 0} (old new : Worker P) : Type 0 where
   pub ended : new.ended ≡ old.ended
 
 -- the piece is held, and nothing else changes but for a pause
-pub record HoldsPiece {P : Type 0} (told : P → Option PortStory) (old : Worker P) (session : ℕ) (bytes : List ℕ) (new : Worker P) : Type 0 where
+pub record HoldsPiece {P : Type 0} (told : P → Option PortStory) (old : Worker P) (session : ℕ) (bytes : List ℕ)
+    (new : Worker P) : Type 0 where
   pub book : ChangesSession old.book new.book session (option_map (λ s. holding s bytes) (session_of old.book session))
   pub port : told new.port ≡ option_map (with_pause session true) (told old.port)
   pub leaves : LeavesWorker old new
 
 -- A piece of input came: it is fed, or held, or its session is shut for want of memory; a session that isn't
 -- open drops it. That bytes are held already is a reason to shut only at a port that tells nothing.
-pub data Receives {P : Type 0} (told : P → Option PortStory) (old : Worker P) (session : ℕ) (bytes : List ℕ) (new : Worker P) : Type 0 where
+pub data HandlesData {P : Type 0} (told : P → Option PortStory) (old : Worker P) (session : ℕ) (bytes : List ℕ)
+    (new : Worker P) : Type 0 where
   feeds : piece_of old.book session ≡ []
-      → ChangesSession old.book new.book session (option_map (λ s. once_fed s bytes) (session_of old.book session)) → new.port ≡ old.port
-      → LeavesWorker old new → Receives told old session bytes new
-  holds : piece_of old.book session ≡ [] → HoldsPiece told old session bytes new → Receives told old session bytes new
-  shuts : ((piece_of old.book session ≡ [] → ⊥) → told old.port ≡ None) → Shuts told old new session causes.NoMemory → Receives told old session bytes new
-  drops : session_of old.book session ≡ None → new.book ≡ old.book → new.port ≡ old.port → LeavesWorker old new → Receives told old session bytes new
+      → ChangesSession old.book new.book session (option_map (λ s. once_fed s bytes) (session_of old.book session))
+      → new.port ≡ old.port
+      → LeavesWorker old new → HandlesData told old session bytes new
+  holds : piece_of old.book session ≡ [] → HoldsPiece told old session bytes new
+      → HandlesData told old session bytes new
+  shuts : ((piece_of old.book session ≡ [] → ⊥) → told old.port ≡ None) → Shuts told old new session causes.NoMemory
+      → HandlesData told old session bytes new
+  drops : session_of old.book session ≡ None → new.book ≡ old.book → new.port ≡ old.port → LeavesWorker old new
+      → HandlesData told old session bytes new
 
 -- The session was asked and gave no request; nothing else of the worker changed but what was read of it.
 pub record IsQuiet {P : Type 0} (old new : Worker P) (session : ℕ) : Type 0 where
@@ -194,5 +201,6 @@ pub record IsDrained {P : Type 0} (w : Worker P) : Type 0 where
   pub ended : w.ended ≡ true
   pub request : w.request ≡ None
   pub back : length w.worker_end.back ≡ length w.worker_end.sent
-  pub emptied : (k : ℕ) (d : ℕ × EndCause) → k < length w.sessions.items → (slice_index_or w.sessions.items k d).1 ≡ causes.Drained
+  pub emptied : (k : ℕ) (d : ℕ × EndCause) → k < length w.sessions.items
+      → (slice_index_or w.sessions.items k d).1 ≡ causes.Drained
       → (s : SessionState) → session_of w.book (slice_index_or w.sessions.items k d).0 ≡ Some s → IsEmptied s

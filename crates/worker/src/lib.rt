@@ -2,12 +2,16 @@
 #![tactic(auto)]
 
 mod batched_end;
-pub mod gate;
+mod gate;
 mod places;
-pub mod port;
-pub mod report;
+mod port;
+mod report;
 mod rooms;
-pub mod run;
+mod run;
 mod worker;
 
-pub use session_book::causes::EndCause;
+pub use gate::Gate;
+pub use port::{Gone, MAX_PIECE, Port, PortEvent, PortRecord};
+pub use report::WorkerReport;
+pub use run::run_worker;
+pub use session_book::EndCause;

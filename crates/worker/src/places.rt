@@ -3,24 +3,14 @@
 ghost use Rattle.std.specs.Prelude.{◌≡◌, ◌≤◌, length};
 ghost use Rattle.worker.specs.Places.{Rises, with_cause, IsFirstFrom};
 
-use session_book::causes::EndCause;
+use session_book::EndCause;
 
-// The first place of a number that isn't below this one, by a binary search.
+// The first place of a number that isn't below this one.
 fn first_from(sessions: &[(u64, EndCause)], session: u64) -> usize
     ensures within { result ≤ length sessions.now }
     ensures first { Rises sessions.now → IsFirstFrom sessions.now session result }
 {
-    let mut low = 0;
-    let mut high = sessions.len();
-    while low < high {
-        let middle = low + (high - low) / 2;
-        if sessions[middle].0 < session {
-            low = middle + 1;
-        } else {
-            high = middle;
-        }
-    }
-    low
+    sessions.partition_point(|place| place.0 < session)
 }
 
 // Writes the cause at the session's place.

@@ -1,7 +1,7 @@
 //! What a worker leaves.
 
 use exchange::WorkerEnd;
-use session_book::causes::EndCause;
+use session_book::EndCause;
 
 /// What a worker leaves.
 #[derive(Drop)]

@@ -2,9 +2,7 @@
 
 ghost use Rattle.std.specs.Prelude.{◌≡◌};
 
-use proto::history::Answered;
-use proto::message::Request;
-use proto::room::Room;
+use proto::{Answered, Request, Room};
 use std::alloc::Global;
 
 /// So many rooms are kept at most, of so many bytes each.

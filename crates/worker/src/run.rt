@@ -16,9 +16,7 @@ use crate::worker::Worker;
 use crossbeam_utils::Backoff;
 use exchange::WorkerEnd;
 use parking::ParkingWord;
-use session_book::book::Book;
-use session_book::causes::EndCause;
-use session_book::limits::{MAX_POSTS, MAX_UNSETTLED};
+use session_book::{Book, EndCause, MAX_POSTS, MAX_UNSETTLED};
 use std::alloc::Global;
 use std::sync::Wait;
 
@@ -215,7 +213,8 @@ fn is_emptied<P: Port>(worker: &mut Worker<P>, session: u64, cause: EndCause) ->
     ensures goes_on { WorkerGoesOn P.told worker.old worker.new }
     ensures leads { P.leads_to worker.old.port worker.new.port }
     ensures still { result ≡ true → IsStill worker.old worker.new session cause }
-    ensures emptied { result ≡ true → cause ≡ EndCause.Drained → (s : SessionState) → session_of worker.new.book session ≡ Some s → IsEmptied s }
+    ensures emptied { result ≡ true → cause ≡ EndCause.Drained → (s : SessionState) → session_of worker.new.book session ≡ Some s
+        → IsEmptied s }
 {
     match cause {
         EndCause::Drained => {
@@ -268,7 +267,8 @@ pub fn run_worker<P: Port, G: Gate, R: Wait>(
     ensures tells { is_some (P.told result.port) ≡ is_some (P.told port) }
     ensures over { IsOver worker_end result.worker_end }
     ensures strangers { result.strangers ≡ 0 }
-    ensures reported { (story : PortStory) → P.told result.port ≡ Some story → IsReported story.events result.worker_end result.sessions.items result.unopened }
+    ensures reported { (story : PortStory) → P.told result.port ≡ Some story
+        → IsReported story.events result.worker_end result.sessions.items result.unopened }
 {
     let mut worker = new_worker(alloc, port, worker_end);
     let backoff = Backoff::new();
@@ -291,7 +291,8 @@ fn leave<P: Port>(worker: Worker<P>, storage: &ParkingWord) -> WorkerReport<P>
     ensures port { result.port ≡ worker.port }
     ensures over { IsOver worker.worker_end result.worker_end }
     ensures strangers { result.strangers ≡ 0 }
-    ensures reported { (story : PortStory) → P.told result.port ≡ Some story → IsReported story.events result.worker_end result.sessions.items result.unopened }
+    ensures reported { (story : PortStory) → P.told result.port ≡ Some story
+        → IsReported story.events result.worker_end result.sessions.items result.unopened }
 {
     let Worker {
         port,

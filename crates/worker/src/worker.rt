@@ -5,7 +5,8 @@ ghost use Rattle.session_book.specs.Session.{SessionState, finished_by};
 ghost use Rattle.session_book.specs.Book.{session_of};
 ghost use Rattle.worker.specs.Places.{piece_of};
 ghost use Rattle.worker.specs.Ports.{PortStory, IsOpenIn};
-ghost use Rattle.worker.specs.Workers.{Closes, Shuts, IsWorkerServing, WorkerGoesOn, Admits, Refuses, SameRest, Receives, IsQuiet};
+ghost use Rattle.worker.specs.Workers.{Closes, Shuts, IsWorkerServing, WorkerGoesOn, Admits, Refuses, SameRest};
+ghost use Rattle.worker.specs.Workers.{HandlesData, IsQuiet};
 ghost use Rattle.std.specs.Option.{option_and_then};
 
 use crate::batched_end::BatchedEnd;
@@ -15,10 +16,8 @@ use crate::port::{Gone, Port, PortEvent};
 use crate::rooms::Rooms;
 use bytes::Bytes;
 use parking::ParkingWord;
-use proto::history::Posted;
-use session_book::book::Book;
-use session_book::causes::{EndCause, Received, Settled};
-use session_book::limits::MAX_UNSETTLED;
+use proto::Posted;
+use session_book::{Book, EndCause, MAX_UNSETTLED, Received, Settled};
 
 #[derive(Drop)]
 pub(crate) struct Worker<P> {
@@ -88,7 +87,7 @@ impl<P: Port> Worker<P> {
     fn receive(&mut self, session: u64, bytes: Bytes)
         requires open { IsOpenIn session (P.told self.old.port) }
         requires resumed { (story : PortStory) → P.told self.old.port ≡ Some story → piece_of self.old.book session ≡ [] }
-        ensures receives { Receives P.told self.old session bytes self.new }
+        ensures receives { HandlesData P.told self.old session bytes self.new }
         ensures leads { P.leads_to self.old.port self.new.port }
         ensures drops { session_of self.old.book session ≡ None → self.new ≡ self.old }
     {
@@ -292,7 +291,8 @@ impl<P: Port> Worker<P> {
 
     // The session has no output, and hasn't finished.
     pub(crate) fn has_no_output(&self, session: u64) -> bool
-        ensures { result ≡ true → (s : SessionState) → session_of self.now.book session ≡ Some s → (s.out ≡ []) × (finished_by s ≡ None) }
+        ensures { result ≡ true → (s : SessionState) → session_of self.now.book session ≡ Some s
+            → (s.out ≡ []) × (finished_by s ≡ None) }
     {
         self.book.out(session).is_empty() && self.book.finished(session).is_none()
     }

@@ -1,7 +1,7 @@
 //! Gates of the tests.
 
 use std::sync::atomic::{AtomicU64, Ordering};
-use worker::gate::Gate;
+use worker::Gate;
 
 /// Always lets pass.
 pub(crate) struct OpenGate;

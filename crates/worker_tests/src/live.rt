@@ -17,9 +17,8 @@ use std::sync::{Arc, Wait};
 use std::thread;
 use std::thread::Threads;
 use std::time::Clock;
-use storage_thread::serving::{StorageReport, run_storage};
-use worker::port::{Gone, Port, PortEvent};
-use worker::run::run_worker;
+use storage_thread::{StorageReport, run_storage};
+use worker::{Gone, Port, PortEvent, run_worker};
 
 /// The most bytes of one piece.
 const MAX_PIECE: usize = 16_384;
@@ -145,7 +144,8 @@ where
     let child = thread::spawn(
         rt,
         move || -> StorageReport<SteadyClock>
-            requires { (store.cache ≡ empty_cache 0) × (store.moment ≡ 0) × (store.sizes ≡ storage_end.geometry) × IsUnused storage_end }
+            requires { (store.cache ≡ empty_cache 0) × (store.moment ≡ 0) × (store.sizes ≡ storage_end.geometry)
+                × IsUnused storage_end }
         { run_storage(&handle, store, SteadyClock, storage_end, &of_storage) },
     )
     .expect(rt, "a thread");

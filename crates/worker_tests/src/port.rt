@@ -8,7 +8,7 @@ use bytes::Bytes;
 use std::alloc::Global;
 use std::collections::VecDeque;
 use std::process::Abort;
-use worker::port::{Gone, Port, PortEvent, PortRecord};
+use worker::{Gone, Port, PortEvent, PortRecord};
 
 /// The most bytes of one piece.
 const MAX_PIECE: usize = 16_384;
@@ -71,7 +71,8 @@ impl<R: Abort + Drop> TestPort<R> {
     // A session that has ended is paused no more.
     fn forget_pause(&mut self, session: u64)
         ensures rest { self.new ≡ record self.old { paused = self.new.paused } }
-        ensures forgets { (s : ℕ) → option_map_or (λ t. t == s) self.new.paused false ≡ (if s == session then false else option_map_or (λ t. t == s) self.old.paused false) }
+        ensures forgets { (s : ℕ) → option_map_or (λ t. t == s) self.new.paused false
+            ≡ (if s == session then false else option_map_or (λ t. t == s) self.old.paused false) }
     {
         if self.paused == Some(session) {
             self.paused = None;

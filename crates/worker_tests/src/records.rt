@@ -3,7 +3,7 @@
 ghost use Rattle.std.specs.Prelude.{◌≡◌, ℕ, ◌<◌, ◌≤◌, true};
 ghost use Rattle.worker.specs.Ports.{is_open, was_opened, has_ended};
 
-use worker::port::PortRecord;
+use worker::PortRecord;
 
 /// Whether the session was opened, and is neither gone nor shut.
 pub(crate) fn is_open_in(records: &[PortRecord], session: u64) -> bool

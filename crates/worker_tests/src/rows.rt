@@ -4,7 +4,7 @@ use crate::gates::{OpenGate, RefusingGate};
 use crate::port::{Manners, TestPort};
 use crate::running::{Outcome, run};
 use crate::scripts::{Script, repeated};
-use session_book::causes::EndCause;
+use session_book::EndCause;
 use std::alloc::Global;
 use std::process::Abort;
 use std::sync::Wait;
@@ -121,6 +121,31 @@ fn a_long_pipeline_is_paused(rt: HostRuntime) {
     let expected = repeated(&rt, alloc, b"END\r\n", 60_000);
     assert_eq!(rt; expected.len(), 300_000);
     assert!(rt; output.as_slice() == expected.as_slice());
+    assert_eq!(rt; outcome.cause_of(1), Some(EndCause::Drained));
+}
+
+#[test]
+fn long_messages_behind_a_full_input_are_fed(rt: HostRuntime) {
+    let alloc: Global = rt.alloc();
+    let mut part = repeated(&rt, alloc, b"get a\r\n", 9000);
+    part.extend_from_slice(b"set b 0 0 131072\r\n")
+        .expect(&rt, "memory");
+    let value = repeated(&rt, alloc, b"v", 131_072);
+    part.extend_from_slice(value.as_slice())
+        .expect(&rt, "memory");
+    part.extend_from_slice(b"\r\n").expect(&rt, "memory");
+    let input = repeated(&rt, alloc, part.as_slice(), 5);
+    let mut script = Script::new(&rt, alloc);
+    script.open(1);
+    for piece in input.as_slice().chunks(16_384) {
+        script.send(1, piece);
+    }
+    let outcome = run_script(&rt, alloc, script, PLAIN);
+    assert!(rt; outcome.port.pauses >= 1);
+    assert_eq!(rt; outcome.port.resumes, outcome.port.pauses);
+    assert_eq!(rt; outcome.executed, 45_005);
+    // 45,000 times `END`, and five times that the object is too large for this store's segments
+    assert_eq!(rt; outcome.given_to(&rt, alloc, 1).len(), 225_205);
     assert_eq!(rt; outcome.cause_of(1), Some(EndCause::Drained));
 }
 

@@ -8,18 +8,15 @@ use crate::port::TestPort;
 use exchange::{StorageEnd, WorkerEnd, make};
 use parking::ParkingWord;
 use plain_store::Store;
-use proto::geometry::Geometry;
-use session_book::causes::EndCause;
+use proto::Geometry;
+use session_book::EndCause;
 use std::alloc::Global;
 use std::process::Abort;
 use std::sync::{Arc, Wait};
 use std::thread::Threads;
 use std::{thread, time};
-use storage_thread::clock::Clock;
-use storage_thread::serving::{StorageReport, run_storage};
-use worker::gate::Gate;
-use worker::port::PortRecord;
-use worker::run::run_worker;
+use storage_thread::{Clock, StorageReport, run_storage};
+use worker::{Gate, PortRecord, run_worker};
 
 /// It is 1000 at all times.
 #[derive(Drop)]
@@ -76,7 +73,8 @@ where
     let child = thread::spawn(
         rt,
         move || -> StorageReport<SteadyClock>
-            requires { (store.cache ≡ empty_cache 0) × (store.moment ≡ 0) × (store.sizes ≡ storage_end.geometry) × IsUnused storage_end }
+            requires { (store.cache ≡ empty_cache 0) × (store.moment ≡ 0) × (store.sizes ≡ storage_end.geometry)
+                × IsUnused storage_end }
         { run_storage(&handle, store, SteadyClock, storage_end, &of_storage) },
     )
     .expect(rt, "a thread");

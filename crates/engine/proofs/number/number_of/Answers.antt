@@ -4,10 +4,13 @@ use Rattle.engine.proofs.number.number_of.Goals as goal
 
 pub returns-in_err-n : goal.returns-in_err-n
 returns-in_err-n c =
-    rw c.from_residual.ensures (number_of_overflow c.args.value.now c.loop-byte.n c.loop-byte.byte-index (omega arith) c.loop-byte.invariant.number
-    (omega (arith, c.if-not-is_ascii_digit.ensures.cases)) (omega (arith, c.if-not-is_ascii_digit.ensures.cases)) c.in_err-n.ensures)
+    rw c.from_residual.ensures (number_of_overflow c.args.value.now c.loop-byte.n c.loop-byte.byte-index
+    (omega arith) c.loop-byte.invariant.number
+    (omega (arith, c.if-not-is_ascii_digit.ensures.cases))
+    (omega (arith, c.if-not-is_ascii_digit.ensures.cases)) c.in_err-n.ensures)
 
 pub returns : goal.returns
 returns c =
-    number_of_read c.args.value.now c.loop-byte.n c.loop-byte.byte-index (sym c.if-is_empty.ensures) (omega arith) (omega arith)
+    number_of_read c.args.value.now c.loop-byte.n c.loop-byte.byte-index (sym c.if-is_empty.ensures) (omega arith)
+    (omega arith)
     c.loop-byte.invariant.fits c.loop-byte.invariant.digits c.loop-byte.invariant.number

@@ -2,7 +2,7 @@ use Rattle.std.proofs.Common.{rules, arith, ◌≡◌, ℕ, suc, ◌∷◌, refl
 use Rattle.exchange.specs.declared.messages.LaneMessage.TheVariants.{Ask}
 use Rattle.exchange.specs.declared.views.WorkerState.{WorkerState}
 use Rattle.exchange.specs.declared.views.LaneView.TheVariants.{Worker}
-use Rattle.exchange.specs.Lanes.{SeatState, slot_of}
+use Rattle.exchange.specs.Lanes.{SeatState, lane_slot}
 use Rattle.exchange.specs.Steps.{holding_slot, placed}
 use Rattle.exchange.specs.Seats.{worker_state_in}
 use Rattle.exchange.proofs.WorkerSteps.{begins_post}
@@ -18,23 +18,33 @@ load-requires c = let room = c.requires.room in (
 )
 
 pub put_message-requires-clause-empty : goal.put_message-requires-clause-empty
-put_message-requires-clause-empty c = let room = c.requires.room in let d : WorkerState = worker_state_in c.args.seat.now.me.0 in let k : ℕ = placed d in
-    let did = c.load.ensures.2 d (ap (λ (m : SeatState). m.0) room.0) ∙ (λ j. (Worker (holding_slot d (suc k)), (slot_of d.worker k, None) ∷ (room.0 j).1)) in
-    in_front _ _ _ _ _ _ did (λ j. slot_of (sym room.1 j) (sym room.2 j))
+put_message-requires-clause-empty c = let room = c.requires.room in
+    let d : WorkerState = worker_state_in c.args.seat.now.me.0 in let k : ℕ = placed d in
+    let did = c.load.ensures.2 d (ap (λ (m : SeatState). m.0) room.0)
+    ∙ (λ j. (Worker (holding_slot d (suc k)), (lane_slot d.worker k, None) ∷ (room.0 j).1)) in
+    in_front _ _ _ _ _ _ did (λ j. lane_slot (sym room.1 j) (sym room.2 j))
 
 pub load-requires-2 : goal.load-requires-2
-load-requires-2 c = let room = c.requires.room in let d : WorkerState = worker_state_in c.args.seat.now.me.0 in let k : ℕ = placed d in
-    let did = c.load.ensures.2 d (ap (λ (m : SeatState). m.0) room.0) ∙ (λ j. (Worker (holding_slot d (suc k)), (slot_of d.worker k, None) ∷ (room.0 j).1)) in
-    let slot : slot_of c.args.worker c.args.number ≡ slot_of d.worker k = λ j. slot_of (sym room.1 j) (sym room.2 j) in
+load-requires-2 c = let room = c.requires.room in let d : WorkerState = worker_state_in c.args.seat.now.me.0 in
+    let k : ℕ = placed d in
+    let did = c.load.ensures.2 d (ap (λ (m : SeatState). m.0) room.0)
+    ∙ (λ j. (Worker (holding_slot d (suc k)), (lane_slot d.worker k, None) ∷ (room.0 j).1)) in
+    let slot : lane_slot c.args.worker c.args.number ≡ lane_slot d.worker k =
+    λ j. lane_slot (sym room.1 j) (sym room.2 j) in
     let many : k ≡ c.args.number = room.2 in (
       search rules,
       search rules,
-      puts_as _ _ _ _ (holding_slot d (suc k)) c.args.posted _ (exchanged _ _ _ _ _ None (Some (Ask c.args.posted)) c.put_message.ensures.put did slot)
+      puts_as _ _ _ _ (holding_slot d (suc k)) c.args.posted _
+          (exchanged _ _ _ _ _ None (Some (Ask c.args.posted)) c.put_message.ensures.put did slot)
           (c.requires.next ∙ (omega arith)) refl room.4,
     )
 
 pub returns-clause-put : goal.returns-clause-put
-returns-clause-put c = let room = c.requires.room in let d : WorkerState = worker_state_in c.args.seat.now.me.0 in let k : ℕ = placed d in
-    let did = c.load.ensures.2 d (ap (λ (m : SeatState). m.0) room.0) ∙ (λ j. (Worker (holding_slot d (suc k)), (slot_of d.worker k, None) ∷ (room.0 j).1)) in
-    let slot : slot_of c.args.worker c.args.number ≡ slot_of d.worker k = λ j. slot_of (sym room.1 j) (sym room.2 j) in
-    c.load-2.ensures.2 (holding_slot d (suc k)) c.args.posted _ (exchanged _ _ _ _ _ None (Some (Ask c.args.posted)) c.put_message.ensures.put did slot)
+returns-clause-put c = let room = c.requires.room in let d : WorkerState = worker_state_in c.args.seat.now.me.0 in
+    let k : ℕ = placed d in
+    let did = c.load.ensures.2 d (ap (λ (m : SeatState). m.0) room.0)
+    ∙ (λ j. (Worker (holding_slot d (suc k)), (lane_slot d.worker k, None) ∷ (room.0 j).1)) in
+    let slot : lane_slot c.args.worker c.args.number ≡ lane_slot d.worker k =
+    λ j. lane_slot (sym room.1 j) (sym room.2 j) in
+    c.load-2.ensures.2 (holding_slot d (suc k)) c.args.posted _
+    (exchanged _ _ _ _ _ None (Some (Ask c.args.posted)) c.put_message.ensures.put did slot)

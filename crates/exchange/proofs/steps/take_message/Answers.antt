@@ -1,6 +1,6 @@
 use Rattle.std.proofs.Common.{rules, arith, ◌≡◌, ℕ, refl, sym, ap}
 use Rattle.exchange.specs.declared.views.StorageState.{StorageState}
-use Rattle.exchange.specs.Lanes.{SeatState, slot_of}
+use Rattle.exchange.specs.Lanes.{SeatState, lane_slot}
 use Rattle.exchange.specs.Seats.{storage_state_in}
 use Rattle.exchange.specs.Steps.{settled}
 use Rattle.exchange.proofs.StorageSteps.{loads_posted}
@@ -16,7 +16,10 @@ load-posted-requires c = let h = c.requires.idle in (
 )
 
 pub take_out_message-message-requires-clause-full : goal.take_out_message-message-requires-clause-full
-take_out_message-message-requires-clause-full c = let h = c.requires.idle in let d : StorageState = storage_state_in c.args.seat.now.me.0 in
-    let w : ℕ = c.args.lane in let told = c.load-posted.ensures.2 d w (ap (λ (m : SeatState). m.0) h.0) refl in let so : settled d w ≡ c.args.count = h.1 in
-    let took_it = told.1 (omega arith) in let slot : slot_of w c.args.count ≡ slot_of w (settled d w) = λ j. slot_of w (sym so j) in
+take_out_message-message-requires-clause-full c = let h = c.requires.idle in
+    let d : StorageState = storage_state_in c.args.seat.now.me.0 in
+    let w : ℕ = c.args.lane in let told = c.load-posted.ensures.2 d w (ap (λ (m : SeatState). m.0) h.0) refl in
+    let so : settled d w ≡ c.args.count = h.1 in
+    let took_it = told.1 (omega arith) in
+    let slot : lane_slot w c.args.count ≡ lane_slot w (settled d w) = λ j. lane_slot w (sym so j) in
     (took_it.0, in_front _ _ _ _ _ _ took_it.2 slot)

@@ -10,7 +10,8 @@ use Rattle.exchange_runs.proofs.serving.execute.Goals as goal
 
 pub answer_when_room-requires-clause-legal : goal.answer_when_room-requires-clause-legal
 answer_when_room-requires-clause-legal g c =
-    let p = c.args.posted in let cache = g.S.StorageEngine.cache in let last : ℕ = g.S.StorageEngine.moment c.args.store.now in
+    let p = c.args.posted in let cache = g.S.StorageEngine.cache in
+    let last : ℕ = g.S.StorageEngine.moment c.args.store.now in
     let after = c.handle-reply.new.self in
     let e : Answered =
     record {
@@ -29,7 +30,8 @@ answer_when_room-requires-clause-legal g c =
 
 pub returns-clause-reaches : goal.returns-clause-reaches
 returns-clause-reaches g c =
-    let p = c.args.posted in let cache = g.S.StorageEngine.cache in let last : ℕ = g.S.StorageEngine.moment c.args.store.now in
+    let p = c.args.posted in let cache = g.S.StorageEngine.cache in
+    let last : ℕ = g.S.StorageEngine.moment c.args.store.now in
     let after = c.handle-reply.new.self in
     let e : Answered =
     record {

@@ -13,21 +13,32 @@ pub loop-end-preserved : goal.loop-end-preserved
 loop-end-preserved g c =
     let i = c.loop-end.invariant in let y = c.loop-end.yielded in let h = c.in_ok-handle.handle in
     let pushed = c.push_reserved.ensures.items in
-    let more = ap (map (λ h. h.promise.end.value)) pushed ∙ map-append (λ h. h.promise.end.value) c.loop-end.handles.items (h ∷ []) in
-    let ported = ap (map (λ h. h.promise.port.value)) pushed ∙ map-append (λ h. h.promise.port.value) c.loop-end.handles.items (h ∷ []) in record {
-      ended = append_assoc y (c.in-Some.end ∷ []) c.next.new.self.rest.items ∙ ap (λ l. y ++ l) (sym c.in-Some.ensures.steps.0) ∙ i.ended;
+    let more = ap (map (λ h. h.promise.end.value)) pushed
+    ∙ map-append (λ h. h.promise.end.value) c.loop-end.handles.items (h ∷ []) in
+    let ported = ap (map (λ h. h.promise.port.value)) pushed
+    ∙ map-append (λ h. h.promise.port.value) c.loop-end.handles.items (h ∷ []) in record {
+      ended = append_assoc y (c.in-Some.end ∷ []) c.next.new.self.rest.items
+          ∙ ap (λ l. y ++ l) (sym c.in-Some.ensures.steps.0) ∙ i.ended;
       ported = ap (λ l. l ++ c.next-in-loop-end.new.self.rest.items)
-          (ported ∙ ap (λ p. map (λ h. h.promise.port.value) c.loop-end.handles.items ++ p ∷ []) c.in_ok-handle.ensures.given.0)
-          ∙ append_assoc (map (λ h. h.promise.port.value) c.loop-end.handles.items) (c.in-Some-next.port ∷ []) c.next-in-loop-end.new.self.rest.items
-          ∙ ap (λ l. map (λ h. h.promise.port.value) c.loop-end.handles.items ++ l) (sym c.in-Some-next.ensures.items) ∙ i.ported;
-      lengths = (let a = c.in-Some.ensures.steps.1 in let b = c.in-Some-next.ensures.len in let e = i.lengths in search rules);
+          (ported ∙ ap (λ p. map (λ h. h.promise.port.value) c.loop-end.handles.items ++ p ∷ [])
+          c.in_ok-handle.ensures.given.0)
+          ∙ append_assoc (map (λ h. h.promise.port.value) c.loop-end.handles.items)
+          (c.in-Some-next.port ∷ []) c.next-in-loop-end.new.self.rest.items
+          ∙ ap (λ l. map (λ h. h.promise.port.value) c.loop-end.handles.items ++ l) (sym c.in-Some-next.ensures.items)
+          ∙ i.ported;
+      lengths = (let a = c.in-Some.ensures.steps.1 in let b = c.in-Some-next.ensures.len in let e = i.lengths in
+          search rules);
       silent = (first_of_all
-          (IsSilent g.P.Port.told) c.loop-end.ports.rest.items c.in-Some-next.port c.next-in-loop-end.new.self.rest.items
+          (IsSilent g.P.Port.told) c.loop-end.ports.rest.items c.in-Some-next.port
+          c.next-in-loop-end.new.self.rest.items
           c.in-Some-next.ensures.items i.silent).1;
-      fresh = (first_of_all HasSentNothing c.loop-end.end-iterator.rest.items c.in-Some.end c.next.new.self.rest.items c.in-Some.ensures.steps.0 i.fresh).1;
+      fresh = (first_of_all HasSentNothing c.loop-end.end-iterator.rest.items c.in-Some.end c.next.new.self.rest.items
+          c.in-Some.ensures.steps.0 i.fresh).1;
       started = subst (All (λ h. h.promise.start.now.id ≡ c.args.start.now.id)) (sym pushed)
-          (all_more (λ h. h.promise.start.now.id ≡ c.args.start.now.id) c.loop-end.handles.items h i.started c.in_ok-handle.ensures.start);
-      ends = more ∙ ap (λ l. l ++ h.promise.end.value ∷ []) i.ends ∙ ap (λ e. y ++ e ∷ []) c.in_ok-handle.ensures.given.1;
+          (all_more (λ h. h.promise.start.now.id ≡ c.args.start.now.id) c.loop-end.handles.items h i.started
+          c.in_ok-handle.ensures.start);
+      ends = more ∙ ap (λ l. l ++ h.promise.end.value ∷ []) i.ends
+          ∙ ap (λ e. y ++ e ∷ []) c.in_ok-handle.ensures.given.1;
       room = (let a = c.in-Some.ensures.steps.1 in let p = c.push_reserved.ensures.len in
           let k = c.push_reserved.ensures.capacity in let e = i.room in search rules);
     }

@@ -21,4 +21,5 @@ returns-in-Some-Other c =
 
 pub returns-in-None : goal.returns-in-None
 returns-in-None c =
-    unknown_line c.args.line.now c.in-Some.word.now c.next.new.self (sym c.new-words.ensures ∙ c.in-Some.ensures) c.in-None.ensures
+    unknown_line c.args.line.now c.in-Some.word.now c.next.new.self
+    (sym c.new-words.ensures ∙ c.in-Some.ensures) c.in-None.ensures

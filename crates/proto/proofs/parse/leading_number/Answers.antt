@@ -9,7 +9,8 @@ pub returns-in_err-checked_mul : goal.returns-in_err-checked_mul
 returns-in_err-checked_mul c =
     let digit : is_ascii_digit c.in-Some.byte.now ≡ true = sym c.if-not-is_ascii_digit.ensures.value in
     let value : digits_value_after 10 c.loop-byte.n
-    (take_while is_ascii_digit (c.in-Some.byte.now ∷ c.in-Some.behind.now)) ≡ digits_value 10 (take_while is_ascii_digit c.args.bytes.now) =
+    (take_while is_ascii_digit (c.in-Some.byte.now ∷ c.in-Some.behind.now))
+    ≡ digits_value 10 (take_while is_ascii_digit c.args.bytes.now) =
     rw c.in-Some.ensures.cases.0 at c.loop-byte.invariant.value in
     let large = c.in_err-checked_mul.ensures in
     rw c.from_residual.ensures
@@ -20,7 +21,8 @@ pub returns-in_err-n : goal.returns-in_err-n
 returns-in_err-n c =
     let digit : is_ascii_digit c.in-Some.byte.now ≡ true = sym c.if-not-is_ascii_digit.ensures.value in
     let value : digits_value_after 10 c.loop-byte.n
-    (take_while is_ascii_digit (c.in-Some.byte.now ∷ c.in-Some.behind.now)) ≡ digits_value 10 (take_while is_ascii_digit c.args.bytes.now) =
+    (take_while is_ascii_digit (c.in-Some.byte.now ∷ c.in-Some.behind.now))
+    ≡ digits_value 10 (take_while is_ascii_digit c.args.bytes.now) =
     rw c.in-Some.ensures.cases.0 at c.loop-byte.invariant.value in
     let large = c.in_err-n.ensures in
     let tens = c.in_ok-checked_mul.ensures.1 in
@@ -33,9 +35,11 @@ pub loop-byte-preserved : goal.loop-byte-preserved
 loop-byte-preserved c =
     let digit : is_ascii_digit c.in-Some.byte.now ≡ true = sym c.if-not-is_ascii_digit.ensures.value in
     let value : digits_value_after 10 c.loop-byte.n
-    (take_while is_ascii_digit (c.in-Some.byte.now ∷ c.in-Some.behind.now)) ≡ digits_value 10 (take_while is_ascii_digit c.args.bytes.now) =
+    (take_while is_ascii_digit (c.in-Some.byte.now ∷ c.in-Some.behind.now))
+    ≡ digits_value 10 (take_while is_ascii_digit c.args.bytes.now) =
     rw c.in-Some.ensures.cases.0 at c.loop-byte.invariant.value in
-    let counted : c.loop-byte.length + prefix_len is_ascii_digit (c.in-Some.byte.now ∷ c.in-Some.behind.now) ≡ prefix_len is_ascii_digit c.args.bytes.now =
+    let counted : c.loop-byte.length + prefix_len is_ascii_digit (c.in-Some.byte.now ∷ c.in-Some.behind.now)
+    ≡ prefix_len is_ascii_digit c.args.bytes.now =
     rw c.in-Some.ensures.cases.0 at c.loop-byte.invariant.counted in
     let tens = c.in_ok-checked_mul.ensures.1 in
     let ones = c.from.ensures in
@@ -46,5 +50,6 @@ loop-byte-preserved c =
       value = ap (λ n. digits_value_after 10 n (take_while is_ascii_digit c.in-Some.behind.now)) n-is
           ∙ sym (digit_step c.loop-byte.n c.in-Some.byte.now c.in-Some.behind.now digit) ∙ value;
       counted = omega (arith, counted, one);
-      within = let len = c.in-Some.ensures.cases.1 in let within = c.loop-byte.invariant.within in omega (arith, len, within);
+      within = let len = c.in-Some.ensures.cases.1 in let within = c.loop-byte.invariant.within in
+          omega (arith, len, within);
     }

@@ -7,7 +7,8 @@ use Rattle.proto.proofs.parse.leading_number.Given as goal
 -- the digits so far are counted and write n
 abbrev pub invariant-loop-byte : goal.invariant-loop-byte
 invariant-loop-byte l = record {
-  value : digits_value_after 10 l.n (take_while is_ascii_digit l.rest) ≡ digits_value 10 (take_while is_ascii_digit l.bytes);
+  value : digits_value_after 10 l.n (take_while is_ascii_digit l.rest)
+      ≡ digits_value 10 (take_while is_ascii_digit l.bytes);
   counted : l.length + prefix_len is_ascii_digit l.rest ≡ prefix_len is_ascii_digit l.bytes;
   within : l.length + length l.rest ≡ length l.bytes;
 }

@@ -20,4 +20,5 @@ loop-i-preserved c = record {
 }
 
 pub returns : goal.returns
-returns c = search_ends c.args.bytes.now c.split_at.result.1.now c.loop-i.from c.split_at.ensures.back c.in_default.ensures c.loop-i.invariant.before
+returns c = search_ends c.args.bytes.now c.split_at.result.1.now c.loop-i.from c.split_at.ensures.back
+    c.in_default.ensures c.loop-i.invariant.before

@@ -6,7 +6,8 @@ use Rattle.proto.proofs.words.split_key.Goals as goal
 use Rattle.proto.proofs.words.split_key.Goals.{else-length-ge1-via-then-length-ge1+else-length-le250, else-length-ge1-via-else-length-ge1}
 
 pub split_at_end-requires-clause-within : goal.split_at_end-requires-clause-within
-split_at_end-requires-clause-within c = rw c.key_length-length.ensures (prefix_len-le-length is_key_byte c.args.line.now)
+split_at_end-requires-clause-within c =
+    rw c.key_length-length.ensures (prefix_len-le-length is_key_byte c.args.line.now)
 
 pub split_at_end-requires-clause-no_space : goal.split_at_end-requires-clause-no_space
 split_at_end-requires-clause-no_space c = rw c.key_length-length.ensures (key_front_word c.args.line.now)

@@ -9,7 +9,8 @@ returns-in-None c = sym (rw (taken_negative (10 ^ 10) (words_of c.args.digits.no
 
 pub returns-then-n-eq0 : goal.returns-then-n-eq0
 returns-then-n-eq0 c =
-    negative_zero (10 ^ 10) c.in-Some.n (words_of c.args.digits.now) (words_behind c.in-Some.behind) c.in-Some.ensures.read c.if-n-eq0.true
+    negative_zero (10 ^ 10) c.in-Some.n (words_of c.args.digits.now)
+    (words_behind c.in-Some.behind) c.in-Some.ensures.read c.if-n-eq0.true
 
 pub returns-else-n-eq0 : goal.returns-else-n-eq0
 returns-else-n-eq0 c =

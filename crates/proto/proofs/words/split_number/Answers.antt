@@ -35,7 +35,8 @@ returns-then-is_plain-clause-read c =
     let small = c.ranges.most in
     taken_some (number_in (c.args.most + 1)) c.args.line.now c.in-Some-split_at_end.word.now
     (words_behind c.in-Some-split_at_end.behind) c.in-Some.n c.in-Some-split_at_end.ensures.1
-    (read_plain c.args.most c.in-Some.n c.in-Some-split_at_end.word.now (omega (arith, small)) (rw (← digits) at (digits_front c.args.line.now))
+    (read_plain c.args.most c.in-Some.n c.in-Some-split_at_end.word.now (omega (arith, small))
+    (rw (← digits) at (digits_front c.args.line.now))
     (c.in-Some.ensures.0 ∙ ap (digits_value 10) (sym digits)) c.if-n-most.true (c.if-is_plain.ensures.0 refl))
 
 pub returns-else-n-most-clause-read : goal.returns-else-n-most-clause-read
@@ -49,6 +50,7 @@ returns-else-n-most-clause-read c =
     c.in-Some-split_at_end.ensures.1 in
     let plain = rw word-is at found.2 in
     elim c.else-n-most.branch [
-      | else-n-most-via-then-n-most+else-is_plain w ↦ both_ways _ w.if-is_plain.false (w.is_plain.ensures.1 (plain.some, plain.plain))
+      | else-n-most-via-then-n-most+else-is_plain w ↦ both_ways _ w.if-is_plain.false
+          (w.is_plain.ensures.1 (plain.some, plain.plain))
       | else-n-most-via-else-n-most w ↦ omega (arith, value, read, lt, w.if-n-most.false)
     ])

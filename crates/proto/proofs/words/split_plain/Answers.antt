@@ -10,4 +10,5 @@ returns-in-None c = sym (rw (taken_plain (10 ^ 10) (words_of c.args.line.now), â
 pub returns-in-Some : goal.returns-in-Some
 returns-in-Some c =
     rw (to_z-of_z w64 c.signed.result (record { sfits = c.signed.type_inv }))
-    (plain_some (10 ^ 10) c.in-Some.n (words_of c.args.line.now) (words_behind c.in-Some.behind) c.signed.result c.in-Some.ensures.read c.signed.ensures)
+    (plain_some (10 ^ 10) c.in-Some.n (words_of c.args.line.now)
+    (words_behind c.in-Some.behind) c.signed.result c.in-Some.ensures.read c.signed.ensures)

@@ -8,9 +8,11 @@ returns-in-None c = signed_nothing (10 ^ 10) c.args.line.now c.in-None.ensures.c
 pub returns-then-first-eq45 : goal.returns-then-first-eq45
 returns-then-first-eq45 c =
     c.split_negative.ensures
-    ∙ signed_minus (10 ^ 10) c.in-Some.first.now c.in-Some.digits.now c.args.line.now c.in-Some.ensures.cases.0 c.if-first-eq45.true
+    ∙ signed_minus (10 ^ 10) c.in-Some.first.now c.in-Some.digits.now c.args.line.now c.in-Some.ensures.cases.0
+    c.if-first-eq45.true
 
 pub returns-else-first-eq45 : goal.returns-else-first-eq45
 returns-else-first-eq45 c =
     c.split_plain.ensures
-    ∙ signed_no_minus (10 ^ 10) c.in-Some.first.now c.in-Some.digits.now c.args.line.now (lit≤ tt) c.in-Some.ensures.cases.0 c.if-first-eq45.false
+    ∙ signed_no_minus (10 ^ 10) c.in-Some.first.now c.in-Some.digits.now c.args.line.now
+    (lit≤ tt) c.in-Some.ensures.cases.0 c.if-first-eq45.false

@@ -18,18 +18,28 @@ loop-end-init c = record {
 }
 
 pub meet-requests-requires : goal.meet-requests-requires
-meet-requests-requires c = let inv = c.loop-end.invariant in let cut : c.loop-end.workers.items ≡ c.pop.new.self.items ++ c.in-Some.end ∷ [] = search rules in
-    subst (IsEndOf c.in-Some.end) (sym inv.same) (c.requires.each (length c.pop.new.self.items) c.in-Some.end (last_in _ _ _ _ inv.left cut))
+meet-requests-requires c = let inv = c.loop-end.invariant in
+    let cut : c.loop-end.workers.items ≡ c.pop.new.self.items ++ c.in-Some.end ∷ [] = search rules in
+    subst (IsEndOf c.in-Some.end) (sym inv.same)
+    (c.requires.each (length c.pop.new.self.items) c.in-Some.end (last_in _ _ _ _ inv.left cut))
 
 pub loop-end-preserved : goal.loop-end-preserved
-loop-end-preserved c = let inv = c.loop-end.invariant in let cut : c.loop-end.workers.items ≡ c.pop.new.self.items ++ c.in-Some.end ∷ [] = search rules in
+loop-end-preserved c = let inv = c.loop-end.invariant in
+    let cut : c.loop-end.workers.items ≡ c.pop.new.self.items ++ c.in-Some.end ∷ [] = search rules in
     let k : ℕ = c.worker-worker.result in let k_is : k ≡ c.in-Some.end.worker = search rules in
-    let small : k < 8 = search rules in let long = ap length cut ∙ length-append c.pop.new.self.items (c.in-Some.end ∷ []) in
-    let s8 : length c.loop-end.sent ≡ 8 = inv.sizes.0 in let b8 : length c.loop-end.back ≡ 8 = inv.sizes.1 in let did = c.meet-requests.ensures in
-    let found : AreMet c.args.storage c.in-Some.end = subst (λ (z : StorageQueues). AreMet z c.in-Some.end) inv.same did.met in
-    let inside = (c.requires.each (length c.pop.new.self.items) c.in-Some.end (last_in _ _ _ _ inv.left cut)).inside in record {
+    let small : k < 8 = search rules in
+    let long = ap length cut ∙ length-append c.pop.new.self.items (c.in-Some.end ∷ []) in
+    let s8 : length c.loop-end.sent ≡ 8 = inv.sizes.0 in let b8 : length c.loop-end.back ≡ 8 = inv.sizes.1 in
+    let did = c.meet-requests.ensures in
+    let found : AreMet c.args.storage c.in-Some.end =
+    subst (λ (z : StorageQueues). AreMet z c.in-Some.end) inv.same did.met in
+    let inside = (c.requires.each (length c.pop.new.self.items) c.in-Some.end (last_in _ _ _ _ inv.left cut)).inside in
+    record {
       same = did.same ∙ inv.same;
-      sizes = (length-set c.loop-end.sent k c.meet-requests.result.0 ∙ s8, length-set c.loop-end.back k c.meet-requests.result.1 ∙ b8);
+      sizes = (
+        length-set c.loop-end.sent k c.meet-requests.result.0 ∙ s8,
+        length-set c.loop-end.back k c.meet-requests.result.1 ∙ b8,
+      );
       left = starts_rest _ _ _ c.in-Some.end inv.left cut;
       counted = count_more _ _ _ c.pop.new.self.items c.in-Some.end inv.left cut _ _ k _ _ c.requires k_is (omega arith)
           (omega arith) found did.counts.0 did.counts.1 inv.counted;
@@ -46,4 +56,5 @@ loop-end-preserved c = let inv = c.loop-end.invariant in let cut : c.loop-end.wo
     }
 
 pub returns-clause-counted : goal.returns-clause-counted
-returns-clause-counted c = let none_left : length c.loop-end.workers.items ≡ 0 = search rules in λ i v at. c.loop-end.invariant.counted i v (omega arith) at
+returns-clause-counted c = let none_left : length c.loop-end.workers.items ≡ 0 = search rules in
+    λ i v at. c.loop-end.invariant.counted i v (omega arith) at

@@ -6,4 +6,5 @@ use Rattle.queue_tests.proofs.One.{one_end}
 use Rattle.queue_tests.proofs.gathering.gathered.Goals as goal
 
 pub gather-requires : goal.gather-requires
-gather-requires c = one_end _ c.args.storage c.args.end (c.in_ok-push.ensures.items ∙ ap (λ l. l ++ c.args.end ∷ []) c.new-ends.ensures.items) c.requires
+gather-requires c = one_end _ c.args.storage c.args.end
+    (c.in_ok-push.ensures.items ∙ ap (λ l. l ++ c.args.end ∷ []) c.new-ends.ensures.items) c.requires

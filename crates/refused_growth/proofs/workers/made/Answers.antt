@@ -1,4 +1,4 @@
-use Rattle.refused_growth.proofs.Ends.{last_is_fresh}
+use Rattle.exchange.proofs.FreshEnds.{last_is_fresh}
 use Rattle.refused_growth.proofs.workers.made.Goals as goal
 
 pub returns-clause-worker : goal.returns-clause-worker

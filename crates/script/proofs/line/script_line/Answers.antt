@@ -9,5 +9,6 @@ use Rattle.script.proofs.line.script_line.Goals as goal
 pub returns : goal.returns
 returns c =
     let line = c.args.line.now in
-    IfOk-weaker c.line_of.result (λ found. found ≡ line_in c.new.result) (λ found. MatchOption found (SaysNothing line) (LineSays line))
+    IfOk-weaker c.line_of.result (λ found. found ≡ line_in c.new.result)
+    (λ found. MatchOption found (SaysNothing line) (LineSays line))
     (λ found is. line_meaning line found (is ∙ ap line_in c.new.ensures)) c.line_of.ensures

@@ -13,7 +13,10 @@ returns-in-Some-clause-lines c =
 pub returns-else-is_empty-clause-lines : goal.returns-else-is_empty-clause-lines
 returns-else-is_empty-clause-lines c =
     let text = c.args.script.now in
-    let some : 0 < length text = omega (arith, eqb-false (length text) 0 (sym c.is_empty.ensures ∙ c.if-is_empty.false)) in
+    let some : 0 < length text = omega (
+      arith,
+      eqb-false (length text) 0 (sym c.is_empty.ensures ∙ c.if-is_empty.false),
+    ) in
     rw (
       c.split_at-else-is_empty.ensures.front,
       c.split_at-else-is_empty.ensures.back,

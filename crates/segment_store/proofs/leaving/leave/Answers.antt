@@ -13,5 +13,6 @@ unmark-requires c =
 pub returns-clause-tied : goal.returns-clause-tied
 returns-clause-tied c =
     subst (IsTied c.args.pool.now c.remove.new.self) (sym c.unmark.ensures)
-    (tied_left c.args.pool.now c.args.index.now c.remove.new.self c.args.tally.now c.args.key.now c.args.place c.requires.tied
+    (tied_left c.args.pool.now c.args.index.now c.remove.new.self c.args.tally.now c.args.key.now c.args.place
+    c.requires.tied
     c.requires.there c.remove.ensures.map c.remove.ensures.size)

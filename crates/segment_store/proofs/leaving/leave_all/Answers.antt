@@ -37,7 +37,8 @@ loop-segment-preserved c =
           ap (λ t. mark_at t n k) c.clear_segment.ensures ∙ at ∙
           elim (cases_eq n c.loop-segment.segment) [
             | inl e ↦ (let z = eq-eqb n c.loop-segment.segment e in rw z refl)
-            | inr e ↦ (let z = ne_eqb n c.loop-segment.segment e in rw z (c.loop-segment.invariant.cleared n k (omega (arith, less, e))))
+            | inr e ↦ (let z = ne_eqb n c.loop-segment.segment e in
+                rw z (c.loop-segment.invariant.cleared n k (omega (arith, less, e))))
           ]);
     }
 
@@ -48,14 +49,18 @@ returns-clause-tied c =
     let p = c.args.pool.now in
     let m = c.clear.ensures.map (key_at p) in
     let size = c.clear.ensures.size in
-    let s : c.segments-segment-end.result ≡ p.sizes.segments = c.segments-segment-end.ensures.value ∙ ap (λ z. z.segments) c.geometry.ensures.sizes in
+    let s : c.segments-segment-end.result ≡ p.sizes.segments =
+    c.segments-segment-end.ensures.value ∙ ap (λ z. z.segments) c.geometry.ensures.sizes in
     record {
       known = known;
       indexed = m.index;
-      held = λ q r h. absurd (none-some r (sym (ap (λ (n : Places). finite.get n q) m.places_are ∙ finite.get-empty (slice_cmp nat_cmp) q) ∙ h));
+      held = λ q r h. absurd (none-some r
+          (sym (ap (λ (n : Places). finite.get n q) m.places_are ∙ finite.get-empty (slice_cmp nat_cmp) q) ∙ h));
       marked = λ r i e h.
           (let w = (mark_within p r i known.pool e).0 in
-          absurd (false≢true (sym (c.loop-segment.invariant.cleared r.segment (r.offset / 32) (omega (arith, w, s, done))) ∙ h)));
-      roomy = subst (λ n. 2 * (p.sizes.segments * (p.sizes.segment_size / 32)) ≤ n) (sym size.count) c.requires.tied.roomy;
+          absurd (false≢true (sym (c.loop-segment.invariant.cleared r.segment (r.offset / 32)
+          (omega (arith, w, s, done))) ∙ h)));
+      roomy = subst (λ n. 2 * (p.sizes.segments * (p.sizes.segment_size / 32)) ≤ n)
+          (sym size.count) c.requires.tied.roomy;
       layout = subst (IsLayoutOf p.sizes) (sym size.layout) c.requires.tied.layout;
     }

@@ -16,7 +16,8 @@ loop-segment-preserved c =
     let p = c.args.pool.now in
     let n = c.loop-segment.segment in
     let old = current p c.args.index.now in
-    let is : has_arrived (deadline_in (segment_at p n)) c.args.now ≡ c.has_arrived.result = ap (λ d. has_arrived d c.args.now)
+    let is : has_arrived (deadline_in (segment_at p n)) c.args.now ≡ c.has_arrived.result =
+    ap (λ d. has_arrived d c.args.now)
     (sym c.deadline.ensures) ∙ sym c.has_arrived.ensures in
     elim c.if-has_arrived.branch [
       | then-has_arrived w ↦
@@ -28,13 +29,16 @@ loop-segment-preserved c =
       | else-has_arrived w ↦
           subst (λ (i : Table). IsExpiring p c.args.now old i c.if-has_arrived.tally (n + 1)) (sym w.index-is)
           (subst (λ (t : Marks). IsExpiring p c.args.now old c.loop-segment.index t (n + 1)) (sym w.tally-is)
-          (expiring_passed p c.args.now old c.loop-segment.index c.loop-segment.tally n c.loop-segment.invariant (is ∙ w.if-has_arrived.false)))
+          (expiring_passed p c.args.now old c.loop-segment.index c.loop-segment.tally n c.loop-segment.invariant
+          (is ∙ w.if-has_arrived.false)))
     ]
 
 pub returns-clause-left : goal.returns-clause-left
 returns-clause-left c =
     let p = c.args.pool.now in
     let done = c.loop-segment-test.false in
-    let s : c.segments-segment-end.result ≡ p.sizes.segments = c.segments-segment-end.ensures.value ∙ ap (λ z. z.segments) c.geometry.ensures.sizes in
+    let s : c.segments-segment-end.result ≡ p.sizes.segments =
+    c.segments-segment-end.ensures.value ∙ ap (λ z. z.segments) c.geometry.ensures.sizes in
     expired_left p c.args.now
-    (current p c.args.index.now) c.loop-segment.index c.loop-segment.tally c.loop-segment.segment c.loop-segment.invariant (omega (arith, s, done))
+    (current p c.args.index.now) c.loop-segment.index c.loop-segment.tally c.loop-segment.segment
+    c.loop-segment.invariant (omega (arith, s, done))

@@ -9,7 +9,8 @@ use Rattle.segment_store.proofs.MergedKeys.{merged_evicted}
 use Rattle.segment_store.proofs.merging.merge.Goals as goal
 
 pub follow-requires-clause-can : goal.follow-requires-clause-can
-follow-requires-clause-can c = can_follow c.args.pool.now c.args.index.now c.args.tally.now c.requires.tied c.requires.planned c.moves-moves.ensures.carried
+follow-requires-clause-can c = can_follow c.args.pool.now c.args.index.now c.args.tally.now c.requires.tied
+    c.requires.planned c.moves-moves.ensures.carried
 
 pub carry-requires-clause-sources : goal.carry-requires-clause-sources
 carry-requires-clause-sources c =
@@ -32,7 +33,8 @@ returns-clause-tied c =
     let w = merge_followed p c.merge_next.new.self c.args.index.now c.follow.new.self c.args.tally.now c.requires.tied h
     c.merge_next.ensures.merged c.merge_next.ensures.pool c.follow.ensures.followed c.follow.ensures.size in
     subst (IsTied c.merge_next.new.self c.follow.new.self)
-    (sym (c.carry.ensures ∙ ap (carried_marks c.args.tally.now) (c.moves-moves.ensures.planned ∙ ap planned_moves h.planned)))
+    (sym (c.carry.ensures ∙ ap (carried_marks c.args.tally.now)
+    (c.moves-moves.ensures.planned ∙ ap planned_moves h.planned)))
     (tied_merged p h.plan c.merge_next.new.self c.args.index.now c.follow.new.self c.args.tally.now w)
 
 pub returns-clause-made : goal.returns-clause-made
@@ -41,7 +43,8 @@ returns-clause-made c =
     let h = c.requires.planned in
     let w = merge_followed p c.merge_next.new.self c.args.index.now c.follow.new.self c.args.tally.now c.requires.tied h
     c.merge_next.ensures.merged c.merge_next.ensures.pool c.follow.ensures.followed c.follow.ensures.size in
-    λ t crowded. merged_made p h.plan c.merge_next.new.self c.args.index.now c.follow.new.self c.args.tally.now t w crowded
+    λ t crowded. merged_made p h.plan c.merge_next.new.self c.args.index.now c.follow.new.self c.args.tally.now t
+    w crowded
 
 pub returns-clause-evicted : goal.returns-clause-evicted
 returns-clause-evicted c =

@@ -12,21 +12,25 @@ returns-in-Some-clause-tied c =
 
 pub returns-in-Some-clause-made : goal.returns-in-Some-clause-made
 returns-in-Some-clause-made c =
-    λ t crowded. cleared_made c.args.pool.now c.clear.new.self c.in-Some.segment c.args.index.now c.leave_segment.new.index
+    λ t crowded. cleared_made c.args.pool.now c.clear.new.self c.in-Some.segment c.args.index.now
+    c.leave_segment.new.index
     c.args.tally.now c.leave_segment.new.tally t c.requires.tied c.leave_segment.ensures.tied
     c.clear.ensures.pool c.clear.ensures.cleared c.in-Some.ensures.in_chain c.leave_segment.ensures.left crowded
 
 pub returns-in_default-clause-made : goal.returns-in_default-clause-made
 returns-in_default-clause-made c = absurd
-    (some_oldest c.args.pool.now c.requires.tied.known.pool c.requires.full (sym c.oldest.ensures.first ∙ c.in_default.is))
+    (some_oldest c.args.pool.now c.requires.tied.known.pool c.requires.full
+    (sym c.oldest.ensures.first ∙ c.in_default.is))
 
 pub returns-in-Some-clause-evicted : goal.returns-in-Some-clause-evicted
 returns-in-Some-clause-evicted c =
-    λ none. cleared_evicted c.args.pool.now c.clear.new.self c.in-Some.segment c.args.index.now c.leave_segment.new.index
+    λ none. cleared_evicted c.args.pool.now c.clear.new.self c.in-Some.segment c.args.index.now
+    c.leave_segment.new.index
     c.args.tally.now c.leave_segment.new.tally c.requires.tied
     c.leave_segment.ensures.tied c.clear.ensures.pool c.clear.ensures.cleared c.in-Some.ensures.in_chain
     c.leave_segment.ensures.left (sym c.in-Some.ensures.first) none
 
 pub returns-in_default-clause-evicted : goal.returns-in_default-clause-evicted
 returns-in_default-clause-evicted c = absurd
-    (some_oldest c.args.pool.now c.requires.tied.known.pool c.requires.full (sym c.oldest.ensures.first ∙ c.in_default.is))
+    (some_oldest c.args.pool.now c.requires.tied.known.pool c.requires.full
+    (sym c.oldest.ensures.first ∙ c.in_default.is))

@@ -9,13 +9,15 @@ use Rattle.segment_store.proofs.room.make_room.Goals as goal
 
 pub evict-requires-clause-tied : goal.evict-requires-clause-tied
 evict-requires-clause-tied c =
-    (swept c.args.pool.now c.give_back.new.self c.args.index.now c.leave_expired.new.index c.leave_expired.new.tally c.args.now
+    (swept c.args.pool.now c.give_back.new.self c.args.index.now c.leave_expired.new.index c.leave_expired.new.tally
+    c.args.now
     c.requires.past c.leave_expired.ensures.tied c.give_back.ensures.pool c.give_back.ensures.freed
     c.leave_expired.ensures.left).tied
 
 pub evict-requires-clause-full : goal.evict-requires-clause-full
 evict-requires-clause-full c =
-    full_given (lives_by c.leave_expired.new.tally) c.args.pool.now c.give_back.new.self c.leave_expired.ensures.tied.known.pool
+    full_given (lives_by c.leave_expired.new.tally) c.args.pool.now c.give_back.new.self
+    c.leave_expired.ensures.tied.known.pool
     c.requires.full c.give_back.ensures.freed
     (sym c.give_back.ensures.count ∙ c.if-give_back-eq0.true)
 
@@ -27,12 +29,15 @@ returns-then-give_back-eq0-clause-made c =
     c.leave_expired.ensures.tied c.give_back.ensures.pool c.give_back.ensures.freed c.leave_expired.ensures.left in
     let live = alive_given marks p c.give_back.new.self c.leave_expired.ensures.tied.known.pool c.give_back.ensures.pool
     c.requires.full c.give_back.ensures.freed (sym c.give_back.ensures.count ∙ c.if-give_back-eq0.true) in
-    swept_evicted p c.args.index.now c.args.now c.give_back.new.self c.leave_expired.new.index marks c.evict.new.pool c.evict.new.index s
-    (c.evict.ensures.made c.args.now (swept_crowded p c.args.index.now c.args.now c.give_back.new.self c.leave_expired.new.index marks s live))
+    swept_evicted p c.args.index.now c.args.now c.give_back.new.self c.leave_expired.new.index marks c.evict.new.pool
+    c.evict.new.index s
+    (c.evict.ensures.made c.args.now (swept_crowded p c.args.index.now c.args.now c.give_back.new.self
+    c.leave_expired.new.index marks s live))
 
 pub returns-else-give_back-eq0-clause-tied : goal.returns-else-give_back-eq0-clause-tied
 returns-else-give_back-eq0-clause-tied c =
-    (swept c.args.pool.now c.give_back.new.self c.args.index.now c.leave_expired.new.index c.leave_expired.new.tally c.args.now
+    (swept c.args.pool.now c.give_back.new.self c.args.index.now c.leave_expired.new.index c.leave_expired.new.tally
+    c.args.now
     c.requires.past c.leave_expired.ensures.tied c.give_back.ensures.pool c.give_back.ensures.freed
     c.leave_expired.ensures.left).tied
 
@@ -45,7 +50,8 @@ returns-else-give_back-eq0-clause-made c =
     let count = c.give_back.ensures.count in
     let some = c.if-give_back-eq0.false in
     swept_made p c.args.index.now c.args.now c.give_back.new.self c.leave_expired.new.index marks s
-    (given_free (lives_by marks) p c.give_back.new.self c.leave_expired.ensures.tied.known.pool c.give_back.ensures.freed (omega (arith, count, some)))
+    (given_free (lives_by marks) p c.give_back.new.self c.leave_expired.ensures.tied.known.pool
+    c.give_back.ensures.freed (omega (arith, count, some)))
 
 pub returns-then-give_back-eq0-clause-room : goal.returns-then-give_back-eq0-clause-room
 returns-then-give_back-eq0-clause-room c =
@@ -73,5 +79,6 @@ returns-else-give_back-eq0-clause-room c =
     let some = c.if-give_back-eq0.false in
     λ bucket i full.
     room_given p c.args.index.now (lives_by marks)
-    (live_marks c.args.tally.now c.args.now) bucket c.args.now i c.give_back.new.self c.leave_expired.new.index marks a full
+    (live_marks c.args.tally.now c.args.now) bucket c.args.now i c.give_back.new.self c.leave_expired.new.index
+    marks a full
     (omega (arith, count, some)) c.give_back.ensures.freed s

@@ -26,7 +26,8 @@ answer_later-requires-clause-legal g c = let p = c.args.posted in
     (reaches_more c.args.end.now.end.geometry c.args.end.now.end.history (g.S.StorageEngine.cache c.args.store.now)
     (g.S.StorageEngine.cache c.handle-reply.new.self) (g.S.StorageEngine.moment c.args.store.now) e c.requires.reaches
     (subst (λ (z : Sizes × Request). Step z.0 (g.S.StorageEngine.cache c.args.store.now) e.moment z.1 e.reply
-    (g.S.StorageEngine.cache c.handle-reply.new.self)) (λ i. (c.requires.sizes i, sym c.handle-reply.ensures.request i)) c.handle-reply.ensures.step)
+    (g.S.StorageEngine.cache c.handle-reply.new.self))
+    (λ i. (c.requires.sizes i, sym c.handle-reply.ensures.request i)) c.handle-reply.ensures.step)
     (search rules) (search rules) c.requires.next)
 
 pub returns-clause-reaches : goal.returns-clause-reaches
@@ -39,12 +40,15 @@ returns-clause-reaches g c = let p = c.args.posted in
       moment = c.max-moment.result;
       reply = c.handle-reply.result;
     } in
-    let more = reaches_more c.args.end.now.end.geometry c.args.end.now.end.history (g.S.StorageEngine.cache c.args.store.now)
+    let more = reaches_more c.args.end.now.end.geometry c.args.end.now.end.history
+    (g.S.StorageEngine.cache c.args.store.now)
     (g.S.StorageEngine.cache c.handle-reply.new.self) (g.S.StorageEngine.moment c.args.store.now) e c.requires.reaches
     (subst (λ (z : Sizes × Request). Step z.0 (g.S.StorageEngine.cache c.args.store.now) e.moment z.1 e.reply
-    (g.S.StorageEngine.cache c.handle-reply.new.self)) (λ i. (c.requires.sizes i, sym c.handle-reply.ensures.request i)) c.handle-reply.ensures.step)
+    (g.S.StorageEngine.cache c.handle-reply.new.self))
+    (λ i. (c.requires.sizes i, sym c.handle-reply.ensures.request i)) c.handle-reply.ensures.step)
     (search rules) (search rules) c.requires.next in
-    subst (λ (z : StorageView × ℕ). Reaches z.0.geometry z.0.history (g.S.StorageEngine.cache c.handle-reply.new.self) z.1)
+    subst (λ (z : StorageView × ℕ). Reaches z.0.geometry z.0.history
+    (g.S.StorageEngine.cache c.handle-reply.new.self) z.1)
     (λ i. (sym c.answer_later.ensures.answered i, sym c.handle-reply.ensures.moment i)) more
 
 pub returns-clause-kept : goal.returns-clause-kept
@@ -60,10 +64,14 @@ returns-clause-kept g c l = let p = c.args.posted in let m = g.S.StorageEngine i
     let old = m.cache c.args.store.now in let after = m.cache c.handle-reply.new.self in
     let sizes : m.sizes c.args.store.now ≡ c.args.end.now.end.geometry = c.requires.sizes in
     let request : p.request ≡ c.handle-reply.new.request = sym c.handle-reply.ensures.request in
-    let more = leads_more c.args.end.now.end.geometry c.args.end.now.end.history old after e (m.keeps c.args.store.now) (m.keeps c.handle-reply.new.self) l
-    (subst (λ (z : Sizes × Request). Step z.0 old e.moment z.1 e.reply after) (λ i. (sizes i, request i)) c.handle-reply.ensures.step)
+    let more = leads_more c.args.end.now.end.geometry c.args.end.now.end.history old after e (m.keeps c.args.store.now)
+    (m.keeps c.handle-reply.new.self) l
+    (subst (λ (z : Sizes × Request). Step z.0 old e.moment z.1 e.reply after)
+    (λ i. (sizes i, request i)) c.handle-reply.ensures.step)
     (subst (λ (z : Sizes × Request). (items : List StoredItem) → m.keeps c.args.store.now items → SetsNoDeadline z.1
     → IsWithinBound z.0 (items ++ stored_by z.0 old (record e { request = z.1 }))
     → ForgetsNone z.0 old e.moment z.1 e.reply after
-    × m.keeps c.handle-reply.new.self (items ++ stored_by z.0 old (record e { request = z.1 }))) (λ i. (sizes i, request i)) c.handle-reply.ensures.kept) in
-    subst (λ (z : StorageView). LeadsKeeping z.geometry z.history after (m.keeps c.handle-reply.new.self)) (sym c.answer_later.ensures.answered) more
+    × m.keeps c.handle-reply.new.self (items ++ stored_by z.0 old (record e { request = z.1 })))
+    (λ i. (sizes i, request i)) c.handle-reply.ensures.kept) in
+    subst (λ (z : StorageView). LeadsKeeping z.geometry z.history after (m.keeps c.handle-reply.new.self))
+    (sym c.answer_later.ensures.answered) more

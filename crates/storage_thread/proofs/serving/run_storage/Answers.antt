@@ -13,16 +13,19 @@ loop-preserved-in-Some-Asked g c = let i = c.loop.invariant in
     let mid : StorageView = c.take_next.new.end.end in let new : StorageView = c.execute.new.end.end in
     let w : ℕ = c.in-Some-Asked.worker in let p : Posted = c.in-Some-Asked.posted in
     let m : ℕ = g.S.StorageEngine.moment c.execute.new.store in let a = c.execute.ensures.answered in
-    let long = longer now mid w p f new m a in let added = c.saturating_add-executed.ensures in let so_far = i.7 in let all = i.4 in
+    let long = longer now mid w p f new m a in let added = c.saturating_add-executed.ensures in let so_far = i.7 in
+    let all = i.4 in
     let byes = same_byes now mid w p f new m a in let workers = same_workers now mid w p f new m a in (
       tt,
       tt,
       serving_asked now mid w p f new m a c.args.storage_end (g.S.StorageEngine.cache c.loop.store)
-          (g.S.StorageEngine.cache c.execute.new.store) (g.S.StorageEngine.moment c.loop.store) i.2 c.execute.ensures.reaches,
+          (g.S.StorageEngine.cache c.execute.new.store)
+          (g.S.StorageEngine.moment c.loop.store) i.2 c.execute.ensures.reaches,
       c.execute.ensures.sizes ∙ (i.3 ∙ same_sizes now mid w p f new m a),
       omega (arith, all, byes, workers),
       g.met.C.Clock.leads_transitive c.args.clock c.loop.clock c.execute.new.clock i.5 c.execute.ensures.leads,
-      timed_asked now mid w p f new m a _ _ _ (g.S.StorageEngine.moment c.loop.store) i.2.reaches.moment_is i.6 c.execute.ensures.moment,
+      timed_asked now mid w p f new m a _ _ _
+          (g.S.StorageEngine.moment c.loop.store) i.2.reaches.moment_is i.6 c.execute.ensures.moment,
       omega (arith, added, so_far, long),
       λ start. c.execute.ensures.kept
           (subst (λ (z : StorageView). LeadsKeeping z.geometry z.history (g.S.StorageEngine.cache c.loop.store)
@@ -44,4 +47,5 @@ pub returns-then-left-eq0-clause-bounded : goal.returns-then-left-eq0-clause-bou
 returns-then-left-eq0-clause-bounded g c start = let i = c.loop.invariant in
     let same = c.into_end.ensures ∙ ap (λ (z : StorageBatchView). z.end) c.flush_answers.ensures in
     subst (λ (z : StorageView). MayForgetNothing c.args.storage_end.geometry z.history) (sym same)
-    (subst (λ sizes. MayForgetNothing sizes c.loop.end.end.history) i.2.same.2 (none_forgotten c.loop.end.end.geometry c.loop.end.end.history _ _ (i.8 start)))
+    (subst (λ sizes. MayForgetNothing sizes c.loop.end.end.history) i.2.same.2
+    (none_forgotten c.loop.end.end.geometry c.loop.end.end.history _ _ (i.8 start)))

@@ -12,4 +12,5 @@ invariant-loop g l =
     × g.C.Clock.leads_to l.fn.clock l.clock
     × IsTimed (g.C.Clock.told l.fn.clock) (g.C.Clock.told l.clock) l.end.end.history
     × (l.executed ≡ min (length l.end.end.history) (2 ^ 64 - 1))
-    × (g.S.StorageEngine.keeps l.fn.store [] → LeadsKeeping l.end.end.geometry l.end.end.history (g.S.StorageEngine.cache l.store) (g.S.StorageEngine.keeps l.store))
+    × (g.S.StorageEngine.keeps l.fn.store [] → LeadsKeeping l.end.end.geometry l.end.end.history
+    (g.S.StorageEngine.cache l.store) (g.S.StorageEngine.keeps l.store))

@@ -12,9 +12,11 @@ gather-gathered-requires g c = let each = c.for_each_mut.ensures in let made = c
       search rules,
       λ i d l. let one = (each i d (search rules)).1 in let k = one.call in (
         ap (λ (z : WorkerView). z.exchange) (sym one.left)
-            ∙ (k.0 ∙ (ap (λ (z : WorkerView). z.exchange) one.argument_is ∙ ap (λ (x : List WorkerView). (get_or x i d).exchange) was)),
+            ∙ (k.0 ∙ (ap (λ (z : WorkerView). z.exchange) one.argument_is
+            ∙ ap (λ (x : List WorkerView). (get_or x i d).exchange) was)),
         ap (λ (z : WorkerView). z.worker) (sym one.left)
-            ∙ (k.1 ∙ (ap (λ (z : WorkerView). z.worker) one.argument_is ∙ ap (λ (x : List WorkerView). (get_or x i d).worker) was)),
+            ∙ (k.1 ∙ (ap (λ (z : WorkerView). z.worker) one.argument_is
+            ∙ ap (λ (x : List WorkerView). (get_or x i d).worker) was)),
       ),
     ) in
     let stays : IsSameExchange c.in_ok-ends.storage c.join-report.result.storage_end = search rules in

@@ -6,10 +6,12 @@ use Rattle.straight.proofs.replay.place_of.Goals as goal
 
 pub returns-in-Ok : goal.returns-in-Ok
 returns-in-Ok c =
-    let found = c.in-Ok.ensures.position (λ (s : StraightSession). s.number) (answers_always _ _ _ (λ f a r f' called. search rules)) in
+    let found = c.in-Ok.ensures.position (λ (s : StraightSession). s.number)
+    (answers_always _ _ _ (λ f a r f' called. search rules)) in
     (c.in-Ok.ensures.bound, place_found c.args.sessions.now c.args.number c.in-Ok.at c.in-Ok.ensures.bound found)
 
 pub returns-in-Err : goal.returns-in-Err
 returns-in-Err c =
     place_none c.args.sessions.now c.args.number c.in-Err.field-0 c.requires
-    (c.in-Err.ensures.position (λ (s : StraightSession). s.number) (answers_always _ _ _ (λ f a r f' called. search rules)))
+    (c.in-Err.ensures.position (λ (s : StraightSession). s.number)
+    (answers_always _ _ _ (λ f a r f' called. search rules)))

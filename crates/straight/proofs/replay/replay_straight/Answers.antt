@@ -26,7 +26,8 @@ loop-event-preserved g c =
     let i = c.loop-event.event-index in
     let e = c.event-item.result in
     let within : i < length events = omega arith in
-    let may : MayFollow (take i events) e = subst (λ (v : ScriptEvent). MayFollow (take i events) v) (sym c.event-item.is) (c.requires.playable i e within) in
+    let may : MayFollow (take i events) e = subst (λ (v : ScriptEvent). MayFollow (take i events) v)
+    (sym c.event-item.is) (c.requires.playable i e within) in
     let front : take (i + 1) events ≡ take i events ++ e ∷ [] = take_more events i e within
     ∙ ap (λ (v : ScriptEvent). take i events ++ v ∷ []) (sym c.event-item.is) in
     rw front (c.in_ok-play.ensures setup (take i events) c.loop-event.invariant may)
@@ -37,9 +38,11 @@ returns g c =
     let setup : Setup = record { sizes = x.sizes; clock = x.clock } in
     let events = c.args.events.now in
     let i = c.loop-event.event-index in
-    let given = replay_is setup (take i events) c.loop-event.executor c.loop-event.sessions.items c.loop-event.invariant in
+    let given = replay_is setup (take i events) c.loop-event.executor c.loop-event.sessions.items
+    c.loop-event.invariant in
     let whole = rw (take_all i events (omega arith)) at given in
     let ours = rw c.new-executor.ensures at whole in
     IfOk-weaker c.outputs.result (λ outputs. outputs.items ≡ map output_of c.loop-event.sessions.items)
     (λ outputs. IsReplay (g.E.StorageEngine.sizes c.args.store) c.args.clock events outputs.items)
-    (λ outputs is. subst (λ (gs : List SessionOutput). IsReplay (g.E.StorageEngine.sizes c.args.store) c.args.clock events gs) (sym is) ours) c.outputs.ensures
+    (λ outputs is. subst (λ (gs : List SessionOutput). IsReplay
+    (g.E.StorageEngine.sizes c.args.store) c.args.clock events gs) (sym is) ours) c.outputs.ensures

@@ -1,26 +1,25 @@
-use Rattle.std.proofs.Common.{ℕ, ◌+◌, ◌-◌, ◌/◌, ◌<◌, ◌≤◌, length, subst, arith}
-use Rattle.std.proofs.lemmas.List.{get_or_default}
+use Rattle.std.proofs.Common.{ℕ, rules, arith}
+use Rattle.std.specs.Prelude.{nat_lt}
+use Rattle.std.proofs.lemmas.Bool.{ltb-true, ltb-false}
+use Rattle.std.proofs.lemmas.List.Sorted.{IsPartitionPoint-from_clause, IsPartitionedBy-ltb}
 use Rattle.session_book.specs.declared.causes.EndCause.{EndCause}
-use Rattle.session_book.specs.declared.causes.EndCause.TheVariants.{Drained}
-use Rattle.worker.proofs.PlaceLemmas.{below_middle, from_middle}
+use Rattle.worker.specs.Places.{Rises}
+use Rattle.worker.proofs.PlaceLemmas.{rises_on}
 use Rattle.worker.proofs.places.first_from.Goals as goal
 
-pub loop-low-preserved-then-sessions-middle : goal.loop-low-preserved-then-sessions-middle
-loop-low-preserved-then-sessions-middle c =
-    let xs = c.args.sessions.now in let middle = c.loop-low.low + (c.loop-low.high - c.loop-low.low) / 2 in
-    let lt : middle < length xs = omega (arith, c.loop-low.invariant.order.0, c.loop-low.invariant.order.1, c.loop-low-test.true) in record {
-      order = (omega (arith, c.loop-low-test.true), c.loop-low.invariant.order.1);
-      below = λ rises. below_middle xs c.args.session middle (0, Drained) rises lt
-          (λ d. subst (λ (e : ℕ × EndCause). e.0 < c.args.session) (get_or_default xs middle (0, Drained) d lt) c.if-sessions-middle.true);
-      from = c.loop-low.invariant.from;
-    }
-
-pub loop-low-preserved : goal.loop-low-preserved
-loop-low-preserved c =
-    let xs = c.args.sessions.now in let middle = c.loop-low.low + (c.loop-low.high - c.loop-low.low) / 2 in
-    let lt : middle < length xs = omega (arith, c.loop-low.invariant.order.0, c.loop-low.invariant.order.1, c.loop-low-test.true) in record {
-      order = (omega (arith, c.loop-low-test.true), omega (arith, lt));
-      below = c.loop-low.invariant.below;
-      from = λ rises. from_middle xs c.args.session middle rises (λ d. subst (λ (e : ℕ × EndCause). c.args.session ≤ e.0)
-          (get_or_default xs middle (0, Drained) d lt) c.if-sessions-middle.false);
+pub returns : goal.returns
+returns c =
+    let xs = c.args.sessions.now in
+    let number : ℕ × EndCause → ℕ = λ e. e.0 in
+    let parted = λ (rises : Rises xs).
+    IsPartitionPoint-from_clause (λ (e : ℕ × EndCause). nat_lt e.0 c.args.session) xs c.partition_point.result
+    c.partition_point.ensures.partitioned
+    (IsPartitionedBy-ltb number xs c.args.session (λ i j d le lt. rises_on 0 xs i j d rises le lt))
+    (λ a r f' called. search rules) in
+    record {
+      within = c.partition_point.ensures.bound;
+      first = λ rises. (
+        λ k d lt. ltb-true _ _ ((parted rises).0 k d (omega arith) lt),
+        λ k d le lt. ltb-false _ _ ((parted rises).1 k d le lt),
+      );
     }

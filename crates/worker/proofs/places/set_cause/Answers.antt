@@ -12,7 +12,8 @@ returns-then-index-session c =
     let lt : place < length xs = omega (arith, c.if-place-len.true, c.len.ensures) in
     λ rises.
     set_found xs place c.args.session c.args.cause rises lt
-    (λ d. ap (λ (e : ℕ × EndCause). e.0) (get_or_default xs place d c.index.result.now lt ∙ sym c.index.ensures) ∙ c.if-index-session.true)
+    (λ d. ap (λ (e : ℕ × EndCause). e.0) (get_or_default xs place d c.index.result.now lt ∙ sym c.index.ensures)
+    ∙ c.if-index-session.true)
 
 pub returns-else-place-len : goal.returns-else-place-len
 returns-else-place-len c =

@@ -9,19 +9,28 @@ use Rattle.worker.proofs.run.has_drained.Goals as goal
 
 pub loop-place-preserved : goal.loop-place-preserved
 loop-place-preserved g c =
-    let i = c.loop-place.invariant in let e = c.is_emptied.ensures in let yes = c.if-not-is_emptied.false in let still = e.still yes in
-    let w = c.loop-place.worker in let new = c.is_emptied.new.worker in let xs = w.sessions.items in let x = c.index.result.now in let n = c.loop-place.place in
-    let lt : n < length xs = omega (arith, ap (length {A = ℕ × EndCause}) i.sessions, c.len-place-end.ensures, c.loop-place-test.true) in
+    let i = c.loop-place.invariant in let e = c.is_emptied.ensures in let yes = c.if-not-is_emptied.false in
+    let still = e.still yes in
+    let w = c.loop-place.worker in let new = c.is_emptied.new.worker in let xs = w.sessions.items in
+    let x = c.index.result.now in let n = c.loop-place.place in
+    let lt : n < length xs = omega (
+      arith,
+      ap (length {A = ℕ × EndCause}) i.sessions,
+      c.len-place-end.ensures,
+      c.loop-place-test.true,
+    ) in
     let same : new.sessions.items ≡ xs = λ j. (still.sessions j).items in record {
       goes_on = goes_on_trans g.P.Port.told c.args.worker.now w new i.goes_on e.goes_on;
       leads = g.met.P.Port.leads_transitive c.args.worker.now.port w.port new.port i.leads e.leads;
       request = still.request ∙ i.request;
-      back = ap (λ (v : WorkerView). length v.back) still.end ∙ i.back ∙ sym (ap (λ (v : WorkerView). length v.sent) still.end);
+      back = ap (λ (v : WorkerView). length v.back) still.end ∙ i.back
+          ∙ sym (ap (λ (v : WorkerView). length v.sent) still.end);
       few = subst (λ (v : WorkerView). length v.sent < MAX_POSTS) (sym still.end) i.few;
       ended = still.ended ∙ i.ended;
       sessions = same ∙ i.sessions;
       emptied = subst (λ (ys : List (ℕ × EndCause)). EmptiedBelow new.book ys (n + 1)) (sym same)
-          (emptied_more w.book new.book xs n x.0 x.1 i.emptied (λ d. get_or_default xs n d x lt ∙ sym c.index.ensures) still.others (e.emptied yes));
+          (emptied_more w.book new.book xs n x.0 x.1 i.emptied
+          (λ d. get_or_default xs n d x lt ∙ sym c.index.ensures) still.others (e.emptied yes));
     }
 
 pub returns-clause-drained : goal.returns-clause-drained

@@ -1,4 +1,4 @@
-use Rattle.std.proofs.Common.{◌≡◌, ℕ, ◌<◌, [], length, true, None}
+use Rattle.std.proofs.Common.{◌≡◌, ◌<◌, length, true, None}
 use Rattle.session_book.specs.declared.limits.TheConstants.{MAX_POSTS}
 use Rattle.worker.specs.Workers.{WorkerGoesOn}
 use Rattle.worker.proofs.DrainSteps.{EmptiedBelow}

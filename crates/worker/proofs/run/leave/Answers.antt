@@ -19,7 +19,8 @@ returns-clause-reported g c =
     let all : asked_posted w.worker_end.back ≡ w.worker_end.sent = k.steady.back
     ∙ take_all (length w.worker_end.back) w.worker_end.sent (omega (arith, d.back)) in
     reported v c.bye.new.self w.unopened (subst (λ b. IsStoryKnown v w.unopened b) d.ended (k.known story e))
-    (sent_posted w.worker_end w.request d.request ∙ sym (ap (λ (e : WorkerView). e.sent) bye)) (sym (ap (λ (e : WorkerView). e.back) bye))
+    (sent_posted w.worker_end w.request d.request ∙ sym (ap (λ (e : WorkerView). e.sent) bye))
+    (sym (ap (λ (e : WorkerView). e.back) bye))
     (ap (λ (e : WorkerView). asked_posted e.back) bye ∙ all ∙ sym (ap (λ (e : WorkerView). e.sent) bye)) (λ s. refl)
     (λ s cause st q. let p = place_of_cause w.sessions.items s Drained cause in let at = p.2 (0, Drained) in
     d.emptied p.0 (0, Drained) p.1 at.1 st (ap (session_of w.book) at.0 ∙ q))

@@ -15,7 +15,8 @@ either false b e = inr e
 one_more : (t : ℕ) (records : List PortRecord) (i : ℕ) (x : PortRecord) → i < length records → x ≡ get_or records i x
     → was_opened t (take (i + 1) records) ≡ true → (was_opened t (take i records) ≡ true) ⊎ (is_opening t x ≡ true)
 one_more t records i x within at opened =
-    elim (either (was_opened t (take i records)) (is_opening t (get_or records i x)) (sym (list_any_more (is_opening t) records i x within) ∙ opened))
+    elim (either (was_opened t (take i records)) (is_opening t (get_or records i x))
+    (sym (list_any_more (is_opening t) records i x within) ∙ opened))
     [ inl h ↦ inl h | inr h ↦ inr (ap (is_opening t) at ∙ h) ]
 
 opening_is : (t : ℕ) (x : PortRecord) → is_opening t x ≡ true → x ≡ was.Opened t
@@ -29,8 +30,10 @@ opening_is t (was.Shut s) e = grind (arith, e)
 pub loop-entry-preserved : goal.loop-entry-preserved
 loop-entry-preserved c t opened =
     let before = c.loop-entry.invariant t in
-    elim (one_more t c.args.records.now c.loop-entry.entry-index c.entry-item.result c.loop-entry-test.true c.entry-item.is opened) [
-      | inl h ↦ let low = before h in elim c.match-entry.branch [ in-Opened w ↦ grind (arith, low) | in_default w ↦ grind (arith, low) ]
+    elim (one_more t c.args.records.now c.loop-entry.entry-index c.entry-item.result c.loop-entry-test.true
+    c.entry-item.is opened) [
+      | inl h ↦ let low = before h in elim c.match-entry.branch
+          [ in-Opened w ↦ grind (arith, low) | in_default w ↦ grind (arith, low) ]
       | inr h ↦ let is = opening_is t c.entry-item.result h in
           elim c.match-entry.branch [
             | in-Opened w ↦ grind
@@ -41,4 +44,5 @@ loop-entry-preserved c t opened =
 
 pub returns : goal.returns
 returns c t opened =
-    c.loop-entry.invariant t (ap (was_opened t) (take_all c.loop-entry.entry-index c.args.records.now c.loop-entry-test.false) ∙ opened)
+    c.loop-entry.invariant t (ap (was_opened t)
+    (take_all c.loop-entry.entry-index c.args.records.now c.loop-entry-test.false) ∙ opened)

@@ -8,10 +8,13 @@ use Rattle.exchange.proofs.Fields.{idle_is}
 use Rattle.exchange.proofs.storage_batch.StorageBatch.look.Goals as goal
 
 pub take_message-posted-requires-clause-idle : goal.take_message-posted-requires-clause-idle
-take_message-posted-requires-clause-idle c = let d : StorageState = storage_state_in c.self.inside.seat.me.0 in let inv = c.self.invariant.3 in
-    let idle = idle_is d.holding (λ w x e. (inv.holds w x e).2) (ap (λ (z : StorageBatchView). z.end.open_request) c.self.view_is ∙ c.requires.0) in (
+take_message-posted-requires-clause-idle c = let d : StorageState = storage_state_in c.self.inside.seat.me.0 in
+    let inv = c.self.invariant.3 in
+    let idle = idle_is d.holding (λ w x e. (inv.holds w x e).2)
+    (ap (λ (z : StorageBatchView). z.end.open_request) c.self.view_is ∙ c.requires.0) in (
       inv.seated ∙ (λ j. let z : SeatState = (Storage d, carried_by d (idle j)) in z),
-      sym (inv.counts_are c.args.lane (subst (λ (z : StorageBatchView). c.args.lane < z.end.workers) (sym c.self.view_is) c.requires.1)),
+      sym (inv.counts_are c.args.lane (subst (λ (z : StorageBatchView). c.args.lane < z.end.workers)
+          (sym c.self.view_is) c.requires.1)),
       idle,
     )
 

@@ -11,10 +11,14 @@ invariant_of-self c = let inv = c.self.invariant in let did = c.take_seen_answer
     (search rules, search rules, taken_seen _ _ _ _ _ _ _ _ _ inv.2 (search rules) did.next did.taken)
 
 pub returns-clause-own : goal.returns-clause-own
-returns-clause-own c = let a = c.take_seen_answer-answer.result in subst (λ (z : WorkerBatchView). (a.worker ≡ z.end.worker)
+returns-clause-own c = let a = c.take_seen_answer-answer.result in
+    subst (λ (z : WorkerBatchView). (a.worker ≡ z.end.worker)
     × (get_elem? z.end.sent (length z.end.back) ≡ some (posted_of a))) c.self.view_is
-    (seen_own _ a (was_told c.self.inside.seat.table_id _ _ c.self.invariant.2.told) c.take_seen_answer-answer.ensures.next)
+    (seen_own _ a (was_told c.self.inside.seat.table_id _ _ c.self.invariant.2.told)
+    c.take_seen_answer-answer.ensures.next)
 
 pub returns-clause-in_order : goal.returns-clause-in_order
-returns-clause-in_order c = let a = c.take_seen_answer-answer.result in subst (λ (z : WorkerBatchView). a.number ≡ length z.end.back + 1) c.self.view_is
-    (seen_next _ a (was_told c.self.inside.seat.table_id _ _ c.self.invariant.2.told) c.take_seen_answer-answer.ensures.next)
+returns-clause-in_order c = let a = c.take_seen_answer-answer.result in
+    subst (λ (z : WorkerBatchView). a.number ≡ length z.end.back + 1) c.self.view_is
+    (seen_next _ a (was_told c.self.inside.seat.table_id _ _ c.self.invariant.2.told)
+    c.take_seen_answer-answer.ensures.next)

@@ -25,7 +25,11 @@ loop-step-preserved c =
     let cons : drop i moves ≡ m ∷ rest = rw add-one (drop-cons moves i no_move lt) in
     let had : IsLosing keys moves (m ∷ rest) c.args.self.now c.loop-step.self =
     subst (λ ms. IsLosing keys moves ms c.args.self.now c.loop-step.self) cons
-    record { index = c.loop-step.invariant.index; size = c.loop-step.invariant.size; ends = c.loop-step.invariant.ends } in
+    record {
+      index = c.loop-step.invariant.index;
+      size = c.loop-step.invariant.size;
+      ends = c.loop-step.invariant.ends;
+    } in
     let has : IsLosing keys moves rest c.args.self.now c.if-is_none.self = elim c.if-is_none.branch [
       | then-is_none w ↦
           subst (IsLosing keys moves rest c.args.self.now) (sym w.self-is)
@@ -33,13 +37,15 @@ loop-step-preserved c =
           (c.is_none.ensures ∙ ap not w.if-is_none.true) w.take_out.ensures.followed w.take_out.ensures.size)
       | else-is_none w ↦
           subst (IsLosing keys moves rest c.args.self.now) (sym w.self-is)
-          (passes keys moves m rest c.args.self.now c.loop-step.self had (c.is_none.ensures ∙ ap not w.if-is_none.false))
+          (passes keys moves m rest c.args.self.now c.loop-step.self had
+          (c.is_none.ensures ∙ ap not w.if-is_none.false))
     ] in
     record { index = has.index; size = has.size; ends = has.ends }
 
 pub take_out-requires-clause-key : goal.take_out-requires-clause-key
 take_out-requires-clause-key c =
-    item_key c.args.pool.now (get_or c.args.moves.now c.loop-step.step-index no_move).source (item_of c.item-item.result) (sym c.item-item.ensures.item)
+    item_key c.args.pool.now (get_or c.args.moves.now c.loop-step.step-index no_move).source
+    (item_of c.item-item.result) (sym c.item-item.ensures.item)
 
 pub returns-clause-followed : goal.returns-clause-followed
 returns-clause-followed c =
@@ -48,5 +54,6 @@ returns-clause-followed c =
     let le = c.loop-step-test.false in
     let none : drop c.loop-step.step-index moves ≡ [] = drop_of_length-le moves le in
     c.loop-step.invariant.ends c.loop-step.self
-    (followed_itself keys keys (forget_lost (drop c.loop-step.step-index moves)) c.loop-step.self c.loop-step.invariant.index (λ q held. refl)
+    (followed_itself keys keys (forget_lost (drop c.loop-step.step-index moves)) c.loop-step.self
+    c.loop-step.invariant.index (λ q held. refl)
     (λ q held. ap (λ (l : List Move). forget_lost l q) none))

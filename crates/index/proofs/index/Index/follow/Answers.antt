@@ -11,7 +11,8 @@ pub relocate-requires-clause-can : goal.relocate-requires-clause-can
 relocate-requires-clause-can c =
     let before : KeysOf = key_at c.args.pool.now in
     let after : KeysOf = keys_behind c.args.pool.now in
-    let can = subst (λ (ms : List Move). CanFollow before after c.args.self.now ms) (sym c.moves-moves.ensures.planned) c.requires.can in
+    let can = subst (λ (ms : List Move). CanFollow before after c.args.self.now ms)
+    (sym c.moves-moves.ensures.planned) c.requires.can in
     can_still before after c.moves-moves.result.now c.args.self.now c.drop_lost.new.self can c.requires.index
     c.drop_lost.ensures.followed c.drop_lost.ensures.size.layout
 
@@ -19,7 +20,8 @@ pub relocate-requires-clause-lost : goal.relocate-requires-clause-lost
 relocate-requires-clause-lost c =
     let before : KeysOf = key_at c.args.pool.now in
     let after : KeysOf = keys_behind c.args.pool.now in
-    let can = subst (λ (ms : List Move). CanFollow before after c.args.self.now ms) (sym c.moves-moves.ensures.planned) c.requires.can in
+    let can = subst (λ (ms : List Move). CanFollow before after c.args.self.now ms)
+    (sym c.moves-moves.ensures.planned) c.requires.can in
     lost_out before after c.moves-moves.result.now c.args.self.now c.drop_lost.new.self can c.requires.index
     c.drop_lost.ensures.followed c.drop_lost.ensures.size.layout
 
@@ -28,8 +30,11 @@ returns-clause-followed c =
     let before : KeysOf = key_at c.args.pool.now in
     let after : KeysOf = keys_behind c.args.pool.now in
     let moves = c.moves-moves.result.now in
-    let can = subst (λ (ms : List Move). CanFollow before after c.args.self.now ms) (sym c.moves-moves.ensures.planned) c.requires.can in
-    subst (λ (ms : List Move). IsFollowed before after (moved_by ms) c.args.self.now c.relocate.new.self) c.moves-moves.ensures.planned
+    let can = subst (λ (ms : List Move). CanFollow before after c.args.self.now ms)
+    (sym c.moves-moves.ensures.planned) c.requires.can in
+    subst (λ (ms : List Move). IsFollowed before after (moved_by ms) c.args.self.now c.relocate.new.self)
+    c.moves-moves.ensures.planned
     (composed before before after (forget_lost moves) (moved_by moves)
-    (moved_by moves) c.args.self.now c.drop_lost.new.self c.relocate.new.self c.drop_lost.ensures.followed c.relocate.ensures.followed
+    (moved_by moves) c.args.self.now c.drop_lost.new.self c.relocate.new.self c.drop_lost.ensures.followed
+    c.relocate.ensures.followed
     (λ p held. lost_and_moved moves p can.in_turn))

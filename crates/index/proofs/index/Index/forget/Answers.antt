@@ -20,9 +20,11 @@ loop-place-init c =
     record {
       index = c.requires.index;
       size = record { count = refl; hasher = refl; layout = refl };
-      standing = subst (All (λ s. item_in p s.place ≡ Some s.item)) (sym left) (found_from p n [] (items_of (segment_at p n)) refl);
+      standing = subst (All (λ s. item_in p s.place ≡ Some s.item)) (sym left)
+          (found_from p n [] (items_of (segment_at p n)) refl);
       ends = λ end h.
-          retargeted (key_at p) (key_at p) (forget_listed c.walk-walk.result.left) (forget_segment n) c.args.self.now end h
+          retargeted (key_at p) (key_at p) (forget_listed c.walk-walk.result.left)
+          (forget_segment n) c.args.self.now end h
           (λ q held. ap (λ (l : List Standing). forget_listed l q) left
           ∙ listed_all p n q (some_key p q (held_key (key_at p) c.args.self.now c.requires.index q held)));
     }
@@ -33,10 +35,12 @@ loop-place-preserved c =
     let s : Standing = standing_at c.in-Some.place (item_of c.in-Some.item) in
     let rest = c.next.new.self.left in
     let e : c.loop-place.walk.left ≡ s ∷ rest = c.in-Some.ensures.left.0 in
-    let all = subst (All (λ (x : Standing). item_in c.args.pool.now x.place ≡ Some x.item)) e c.loop-place.invariant.standing in
+    let all = subst (All (λ (x : Standing). item_in c.args.pool.now x.place ≡ Some x.item)) e
+    c.loop-place.invariant.standing in
     record {
       index = c.take_out.ensures.followed.index;
-      size = same_size c.args.self.now c.loop-place.self c.take_out.new.self c.loop-place.invariant.size c.take_out.ensures.size;
+      size = same_size c.args.self.now c.loop-place.self c.take_out.new.self c.loop-place.invariant.size
+          c.take_out.ensures.size;
       standing = All-tail (λ (x : Standing). item_in c.args.pool.now x.place ≡ Some x.item) s rest all;
       ends = λ end h.
           c.loop-place.invariant.ends end
@@ -48,7 +52,8 @@ loop-place-preserved c =
 pub take_out-requires-clause-key : goal.take_out-requires-clause-key
 take_out-requires-clause-key c =
     let s : Standing = standing_at c.in-Some.place (item_of c.in-Some.item) in
-    let all = subst (All (λ (x : Standing). item_in c.args.pool.now x.place ≡ Some x.item)) c.in-Some.ensures.left.0 c.loop-place.invariant.standing in
+    let all = subst (All (λ (x : Standing). item_in c.args.pool.now x.place ≡ Some x.item)) c.in-Some.ensures.left.0
+    c.loop-place.invariant.standing in
     item_key c.args.pool.now c.in-Some.place (item_of c.in-Some.item) (All-head
     (λ (x : Standing). item_in c.args.pool.now x.place ≡ Some x.item) s c.next.new.self.left all)
 
@@ -56,5 +61,6 @@ pub returns-clause-followed : goal.returns-clause-followed
 returns-clause-followed c =
     let keys : KeysOf = key_at c.args.pool.now in
     c.loop-place.invariant.ends c.loop-place.self
-    (followed_itself keys keys (forget_listed c.loop-place.walk.left) c.loop-place.self c.loop-place.invariant.index (λ q held. refl)
+    (followed_itself keys keys (forget_listed c.loop-place.walk.left) c.loop-place.self c.loop-place.invariant.index
+    (λ q held. refl)
     (λ q held. ap (λ (l : List Standing). forget_listed l q) c.in_default.ensures.left))

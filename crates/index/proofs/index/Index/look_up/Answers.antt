@@ -17,14 +17,17 @@ returns-in-Err-clause-place c =
     let h : Hashing = hashing (length slots) c.self.inside.slots.layout c.self.inside.hasher in
     let len : c.len.result ≡ length slots = c.len.ensures in
     let home_is : c.home_of-home.result ≡ h.home key =
-    c.home_of-home.ensures.value ∙ ap (λ n. home_of n c.hash_of-hash.result) len ∙ ap (home_of (length slots)) c.hash_of-hash.ensures in
-    let tag_is : c.tag_of-tag.result ≡ h.tag key = c.tag_of-tag.ensures.value ∙ ap (tag_of c.layout.result) c.hash_of-hash.ensures
+    c.home_of-home.ensures.value ∙ ap (λ n. home_of n c.hash_of-hash.result) len
+    ∙ ap (home_of (length slots)) c.hash_of-hash.ensures in
+    let tag_is : c.tag_of-tag.result ≡ h.tag key =
+    c.tag_of-tag.ensures.value ∙ ap (tag_of c.layout.result) c.hash_of-hash.ensures
     ∙ ap (λ y. tag_of y (hash_of c.self.inside.hasher key)) c.layout.ensures.value in
     let none : NoneUpTo keys slots (h.home key) (h.tag key) key c.in-Err.field-0 =
     rw tag_is at (rw home_is at c.in-Err.ensures) in
     let below : h.home key < length slots = rw len at (rw home_is at c.home_of-home.ensures.in_range) in
     let index : AreIndexed h keys slots = rw (← c.self.view_is) at c.requires in
-    rw (← c.self.view_is) (sym (get_none keys slots key (none_found h keys slots key index below c.in-Err.field-0 none)))
+    rw (← c.self.view_is) (sym (get_none keys slots key
+    (none_found h keys slots key index below c.in-Err.field-0 none)))
 
 pub returns-in-Ok-clause-place : goal.returns-in-Ok-clause-place
 returns-in-Ok-clause-place c =
@@ -45,14 +48,17 @@ returns-in-Ok-clause-place c =
 pub returns-in-Ok-clause-key : goal.returns-in-Ok-clause-key
 returns-in-Ok-clause-key c =
     let slots = c.self.inside.slots.slots in
-    let found : IsOfKey (key_at c.args.pool.now) slots c.tag_of-tag.result c.args.key.now c.in-Ok.at = c.in-Ok.ensures in
+    let found : IsOfKey (key_at c.args.pool.now) slots c.tag_of-tag.result c.args.key.now c.in-Ok.at =
+    c.in-Ok.ensures in
     let read : c.get.result ≡ slot_at slots c.in-Ok.at = c.get.ensures in
     ap (key_at c.args.pool.now) (c.place.ensures ∙ ap place_of read) ∙ found.key_is
 
 pub returns-in-Ok-clause-item : goal.returns-in-Ok-clause-item
 returns-in-Ok-clause-item c =
     let slots = c.self.inside.slots.slots in
-    let found : IsOfKey (key_at c.args.pool.now) slots c.tag_of-tag.result c.args.key.now c.in-Ok.at = c.in-Ok.ensures in
+    let found : IsOfKey (key_at c.args.pool.now) slots c.tag_of-tag.result c.args.key.now c.in-Ok.at =
+    c.in-Ok.ensures in
     let read : c.get.result ≡ slot_at slots c.in-Ok.at = c.get.ensures in
-    let is : key_at c.args.pool.now c.place.result ≡ Some c.args.key.now = ap (key_at c.args.pool.now) (c.place.ensures ∙ ap place_of read) ∙ found.key_is in
+    let is : key_at c.args.pool.now c.place.result ≡ Some c.args.key.now =
+    ap (key_at c.args.pool.now) (c.place.ensures ∙ ap place_of read) ∙ found.key_is in
     some_key c.args.pool.now c.place.result (rw is refl)

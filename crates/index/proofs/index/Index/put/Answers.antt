@@ -19,7 +19,8 @@ set-requires-clause-slot c =
     let hash = hash_of c.self.inside.hasher c.args.key.now in
     let l = c.self.inside.slots.layout in
     let view : c.args.self.now.layout ≡ l = sym (ap (λ (t : Table). t.layout) c.self.view_is) in
-    let tag_is : c.tag_of-tag.result ≡ tag_of l hash = c.tag_of-tag.ensures.value ∙ ap (tag_of c.layout.result) c.hash_of-hash.ensures
+    let tag_is : c.tag_of-tag.result ≡ tag_of l hash =
+    c.tag_of-tag.ensures.value ∙ ap (tag_of c.layout.result) c.hash_of-hash.ensures
     ∙ ap (λ y. tag_of y (hash_of c.self.inside.hasher c.args.key.now)) c.layout.ensures.value in
     let small = c.hash_of-hash.type_inv in
     let kept = rw c.layout.ensures.value at c.layout.ensures.layout in
@@ -31,7 +32,8 @@ set-requires-in-Err-clause-slot c =
     let hash = hash_of c.self.inside.hasher c.args.key.now in
     let l = c.self.inside.slots.layout in
     let view : c.args.self.now.layout ≡ l = sym (ap (λ (t : Table). t.layout) c.self.view_is) in
-    let tag_is : c.tag_of-tag.result ≡ tag_of l hash = c.tag_of-tag.ensures.value ∙ ap (tag_of c.layout.result) c.hash_of-hash.ensures
+    let tag_is : c.tag_of-tag.result ≡ tag_of l hash =
+    c.tag_of-tag.ensures.value ∙ ap (tag_of c.layout.result) c.hash_of-hash.ensures
     ∙ ap (λ y. tag_of y (hash_of c.self.inside.hasher c.args.key.now)) c.layout.ensures.value in
     let small = c.hash_of-hash.type_inv in
     let kept = rw c.layout.ensures.value at c.layout.ensures.layout in
@@ -49,8 +51,10 @@ returns-in-Ok-clause-had c =
     let found : IsOfKey keys slots c.tag_of-tag.result key at = c.in-Ok.ensures in
     let source : Place = place_of (slot_at slots at) in
     let place_is : c.place-source.result ≡ source = c.place-source.ensures ∙ ap place_of c.get.ensures in
-    let st : Stands keys slots key source = record { at = at; in_range = found.in_range; used = found.used; place_is = refl; key_is = found.key_is } in
-    ap Some place_is ∙ rw (← c.self.view_is) (sym (get_from_stands keys slots key source st (λ r. stands_once h keys slots index key source r st)))
+    let st : Stands keys slots key source =
+    record { at = at; in_range = found.in_range; used = found.used; place_is = refl; key_is = found.key_is } in
+    ap Some place_is ∙ rw (← c.self.view_is)
+    (sym (get_from_stands keys slots key source st (λ r. stands_once h keys slots index key source r st)))
 
 pub returns-in-Ok-clause-map : goal.returns-in-Ok-clause-map
 returns-in-Ok-clause-map c =
@@ -64,11 +68,16 @@ returns-in-Ok-clause-map c =
     let found : IsOfKey keys slots c.tag_of-tag.result key at = c.in-Ok.ensures in
     let source : Place = place_of (slot_at slots at) in
     let slot : IsSlotOf h keys slots at key source =
-    record { of_place = record { in_range = found.in_range; used = found.used; place_is = refl }; of_key = found.key_is } in
-    let tag_is : c.tag_of-tag.result ≡ h.tag key = c.tag_of-tag.ensures.value ∙ ap (tag_of c.layout.result) c.hash_of-hash.ensures
+    record {
+      of_place = record { in_range = found.in_range; used = found.used; place_is = refl };
+      of_key = found.key_is;
+    } in
+    let tag_is : c.tag_of-tag.result ≡ h.tag key =
+    c.tag_of-tag.ensures.value ∙ ap (tag_of c.layout.result) c.hash_of-hash.ensures
     ∙ ap (λ y. tag_of y (hash_of c.self.inside.hasher c.args.key.now)) c.layout.ensures.value in
     let slot_is : c.new.result ≡ slot_with (h.tag key) place = c.new.ensures ∙ ap (λ t. slot_with t place) tag_is in
-    let can = can_replace h keys keys slots at key source place index slot (some_tag c.self.inside.slots.layout (hash_of c.self.inside.hasher key))
+    let can = can_replace h keys keys slots at key source place index slot
+    (some_tag c.self.inside.slots.layout (hash_of c.self.inside.hasher key))
     c.requires.key (λ i r u other. refl) in
     let set = set_at slots at (slot_with (h.tag key) place) found.in_range in
     let new : List Slot = slice_set slots at (slot_with (h.tag key) place) in
@@ -85,13 +94,17 @@ returns-in-Err-clause-had c =
     let keys : KeysOf = key_at c.args.pool.now in
     let h : Hashing = hashing (length slots) c.self.inside.slots.layout c.self.inside.hasher in
     let index : AreIndexed h keys slots = rw (← c.self.view_is) at c.requires.index in
-    let home_is : c.home_of-home.result ≡ h.home key = c.home_of-home.ensures.value ∙ ap (λ n. home_of n c.hash_of-hash.result) c.len.ensures
+    let home_is : c.home_of-home.result ≡ h.home key =
+    c.home_of-home.ensures.value ∙ ap (λ n. home_of n c.hash_of-hash.result) c.len.ensures
     ∙ ap (home_of (length c.self.inside.slots.slots)) c.hash_of-hash.ensures in
-    let tag_is : c.tag_of-tag.result ≡ h.tag key = c.tag_of-tag.ensures.value ∙ ap (tag_of c.layout.result) c.hash_of-hash.ensures
+    let tag_is : c.tag_of-tag.result ≡ h.tag key =
+    c.tag_of-tag.ensures.value ∙ ap (tag_of c.layout.result) c.hash_of-hash.ensures
     ∙ ap (λ y. tag_of y (hash_of c.self.inside.hasher c.args.key.now)) c.layout.ensures.value in
-    let none : NoneUpTo keys slots (h.home key) (h.tag key) key c.in-Err.gap = rw tag_is at (rw home_is at c.in-Err.ensures) in
+    let none : NoneUpTo keys slots (h.home key) (h.tag key) key c.in-Err.gap =
+    rw tag_is at (rw home_is at c.in-Err.ensures) in
     let below : h.home key < length slots = rw c.len.ensures at (rw home_is at c.home_of-home.ensures.in_range) in
-    let absent : map.get (places_in keys slots) key ≡ None = get_none keys slots key (none_found h keys slots key index below c.in-Err.gap none) in
+    let absent : map.get (places_in keys slots) key ≡ None =
+    get_none keys slots key (none_found h keys slots key index below c.in-Err.gap none) in
     rw (← c.self.view_is) (sym absent)
 
 pub returns-in-Err-clause-map : goal.returns-in-Err-clause-map
@@ -102,17 +115,23 @@ returns-in-Err-clause-map c =
     let keys : KeysOf = key_at c.args.pool.now in
     let h : Hashing = hashing (length slots) c.self.inside.slots.layout c.self.inside.hasher in
     let index : AreIndexed h keys slots = rw (← c.self.view_is) at c.requires.index in
-    let home_is : c.home_of-home.result ≡ h.home key = c.home_of-home.ensures.value ∙ ap (λ n. home_of n c.hash_of-hash.result) c.len.ensures
+    let home_is : c.home_of-home.result ≡ h.home key =
+    c.home_of-home.ensures.value ∙ ap (λ n. home_of n c.hash_of-hash.result) c.len.ensures
     ∙ ap (home_of (length c.self.inside.slots.slots)) c.hash_of-hash.ensures in
-    let tag_is : c.tag_of-tag.result ≡ h.tag key = c.tag_of-tag.ensures.value ∙ ap (tag_of c.layout.result) c.hash_of-hash.ensures
+    let tag_is : c.tag_of-tag.result ≡ h.tag key =
+    c.tag_of-tag.ensures.value ∙ ap (tag_of c.layout.result) c.hash_of-hash.ensures
     ∙ ap (λ y. tag_of y (hash_of c.self.inside.hasher c.args.key.now)) c.layout.ensures.value in
-    let none : NoneUpTo keys slots (h.home key) (h.tag key) key c.in-Err.gap = rw tag_is at (rw home_is at c.in-Err.ensures) in
+    let none : NoneUpTo keys slots (h.home key) (h.tag key) key c.in-Err.gap =
+    rw tag_is at (rw home_is at c.in-Err.ensures) in
     let below : h.home key < length slots = rw c.len.ensures at (rw home_is at c.home_of-home.ensures.in_range) in
-    let absent : map.get (places_in keys slots) key ≡ None = get_none keys slots key (none_found h keys slots key index below c.in-Err.gap none) in
+    let absent : map.get (places_in keys slots) key ≡ None =
+    get_none keys slots key (none_found h keys slots key index below c.in-Err.gap none) in
     let at = c.in-Err.gap in
     let gap : IsFirstGap slots (h.home key) at = none.0 in
-    let slot_is : c.new-in-Err.result ≡ slot_with (h.tag key) place = c.new-in-Err.ensures ∙ ap (λ t. slot_with t place) tag_is in
-    let can = can_insert h keys slots at key place index c.requires.key absent gap (some_tag c.self.inside.slots.layout (hash_of c.self.inside.hasher key)) in
+    let slot_is : c.new-in-Err.result ≡ slot_with (h.tag key) place =
+    c.new-in-Err.ensures ∙ ap (λ t. slot_with t place) tag_is in
+    let can = can_insert h keys slots at key place index c.requires.key absent gap
+    (some_tag c.self.inside.slots.layout (hash_of c.self.inside.hasher key)) in
     let set = set_at slots at (slot_with (h.tag key) place) gap.in_range in
     let new : List Slot = slice_set slots at (slot_with (h.tag key) place) in
     let same : length new ≡ length slots = length-set slots at (slot_with (h.tag key) place) in

@@ -56,7 +56,8 @@ loop-step-preserved c =
           (target_rekeyed before after moves m rest c.args.self.now t had target is key own)
           (others_keep before after moves m rest c.args.self.now t had target is key own) in
           subst (IsRelocating before after moves rest c.args.self.now) (sym w.self-is)
-          (moves_on before after moves m rest c.args.self.now t had target is key own w.replace.new.self put w.replace.ensures.size)
+          (moves_on before after moves m rest c.args.self.now t had target is key own w.replace.new.self put
+          w.replace.ensures.size)
       | in_default w ↦
           subst (IsRelocating before after moves rest c.args.self.now) (sym w.self-is)
           (skips before after moves m rest c.args.self.now t had w.in_default.is)
@@ -94,4 +95,5 @@ returns-clause-followed c =
     let can = subst (λ ms. CanFollow h.keys after c.loop-step.self ms) none h.can in
     h.ends c.loop-step.self
     (subst (λ ms. IsFollowed h.keys after (moved_by ms) c.loop-step.self c.loop-step.self) (sym none)
-    (followed_itself h.keys after (moved_by []) c.loop-step.self h.index (λ q held. can.others q held refl) (λ q held. refl)))
+    (followed_itself h.keys after (moved_by []) c.loop-step.self h.index (λ q held. can.others q held refl)
+    (λ q held. refl)))

@@ -19,7 +19,8 @@ unwrap-at-requires c =
     let h : Hashing = hashing (length slots) c.self.inside.slots.layout c.self.inside.hasher in
     let len : c.len.result ≡ length slots = c.len.ensures in
     let home_is : c.home_of-home.result ≡ h.home key =
-    c.home_of-home.ensures.value ∙ ap (λ n. home_of n c.hash_of-hash.result) len ∙ ap (home_of (length slots)) c.hash_of-hash.ensures in
+    c.home_of-home.ensures.value ∙ ap (λ n. home_of n c.hash_of-hash.result) len
+    ∙ ap (home_of (length slots)) c.hash_of-hash.ensures in
     let found : MatchOption c.find_place.result (NoneOfPlace slots (h.home key) place) (IsOfPlace slots place) =
     rw home_is at c.find_place.ensures in
     let below : h.home key < length slots = rw len at (rw home_is at c.home_of-home.ensures.in_range) in
@@ -38,10 +39,13 @@ returns-clause-map c =
     let at = c.unwrap-at.result in
     let after = c.empty.new.slots.slots in
     let of : IsOfPlace slots place at =
-    found_is c.find_place.result at (NoneOfPlace slots c.home_of-home.result place) (IsOfPlace slots place) c.find_place.ensures c.unwrap-at.ensures in
+    found_is c.find_place.result at (NoneOfPlace slots c.home_of-home.result place)
+    (IsOfPlace slots place) c.find_place.ensures c.unwrap-at.ensures in
     let is : map.get (places_in keys slots) key ≡ Some place = rw (← c.self.view_is) at c.requires.there in
-    let has : keys (place_of (slot_at slots at)) ≡ Some key = ap keys of.place_is ∙ (stands_from_get keys slots key place is).key_is in
-    let emptied : IfSome (keys (place_of (slot_at slots at))) (λ k. IsWithout h keys slots after k) = c.empty.ensures.without in
+    let has : keys (place_of (slot_at slots at)) ≡ Some key =
+    ap keys of.place_is ∙ (stands_from_get keys slots key place is).key_is in
+    let emptied : IfSome (keys (place_of (slot_at slots at))) (λ k. IsWithout h keys slots after k) =
+    c.empty.ensures.without in
     let without : IsWithout h keys slots after key = rw has at emptied in
     let len : length after ≡ length slots = c.empty.ensures.count in
     rw (← c.self.view_is) record {

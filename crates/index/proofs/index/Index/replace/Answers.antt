@@ -23,7 +23,8 @@ unwrap-at-requires c =
     let h : Hashing = hashing (length slots) c.self.inside.slots.layout c.self.inside.hasher in
     let len : c.len.result ≡ length slots = c.len.ensures in
     let home_is : c.home_of-home.result ≡ h.home key =
-    c.home_of-home.ensures.value ∙ ap (λ n. home_of n c.hash_of-hash.result) len ∙ ap (home_of (length slots)) c.hash_of-hash.ensures in
+    c.home_of-home.ensures.value ∙ ap (λ n. home_of n c.hash_of-hash.result) len
+    ∙ ap (home_of (length slots)) c.hash_of-hash.ensures in
     let found : MatchOption c.find_place.result (NoneOfPlace slots (h.home key) source) (IsOfPlace slots source) =
     rw home_is at c.find_place.ensures in
     let below : h.home key < length slots = rw len at (rw home_is at c.home_of-home.ensures.in_range) in
@@ -43,14 +44,18 @@ returns-clause-map c =
     let h : Hashing = hashing (length slots) c.self.inside.slots.layout hasher in
     let at = c.unwrap-at.result in
     let of : IsOfPlace slots source at =
-    found_is c.find_place.result at (NoneOfPlace slots c.home_of-home.result source) (IsOfPlace slots source) c.find_place.ensures c.unwrap-at.ensures in
+    found_is c.find_place.result at (NoneOfPlace slots c.home_of-home.result source)
+    (IsOfPlace slots source) c.find_place.ensures c.unwrap-at.ensures in
     rw (← c.self.view_is) (λ before after index is key_is agree.
     let slot = slot_of_key h before slots at key source is of in
-    let tag_is : c.tag_of-tag.result ≡ h.tag key = c.tag_of-tag.ensures.value ∙ ap (tag_of c.layout.result) c.hash_of-hash.ensures
+    let tag_is : c.tag_of-tag.result ≡ h.tag key =
+    c.tag_of-tag.ensures.value ∙ ap (tag_of c.layout.result) c.hash_of-hash.ensures
     ∙ ap (λ y. tag_of y (hash_of hasher key)) c.layout.ensures.value in
     let slot_is : c.new.result ≡ slot_with (h.tag key) target = c.new.ensures ∙ ap (λ t. slot_with t target) tag_is in
-    let can = can_replace h before after slots at key source target index slot (some_tag c.self.inside.slots.layout (hash_of hasher key)) key_is
-    (λ i r u other. agree (place_of (slot_at slots i)) record { at = i; in_range = r; used = u; place_is = refl } other) in
+    let can = can_replace h before after slots at key source target index slot
+    (some_tag c.self.inside.slots.layout (hash_of hasher key)) key_is
+    (λ i r u other. agree (place_of (slot_at slots i)) record { at = i; in_range = r; used = u; place_is = refl }
+    other) in
     let set = set_at slots at (slot_with (h.tag key) target) of.in_range in
     let new : List Slot = slice_set slots at (slot_with (h.tag key) target) in
     let same : length new ≡ length slots = length-set slots at (slot_with (h.tag key) target) in
@@ -64,7 +69,8 @@ set-requires-clause-slot c =
     let hash = hash_of c.self.inside.hasher c.args.key.now in
     let l = c.self.inside.slots.layout in
     let view : c.args.self.now.layout ≡ l = sym (ap (λ (t : Table). t.layout) c.self.view_is) in
-    let tag_is : c.tag_of-tag.result ≡ tag_of l hash = c.tag_of-tag.ensures.value ∙ ap (tag_of c.layout.result) c.hash_of-hash.ensures
+    let tag_is : c.tag_of-tag.result ≡ tag_of l hash =
+    c.tag_of-tag.ensures.value ∙ ap (tag_of c.layout.result) c.hash_of-hash.ensures
     ∙ ap (λ y. tag_of y hash) c.layout.ensures.value in
     let small = c.hash_of-hash.type_inv in
     let kept = rw c.layout.ensures.value at c.layout.ensures.layout in

@@ -23,10 +23,12 @@ returns-in-Some-clause-followed c =
     let index : AreIndexed h keys slots = rw (← c.self.view_is) at c.requires.index in
     let of : IsOfPlace slots place at = c.in-Some.ensures in
     let has : keys (place_of (slot_at slots at)) ≡ Some key = ap keys of.place_is ∙ c.requires.key in
-    let st : Stands keys slots key place = record { at = at; in_range = of.in_range; used = of.used; place_is = of.place_is; key_is = c.requires.key } in
+    let st : Stands keys slots key place =
+    record { at = at; in_range = of.in_range; used = of.used; place_is = of.place_is; key_is = c.requires.key } in
     let held : map.get (places_in keys slots) key ≡ Some place = get_from_stands keys slots key place st
     (λ r. stands_once h keys slots index key place r st) in
-    let emptied : IfSome (keys (place_of (slot_at slots at))) (λ k. IsWithout h keys slots after k) = c.empty.ensures.without in
+    let emptied : IfSome (keys (place_of (slot_at slots at))) (λ k. IsWithout h keys slots after k) =
+    c.empty.ensures.without in
     let without : IsWithout h keys slots after key = rw has at emptied in
     let len : length after ≡ length slots = c.empty.ensures.count in
     rw (← c.self.view_is) record {
@@ -43,11 +45,13 @@ returns-in_default-clause-followed c =
     let h : Hashing = hashing (length slots) c.self.inside.slots.layout c.self.inside.hasher in
     let len : c.len.result ≡ length slots = c.len.ensures in
     let home_is : c.home_of-home.result ≡ h.home key =
-    c.home_of-home.ensures.value ∙ ap (λ n. home_of n c.hash_of.result) len ∙ ap (home_of (length slots)) c.hash_of.ensures in
+    c.home_of-home.ensures.value ∙ ap (λ n. home_of n c.hash_of.result) len
+    ∙ ap (home_of (length slots)) c.hash_of.ensures in
     let none : NoneOfPlace slots (h.home key) place = rw home_is at c.in_default.ensures in
     let below : h.home key < length slots = rw len at (rw home_is at c.home_of-home.ensures.in_range) in
     let index : AreIndexed h keys slots = rw (← c.self.view_is) at c.requires.index in
     rw (← c.self.view_is) record {
       index = index;
-      places = λ q. unforgotten keys slots key place c.requires.key (λ st. no_place_found h keys slots key place index below st none) q;
+      places = λ q. unforgotten keys slots key place c.requires.key
+          (λ st. no_place_found h keys slots key place index below st none) q;
     }

@@ -8,7 +8,10 @@ unfolding slot_of
 returns-then-word-eq0 c = rw c.if-word-eq0.true refl
 
 pub overflow_add-result : goal.overflow_add-result
-overflow_add-result c = record { fits = tag_counts c.args.word c.args.self.place_bits c.requires.some c.ranges.word.fits }
+overflow_add-result c = record {
+  fits = tag_counts c.args.word c.args.self.place_bits c.requires.some
+      c.ranges.word.fits;
+}
 
 pub overflow_mul-result : goal.overflow_mul-result
 overflow_mul-result c =

@@ -4,10 +4,12 @@ use Rattle.index.proofs.slots.Slots.set_word.Goals as goal
 
 pub returns-then-is_narrow : goal.returns-then-is_narrow
 returns-then-is_narrow c =
-    rw (← c.self.view_is) (narrow_set c.self.inside.layout c.self.inside.narrow.items c.self.inside.wide.items c.args.at c.args.word
+    rw (← c.self.view_is) (narrow_set c.self.inside.layout c.self.inside.narrow.items c.self.inside.wide.items c.args.at
+    c.args.word
     (sym c.is_narrow.ensures ∙ c.if-is_narrow.true))
 
 pub returns-else-is_narrow : goal.returns-else-is_narrow
 returns-else-is_narrow c =
-    rw (← c.self.view_is) (wide_set c.self.inside.layout c.self.inside.narrow.items c.self.inside.wide.items c.args.at c.args.word
+    rw (← c.self.view_is) (wide_set c.self.inside.layout c.self.inside.narrow.items c.self.inside.wide.items c.args.at
+    c.args.word
     (sym c.is_narrow.ensures ∙ c.if-is_narrow.false))

@@ -11,7 +11,8 @@ pub invariant_of-result : goal.invariant_of-result
 unfolding new_pool
 invariant_of-result c =
     let index = c.in_ok-new-2.field-0 in
-    let long : length index.slots ≡ c.max.result = ap length c.in_ok-new-2.ensures.slots ∙ length-replicate c.max.result empty_slot in
+    let long : length index.slots ≡ c.max.result =
+    ap length c.in_ok-new-2.ensures.slots ∙ length-replicate c.max.result empty_slot in
     let enough : 2 * most_items c.args.geometry ≤ c.slots_for.result = c.slots_for.ensures.1 in
     let most = c.max.ensures in (
       (c.in_ok-new-2.ensures.map (key_at c.in_ok-new.field-0)).index,

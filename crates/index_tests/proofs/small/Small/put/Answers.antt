@@ -26,11 +26,16 @@ invariant_of-self-in-None c =
     let key = c.args.key.now in
     let place = c.in-Ok.place in
     let stands = appended pool _ _ _ c.append.new.self place c.geometry.ensures.pool c.in-Ok.ensures.appended in
-    let added : IsKeyAdded pool c.append.new.self place key = key_added pool c.append.new.self _ _ _ place c.geometry.ensures.pool c.in-Ok.ensures.appended in
+    let added : IsKeyAdded pool c.append.new.self place key =
+    key_added pool c.append.new.self _ _ _ place c.geometry.ensures.pool c.in-Ok.ensures.appended in
     let same : IsMap after t (places before t) = keys_agree before after t c.self.invariant.0
     (λ p h. added.kept p (held_key before t c.self.invariant.0 p h)) in
-    let none : place_at after t key ≡ None = ap (λ m. map.get m key) same.places_are ∙ sym c.look_up-held.ensures.place ∙ c.in-None.is in
-    ((c.insert.ensures.map after same.index added.new none).index, stands.sizes ∙ c.self.invariant.1, rw c.insert.ensures.size.layout c.self.invariant.2)
+    let none : place_at after t key ≡ None =
+    ap (λ m. map.get m key) same.places_are ∙ sym c.look_up-held.ensures.place ∙ c.in-None.is in (
+      (c.insert.ensures.map after same.index added.new none).index,
+      stands.sizes ∙ c.self.invariant.1,
+      rw c.insert.ensures.size.layout c.self.invariant.2,
+    )
 
 pub invariant_of-self-in-Some : goal.invariant_of-self-in-Some
 invariant_of-self-in-Some c =
@@ -53,11 +58,13 @@ insert-requires-clause-place c =
     let pool = c.self.inside.pool in
     let place = c.in-Ok.place in
     let stands = appended pool _ _ _ c.append.new.self place c.geometry.ensures.pool c.in-Ok.ensures.appended in
-    appended_in_layout pool c.append.new.self _ _ _ place c.self.inside.index.layout c.append.ensures.pool stands (rw c.self.invariant.1 c.self.invariant.2)
+    appended_in_layout pool c.append.new.self _ _ _ place c.self.inside.index.layout c.append.ensures.pool stands
+    (rw c.self.invariant.1 c.self.invariant.2)
 
 pub replace-requires-clause-target : goal.replace-requires-clause-target
 replace-requires-clause-target c =
     let pool = c.self.inside.pool in
     let place = c.in-Ok.place in
     let stands = appended pool _ _ _ c.append.new.self place c.geometry.ensures.pool c.in-Ok.ensures.appended in
-    appended_in_layout pool c.append.new.self _ _ _ place c.self.inside.index.layout c.append.ensures.pool stands (rw c.self.invariant.1 c.self.invariant.2)
+    appended_in_layout pool c.append.new.self _ _ _ place c.self.inside.index.layout c.append.ensures.pool stands
+    (rw c.self.invariant.1 c.self.invariant.2)

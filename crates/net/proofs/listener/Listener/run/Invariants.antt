@@ -8,4 +8,5 @@ invariant-loop-hand g l = l.report.accepted ≡ l.wanted
 -- no more than are wanted were accepted
 abbrev pub invariant-loop : goal.invariant-loop
 invariant-loop g l =
-    (goal.iterator-loop g).can_next l.iterator' × (goal.iterator-loop g).is_finite l.iterator' × (l.report.accepted ≤ l.wanted)
+    (goal.iterator-loop g).can_next l.iterator' × (goal.iterator-loop g).is_finite l.iterator'
+    × (l.report.accepted ≤ l.wanted)

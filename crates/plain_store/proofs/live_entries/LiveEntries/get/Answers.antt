@@ -9,11 +9,13 @@ returns-in_err-entry-clause-found c =
 pub returns-then-is_live-clause-found : goal.returns-then-is_live-clause-found
 returns-then-is_live-clause-found c =
     rw (← c.self.view_is)
-    (live_where_live c.self.inside.map.entries c.self.inside.moment c.args.key.now c.in_ok-entry.entry.now c.in_ok-entry.ensures.value
+    (live_where_live c.self.inside.map.entries c.self.inside.moment c.args.key.now c.in_ok-entry.entry.now
+    c.in_ok-entry.ensures.value
     (sym c.if-is_live.ensures))
 
 pub returns-else-is_live-clause-found : goal.returns-else-is_live-clause-found
 returns-else-is_live-clause-found c =
     rw (← c.self.view_is)
-    (live_where_dead c.self.inside.map.entries c.self.inside.moment c.args.key.now c.in_ok-entry.entry.now c.in_ok-entry.ensures.value
+    (live_where_dead c.self.inside.map.entries c.self.inside.moment c.args.key.now c.in_ok-entry.entry.now
+    c.in_ok-entry.ensures.value
     (sym c.if-is_live.ensures))

@@ -30,13 +30,15 @@ split_at-requires c =
 pub invariant_of-self : goal.invariant_of-self
 invariant_of-self c =
     let rest = (split c.self.inside.rest.now c.self.invariant (grind arith)).rest in
-    let behind : c.split_at.result.1.now ≡ drop (packed_size (first_hit c.self.inside.rest.now)) c.self.inside.rest.now =
+    let behind : c.split_at.result.1.now
+    ≡ drop (packed_size (first_hit c.self.inside.rest.now)) c.self.inside.rest.now =
     c.split_at.ensures.back ∙ ap (λ h. drop (packed_size h) c.self.inside.rest.now) c.read-hit.ensures in
     rw behind rest
 
 pub returns : goal.returns
 returns c =
     let hits = (split c.self.inside.rest.now c.self.invariant (grind arith)).hits in
-    let behind : c.split_at.result.1.now ≡ drop (packed_size (first_hit c.self.inside.rest.now)) c.self.inside.rest.now =
+    let behind : c.split_at.result.1.now
+    ≡ drop (packed_size (first_hit c.self.inside.rest.now)) c.self.inside.rest.now =
     c.split_at.ensures.back ∙ ap (λ h. drop (packed_size h) c.self.inside.rest.now) c.read-hit.ensures in
     rw (behind, c.read-hit.ensures) (sym c.self.view_is ∙ hits)

@@ -1,4 +1,4 @@
-use Rattle.std.proofs.Common.{arith, length, ap, refl}
+use Rattle.std.proofs.Common.{arith, refl}
 use Rattle.proto.proofs.HitLayout.{nothing_in, packed_nothing}
 use Rattle.proto.proofs.hits.HitWriter.in_room.Goals as goal
 

@@ -18,26 +18,32 @@ pop_as-requires-clause-rule g c = (takes _ _ c.self.invariant.reads, λ _ _ _ _.
 
 pub invariant_of-self-2 : goal.invariant_of-self-2
 invariant_of-self-2 g c =
-    let i = c.self.invariant in let q = c.in_ok-taken.ensures.queue in let r = c.in_ok-taken.ensures.rule in let x : Taken = c.in_ok-taken.taken in
+    let i = c.self.invariant in let q = c.in_ok-taken.ensures.queue in let r = c.in_ok-taken.ensures.rule in
+    let x : Taken = c.in_ok-taken.taken in
     let v : RequestQueueView = view c.self.inside.takes in
     let none : v.open_request ≡ None = ap (λ (s : StorageQueues). s.open_request) c.self.view_is ∙ c.requires in
-    let below : sender_of x < length c.self.inside.lanes.items = subst (λ (n : ℕ). sender_of x < n) i.made r.1 in record {
+    let below : sender_of x < length c.self.inside.lanes.items = subst (λ (n : ℕ). sender_of x < n) i.made r.1 in
+    record {
       takes = (q.0 ∙ i.takes.0, q.2 ∙ i.takes.1);
       reads = ap (λ v. v.takes) r.0;
       made = ap (λ v. v.made) r.0 ∙ i.made;
       few = i.few;
-      taken = subst (λ (u : RequestQueueView). with_senders u.taken ≡ asked_in u.history ++ as_list u.open_request) (sym r.0)
+      taken = subst (λ (u : RequestQueueView). with_senders u.taken ≡ asked_in u.history ++ as_list u.open_request)
+          (sym r.0)
           (still_taken v.taken v.history v.open_request x i.taken none);
       shares = λ w d lt. i.shares w d lt ∙ ap (λ v. worker_share v.history w) (sym r.0);
-      open_is = c.is_request-self-inside.ensures ∙ open_known v.open_request x none ∙ ap (λ (u : RequestQueueView). is_some u.open_request) (sym r.0);
-      inside = subst (λ (u : RequestQueueView). (o : ℕ × Posted) → u.open_request ≡ Some o → o.0 < length c.self.inside.lanes.items) (sym r.0)
+      open_is = c.is_request-self-inside.ensures ∙ open_known v.open_request x none
+          ∙ ap (λ (u : RequestQueueView). is_some u.open_request) (sym r.0);
+      inside = subst (λ (u : RequestQueueView). (o : ℕ × Posted) → u.open_request ≡ Some o
+          → o.0 < length c.self.inside.lanes.items) (sym r.0)
           (still_inside v.open_request x (length c.self.inside.lanes.items) none below);
       legal = subst (λ (u : RequestQueueView). Legal c.self.inside.geometry u.history) (sym r.0) i.legal;
     }
 
 pub returns : goal.returns
 returns g c =
-    let i = c.self.invariant in let q = c.in_ok-taken.ensures.queue in let r = c.in_ok-taken.ensures.rule in let x : Taken = c.in_ok-taken.taken in
+    let i = c.self.invariant in let q = c.in_ok-taken.ensures.queue in let r = c.in_ok-taken.ensures.rule in
+    let x : Taken = c.in_ok-taken.taken in
     let v : RequestQueueView = view c.self.inside.takes in
     let s : StorageQueues = storage_queues c.self.inside in
     let none : v.open_request ≡ None = ap (λ (s : StorageQueues). s.open_request) c.self.view_is ∙ c.requires in

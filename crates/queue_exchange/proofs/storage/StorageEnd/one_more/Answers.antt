@@ -1,13 +1,5 @@
-use Rattle.std.proofs.Common.{ap}
 use Rattle.queue_exchange.proofs.RequestsKept.{makes}
-use Rattle.queue_exchange.proofs.RepliesKept as replies
 use Rattle.queue_exchange.proofs.storage.StorageEnd.one_more.Goals as goal
-
-pub ruled-requires-clause-rule : goal.ruled-requires-clause-rule
-ruled-requires-clause-rule c = replies.begins
-
-pub another-takes-requires-clause-rule : goal.another-takes-requires-clause-rule
-another-takes-requires-clause-rule c = let v = c.in_ok-queue.ensures.3 in replies.forks _ _ (ap (λ v. v.pushes) v) (ap (λ v. v.pops) v)
 
 pub another-asks-requires-clause-rule : goal.another-asks-requires-clause-rule
 another-asks-requires-clause-rule c = makes _ _ c.self.invariant.reads

@@ -10,7 +10,8 @@ use Rattle.queue_exchange.proofs.worker.WorkerEnd.post.Goals as goal
 
 pub returns-in-Err : goal.returns-in-Err
 returns-in-Err g c =
-    let i = c.self.invariant in let is = c.self.view_is in let e = c.in-Err.ensures.sent in let w : ℕ = c.self.inside.worker in
+    let i = c.self.invariant in let is = c.self.view_is in let e = c.in-Err.ensures.sent in
+    let w : ℕ = c.self.inside.worker in
     let s : Sending = (view c.self.inside.asks).sending in
     let items : List Taken = e.2.0 in let before : List Taken = e.2.2.0 in
     let full : RequestsFull (worker_queues c.self.inside) =

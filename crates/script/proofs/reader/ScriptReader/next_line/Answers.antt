@@ -23,7 +23,8 @@ returns-clause-read c =
     let may = rw c.as_slice.ensures.value at said in
     let added = rw c.as_mut_slice.ensures.value at c.in_ok-add.ensures.ok in
     let workers = c.self.inside.workers in
-    let len : length c.add.new.workers ≡ workers.len = ap length added ∙ length-set workers.items _ _ ∙ sym workers.ok.0 in
+    let len : length c.add.new.workers ≡ workers.len =
+    ap length added ∙ length-set workers.items _ _ ∙ sym workers.ok.0 in
     rw (← c.self.view_is)
     (record {
       line = c.in-Some.line.now;

@@ -5,6 +5,7 @@ use Rattle.worker.specs.Ports.{has_ended}
 use Rattle.worker.specs.Sessions.{port_facts}
 use Rattle.worker.proofs.Facts.{elsewhere}
 use Rattle.worker.proofs.RunViews.{ended_now}
+use Rattle.script_port.specs.Remaining.{in_order}
 use Rattle.script_port.specs.Sessions.{session_entry, was_closed}
 use Rattle.script_port.specs.Players.{Agrees, events_left}
 use Rattle.script_port.proofs.FollowLemmas.{follows_still}
@@ -21,9 +22,10 @@ returns-clause-consistent c =
       rising = k.rising;
       at_end = ap has_ended l_is ∙ ended_now l;
       plays = k.plays;
-      follows = λ tells. let left = events_left p.sessions p.events.items in
+      follows = λ tells. let left = events_left p.sessions (in_order p.events) in
           follows_still p.script.value.items left left l l' was.Ended (was_closed p.sessions)
           (was_closed p.sessions) p.can_fail refl l_is refl (λ t. refl) (λ t. refl) (λ t. refl) (k.follows tells);
+      aside = k.aside;
       finished = λ _. c.requires.none;
       may_fail = k.may_fail;
     }

@@ -1,40 +1,45 @@
-use Rattle.std.proofs.Common.{◌≡◌, ℕ, List, subst, sym, ◌∙◌, ap, not}
-use Rattle.worker.specs.Sessions.{port_facts}
-use Rattle.script_port.specs.Sessions.{ScriptSessionState, newest, last_from, session_entry, is_open, is_closed, was_closed, with_stage}
-use Rattle.script_port.specs.Players.{Agrees, events_left, IsPlayerConsistent}
-use Rattle.script_port.proofs.SessionLemmas.{either_way}
-use Rattle.script_port.proofs.EventLemmas.{bool_cases}
-use Rattle.script_port.proofs.FollowLemmas.{follows_as}
-use Rattle.script_port.proofs.PlayerLemmas.{open_entry, rising_at, test_same, left_same, plays_along, agrees_held}
+use Rattle.std.proofs.Common.{refl, sym, ◌∙◌, ap, subst}
+use Rattle.script_port.specs.Remaining.{RemainingState, in_order}
+use Rattle.script_port.specs.Players.{NoneReady}
+use Rattle.script_port.proofs.HeldLemmas.{Holds, held_consistent, held_state, paused_aside, resumed_aside}
+use Rattle.script_port.proofs.PlayerLemmas.{brought_back}
 use Rattle.script_port.proofs.player.Player.hold.Goals as goal
+
+-- the session is paused, and its events stay where they are
+pauses : (c : goal.Then-is_paused)
+    → Holds c.args.self.now c.change.new.self c.args.self.now.events c.args.session c.args.stage
+pauses c = record {
+  was_open = sym c.change.ensures.open ∙ c.if-not-change.false;
+  stays_open = c.requires.stage;
+  at = c.change.ensures.changes c.if-not-change.false;
+  order = refl;
+}
+
+-- the session is resumed, and those of its events that are aside are brought back
+resumes : (c : goal.After-bring_back)
+    → Holds c.args.self.now c.change.new.self c.bring_back.new.self c.args.session c.args.stage
+resumes c = record {
+  was_open = sym c.change.ensures.open ∙ c.if-not-change.false;
+  stays_open = c.requires.stage;
+  at = c.change.ensures.changes c.if-not-change.false;
+  order = ap in_order c.bring_back.ensures ∙ brought_back c.before_first_of-stay.result c.args.self.now.events;
+}
+
+pub returns-then-is_paused-clause-consistent : goal.returns-then-is_paused-clause-consistent
+returns-then-is_paused-clause-consistent c =
+    let p = c.args.self.now in let ss' = c.change.new.self in
+    held_consistent p ss' p.events c.args.session c.args.stage c.requires.consistent (pauses c)
+    (paused_aside p ss' p.events c.args.session c.args.stage c.requires.consistent (pauses c)
+    (sym c.is_paused.ensures ∙ c.if-is_paused.true))
 
 pub returns-clause-consistent : goal.returns-clause-consistent
 returns-clause-consistent c =
-    let p = c.args.self.now in let k = c.requires.consistent in let s = c.args.session in let stage = c.args.stage in
-    let ss = p.sessions in let ss' = c.change.new.self in let l = p.records in
-    bool_cases c.change.result
-    (λ yes.
-    let a = c.change.ensures.changes yes in
-    let x = open_entry ss s (sym c.change.ensures.open ∙ yes) in
-    let same : is_closed stage ≡ is_closed x.0.stage = c.requires.stage ∙ sym x.2 in
-    record {
-      each = λ t.
-          either_way t s
-          (λ eq. subst (λ (u : ℕ). Agrees (session_entry ss' u) (port_facts l u)) (sym eq) (agrees_held ss ss' l s stage x.0 a x.1 same (k.each s)))
-          (λ ne. subst (λ o. Agrees o (port_facts l t)) (sym (a.others t ne)) (k.each t));
-      opened_are = a.numbers_are ∙ k.opened_are;
-      rising = rising_at ss ss' s (with_stage stage) a k.rising;
-      at_end = k.at_end;
-      plays = λ tells. plays_along (newest ss) (newest ss') (is_open ss) (is_open ss') (events_left ss p.events.items) (events_left ss' p.events.items)
-          (ap (last_from 0) a.numbers_are)
-          (test_same (λ (y : ScriptSessionState). not (is_closed y.stage)) ss ss' s (with_stage stage) x.0 a x.1 (ap not same))
-          (left_same ss ss' p.events.items (test_same (λ (y : ScriptSessionState). is_closed y.stage) ss ss' s (with_stage stage) x.0 a x.1 same))
-          (k.plays tells);
-      follows = λ tells.
-          let closed_as = test_same (λ (y : ScriptSessionState). is_closed y.stage) ss ss' s (with_stage stage) x.0 a x.1 same in
-          follows_as p.script.value.items (events_left ss p.events.items) (events_left ss' p.events.items) l (was_closed ss)
-          (was_closed ss') p.can_fail (left_same ss ss' p.events.items closed_as) closed_as (k.follows tells);
-      finished = k.finished;
-      may_fail = k.may_fail;
-    })
-    (λ no. subst (λ (q : List ScriptSessionState). IsPlayerConsistent (record p { sessions = q })) (sym (c.change.ensures.same no)) k)
+    let p = c.args.self.now in let ss' = c.change.new.self in let r = c.bring_back.new.self in
+    held_consistent p ss' r c.args.session c.args.stage c.requires.consistent (resumes c)
+    (subst (λ (q : RemainingState). NoneReady ss' q.aside) (sym c.bring_back.ensures)
+    (resumed_aside p ss' r c.args.session c.before_first_of-stay.result c.args.stage c.requires.consistent (resumes c)
+    c.before_first_of-stay.ensures.others))
+
+pub returns-clause-held : goal.returns-clause-held
+returns-clause-held c active =
+    held_state c.args.self.now c.change.new.self c.bring_back.new.self c.args.session c.args.stage (resumes c)

@@ -7,4 +7,5 @@ use Rattle.script_port.proofs.port.ScriptPortPort.pause.Goals as goal
 pub returns-clause-held : goal.returns-clause-held
 returns-clause-held c tells =
     subst (λ (p : PortState). SetsHeld p c.args.session true (player_state c.hold.new.self)) c.self.view_is
-    (c.hold.ensures.held (open_in_table c.args.self.now c.self.inside.player c.args.session c.self.view_is c.self.invariant c.requires tells))
+    (c.hold.ensures.held (open_in_table c.args.self.now c.self.inside.player c.args.session c.self.view_is
+    c.self.invariant c.requires tells))

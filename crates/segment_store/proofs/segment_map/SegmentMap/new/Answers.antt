@@ -24,8 +24,10 @@ invariant_of-result c =
     let many = c.slots_for.ensures.1 in
     let tally : c.in_ok-new-3.field-0 ≡ no_tally p.sizes = c.in_ok-new-3.ensures ∙ ap no_tally (sym sizes) in
     record {
-      tied = tied_start p c.in_ok-new-2.field-0 c.in_ok-new-3.field-0 c.in_ok-new.ensures.pool tally (c.in_ok-new-2.ensures.map (key_at p))
-          (subst (λ (s : Sizes). 2 * (s.segments * (s.segment_size / 32)) ≤ length c.in_ok-new-2.field-0.slots) (sym sizes) (omega (arith, len, many)))
+      tied = tied_start p c.in_ok-new-2.field-0 c.in_ok-new-3.field-0 c.in_ok-new.ensures.pool tally
+          (c.in_ok-new-2.ensures.map (key_at p))
+          (subst (λ (s : Sizes). 2 * (s.segments * (s.segment_size / 32)) ≤ length c.in_ok-new-2.field-0.slots)
+          (sym sizes) (omega (arith, len, many)))
           (rw (sizes, c.in_ok-new-2.ensures.layout) c.layout_for.ensures.sizes);
       past = past_start p c.args.geometry c.in_ok-new.ensures.empty;
     }
@@ -41,5 +43,10 @@ returns-clause-entries c =
 
 pub returns-clause-keeps : goal.returns-clause-keeps
 returns-clause-keeps c =
-    let m : MapState = record { pool = c.in_ok-new.field-0; index = c.in_ok-new-2.field-0; tally = c.in_ok-new-3.field-0; moment = 0 } in
+    let m : MapState = record {
+      pool = c.in_ok-new.field-0;
+      index = c.in_ok-new-2.field-0;
+      tally = c.in_ok-new-3.field-0;
+      moment = 0;
+    } in
     keeps_none m c.args.geometry c.in_ok-new.ensures.empty

@@ -7,7 +7,8 @@ pub returns-clause-entries : goal.returns-clause-entries
 returns-clause-entries c =
     let a = c.self.inside in
     let le = c.requires.not_before in
-    rw (← c.self.view_is) (shown_later a.pool (current a.pool a.index) a.moment c.args.now (rw (← c.self.view_is) at le))
+    rw (← c.self.view_is) (shown_later a.pool (current a.pool a.index) a.moment c.args.now
+    (rw (← c.self.view_is) at le))
 
 pub invariant_of-self : goal.invariant_of-self
 invariant_of-self c =
@@ -15,5 +16,6 @@ invariant_of-self c =
     let le = c.requires.not_before in
     record {
       tied = c.self.invariant.tied;
-      past = past_later a.pool a.moment c.args.now c.self.invariant.past (rw (← c.self.view_is) at le) c.requires.in_range;
+      past = past_later a.pool a.moment c.args.now c.self.invariant.past
+          (rw (← c.self.view_is) at le) c.requires.in_range;
     }

@@ -8,4 +8,5 @@ pub returns-clause-entries : goal.returns-clause-entries
 returns-clause-entries c =
     let a = c.self.inside in
     rw (← c.self.view_is)
-    (ap (λ (m : Places). live_entries a.pool m a.moment) c.leave_key.ensures.left ∙ shown_remove a.pool (current a.pool a.index) a.moment c.args.key.now)
+    (ap (λ (m : Places). live_entries a.pool m a.moment) c.leave_key.ensures.left
+    ∙ shown_remove a.pool (current a.pool a.index) a.moment c.args.key.now)

@@ -17,7 +17,8 @@ write-requires-clause-storable c =
     let a = c.self.inside in
     let e = c.args.entry in
     let i : Item = record { cas = e.cas; flags = e.flags; key = c.args.key.now; value = e.value.now; reads = 0 } in
-    let fits : MayBeWritten a.pool.sizes (shown_entries a.pool a.index a.moment) i.key i.value = (let h = c.requires.fits in rw (← c.self.view_is) at h) in
+    let fits : MayBeWritten a.pool.sizes (shown_entries a.pool a.index a.moment) i.key i.value =
+    (let h = c.requires.fits in rw (← c.self.view_is) at h) in
     may_store a.pool a.index a.tally a.moment i c.self.invariant.tied fits (search rules) (search rules) refl
 
 pub returns-clause-written : goal.returns-clause-written
@@ -25,7 +26,8 @@ returns-clause-written c =
     let a = c.self.inside in
     let put = c.write.ensures.put in
     rw (← c.self.view_is)
-    (written_by a.pool.sizes a.moment (shown_entries a.pool a.index a.moment) put.kept (shown_entries c.write.new.pool c.write.new.index a.moment)
+    (written_by a.pool.sizes a.moment (shown_entries a.pool a.index a.moment) put.kept
+    (shown_entries c.write.new.pool c.write.new.index a.moment)
     c.args.key.now (entry_of c.args.entry) put.deadline put.are_kept put.may_live put.entries)
 
 pub returns-clause-exactly : goal.returns-clause-exactly
@@ -36,14 +38,23 @@ returns-clause-exactly c =
     let bucket = bucket_of (time_to_live c.args.entry.deadline a.moment) in
     let of_bucket : c.bucket_of-bucket.result ≡ bucket = search rules in
     let placed = subst
-    (λ b. PlacesItem (live_others key a.tally a.moment) a.pool a.index b a.moment i c.write.new.pool c.write.new.index) of_bucket
+    (λ b. PlacesItem (live_others key a.tally a.moment) a.pool a.index b a.moment i c.write.new.pool c.write.new.index)
+    of_bucket
     c.write.ensures.placed in
-    let fits : MayBeWritten a.pool.sizes (shown_entries a.pool a.index a.moment) i.key i.value = (let h = c.requires.fits in rw (← c.self.view_is) at h) in
-    let storable = may_store a.pool a.index a.tally a.moment i c.self.invariant.tied fits (search rules) (search rules) refl in
+    let fits : MayBeWritten a.pool.sizes (shown_entries a.pool a.index a.moment) i.key i.value =
+    (let h = c.requires.fits in rw (← c.self.view_is) at h) in
+    let storable = may_store a.pool a.index a.tally a.moment i c.self.invariant.tied fits (search rules)
+    (search rules) refl in
     let put = c.write.ensures.put in
     let old : MapState = record { pool = a.pool; index = a.index; tally = a.tally; moment = a.moment } in
-    let new : MapState = record { pool = c.write.new.pool; index = c.write.new.index; tally = c.write.new.tally; moment = a.moment } in
-    rw (← c.self.view_is) (writes_to_segments old new key (entry_of c.args.entry) storable placed put.deadline put.may_live put.kept put.entries)
+    let new : MapState = record {
+      pool = c.write.new.pool;
+      index = c.write.new.index;
+      tally = c.write.new.tally;
+      moment = a.moment;
+    } in
+    rw (← c.self.view_is) (writes_to_segments old new key
+    (entry_of c.args.entry) storable placed put.deadline put.may_live put.kept put.entries)
 
 pub returns-clause-kept : goal.returns-clause-kept
 returns-clause-kept c =
@@ -53,12 +64,21 @@ returns-clause-kept c =
     let bucket = bucket_of (time_to_live c.args.entry.deadline a.moment) in
     let of_bucket : c.bucket_of-bucket.result ≡ bucket = search rules in
     let placed = subst
-    (λ b. PlacesItem (live_others key a.tally a.moment) a.pool a.index b a.moment i c.write.new.pool c.write.new.index) of_bucket
+    (λ b. PlacesItem (live_others key a.tally a.moment) a.pool a.index b a.moment i c.write.new.pool c.write.new.index)
+    of_bucket
     c.write.ensures.placed in
-    let fits : MayBeWritten a.pool.sizes (shown_entries a.pool a.index a.moment) i.key i.value = (let h = c.requires.fits in rw (← c.self.view_is) at h) in
-    let storable = may_store a.pool a.index a.tally a.moment i c.self.invariant.tied fits (search rules) (search rules) refl in
+    let fits : MayBeWritten a.pool.sizes (shown_entries a.pool a.index a.moment) i.key i.value =
+    (let h = c.requires.fits in rw (← c.self.view_is) at h) in
+    let storable = may_store a.pool a.index a.tally a.moment i c.self.invariant.tied fits (search rules)
+    (search rules) refl in
     let old : MapState = record { pool = a.pool; index = a.index; tally = a.tally; moment = a.moment } in
-    let new : MapState = record { pool = c.write.new.pool; index = c.write.new.index; tally = c.write.new.tally; moment = a.moment } in
+    let new : MapState = record {
+      pool = c.write.new.pool;
+      index = c.write.new.index;
+      tally = c.write.new.tally;
+      moment = a.moment;
+    } in
     rw (← c.self.view_is)
-    (keeps_entry (live_others key a.tally a.moment) old new key (entry_of c.args.entry) c.self.invariant.tied.known.pool c.self.invariant.past
+    (keeps_entry (live_others key a.tally a.moment) old new key
+    (entry_of c.args.entry) c.self.invariant.tied.known.pool c.self.invariant.past
     storable refl placed)

@@ -33,6 +33,7 @@ invariant_of-self c =
     record {
       sizes = ap (λ p. p.sizes) e ∙ s.sizes;
       known = subst (λ t. KnowsPool t c.clear.new.self) (sym c.clear_segment.ensures)
-          (subst (KnowsPool (without_marks s.tally n)) (sym e) (knows_cleared s.tally s.pool n s.known (subst IsPool e c.clear.ensures.pool) some
+          (subst (KnowsPool (without_marks s.tally n)) (sym e)
+          (knows_cleared s.tally s.pool n s.known (subst IsPool e c.clear.ensures.pool) some
           (within s.tally s.pool n s.known some)));
     }

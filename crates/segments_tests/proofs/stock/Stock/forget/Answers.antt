@@ -11,10 +11,12 @@ invariant_of-self c =
     let sizes : s.tally.sizes ≡ s.geometry = s.known.sizes ∙ s.sizes in
     let segments : s.geometry.segments ≡ s.tally.sizes.segments = ap (λ (g : Sizes). g.segments) (sym sizes) in
     let size : s.geometry.segment_size ≡ s.tally.sizes.segment_size = ap (λ (g : Sizes). g.segment_size) (sym sizes) in
-    let in_range : place.segment < s.tally.sizes.segments = subst (λ n. place.segment < n) (c.segments.ensures.value ∙ segments) c.if-place-segments.true in
+    let in_range : place.segment < s.tally.sizes.segments =
+    subst (λ n. place.segment < n) (c.segments.ensures.value ∙ segments) c.if-place-segments.true in
     let below : place.offset / 32 < s.tally.sizes.segment_size / 32 = subst (λ n. place.offset / 32 < n / 32)
     (c.segment_size-marks.ensures.value ∙ size) c.if-place-marks.true in
     record {
       sizes = s.sizes;
-      known = subst (λ t. KnowsPool t s.pool) (sym c.unmark.ensures) (knows_unmark s.tally s.pool place s.known record { segment = in_range; offset = below });
+      known = subst (λ t. KnowsPool t s.pool) (sym c.unmark.ensures)
+          (knows_unmark s.tally s.pool place s.known record { segment = in_range; offset = below });
     }

@@ -7,5 +7,6 @@ invariant_of-self c =
     let s = c.args.self.now in
     record {
       sizes = c.give_back.ensures.freed.sizes ∙ s.sizes;
-      known = knows_given s.tally s.pool c.give_back.new.self s.known c.give_back.ensures.pool c.give_back.ensures.freed;
+      known = knows_given s.tally s.pool c.give_back.new.self s.known c.give_back.ensures.pool
+          c.give_back.ensures.freed;
     }

@@ -11,5 +11,6 @@ invariant_of-result c =
     let sizes : p.sizes ≡ c.in_ok-geometry.geometry = ap (λ q. q.sizes) c.in_ok-pool.ensures.empty in
     record {
       sizes = sizes;
-      known = subst (λ t. KnowsPool t p) (ap no_tally sizes ∙ sym c.in_ok-new.ensures) (knows_none p c.in_ok-pool.ensures.pool);
+      known = subst (λ t. KnowsPool t p) (ap no_tally sizes ∙ sym c.in_ok-new.ensures)
+          (knows_none p c.in_ok-pool.ensures.pool);
     }

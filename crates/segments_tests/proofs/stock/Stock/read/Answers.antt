@@ -10,6 +10,7 @@ invariant_of-self c =
     let e = c.touch.ensures.touched in
     record {
       sizes = ap (λ p. p.sizes) e ∙ s.sizes;
-      known = subst (KnowsPool s.tally) (sym e) (knows_touched s.tally s.pool c.args.place s.known (subst IsPool e c.touch.ensures.pool)
+      known = subst (KnowsPool s.tally) (sym e)
+          (knows_touched s.tally s.pool c.args.place s.known (subst IsPool e c.touch.ensures.pool)
           (c.has_item.ensures c.if-has_item.true));
     }

@@ -6,10 +6,13 @@ use Rattle.session_book.proofs.book.Book.feed.Goals as goal
 
 pub invariant_of-self-2 : goal.invariant_of-self-2
 invariant_of-self-2 c =
-    stays_unsettled _ _ c.args.session c.in-Some.open.now c.ask_later.new.self c.self.invariant (sym c.in-Some.ensures.value)
-    (written_only c.self.inside.sessions (c.get_mut.follows.lender c.ask_later.new.self) _ _ _ (c.get_mut.follows.holds c.ask_later.new.self) c.in-Some.ensures.value)
+    stays_unsettled _ _ c.args.session c.in-Some.open.now c.ask_later.new.self c.self.invariant
+    (sym c.in-Some.ensures.value)
+    (written_only c.self.inside.sessions (c.get_mut.follows.lender c.ask_later.new.self) _ _ _
+    (c.get_mut.follows.holds c.ask_later.new.self) c.in-Some.ensures.value)
     refl refl (same_queue c.in-Some.open.now c.ask_later.new.self
-    (ap (λ (s : SessionState). s.queue) (c.ask_later.ensures ∙ c.in_ok-feed.ensures.ok) ∙ fed_queue c.in-Some.open.now c.args.piece.now))
+    (ap (λ (s : SessionState). s.queue) (c.ask_later.ensures ∙ c.in_ok-feed.ensures.ok)
+    ∙ fed_queue c.in-Some.open.now c.args.piece.now))
 
 pub returns-in_err-feed-clause-err : goal.returns-in_err-feed-clause-err
 returns-in_err-feed-clause-err c =

@@ -12,11 +12,14 @@ use Rattle.session_book.proofs.book.Book.next_ask.Goals as goal
 pub returns-then-len-ge-MAX_UNSETTLED-clause-open : goal.returns-then-len-ge-MAX_UNSETTLED-clause-open
 returns-then-len-ge-MAX_UNSETTLED-clause-open c =
     λ s open_now.
-    idle_ask c.args.self.now c.args.session s (Ok None) c.args.self.now refl refl (subst (λ (b : BookState). IsBook b) c.self.view_is c.self.invariant) open_now
+    idle_ask c.args.self.now c.args.session s
+    (Ok None) c.args.self.now refl refl (subst (λ (b : BookState). IsBook b) c.self.view_is c.self.invariant) open_now
     (λ e. subst (λ (b : BookState). GivesNone b s) c.self.view_is
     (elim c.then-len-ge-MAX_UNSETTLED.branch [
-      | then-len-ge-MAX_UNSETTLED-via-then-len-ge-MAX_UNSETTLED w ↦ full (omega (arith, c.len.ensures, w.if-len-ge-MAX_UNSETTLED.true))
-      | then-len-ge-MAX_UNSETTLED-via-else-len-ge-MAX_UNSETTLED+then-self-ge-MAX_POSTS w ↦ spent (omega (arith, w.if-self-ge-MAX_POSTS.true))
+      | then-len-ge-MAX_UNSETTLED-via-then-len-ge-MAX_UNSETTLED w ↦ full
+          (omega (arith, c.len.ensures, w.if-len-ge-MAX_UNSETTLED.true))
+      | then-len-ge-MAX_UNSETTLED-via-else-len-ge-MAX_UNSETTLED+then-self-ge-MAX_POSTS w ↦ spent
+          (omega (arith, w.if-self-ge-MAX_POSTS.true))
     ]))
 
 pub returns-in_err-reserve-clause-open : goal.returns-in_err-reserve-clause-open
@@ -31,20 +34,25 @@ returns-in_err-reserve-clause-open c =
 
 pub invariant_of-self-in_err-request : goal.invariant_of-self-in_err-request
 invariant_of-self-in_err-request c =
-    stays_unsettled _ _ c.args.session c.in-Some.open.now c.was_asked-self-inside.new.self c.self.invariant (sym c.in-Some.ensures.value)
+    stays_unsettled _ _ c.args.session c.in-Some.open.now c.was_asked-self-inside.new.self c.self.invariant
+    (sym c.in-Some.ensures.value)
     (written_only c.self.inside.sessions (c.get_mut.follows.lender c.was_asked-self-inside.new.self) _ _ _
     (c.get_mut.follows.holds c.was_asked-self-inside.new.self) c.in-Some.ensures.value)
     refl c.reserve.ensures.items
-    (λ asked. fits_unasked c.in-Some.open.now c.was_asked-self-inside.new.self c.self.inside.looks c.next_ask-read.new.looks
-    c.next_ask-read.result (rw c.was_asked-self-inside.ensures c.next_ask-read.ensures) (ap given_request c.in_err-request.was))
+    (λ asked. fits_unasked c.in-Some.open.now c.was_asked-self-inside.new.self c.self.inside.looks
+    c.next_ask-read.new.looks
+    c.next_ask-read.result (rw c.was_asked-self-inside.ensures c.next_ask-read.ensures)
+    (ap given_request c.in_err-request.was))
 
 pub invariant_of-self-in_default-2 : goal.invariant_of-self-in_default-2
 invariant_of-self-in_default-2 c =
-    stays_unsettled _ _ c.args.session c.in-Some.open.now c.was_asked-self-inside.new.self c.self.invariant (sym c.in-Some.ensures.value)
+    stays_unsettled _ _ c.args.session c.in-Some.open.now c.was_asked-self-inside.new.self c.self.invariant
+    (sym c.in-Some.ensures.value)
     (written_only c.self.inside.sessions (c.get_mut.follows.lender c.was_asked-self-inside.new.self) _ _ _
     (c.get_mut.follows.holds c.was_asked-self-inside.new.self) c.in-Some.ensures.value)
     refl c.reserve.ensures.items
-    (λ asked. fits_unasked c.in-Some.open.now c.was_asked-self-inside.new.self c.self.inside.looks c.next_ask-read.new.looks
+    (λ asked. fits_unasked c.in-Some.open.now c.was_asked-self-inside.new.self c.self.inside.looks
+    c.next_ask-read.new.looks
     c.next_ask-read.result (rw c.was_asked-self-inside.ensures c.next_ask-read.ensures)
     (ap given_request c.in_ok-request.was ∙ ap (λ (o : Option Request). given_request (Ok o)) c.in_default-2.is))
 
@@ -53,9 +61,11 @@ invariant_of-self-2 c =
     let given : Unsettled = record { number = c.self.inside.posted + 1; session = c.args.session } in
     let pushed : c.push_back.new.self.items ≡ c.reserve.new.self.items ++ given ∷ [] = search rules in
     asks_book _ _ c.args.session
-    (c.self.inside.posted + 1) c.in-Some.open.now c.was_asked-self-inside.new.self c.in-Some-2.request c.next_ask-read.result
+    (c.self.inside.posted + 1) c.in-Some.open.now c.was_asked-self-inside.new.self c.in-Some-2.request
+    c.next_ask-read.result
     c.self.inside.looks c.next_ask-read.new.looks c.self.invariant (sym c.in-Some.ensures.value)
     (written_only c.self.inside.sessions (c.get_mut.follows.lender c.was_asked-self-inside.new.self) _ _ _
     (c.get_mut.follows.holds c.was_asked-self-inside.new.self) c.in-Some.ensures.value)
     refl (pushed ∙ ap (λ (us : List Unsettled). us ++ given ∷ []) c.reserve.ensures.items)
-    (c.in_ok-request.was ∙ ap (λ (o : Option Request). Ok o) c.in-Some-2.is) (rw c.was_asked-self-inside.ensures c.next_ask-read.ensures)
+    (c.in_ok-request.was ∙ ap (λ (o : Option Request). Ok o) c.in-Some-2.is)
+    (rw c.was_asked-self-inside.ensures c.next_ask-read.ensures)

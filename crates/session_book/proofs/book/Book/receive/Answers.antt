@@ -5,9 +5,11 @@ use Rattle.session_book.proofs.book.Book.receive.Goals as goal
 pub returns-then-eq : goal.returns-then-eq
 returns-then-eq c =
     let t = c.ask_later.new.self in
-    received c.receive-received.result _ _ c.args.self.now c.self.view_is c.args.session c.args.piece c.in-Some.open.now c.receive-received.new.self t
+    received c.receive-received.result _ _ c.args.self.now c.self.view_is c.args.session c.args.piece c.in-Some.open.now
+    c.receive-received.new.self t
     (sym c.in-Some.ensures.value)
-    (written_only c.self.inside.sessions (c.get_mut.follows.lender t) _ _ _ (c.get_mut.follows.holds t) c.in-Some.ensures.value)
+    (written_only c.self.inside.sessions (c.get_mut.follows.lender t) _ _ _
+    (c.get_mut.follows.holds t) c.in-Some.ensures.value)
     refl c.receive-received.ensures c.ask_later.ensures
     (written_back c.self.inside.sessions (c.get_mut.follows.lender t) c.args.session c.in-Some.open.now t
     (c.get_mut.follows.holds t) c.in-Some.ensures.value)
@@ -15,9 +17,11 @@ returns-then-eq c =
 pub returns-else-eq : goal.returns-else-eq
 returns-else-eq c =
     let t = c.receive-received.new.self in
-    received c.receive-received.result _ _ c.args.self.now c.self.view_is c.args.session c.args.piece c.in-Some.open.now t t
+    received c.receive-received.result _ _ c.args.self.now c.self.view_is c.args.session c.args.piece
+    c.in-Some.open.now t t
     (sym c.in-Some.ensures.value)
-    (written_only c.self.inside.sessions (c.get_mut.follows.lender t) _ _ _ (c.get_mut.follows.holds t) c.in-Some.ensures.value)
+    (written_only c.self.inside.sessions (c.get_mut.follows.lender t) _ _ _
+    (c.get_mut.follows.holds t) c.in-Some.ensures.value)
     refl c.receive-received.ensures refl
     (written_back c.self.inside.sessions (c.get_mut.follows.lender t) c.args.session c.in-Some.open.now t
     (c.get_mut.follows.holds t) c.in-Some.ensures.value)

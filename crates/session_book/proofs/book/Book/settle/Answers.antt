@@ -8,14 +8,16 @@ invariant_of-self c =
     let oldest : slice_get c.self.inside.unsettled.items 0 ≡ Some
     (record { number = c.args.answered.now.number; session = c.args.answered.now.session }) = search rules in
     settles_book _ _ c.args.answered.now.session c.args.answered.now.number None c.self.invariant
-    (closed_only c.self.inside.sessions c.get_mut.follows.lender-at-none c.args.answered.now.session c.get_mut.follows.holds-at-none c.in_default.ensures.value)
+    (closed_only c.self.inside.sessions c.get_mut.follows.lender-at-none c.args.answered.now.session
+    c.get_mut.follows.holds-at-none c.in_default.ensures.value)
     refl oldest c.pop_front.ensures.rest (λ t e. absurd cc) (λ t e. absurd cc)
 
 pub settle-requires : goal.settle-requires
 settle-requires c =
     let oldest : slice_get c.self.inside.unsettled.items 0 ≡ Some
     (record { number = c.args.answered.now.number; session = c.args.answered.now.session }) = search rules in
-    first_asked _ c.args.answered.now.session c.args.answered.now.number c.in-Some.open.now c.self.invariant (sym c.in-Some.ensures.value) oldest
+    first_asked _ c.args.answered.now.session c.args.answered.now.number c.in-Some.open.now c.self.invariant
+    (sym c.in-Some.ensures.value) oldest
 
 pub invariant_of-self-in-Ok : goal.invariant_of-self-in-Ok
 invariant_of-self-in-Ok c =
@@ -23,7 +25,8 @@ invariant_of-self-in-Ok c =
     (record { number = c.args.answered.now.number; session = c.args.answered.now.session }) = search rules in
     settles_kept _ _ c.args.answered.now.session c.args.answered.now.number c.in-Some.open.now c.give_later.new.self
     c.args.answered.now.reply c.self.invariant (sym c.in-Some.ensures.value)
-    (written_only c.self.inside.sessions (c.get_mut.follows.lender c.give_later.new.self) _ _ _ (c.get_mut.follows.holds c.give_later.new.self) c.in-Some.ensures.value)
+    (written_only c.self.inside.sessions (c.get_mut.follows.lender c.give_later.new.self) _ _ _
+    (c.get_mut.follows.holds c.give_later.new.self) c.in-Some.ensures.value)
     refl oldest c.pop_front.ensures.rest (c.give_later.ensures ∙ c.in-Ok.ensures)
 
 pub invariant_of-self-in-Err : goal.invariant_of-self-in-Err
@@ -32,15 +35,20 @@ invariant_of-self-in-Err c =
     (record { number = c.args.answered.now.number; session = c.args.answered.now.session }) = search rules in
     settles_book _ _ c.args.answered.now.session c.args.answered.now.number None c.self.invariant
     (only_again c.self.inside.sessions.entries
-    (c.get_mut.follows.lender c.settle.new.self).entries c.remove.new.self.entries c.args.answered.now.session (Some c.settle.new.self) None
-    (written_only c.self.inside.sessions (c.get_mut.follows.lender c.settle.new.self) _ _ _ (c.get_mut.follows.holds c.settle.new.self) c.in-Some.ensures.value)
-    (updated_only (c.get_mut.follows.lender c.settle.new.self) c.remove.new.self c.args.answered.now.session None c.remove.ensures.updates))
+    (c.get_mut.follows.lender c.settle.new.self).entries c.remove.new.self.entries c.args.answered.now.session
+    (Some c.settle.new.self) None
+    (written_only c.self.inside.sessions (c.get_mut.follows.lender c.settle.new.self) _ _ _
+    (c.get_mut.follows.holds c.settle.new.self) c.in-Some.ensures.value)
+    (updated_only (c.get_mut.follows.lender c.settle.new.self) c.remove.new.self c.args.answered.now.session None
+    c.remove.ensures.updates))
     refl oldest c.pop_front.ensures.rest (λ t e. absurd cc) (λ t e. absurd cc)
 
 pub returns-in-Ok : goal.returns-in-Ok
 returns-in-Ok c =
     let oldest : slice_get c.self.inside.unsettled.items 0 ≡ Some
     (record { number = c.args.answered.now.number; session = c.args.answered.now.session }) = search rules in
-    settles_reply _ _ _ c.args.answered.now c.in-Some.open.now c.give_later.new.self c.self.view_is c.self.invariant (sym c.in-Some.ensures.value)
-    (written_only c.self.inside.sessions (c.get_mut.follows.lender c.give_later.new.self) _ _ _ (c.get_mut.follows.holds c.give_later.new.self) c.in-Some.ensures.value)
+    settles_reply _ _ _ c.args.answered.now c.in-Some.open.now c.give_later.new.self c.self.view_is c.self.invariant
+    (sym c.in-Some.ensures.value)
+    (written_only c.self.inside.sessions (c.get_mut.follows.lender c.give_later.new.self) _ _ _
+    (c.get_mut.follows.holds c.give_later.new.self) c.in-Some.ensures.value)
     oldest (rw c.pop_front.ensures.rest refl) (c.give_later.ensures ∙ c.in-Ok.ensures)

@@ -6,21 +6,25 @@ use Rattle.session_book.proofs.session.Session.next_ask.Goals as goal
 pub returns-in_err-read : goal.returns-in_err-read
 returns-in_err-read c =
     let p = err_from_is_err_and c.from_residual.result c.from_residual.ensures.1 in
-    rw p.1 (reads_refused _ _ _ _ _ _ _ c.loop-alloc.invariant c.loop-alloc-test.ensures.ready (omega (arith, c.saturating_add.ensures)) c.in_err-read.ensures)
+    rw p.1 (reads_refused _ _ _ _ _ _ _ c.loop-alloc.invariant c.loop-alloc-test.ensures.ready
+    (omega (arith, c.saturating_add.ensures)) c.in_err-read.ensures)
 
 pub returns-in-Nothing : goal.returns-in-Nothing
 returns-in-Nothing c =
-    reads_none _ _ _ _ _ _ c.loop-alloc.invariant c.loop-alloc-test.ensures.ready (omega (arith, c.saturating_add.ensures))
+    reads_none _ _ _ _ _ _ c.loop-alloc.invariant c.loop-alloc-test.ensures.ready
+    (omega (arith, c.saturating_add.ensures))
     (rw c.in-Nothing.is at c.in_ok-read.ensures)
 
 pub loop-alloc-preserved : goal.loop-alloc-preserved
 loop-alloc-preserved c =
-    reads_local _ _ _ _ _ _ c.loop-alloc.invariant c.loop-alloc-test.ensures.ready (omega (arith, c.saturating_add.ensures))
+    reads_local _ _ _ _ _ _ c.loop-alloc.invariant c.loop-alloc-test.ensures.ready
+    (omega (arith, c.saturating_add.ensures))
     (rw c.in-Local.is at c.in_ok-read.ensures)
 
 pub returns-in-Ask : goal.returns-in-Ask
 returns-in-Ask c =
-    reads_ask _ _ _ _ _ _ _ c.loop-alloc.invariant c.loop-alloc-test.ensures.ready (omega (arith, c.saturating_add.ensures))
+    reads_ask _ _ _ _ _ _ _ c.loop-alloc.invariant c.loop-alloc-test.ensures.ready
+    (omega (arith, c.saturating_add.ensures))
     (rw c.in-Ask.is at c.in_ok-read.ensures)
 
 pub returns : goal.returns

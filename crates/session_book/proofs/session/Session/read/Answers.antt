@@ -13,7 +13,9 @@ invariant_of-self-in-Found c = (
 
 pub returns-in_ok-put_behind-in-Found : goal.returns-in_ok-put_behind-in-Found
 returns-in_ok-put_behind-in-Found c =
-    read_found _ _ c.as_slice.result.now c.in-Found.length c.in_ok-message-in-Found.message _ _ _ c.self.view_is c.read_of.ensures
+    read_found _ _ c.as_slice.result.now c.in-Found.length c.in_ok-message-in-Found.message _ _ _ c.self.view_is
+    c.read_of.ensures
     c.as_slice.ensures c.in-Found.ensures.1
-    c.in_ok-message-in-Found.ensures c.requires.not_ended c.discard.ensures c.cause_of-self-inside.ensures c.in_ok-put_behind-in-Found.ensures.queue
+    c.in_ok-message-in-Found.ensures c.requires.not_ended c.discard.ensures c.cause_of-self-inside.ensures
+    c.in_ok-put_behind-in-Found.ensures.queue
     c.in_ok-put_behind-in-Found.ensures.out refl refl

@@ -15,7 +15,8 @@ returns-in-Ok-Some-clause-goes_on g c =
     let held : Request → Posted = λ q. record { session = t; number = a.number; request = q } in
     let new = record w { book = b; request = Some (held c.lend.new.request); rooms = c.lend.new.self } in
     let s = some_known (session_of w.book t) (λ none. let bad = (c.next_ask.ensures.closed none).0 in absurd (cc)) in
-    one_goes_on g.P.Port.told w new t s.0 a.request a.number refl refl c.requires.none (ap (λ (q : Request). Some (held q)) c.lend.ensures) refl refl refl refl c.requires.serving s.1
+    one_goes_on g.P.Port.told w new t s.0 a.request a.number refl refl c.requires.none
+    (ap (λ (q : Request). Some (held q)) c.lend.ensures) refl refl refl refl c.requires.serving s.1
     (subst (λ r. NextAsk w.book t s.0 r b) is (c.next_ask.ensures.open s.0 s.1))
 
 pub returns-in-Ok-None-clause-goes_on : goal.returns-in-Ok-None-clause-goes_on
@@ -23,16 +24,19 @@ returns-in-Ok-None-clause-goes_on g c =
     let w = c.args.self.now in let t = c.args.session in let b = c.next_ask.new.self in
     let is = c.in-Ok-None.is ∙ ap Ok c.in-Ok-None.field-0-is in
     quiet_goes_on g.P.Port.told w (record w { book = b }) t
-    (session_of w.book t) refl refl refl refl refl refl refl refl c.requires.serving (λ none. (c.next_ask.ensures.closed none).1)
+    (session_of w.book t) refl refl refl refl refl refl refl refl c.requires.serving
+    (λ none. (c.next_ask.ensures.closed none).1)
     (λ s e. subst (λ r. NextAsk w.book t s r b) is (c.next_ask.ensures.open s e))
 
 pub returns-in-Err-clause-goes_on : goal.returns-in-Err-clause-goes_on
 returns-in-Err-clause-goes_on g c =
     let w = c.args.self.now in let t = c.args.session in let b = c.next_ask.new.self in
-    let s = some_known (session_of w.book t) (λ none. let bad = (c.next_ask.ensures.closed none).0 in let is = c.in-Err.is in absurd (cc)) in
+    let s = some_known (session_of w.book t)
+    (λ none. let bad = (c.next_ask.ensures.closed none).0 in let is = c.in-Err.is in absurd (cc)) in
     let a = c.next_ask.ensures.open s.0 s.1 in
     let mid = record w { book = b } in
-    let first = none_goes_on g.P.Port.told w mid t s.0 c.next_ask.result refl refl refl refl refl refl refl c.requires.serving s.1 a
+    let first = none_goes_on g.P.Port.told w mid t s.0 c.next_ask.result
+    refl refl refl refl refl refl refl c.requires.serving s.1 a
     (ap given_in c.in-Err.is) in
     goes_on_trans g.P.Port.told w mid c.shut.new.self first
     (no_memory_goes_on g.P.Port.told mid c.shut.new.self t a.read c.shut.ensures.shuts first.serving
@@ -47,7 +51,8 @@ returns-in-Ok-None-clause-quiet g c =
       request = refl;
       sessions = refl;
       ended = refl;
-      others = λ s ne. quiet_elsewhere w.book b t s (session_of w.book t) refl ne (λ none. (c.next_ask.ensures.closed none).1)
+      others = λ s ne. quiet_elsewhere w.book b t s (session_of w.book t) refl ne
+          (λ none. (c.next_ask.ensures.closed none).1)
           (λ st q. let a = c.next_ask.ensures.open st q in (a.read, a.only_at));
       here = λ s q. quiet_here w.book b t s (session_of w.book t) refl q (λ none. (c.next_ask.ensures.closed none).1)
           (λ st p. subst (λ r. NextAsk w.book t st r b) is (c.next_ask.ensures.open st p));
@@ -56,5 +61,6 @@ returns-in-Ok-None-clause-quiet g c =
 pub shut-requires : goal.shut-requires
 shut-requires g c =
     let w = c.args.self.now in let t = c.args.session in
-    let s = some_known (session_of w.book t) (λ none. let bad = (c.next_ask.ensures.closed none).0 in let is = c.in-Err.is in absurd (cc)) in
+    let s = some_known (session_of w.book t)
+    (λ none. let bad = (c.next_ask.ensures.closed none).0 in let is = c.in-Err.is in absurd (cc)) in
     open_at g.P.Port.told w t s.0 c.requires.serving s.1

@@ -1,4 +1,4 @@
-use Rattle.std.proofs.Common.{◌≡◌, Err, Ok, refl, sym, ap, subst, ◌∙◌, true, Result, Bool}
+use Rattle.std.proofs.Common.{Ok, refl, ap, subst, ◌∙◌, Result, Bool}
 use Rattle.proto.specs.declared.no_memory.NoMemory.{NoMemory}
 use Rattle.session_book.specs.declared.causes.EndCause.TheVariants as causes
 use Rattle.session_book.specs.Book.{BookState, session_of, FeedsHeldOf}
@@ -20,19 +20,23 @@ returns-in-Ok-true-clause-goes_on g c =
     let k = subst (λ (r : Result Bool NoMemory). FeedsHeldOf w.book t r c.feed_held.new.self)
     (c.in-Ok-true.is ∙ ap Ok c.in-Ok-true.field-0-test) c.feed_held.ensures in
     refed_goes_on g.P.Port.told w (record w { port = c.resume.new.self; book = c.feed_held.new.self }) t
-    (record { end = refl; request = refl; sessions = refl; unopened = refl; strangers = refl; ended = refl }) c.resume.ensures.told c.requires k
+    (record { end = refl; request = refl; sessions = refl; unopened = refl; strangers = refl; ended = refl })
+    c.resume.ensures.told c.requires k
 
 pub shut-requires : goal.shut-requires
 shut-requires g c =
     let w = c.args.self.now in let t = c.args.session in
-    let k = subst (λ (r : Result Bool NoMemory). FeedsHeldOf w.book t r c.feed_held.new.self) c.in-Err.is c.feed_held.ensures in
+    let k = subst (λ (r : Result Bool NoMemory). FeedsHeldOf w.book t r c.feed_held.new.self) c.in-Err.is
+    c.feed_held.ensures in
     let s = some_there (session_of w.book t) k.0 in
     open_at g.P.Port.told w t s.0 c.requires s.1
 
 pub returns-in-Err-clause-goes_on : goal.returns-in-Err-clause-goes_on
 returns-in-Err-clause-goes_on g c =
     let w = c.args.self.now in let t = c.args.session in
-    let k = subst (λ (r : Result Bool NoMemory). FeedsHeldOf w.book t r c.feed_held.new.self) c.in-Err.is c.feed_held.ensures in
+    let k = subst (λ (r : Result Bool NoMemory). FeedsHeldOf w.book t r c.feed_held.new.self) c.in-Err.is
+    c.feed_held.ensures in
     let s = some_there (session_of w.book t) k.0 in
     no_memory_goes_on g.P.Port.told w c.shut.new.self t s.0 (subst
-    (λ (b : BookState). Shuts g.P.Port.told (record w { book = b }) c.shut.new.self t causes.NoMemory) k.1 c.shut.ensures.shuts) c.requires s.1
+    (λ (b : BookState). Shuts g.P.Port.told (record w { book = b }) c.shut.new.self t causes.NoMemory) k.1
+    c.shut.ensures.shuts) c.requires s.1

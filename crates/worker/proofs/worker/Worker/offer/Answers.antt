@@ -20,19 +20,25 @@ give-requires g c =
 
 pub returns-in-Ok-clause-goes_on : goal.returns-in-Ok-clause-goes_on
 returns-in-Ok-clause-goes_on g c =
-    let w = c.args.self.now in let t = c.args.session in let out = c.offer-offer.result.out.now in let n = c.in-Ok.accepted in
+    let w = c.args.self.now in let t = c.args.session in let out = c.offer-offer.result.out.now in
+    let n = c.in-Ok.accepted in
     let new = record w { port = c.give.new.self; book = c.gave.new.self } in
     let f = then_told (give_records t out (Ok n)) in let k = c.gave.ensures.gave in
-    let s = offered_is (session_of w.book t) out c.offer-offer.ensures.out (sym c.is_empty.ensures ∙ c.if-is_empty.false) in
+    let s = offered_is (session_of w.book t) out c.offer-offer.ensures.out
+    (sym c.is_empty.ensures ∙ c.if-is_empty.false) in
     let pieces = pieces_kept w.book c.gave.new.self t
-    (option_map (λ (x : SessionState). gave x n) (session_of w.book t)) k.only_at (gave_piece (session_of w.book t) n) in
+    (option_map (λ (x : SessionState). gave x n) (session_of w.book t)) k.only_at
+    (gave_piece (session_of w.book t) n) in
     within_goes_on g.P.Port.told w new f
-    (record { end = refl; request = refl; sessions = refl; unopened = refl; strangers = refl; ended = refl }) c.in-Ok.ensures.told
+    (record { end = refl; request = refl; sessions = refl; unopened = refl; strangers = refl; ended = refl })
+    c.in-Ok.ensures.told
     (ap (λ (b : BookState). b.posted) k.rest) (ap (λ (b : BookState). b.unsettled) k.rest) c.requires
     (λ story was_so. (
       told_gave (run_view story w) (run_view (f story) new) w.unopened w.ended t n s.0 was_so.0 s.1
-          (ap (λ (b : List ℕ). story.events ++ give_records t b (Ok n)) s.2) refl refl refl k.only_at (λ i q. pieces q i),
-      paused_kept story (f story) (piece_of w.book) (piece_of new.book) pieces (λ q. paused_given story t n out q) was_so.1,
+          (ap (λ (b : List ℕ). story.events ++ give_records t b (Ok n)) s.2) refl refl refl k.only_at
+          (λ i q. pieces q i),
+      paused_kept story (f story) (piece_of w.book) (piece_of new.book) pieces
+          (λ q. paused_given story t n out q) was_so.1,
     ))
 
 pub returns-in-Err-clause-goes_on : goal.returns-in-Err-clause-goes_on
@@ -40,5 +46,6 @@ returns-in-Err-clause-goes_on g c =
     let w = c.args.self.now in
     let s = offered_is (session_of w.book c.args.session)
     c.offer-offer.result.out.now c.offer-offer.ensures.out (sym c.is_empty.ensures ∙ c.if-is_empty.false) in
-    lost_goes_on g.P.Port.told w c.close.new.self c.give.new.self c.args.session s.0 s.1 c.in-Err.ensures.told c.requires
+    lost_goes_on g.P.Port.told w c.close.new.self c.give.new.self c.args.session s.0 s.1 c.in-Err.ensures.told
+    c.requires
     c.close.ensures.port c.close.ensures.closes

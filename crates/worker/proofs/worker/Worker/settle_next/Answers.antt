@@ -1,4 +1,4 @@
-use Rattle.std.proofs.Common.{◌≡◌, refl, subst, Option, Some, None, true≢false, sym}
+use Rattle.std.proofs.Common.{◌≡◌, refl, Option, Some, None, true≢false, sym}
 use Rattle.std.specs.Prelude.{IsSome}
 use Rattle.session_book.specs.Session.{SessionState}
 use Rattle.session_book.specs.Book.{session_of}
@@ -47,4 +47,5 @@ shut-requires g c =
     open_at g.P.Port.told w a.session s.0 c.requires s.1
 
 pub returns-in_default-clause-goes_on : goal.returns-in_default-clause-goes_on
-returns-in_default-clause-goes_on g c = none_taken_goes_on g.P.Port.told c.args.self.now c.take.new.self c.in_default.ensures c.requires
+returns-in_default-clause-goes_on g c =
+    none_taken_goes_on g.P.Port.told c.args.self.now c.take.new.self c.in_default.ensures c.requires

@@ -5,7 +5,8 @@ use Rattle.worker_tests.proofs.port.TestPortPort.next.Goals as goal
 
 pub returns-else-not-is_new_in-clause-may : goal.returns-else-not-is_new_in-clause-may
 returns-else-not-is_new_in-clause-may g c story told =
-    let events : story.events ≡ c.args.self.now.records.items = ap (λ (o : Option PortStory). option_map_or (λ (s : PortStory). s.events) o []) (sym told) in
+    let events : story.events ≡ c.args.self.now.records.items =
+    ap (λ (o : Option PortStory). option_map_or (λ (s : PortStory). s.events) o []) (sym told) in
     let new = c.is_new_in.ensures in
     let is_new = c.if-not-is_new_in.false in (
       new.above is_new,

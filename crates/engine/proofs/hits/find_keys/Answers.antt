@@ -1,0 +1,46 @@
+use Rattle.std.proofs.Common.{rules, ◌≡◌, ℕ, ◌+◌, ◌++◌, ◌∷◌, [], List, Some, length, sum_by}
+use Rattle.std.proofs.Common.{arith, refl, sym, ap, subst, ◌∙◌}
+use Rattle.std.specs.FinMap as map
+use Rattle.std.proofs.lemmas.List.Sums.{sum_by-cons}
+use Rattle.proto.specs.Commands.{hit_of, hits_of}
+use Rattle.proto.specs.Hits.{Hit, packed_size}
+use Rattle.engine.specs.Shown.{entry_of}
+use Rattle.engine.specs.Finding.{AreFound, keys_found}
+use Rattle.engine.proofs.HitLemmas.{hits_there, found_more, hits_found_more}
+use Rattle.engine.proofs.hits.find_keys.Goals as goal
+
+-- one key more was found
+pub loop-key-preserved-in-Continue-branch-3 : goal.loop-key-preserved-in-Continue-branch-3
+loop-key-preserved-in-Continue-branch-3 g c =
+    let m = g.M.LiveMap in
+    let inv = c.loop-key.invariant in
+    let entries = m.entries c.args.map.now in
+    let key = c.in-Some.key.now in
+    let e = entry_of c.in-Some-get.entry in
+    let hit : Hit = hit_of key e in
+    let rest = c.next.new.self in
+    let there : Some e ≡ map.get entries key = c.in-Some-get.ensures.found in
+    let f = c.found_at.result in
+    let pushed : c.push.new.self.items ≡ c.loop-key.found.items ++ f ∷ [] =
+    rw (c.in_ok-push.ensures.items, c.in_ok-reserve.ensures.items) refl in
+    let same : f.key.now ≡ key = c.found_at.ensures.key in
+    let at_key : Some e ≡ map.get entries f.key.now = there ∙ ap (λ (k : List ℕ). map.get entries k) (sym same) in
+    let stands : m.stands c.args.map.now f.key.now f.place =
+    subst (λ (k : List ℕ). m.stands c.args.map.now k f.place) (sym same)
+    (search rules) in
+    let words : c.loop-key.words ≡ f.key.now ∷ rest =
+    c.in-Some.ensures ∙ ap (λ (k : List ℕ). k ∷ rest) (sym same) in
+    let hits : hits_of entries c.loop-key.words ≡ hit ∷ hits_of entries rest =
+    hits_there entries c.loop-key.words rest key e c.in-Some.ensures there in
+    let more : c.in_ok-room.room ≡ c.loop-key.room + packed_size hit =
+    (rw c.in_ok-room.ensures.ok_part at c.room_with.ensures)
+    ∙ ap (λ h. c.loop-key.room + packed_size h) c.hit_of.ensures in
+    let sum = sum_by-cons packed_size hit (hits_of entries rest) in
+    record {
+      are_found = subst (AreFound m c.args.map.now) (sym pushed)
+          (found_more m c.args.map.now c.loop-key.found.items f e inv.are_found at_key stands);
+      hits = ap (λ fs. hits_of entries (keys_found fs) ++ hits_of entries rest) pushed
+          ∙ hits_found_more entries c.loop-key.found.items f c.loop-key.words rest e words at_key ∙ inv.hits;
+      within = omega (arith, inv.within, ap length hits);
+      counted = omega (arith, more, sum, ap (sum_by packed_size) hits, inv.counted);
+    }

@@ -1,0 +1,21 @@
+use Rattle.std.proofs.Common.{◌≡◌, ◌+◌, ◌≤◌, ◌++◌, length, sum_by}
+use Rattle.proto.specs.Commands.{hits_of}
+use Rattle.proto.specs.Hits.{packed_size}
+use Rattle.engine.specs.Finding.{AreFound, keys_found}
+use Rattle.engine.proofs.hits.find_keys.Given as goal
+
+-- what was found so far, and the room of its hits
+abbrev pub invariant-loop-key : goal.invariant-loop-key
+invariant-loop-key g l = record {
+  are_found : AreFound g.M.LiveMap l.map l.found.items;
+  hits : hits_of (g.M.LiveMap.entries l.map) (keys_found l.found.items)
+      ++ hits_of (g.M.LiveMap.entries l.map) l.words
+      ≡ hits_of (g.M.LiveMap.entries l.map) l.initial.words;
+  within : length (hits_of (g.M.LiveMap.entries l.map) l.words)
+      ≤ length (hits_of (g.M.LiveMap.entries l.map) l.initial.words);
+  counted : l.room + sum_by packed_size (hits_of (g.M.LiveMap.entries l.map) l.words) ≡ sum_by packed_size
+      (hits_of (g.M.LiveMap.entries l.map) l.initial.words);
+}
+
+abbrev pub decreases-loop-key : goal.decreases-loop-key
+decreases-loop-key g l = length l.words

@@ -1,0 +1,136 @@
+//! `segcached serve`.
+
+ghost use Rattle.std.specs.Prelude.{◌≡◌, ℕ, List, IfOk, OnOk, MatchResult};
+ghost use Rattle.std.specs.String.{string_bytes};
+ghost use Rattle.std.specs.Io.KnownBytes.{Appends};
+ghost use Rattle.proto.specs.Sizes.{IsGeometry, sizes_of};
+ghost use Rattle.faults.specs.declared.fault.Fault.TheVariants.{BadGeometry};
+ghost use Rattle.serving.specs.Listening.{IsListeningLine};
+
+use clocks::UnixClock;
+use command_line::ServeOptions;
+use faults::Fault;
+use gates::OpenGate;
+use group::{Config, run_group};
+use net::{Hand, Listener, MioPort, NetFault};
+use proto::Geometry;
+use segment_store::Store;
+use std::alloc::Global;
+use std::io::Write;
+use std::net::Net;
+use std::sync::Wait;
+use std::thread::{self, Threads};
+use std::time;
+
+/// The sizes that the options ask for.
+pub fn serve_geometry(options: &ServeOptions) -> Result<Geometry, Fault>
+    ensures { let asked = sizes_of options.entry.now.segment_size options.entry.now.segments in
+        MatchResult result (λ g. IsGeometry asked × (g ≡ asked)) (λ fault. (fault ≡ BadGeometry) × (¬ (IsGeometry asked))) }
+{
+    let Ok(segment_size) = u32::try_from(options.segment_size) else {
+        return Err(Fault::BadGeometry);
+    };
+    let Ok(segments) = u32::try_from(options.segments) else {
+        return Err(Fault::BadGeometry);
+    };
+    match Geometry::new(segment_size, segments) {
+        Ok(geometry) => Ok(geometry),
+        Err(_) => Err(Fault::BadGeometry),
+    }
+}
+
+/// That it can't listen, for this reason.
+fn cannot_listen(alloc: Global, options: &ServeOptions, fault: NetFault) -> Fault {
+    match fault {
+        NetFault::NoMemory => Fault::NoMemory,
+        NetFault::BadAddress | NetFault::Bind | NetFault::Poll => {
+            match String::from_str(alloc, options.listen.as_str()) {
+                Ok(addr) => Fault::CannotListen(addr),
+                Err(_) => Fault::NoMemory,
+            }
+        }
+    }
+}
+
+/// A port for each worker, and the listener's ends of their hands.
+fn make_ports<H>(
+    rt: H,
+    alloc: Global,
+    workers: usize,
+) -> Result<(Vec<Hand>, Vec<MioPort<H>>), NetFault>
+where
+    H: Wait + Net + time::Clock + Copy + Drop,
+{
+    let mut hands = Vec::with_capacity(alloc, workers)?;
+    let mut ports = Vec::with_capacity(alloc, workers)?;
+    for _ in 0..workers {
+        let (of_listener, of_port) = Hand::pair(&rt, alloc)?;
+        hands.push(of_listener)?;
+        ports.push(MioPort::new(rt, &rt, alloc, of_port)?)?;
+    }
+    Ok((hands, ports))
+}
+
+/// The line of the options' address, with the real port behind its last colon.
+fn listening_line(alloc: Global, options: &ServeOptions, port: u16) -> Result<String, Fault>
+    ensures { IfOk result (λ line. IsListeningLine (string_bytes options.entry.now.listen) port (string_bytes line)) }
+{
+    let Some((host, _)) = options.listen.rsplit_once(':') else {
+        return Err(cannot_listen(alloc, options, NetFault::BadAddress));
+    };
+    let mut line = String::from_str(alloc, "listening on ")?;
+    line.push_str(host)?;
+    line.push_str(":")?;
+    line.push_str(port.to_string(alloc)?.as_str())?;
+    line.push_str("\n")?;
+    Ok(line)
+}
+
+/// Prints the line.
+fn announce<W: Write>(line: &str, out: &mut W) -> Result<(), Fault>
+    ensures { OnOk result (Appends (W.contents out.old) (W.contents out.new) line.now) }
+{
+    if out.write_all(line.as_bytes()).is_err() || out.flush().is_err() {
+        return Err(Fault::CannotWrite);
+    }
+    Ok(())
+}
+
+/// Listens on the options' address, prints it, and serves: a thread accepts streams, a group of workers serves them,
+/// and moments are Unix seconds. Keys are hashed with the seed. With a number of sessions it accepts so many streams, and ends when their sessions
+/// have ended; else it goes on.
+pub fn serve<H, W: Write>(
+    rt: H,
+    alloc: Global,
+    options: &ServeOptions,
+    geometry: Geometry,
+    seed: u64,
+    out: &mut W,
+) -> Result<(), Fault>
+where
+    H: Threads + Wait + Net + time::Clock + Copy + Drop + Send + Sync + 'static,
+    ensures { OnOk result ((port : ℕ) × (line : List ℕ) × IsListeningLine (string_bytes options.entry.now.listen) port line
+        × Appends (W.contents out.old) (W.contents out.new) line) }
+{
+    let mut listener = match Listener::bind(&rt, alloc, options.listen.as_str()) {
+        Ok(listener) => listener,
+        Err(fault) => return Err(cannot_listen(alloc, options, fault)),
+    };
+    let (hands, ports) = match make_ports(rt, alloc, options.workers as usize) {
+        Ok(made) => made,
+        Err(fault) => return Err(cannot_listen(alloc, options, fault)),
+    };
+    let store = Store::seeded(alloc, geometry, 0, seed)?;
+    let line = listening_line(alloc, options, listener.port())?;
+    announce(line.as_str(), out)?;
+    let limit = options.sessions;
+    let Ok(listening) = thread::spawn(&rt, move || listener.run(&rt, hands.as_slice(), limit))
+    else {
+        return Err(Fault::NoThread);
+    };
+    let config = Config { geometry };
+    let clock = UnixClock::new(rt);
+    let _ = run_group(&rt, alloc, ports, config, store, clock, &OpenGate)?;
+    listening.join(&rt);
+    Ok(())
+}

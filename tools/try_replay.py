@@ -50,11 +50,30 @@ def two_sessions():
     return script, line(1, b"END\r\n" * ((count + 1) // 2)) + line(2, b"")
 
 
+def answers_of_both(count):
+    return line(1, b"END\r\n" * ((count + 1) // 2)) + line(2, b"END\r\n" * (count // 2))
+
+
+def two_in_turn():
+    pieces = [f"send 0 1 {GET.hex()}", f"send 0 2 {GET.hex()}"]
+    script, count = script_of(["open 0 1", "open 0 2"], (pieces[at % 2] for at in range(SIZE)))
+    return script, answers_of_both(count)
+
+
+def two_in_blocks():
+    script, wanted = two_in_turn()
+    lines = script.splitlines()
+    return "\n".join(lines[:2] + lines[2::2] + lines[3::2]) + "\n", wanted
+
+
 RUNS = [
     ("opened sessions", opens, []),
     ("one session", one_session, []),
     ("one session that takes a byte at a time", one_session, ["--accept", "1"]),
     ("two sessions that take two bytes at a time", two_sessions, ["--accept", "2"]),
+    ("two sessions in turn", two_in_turn, []),
+    ("two sessions in turn that take a byte at a time", two_in_turn, ["--accept", "1"]),
+    ("two sessions one behind the other that take a byte at a time", two_in_blocks, ["--accept", "1"]),
 ]
 
 

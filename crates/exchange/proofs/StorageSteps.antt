@@ -1,6 +1,8 @@
 -- Each step of storage keeps the rule, and so do the makings and the meetings.
-use Rattle.std.proofs.Common.{◌≡◌, ◌≢◌, ◌⊎◌, ℕ, zero, suc, ◌+◌, ◌*◌, ◌<◌, ◌≤◌, List, [], ◌∷◌, ◌++◌, map, length, get_or, set, replicate, Option, Some, None}
-use Rattle.std.proofs.Common.{Bool, true, refl, sym, ap, ◌∙◌, subst, inl, inr, ⊎_elim, arith, length-set, length-append, get_or-set_other, get_or-set_same}
+use Rattle.std.proofs.Common.{◌≡◌, ◌≢◌, ◌⊎◌, ℕ, zero, suc, ◌+◌, ◌*◌, ◌<◌, ◌≤◌, List, [], ◌∷◌, ◌++◌, map, length}
+use Rattle.std.proofs.Common.{get_or, set, replicate, Option, Some, None}
+use Rattle.std.proofs.Common.{Bool, true, refl, sym, ap, ◌∙◌, subst, inl, inr, ⊎_elim, arith, length-set}
+use Rattle.std.proofs.Common.{length-append, get_or-set_other, get_or-set_same}
 use Rattle.std.proofs.Common.{le_refl, eq-eqb, ne_eqb}
 use mathlib.Core.Logic.{dite}
 use mathlib.Core.Option.{none, some, some-injective, some-ne-none}
@@ -24,7 +26,8 @@ use Rattle.proto.specs.History.{worker_share, Legal}
 use Rattle.exchange.specs.Lanes.{Homes, SeatState, messages, open_at, count_of, lane_slot, at_home, LaneIs, Agree, Fits, first_worker_state}
 use Rattle.exchange.specs.Lanes.{first_storage_state, LanesHold, opening_view}
 use Rattle.proto.specs.Counts.{times}
-use Rattle.exchange.specs.Steps.{PostedTells, settled, looked_at, with_opened, reopened, SeenTells, replied, all_told, bye_settled, posted_loaded, answered}
+use Rattle.exchange.specs.Steps.{PostedTells, settled, looked_at, with_opened, reopened, SeenTells, replied}
+use Rattle.exchange.specs.Steps.{all_told, bye_settled, posted_loaded, answered}
 use Rattle.exchange.specs.Steps.{seen_opened, told_done, settle_bye, with_one_more}
 use Rattle.exchange.specs.Steps.{new_worker, comparing, compared}
 use Rattle.exchange.proofs.Lists.{at_below, at_end, at_some, starts_below, starts_longer, starts_self, starts_trans}

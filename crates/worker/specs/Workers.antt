@@ -1,5 +1,6 @@
 -- What stays true of a worker while it runs.
-use Rattle.std.specs.Prelude.{◌≡◌, ℕ, ◌+◌, ◌-◌, ◌^◌, ◌<◌, ◌≤◌, slice_index_or, ⊤, Bool, true, false, is_some, List, [], ◌∷◌, ◌++◌, length, map, take, drop}
+use Rattle.std.specs.Prelude.{◌≡◌, ℕ, ◌+◌, ◌-◌, ◌^◌, ◌<◌, ◌≤◌, slice_index_or, ⊤, Bool, true, false, is_some, List}
+use Rattle.std.specs.Prelude.{[], ◌∷◌, ◌++◌, length, map, take, drop}
 use Rattle.std.specs.Prelude.{min, Option, Some, None}
 use Rattle.std.specs.Option.{option_to_list, option_map}
 use mathlib.Core.Option.{some}

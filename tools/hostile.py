@@ -8,6 +8,7 @@ and says a line. Without --long the parts take about three minutes in all; with 
 --fuzz-seconds says otherwise. Ends with status 0 where nothing was wrong, lost or late.
 """
 import argparse
+import multiprocessing
 import os
 import random
 import re
@@ -131,26 +132,30 @@ class Client:
         return (value, int(words[4])) if verb == b"gets" else value
 
 
-class Canary(threading.Thread):
-    """Writes, reads, counts and deletes keys of its own until it is stopped; notes the longest wait, and what was wrong."""
+class Canary(multiprocessing.Process):
+    """Writes, reads, counts and deletes keys of its own until it is stopped; notes the longest wait, and what was wrong. It has a
+    process of its own: in a thread beside the bad peers it would wait for them too, and that isn't the server's doing."""
 
     def __init__(self, server, pause=0.005):
         super().__init__(daemon=True)
         self.server, self.pause = server, pause
-        self.is_over, self.trouble, self.longest, self.rounds = False, None, 0.0, 0
+        self.is_over, (self.hears, self.says) = multiprocessing.Event(), multiprocessing.Pipe(False)
+        self.longest, self.rounds = 0.0, 0
 
     def run(self):
+        trouble = None
         try:
             client = Client(self.server)
-            while not self.is_over:
+            while not self.is_over.is_set():
                 began = time.monotonic()
                 self.round(client)
                 self.longest = max(self.longest, time.monotonic() - began)
                 self.rounds += 1
                 time.sleep(self.pause)
             client.close()
-        except (OSError, EOFError, Trouble) as trouble:
-            self.trouble = f"canary: {type(trouble).__name__} {trouble}"
+        except (OSError, EOFError, Trouble) as fault:
+            trouble = f"canary: {type(fault).__name__} {fault}"
+        self.says.send((trouble, self.rounds, self.longest))
 
     def round(self, client):
         key, value = b"canary-%d" % (self.rounds % 50), b"value-%d" % self.rounds
@@ -166,13 +171,16 @@ class Canary(threading.Thread):
                 raise Trouble(f"in round {self.rounds} wanted {wanted!r} and got {got!r}")
 
     def stop(self):
-        self.is_over = True
-        self.join(30)
-        if self.trouble or self.is_alive():
-            raise Trouble(self.trouble or "canary: no answer in 30 seconds")
-        if self.longest > LATE:
-            raise Trouble(f"canary: six answers took {self.longest:.2f} seconds")
-        return f"canary: {self.rounds} rounds, the longest {self.longest * 1000:.0f} ms"
+        self.is_over.set()
+        if not self.hears.poll(30):
+            raise Trouble("canary: no answer in 30 seconds")
+        trouble, rounds, longest = self.hears.recv()
+        self.join()
+        if trouble:
+            raise Trouble(trouble)
+        if longest > LATE:
+            raise Trouble(f"canary: six answers took {longest:.2f} seconds")
+        return f"canary: {rounds} rounds, the longest {longest * 1000:.0f} ms"
 
 
 GOOD = (

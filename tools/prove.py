@@ -4,21 +4,30 @@
     tools/prove.py NAME         a crate and all that it stands on
     tools/prove.py --all        every crate of crates.txt
 
-A crate whose proof is kept in its folder out/ and that hasn't changed takes a second or two. As many run at a time as there
-are processors and memory for; --jobs N asks for N. Ends with status 1 where a crate isn't proved.
+A crate whose proof is kept in its folder out/ and that hasn't changed takes a second or two. As many are proved at a time as there
+are processors and memory for; --at-once N asks for N. Ends with status 1 where a crate isn't proved.
+
+rt keeps other runs out of a crate that it proves and out of all that it stands on. So each crate is proved in a room of its own, a folder with
+links to its files and to the libraries below it, from which its folder out/ comes back.
 """
 import argparse
 import os
 import re
+import shutil
 import subprocess
 import sys
+import tempfile
 import time
 
 TOP = os.path.dirname(os.path.dirname(os.path.abspath(__file__)))
-# What one proof may take, in gigabytes, where nothing is kept.
+# Where the rooms are: among the files of git, where rt doesn't look for sources.
+ROOMS = f"{TOP}/.git/rooms" if os.path.isdir(f"{TOP}/.git") else f"{TOP}/out/rooms"
+# What the proof of a crate may take, in gigabytes, where nothing is kept.
 GIGABYTES_A_PROOF = 3.5
 # Of a crate that isn't proved so many characters are shown, the last ones.
 SHOWN = 3000
+# So many seconds lie between two looks at what runs.
+EVERY = 0.2
 
 
 def read_crates():
@@ -40,52 +49,123 @@ def with_those_below(crates, name):
 
 
 def at_once():
-    """How many proofs may run side by side."""
+    """How many crates may be proved side by side."""
     with open("/proc/meminfo", encoding="ascii") as file:
         free = next(int(line.split()[1]) for line in file if line.startswith("MemAvailable"))
     return max(1, min(len(os.sched_getaffinity(0)), int(free / 1024 / 1024 / GIGABYTES_A_PROOF)))
 
 
-def prove(folder, count, jobs):
-    """Proves each crate at or below the folder and all that they stand on, with a line for each, and gives the status."""
-    print(f"{count} crates to prove, {jobs} at a time", flush=True)
-    began, proved, said, name = time.monotonic(), 0, {}, ""
-    words = ["rt", "all", "check", "--jobs", str(jobs)]
-    with subprocess.Popen(words, cwd=folder, stdin=subprocess.DEVNULL, stdout=subprocess.PIPE, stderr=subprocess.STDOUT, text=True, errors="replace") as ran:
-        for line in ran.stdout:
-            header = re.fullmatch(r"== (\w+)\n", line)
-            if header:
-                name = header[1]
-                proved += name != "summary"
-                seconds = int(time.monotonic() - began)
-                if name != "summary":
-                    print(f"  {proved:2} of {count}  {name:18} ({seconds // 60}:{seconds % 60:02})", flush=True)
-            else:
-                said[name] = said.get(name, "") + line
-    if ran.returncode:
-        for line in said.get("summary", "").splitlines():
-            if failed := re.match(r"(\w+): failed", line):
-                print(said.get(failed[1], "")[-SHOWN:])
-            if not line.endswith(": ok"):
-                print(line)
-        if "summary" not in said:
-            print("".join(said.values())[-SHOWN:])
-    return ran.returncode
+def lines_of(name):
+    """How many lines a crate has, by which its proof's time is guessed."""
+    folders = [f"{TOP}/crates/{name}/{part}" for part in ("src", "specs", "proofs")]
+    files = [f"{top}/{file}" for folder in folders for top, _, files in os.walk(folder) for file in files]
+    return sum(len(open(file, encoding="utf-8").readlines()) for file in files)
+
+
+def longest_first(crates, names):
+    """These crates, each before those that stand on it, and those first from which the way to the top is longest."""
+    way = {}
+
+    def measure(name):
+        if name not in way:
+            above = [it for it in names if name in crates[it]]
+            way[name] = lines_of(name) + max(map(measure, above), default=0)
+        return way[name]
+
+    return sorted(names, key=measure, reverse=True)
+
+
+def copy_by_links(source, target, ignored=()):
+    shutil.copytree(source, target, copy_function=os.link, ignore=shutil.ignore_patterns(*ignored))
+
+
+def room_for(crates, name):
+    """A folder like the repository's, with the crate, what is kept of its proof, and the libraries below it."""
+    room = f"{ROOMS}/{name}"
+    os.makedirs(f"{room}/crates")
+    here = with_those_below(crates, name)
+    with open(f"{TOP}/crates.txt", encoding="utf-8") as lines, open(f"{room}/crates.txt", "w", encoding="utf-8") as kept:
+        kept.writelines(line for line in lines if re.match(r"\w*", line)[0] in here)
+    copy_by_links(f"{TOP}/crates/{name}", f"{room}/crates/{name}")
+    for below in here - {name}:
+        copy_by_links(f"{TOP}/crates/{below}", f"{room}/crates/{below}", ignored=["out"])
+        copy_by_links(f"{TOP}/crates/{below}/out/rlib", f"{room}/crates/{below}/out/rlib")
+    return room
+
+
+class Proof:
+    """A crate that is being proved, by so many jobs."""
+
+    def __init__(self, crates, name, jobs):
+        self.name = name
+        self.room = room_for(crates, name)
+        self.said = tempfile.TemporaryFile("w+", errors="replace")
+        folder = f"{self.room}/crates/{name}"
+        command = "check" if os.path.exists(f"{folder}/src/main.rt") else "lib"
+        words = ["rt", command, "--jobs", str(jobs)]
+        self.ran = subprocess.Popen(words, cwd=folder, stdin=subprocess.DEVNULL, stdout=self.said, stderr=subprocess.STDOUT)
+
+    def has_ended(self):
+        return self.ran.poll() is not None
+
+    def take_back(self):
+        """Brings the crate's folder out/ back, and gives the status."""
+        out = f"{TOP}/crates/{self.name}/out"
+        shutil.rmtree(out, ignore_errors=True)
+        if os.path.isdir(f"{self.room}/crates/{self.name}/out"):
+            os.rename(f"{self.room}/crates/{self.name}/out", out)
+        shutil.rmtree(self.room)
+        if self.ran.returncode:
+            self.said.seek(0)
+            print(self.said.read()[-SHOWN:])
+            print(f"{self.name} isn't proved")
+        return self.ran.returncode
+
+
+def start(crates, waiting, proved, running, at_once):
+    """Starts what may be proved now, up to so many crates at a time. Each is proved by two jobs, or by more where few are left."""
+    ready = [it for it in waiting if all(below in proved for below in crates[it])]
+    jobs = max(min(2, at_once), at_once // max(1, len(running) + len(ready)))
+    for name in ready[: at_once - len(running)]:
+        running.append(Proof(crates, name, jobs))
+        waiting.remove(name)
+
+
+def prove(crates, names, at_once):
+    """Proves crates side by side, with a line for each, and gives the status."""
+    print(f"{len(names)} crates to prove, {at_once} at a time", flush=True)
+    shutil.rmtree(ROOMS, ignore_errors=True)
+    began, waiting, proved, running, status = time.monotonic(), list(names), [], [], 0
+    while running or (waiting and not status):
+        if not status:
+            start(crates, waiting, proved, running, at_once)
+        time.sleep(EVERY)
+        for proof in [it for it in running if it.has_ended()]:
+            running.remove(proof)
+            failed = proof.take_back()
+            status = status or failed
+            if failed:
+                continue
+            proved.append(proof.name)
+            seconds = int(time.monotonic() - began)
+            print(f"  {len(proved):2} of {len(names)}  {proof.name:18} ({seconds // 60}:{seconds % 60:02})", flush=True)
+    shutil.rmtree(ROOMS)
+    return status
 
 
 def main():
     parser = argparse.ArgumentParser(description="Proves crates side by side.")
     parser.add_argument("name", nargs="?")
     parser.add_argument("--all", action="store_true")
-    parser.add_argument("--jobs", type=int, default=0)
+    parser.add_argument("--at-once", type=int, default=0)
     words = parser.parse_args()
     crates = read_crates()
-    jobs = words.jobs or at_once()
+    most = words.at_once or at_once()
     if words.all:
-        return prove(TOP, len(crates), jobs)
+        return prove(crates, longest_first(crates, list(crates)), most)
     if words.name not in crates:
         parser.error("name a crate of crates.txt, or --all")
-    return prove(f"{TOP}/crates/{words.name}", len(with_those_below(crates, words.name)), jobs)
+    return prove(crates, longest_first(crates, with_those_below(crates, words.name)), most)
 
 
 if __name__ == "__main__":

@@ -1,11 +1,13 @@
 #!/usr/bin/env python3
-"""Replays scripts of 16 MB, and looks at what is printed and how long it takes.
+"""Replays scripts of 16 MB, and looks at what is printed, how long it takes, and how much memory.
 
     tools/try_replay.py PROGRAM
 
 Each script ends within SECONDS, which is many times what it takes on a quiet machine and far below what it takes where the
-port walks over all events for each one. Ends with status 0 where all do, and print what they should.
+port walks over all events for each one. Sessions that are opened and say nothing take at most MEGABYTES. Ends with status 0 where all
+do, and print what they should.
 """
+import resource
 import subprocess
 import sys
 import tempfile
@@ -13,6 +15,7 @@ import time
 
 SIZE = 16_777_216
 SECONDS = 30
+MEGABYTES = 250
 GET = b"get a\r\n"
 QUIET_SET = b"set b 0 0 1 noreply\r\nx\r\n"
 
@@ -94,8 +97,17 @@ def replay(program, name, made, words):
     return passed
 
 
+def has_little_memory():
+    """Whether no replay so far took more memory than silent sessions may."""
+    most = resource.getrusage(resource.RUSAGE_CHILDREN).ru_maxrss // 1000
+    print(f"replay: {most} MB" + ("" if most <= MEGABYTES else f", more than {MEGABYTES}"))
+    return most <= MEGABYTES
+
+
 def main():
-    results = [replay(sys.argv[1], *run) for run in RUNS]
+    program = sys.argv[1]
+    results = [replay(program, *RUNS[0]), has_little_memory()]
+    results += [replay(program, *run) for run in RUNS[1:]]
     sys.exit(0 if all(results) else 1)
 
 

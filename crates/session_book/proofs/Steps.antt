@@ -8,7 +8,7 @@ use Rattle.std.proofs.lemmas.Bool.{both_ways}
 use Rattle.proto.specs.declared.message.Request.{Request}
 use Rattle.proto.specs.declared.message.Message.{Message}
 use Rattle.proto.specs.declared.message.Message.TheVariants.{Ask, Wrong, Quit, Fatal}
-use Rattle.proto.specs.Grammar.{Spells}
+use Rattle.proto.specs.Grammar.{Spells, SpellsNone}
 use Rattle.proto.specs.Reading.{asks}
 use Rattle.proto.specs.Answers.{said, is_ask}
 use Rattle.proto.proofs.MessageReader.{spelling_nonempty}
@@ -16,9 +16,9 @@ use Rattle.session_book.specs.declared.causes.EndCause.{EndCause}
 use Rattle.session_book.specs.declared.limits.TheConstants.{MAX_WAITING}
 use Rattle.session_book.specs.declared.session.Read.{Read}
 use Rattle.session_book.specs.Session.{SessionState, left, ended_by, need_after, begins_asked, ReadsOn, AskAtLast, Stops, no_message, IsReady, ReadsAsk}
-use Rattle.session_book.specs.Session.{ReadsMessage, TakesLocal, TakesAsk, TakesNothing, ReadsOne, read_of}
+use Rattle.session_book.specs.Session.{new_session, ReadsMessage, TakesLocal, TakesAsk, TakesNothing, ReadsOne, read_of}
 use Rattle.proto.specs.declared.no_memory.NoMemory.{NoMemory}
-use Rattle.session_book.proofs.Needing.{unfinished_short}
+use Rattle.session_book.proofs.Needing.{needs_one, spells_none, unfinished_short}
 use Rattle.session_book.proofs.Answering.{said-append, left-append, left_waits, said_waits}
 use Rattle.session_book.proofs.Reading.{SpellEach-append, ended_by-append, not_ended_before, EndsAtLast-append}
 use Rattle.proto.proofs.AskLemmas.{asks-append}
@@ -274,6 +274,12 @@ reads_stops before now looks looks_now h stops = record {
   };
   none = λ e. stops;
 }
+
+-- a session that was just opened has nothing to read
+pub reads_new : (looks : ℕ) → ReadsAsk new_session looks (Ok None) new_session looks
+reads_new looks =
+    let none : SpellsNone [] = spells_none [] 1 (needs_one []) (omega arith) in
+    reads_stops new_session new_session looks looks (starts_locals new_session looks refl) (no_message (omega arith) none)
 
 -- there was no memory for a message, which stays unread
 pub reads_refused : (before now after : SessionState) (looks looks_now looks_after : ℕ) (no_memory : NoMemory)

@@ -1,15 +1,15 @@
 //! The sessions of one worker: reading what they were fed, and answering in the order of their messages.
 
-ghost use Rattle.std.specs.Prelude.{◌≡◌, ◌⊎◌, ◌+◌, ◌≤◌, ◌<◌, ◌↔◌, [], length, not, false, ◌==◌, is_some, option_map};
+ghost use Rattle.std.specs.Prelude.{◌≡◌, ◌⊎◌, ◌+◌, ◌≤◌, ◌<◌, ◌↔◌, [], length, is_some, option_map};
 ghost use Rattle.std.specs.Prelude.{IsSomeAnd, OnOk, OnErr};
 ghost use Rattle.session_book.specs.Session.{SessionState, new_session, IsInputFull, once_fed, gave, finished_by};
-ghost use Rattle.std.specs.Option.{option_and_then, option_map_or};
+ghost use Rattle.std.specs.Option.{option_and_then};
 
 use crate::causes::{EndCause, FeedFault, OpenFault, Received, Settled, Unsettled};
 use crate::limits::{MAX_POSTS, MAX_SESSIONS, MAX_UNSETTLED};
 use crate::load::Load;
+use crate::open_session::OpenSession;
 use crate::ready::Ready;
-use crate::session::Session;
 use crate::spares::Spares;
 use bytes::Bytes;
 use proto::{Answered, NoMemory, Request};
@@ -34,7 +34,7 @@ pub struct Offer<'a> {
 pub struct Book {
     alloc: Global,
     worker: usize,
-    sessions: HashMap<u64, Session>,
+    sessions: HashMap<u64, OpenSession>,
     posted: u64,
     unsettled: VecDeque<Unsettled>,
     greatest: u64,
@@ -126,7 +126,7 @@ impl Book {
         if self.ready.take_room(self.sessions.len() + 1).is_err() {
             return Err(OpenFault::NoMemory);
         }
-        match self.sessions.insert(session, Session::new(self.alloc)) {
+        match self.sessions.insert(session, OpenSession::new(self.alloc)) {
             Ok(_) => {}
             Err(_) => return Err(OpenFault::NoMemory),
         }
@@ -252,16 +252,6 @@ impl Book {
         ensures { result ≡ is_some (session_of self.now session) }
     {
         self.sessions.contains_key(&session)
-    }
-
-    /// Whether the session has requests that aren't settled, or messages behind them.
-    pub fn awaits(&self, session: u64) -> bool
-        ensures { result ≡ option_map_or (λ s. not (length s.queue == 0)) (session_of self.now session) false }
-    {
-        match self.sessions.get(&session) {
-            Some(open) => open.awaits(),
-            None => false,
-        }
     }
 
     /// The output of a session that wasn't given yet.

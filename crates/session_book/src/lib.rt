@@ -8,6 +8,7 @@ mod causes;
 mod laws;
 mod limits;
 mod load;
+mod open_session;
 mod place;
 mod ready;
 mod session;

@@ -27,7 +27,8 @@ const WORTH_GIVING: usize = 16_384;
 /// of a whole message, has the room.
 const WORTH_FEEDING: usize = 65_536;
 
-/// An open session, with its places in the lines of its book. Contracts see it as a `SessionState`, without the places.
+/// The state of a session from its first input on, with its places in the lines of its book. Contracts see it as a
+/// `SessionState`, without the places.
 #[derive(Drop)]
 pub struct Session {
     alloc: Global,

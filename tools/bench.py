@@ -283,6 +283,19 @@ def machine():
     return f"{date}, {os.cpu_count()} processors ({models[0] if models else 'unknown'}), load before it {os.getloadavg()[0]:.1f}; {version}."
 
 
+def processor_ticks():
+    """What the processors did since the start, in ticks: all, and those that the host gave to other machines."""
+    with open("/proc/stat", encoding="ascii") as file:
+        ticks = [int(it) for it in file.readline().split()[1:9]]
+    return sum(ticks), ticks[7]
+
+
+def stolen_since(before):
+    """The share of the processors' time that went to other machines."""
+    total, stolen = processor_ticks()
+    return (stolen - before[1]) / max(1, total - before[0])
+
+
 def write(text):
     path = f"{TOP}/docs/PERFORMANCE.md"
     with open(path, encoding="utf-8") as file:
@@ -314,7 +327,7 @@ def read_words():
 def run(words):
     wanted = lambda name: any(it in name for it in words.only.split(","))
     sizes = SIZES[1:2] if words.quick else SIZES
-    head = machine()
+    head, before = machine(), processor_ticks()
     with tempfile.TemporaryDirectory() as folder:
         load = f"{folder}/load"
         subprocess.run(["gcc", "-O2", "-pthread", "-o", load, f"{TOP}/tools/load.c", "-lm"], check=True)
@@ -325,6 +338,7 @@ def run(words):
             parts.append(rate_table(bench, wanted))
         if wanted("memory"):
             parts.append(memory_table(bench, MEMORIES[1:] if words.quick else MEMORIES))
+    parts.append([f"Of all processors' time in that run {stolen_since(before):.0%} went to other machines of the host."])
     text = "\n\n".join("\n".join(it) for it in parts)
     print(text)
     if words.write:

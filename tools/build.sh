@@ -4,8 +4,8 @@ set -eu
 cd "$(dirname "$0")/.."
 log=$(mktemp)
 trap 'rm -f "$log"' EXIT
-echo "Proving and building segcached ..."
-python3 tools/prove.py segcached
+echo "Proving what segcached stands on, and then segcached ..."
+python3 tools/prove.py --below segcached
 (cd crates/segcached && rt run -- --help) >"$log" 2>&1 || {
   tail -n 20 "$log"
   exit 1

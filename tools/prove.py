@@ -2,6 +2,7 @@
 """Proves crates side by side, each after those that it stands on, and says a line for each.
 
     tools/prove.py NAME         a crate and all that it stands on
+    tools/prove.py --below NAME all that it stands on
     tools/prove.py --all        every crate of crates.txt
 
 A crate whose proof is kept in its folder out/ and that hasn't changed takes a second or two. As many are proved at a time as there
@@ -156,6 +157,7 @@ def prove(crates, names, at_once):
 def main():
     parser = argparse.ArgumentParser(description="Proves crates side by side.")
     parser.add_argument("name", nargs="?")
+    parser.add_argument("--below", action="store_true")
     parser.add_argument("--all", action="store_true")
     parser.add_argument("--at-once", type=int, default=0)
     words = parser.parse_args()
@@ -165,7 +167,8 @@ def main():
         return prove(crates, longest_first(crates, list(crates)), most)
     if words.name not in crates:
         parser.error("name a crate of crates.txt, or --all")
-    return prove(crates, longest_first(crates, with_those_below(crates, words.name)), most)
+    names = with_those_below(crates, words.name) - ({words.name} if words.below else set())
+    return prove(crates, longest_first(crates, names), most)
 
 
 if __name__ == "__main__":

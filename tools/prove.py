@@ -150,7 +150,7 @@ def prove(crates, names, at_once):
             proved.append(proof.name)
             seconds = int(time.monotonic() - began)
             print(f"  {len(proved):2} of {len(names)}  {proof.name:18} ({seconds // 60}:{seconds % 60:02})", flush=True)
-    shutil.rmtree(ROOMS)
+    shutil.rmtree(ROOMS, ignore_errors=True)
     return status
 
 

@@ -1,5 +1,6 @@
 -- What the calls of a port make of its story, and which sessions that leaves paused.
-use Rattle.std.proofs.Common.{◌≡◌, ◌≢◌, ℕ, ◌==◌, Bool, true, false, true≢false, ◌||◌, cond, eq-eqb, List, [], ◌∷◌, take, refl, sym, ap, ◌∙◌, Option, Some}
+use Rattle.std.proofs.Common.{◌≡◌, ◌≢◌, ℕ, ◌==◌, Bool, true, false, true≢false, ◌||◌, cond, eq-eqb, List, [], ◌∷◌}
+use Rattle.std.proofs.Common.{take, refl, sym, ap, ◌∙◌, Option, Some}
 use Rattle.std.proofs.Common.{None, is_some, Ok}
 use Rattle.std.specs.Option.{option_map}
 use Rattle.proto.proofs.Options.{some_is}

@@ -1,5 +1,6 @@
 -- What each step of a worker leaves true.
-use Rattle.std.proofs.Common.{◌≡◌, ◌≢◌, ℕ, ◌-◌, ◌^◌, ◌≤◌, ◌==◌, Bool, true, false, true≢false, ◌||◌, ◌&&◌, not, cond, ne_eqb, List, [], ◌∷◌, ◌++◌, length}
+use Rattle.std.proofs.Common.{◌≡◌, ◌≢◌, ℕ, ◌-◌, ◌^◌, ◌≤◌, ◌==◌, Bool, true, false, true≢false, ◌||◌, ◌&&◌, not}
+use Rattle.std.proofs.Common.{cond, ne_eqb, List, [], ◌∷◌, ◌++◌, length}
 use Rattle.std.proofs.Common.{min, refl, sym, ap, subst, ◌∙◌, Option, Some, None}
 use Rattle.std.specs.Option.{option_map}
 use Rattle.proto.specs.declared.history.Posted.{Posted}

@@ -1,5 +1,6 @@
 -- What the list of a port says.
-use Rattle.std.specs.Prelude.{◌≡◌, ℕ, ◌<◌, ◌≤◌, ⊤, Bool, true, false, not, ◌&&◌, ◌||◌, ◌==◌, if◌then◌else◌, List, [], ◌∷◌, ◌++◌, length, take, Ok, Err}
+use Rattle.std.specs.Prelude.{◌≡◌, ℕ, ◌<◌, ◌≤◌, ⊤, Bool, true, false, not, ◌&&◌, ◌||◌, ◌==◌, if◌then◌else◌, List}
+use Rattle.std.specs.Prelude.{[], ◌∷◌, ◌++◌, length, take, Ok, Err}
 use Rattle.std.specs.Prelude.{Result, Option, Some, flat_map, count_by}
 use Rattle.std.specs.List.{list_any}
 use Rattle.worker.specs.declared.port.PortRecord.{PortRecord}

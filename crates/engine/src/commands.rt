@@ -22,6 +22,7 @@ use crate::size::is_too_large;
 use crate::storage_engine::StorageEngine;
 use itoa::Buffer;
 use proto::{Keys, Put, Reply, Request};
+use std::hash::FoldHasher;
 
 /// A cache over a map of live entries.
 #[derive(Drop)]
@@ -298,6 +299,14 @@ impl<M: LiveMap> StorageEngine for Engine<M> {
 
     fn last_moment(&self) -> u64 {
         Engine::last_moment(self)
+    }
+
+    fn key_hasher(&self) -> FoldHasher {
+        self.map.key_hasher()
+    }
+
+    fn prefetch(&self, hash: u64) -> u64 {
+        self.map.prefetch(hash)
     }
 
     fn handle(&mut self, now: u64, request: &mut Request) -> Reply {

@@ -14,6 +14,7 @@ ghost use Rattle.engine.specs.Counting.{StaysAlike};
 
 use crate::entry_ref::EntryRef;
 use proto::NoMemory;
+use std::hash::FoldHasher;
 
 /// Entries by their keys, as they are seen at the last moment.
 pub trait LiveMap {
@@ -55,6 +56,13 @@ pub trait LiveMap {
 
     fn last_moment(&self) -> u64
         ensures { result ≡ moment self.now };
+
+    /// What hashes the keys for `prefetch`.
+    fn key_hasher(&self) -> FoldHasher;
+
+    /// Reads what the search for a key with this hash will read, so that the processor has it at hand. It answers some of
+    /// what it read, of which no clause speaks.
+    fn prefetch(&self, hash: u64) -> u64;
 
     /// Time goes on to this moment.
     fn advance(&mut self, now: u64)

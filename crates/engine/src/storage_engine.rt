@@ -10,6 +10,7 @@ ghost use Rattle.engine.specs.Outcomes.{outcome_at, needs_memory};
 ghost use Rattle.engine.specs.Keeping.{KeepsAll};
 
 use proto::{Reply, Request};
+use std::hash::FoldHasher;
 
 /// The greatest moment in seconds.
 pub const MAX_MOMENT: u64 = 4_611_686_018_427_387_904;
@@ -32,6 +33,13 @@ pub trait StorageEngine {
     /// The moment of the last request in seconds, 0 before the first one.
     fn last_moment(&self) -> u64
         ensures { result ≡ moment self.now };
+
+    /// What hashes the keys for `prefetch`.
+    fn key_hasher(&self) -> FoldHasher;
+
+    /// Reads what a request with a key of this hash will look up, so that the processor has it at hand. It answers some of
+    /// what it read, of which no clause speaks.
+    fn prefetch(&self, hash: u64) -> u64;
 
     /// Executes the request at this moment in seconds, which is at most `MAX_MOMENT`. The room that a `get` was lent may be
     /// taken for its hits: of that no clause speaks.

@@ -244,6 +244,14 @@ impl StorageBatch {
         }
     }
 
+    /// The lane that was looked at last, the number of its next message that isn't settled, counted from 0, and how many
+    /// messages that look named from there on. They serve to read ahead: no clause speaks of them.
+    pub fn seen(&self) -> (usize, u64, u64) {
+        let lane = self.looked_lane;
+        let count = self.counts[lane];
+        (lane, count, self.named.saturating_sub(count))
+    }
+
     // Brings a worker's end of this exchange and storage's together, and tells how many requests the
     // worker sent and how many answers it took back.
     pub(crate) fn compare(&mut self, end: WorkerEnd) -> (u64, u64)

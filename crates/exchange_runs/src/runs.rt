@@ -7,11 +7,12 @@ ghost use Rattle.exchange_runs.specs.Serving.{HasTakenNothing};
 
 use crate::caller::{Caller, CallingWorker, Workload};
 use crate::serving::serve_queues;
-use parking::ParkingWord;
+use parking::{ParkingWord, StorageDesk};
 use plain_store::Store;
 use proto::Geometry;
 use queue_exchange::StorageEnd;
 use std::alloc::{AllocError, Global};
+use std::hash::FoldHasher;
 use std::sync::Wait;
 use std::thread::Threads;
 use std::time::{Duration, Instant};
@@ -65,6 +66,7 @@ fn players<C: Caller + Drop>(
 fn play_lanes<R: Threads + Wait + time::Clock + Sync, C: Caller + Drop + Send>(
     rt: &R,
     store: Store,
+    desk: &StorageDesk,
     players: Vec<CallingWorker<C>>,
     storage: exchange::StorageEnd,
 ) -> Run<C>
@@ -74,16 +76,14 @@ fn play_lanes<R: Threads + Wait + time::Clock + Sync, C: Caller + Drop + Send>(
 {
     let mut players = players;
     let start = Instant::now(rt).ok();
-    let word = ParkingWord::new();
-    let parking = &word;
     thread::join(
         rt,
-        move || run_storage(rt, store, Stopped, storage, parking),
+        move || run_storage(rt, store, Stopped, storage, desk),
         || thread::for_each_mut(
             rt,
             players.as_mut_slice(),
             8,
-            &|_, player: &mut CallingWorker<C>| player.play(rt, parking),
+            &|_, player: &mut CallingWorker<C>| player.play(rt, desk.parking()),
         ),
     );
     let elapsed = elapsed(rt, start);
@@ -100,7 +100,8 @@ pub fn run_lanes<R: Threads + Wait + time::Clock + Sync>(
     let geometry = Geometry::new(4096, 8).ok()?;
     let (ends, storage) = exchange::make(alloc, workers, geometry).ok()?;
     let players = players(alloc, ends, load).ok()?;
-    Some(play_lanes(rt, Store::new(alloc, geometry), players, storage))
+    let desk = StorageDesk::new(alloc, FoldHasher::default(), workers).ok()?;
+    Some(play_lanes(rt, Store::new(alloc, geometry), &desk, players, storage))
 }
 
 fn batched(
@@ -125,7 +126,8 @@ pub fn run_batches<R: Threads + Wait + time::Clock + Sync>(
     let (ends, storage) = exchange::make(alloc, workers, geometry).ok()?;
     let ends = batched(alloc, ends).ok()?;
     let players = players(alloc, ends, load).ok()?;
-    Some(play_lanes(rt, Store::new(alloc, geometry), players, storage))
+    let desk = StorageDesk::new(alloc, FoldHasher::default(), workers).ok()?;
+    Some(play_lanes(rt, Store::new(alloc, geometry), &desk, players, storage))
 }
 
 // The players, each in a thread, beside the storage loop of the queues.

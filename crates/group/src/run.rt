@@ -13,7 +13,7 @@ use crate::start::tell;
 use crate::threads::{join_storage, join_workers, start_storage, start_workers};
 use engine::StorageEngine;
 use exchange::{WorkerEnd, gather, make};
-use parking::ParkingWord;
+use parking::StorageDesk;
 use std::alloc::Global;
 use std::sync::{OnceLock, Wait};
 use std::thread;
@@ -99,7 +99,7 @@ fn run_in<
     alloc: Global,
     scope: &'s Scope<'s, &'e ()>,
     start: &'s OnceLock<bool>,
-    parking: &'s ParkingWord,
+    desk: &'s StorageDesk,
     ports: Vec<P>,
     config: Config,
     store: E,
@@ -119,8 +119,8 @@ fn run_in<
     let reports = Vec::with_capacity(alloc, count)?;
     let workers = Vec::with_capacity(alloc, count)?;
     let ends_left = Vec::with_capacity(alloc, count)?;
-    let storage = start_storage(rt, scope, start, store, clock, storage_end, parking)?;
-    match start_workers(rt, alloc, scope, start, ports, ends, gate, parking, handles) {
+    let storage = start_storage(rt, scope, start, store, clock, storage_end, desk)?;
+    match start_workers(rt, alloc, scope, start, ports, ends, gate, desk, handles) {
         Ok(handles) => {
             let told = tell(rt, start, true);
             if !*start.value(&told) {
@@ -173,8 +173,8 @@ pub fn run_group<
     }
     let lock = OnceLock::new();
     let start = &lock;
-    let word = ParkingWord::new();
-    let parking = &word;
+    let whole = StorageDesk::new(alloc, store.key_hasher(), ports.len())?;
+    let desk = &whole;
     thread::scope(
         thread::scope_env(),
         rt,
@@ -185,7 +185,7 @@ pub fn run_group<
             ensures fault { IfErr result (λ fault. fault ≢ BadConfig) }
         {
             run_in(
-                rt, alloc, scope, start, parking, ports, config, store, clock, gate,
+                rt, alloc, scope, start, desk, ports, config, store, clock, gate,
             )
         },
     )

@@ -11,7 +11,7 @@ use crate::fault::GroupFault;
 use crate::start::{Finished, hear};
 use engine::StorageEngine;
 use exchange::{StorageEnd, WorkerEnd};
-use parking::ParkingWord;
+use parking::StorageDesk;
 use std::alloc::Global;
 use std::snapshot::Snapshot;
 use std::sync::{OnceLock, OnceToken, Wait};
@@ -65,7 +65,7 @@ fn work<'a, P: Port, G: Gate, R: Wait>(
     port: P,
     end: WorkerEnd,
     gate: &G,
-    parking: &ParkingWord,
+    desk: &StorageDesk,
 ) -> Finished<'a, WorkerReport<P>>
     requires port { IsSilent P.told port }
     requires fresh { HasSentNothing end }
@@ -73,7 +73,7 @@ fn work<'a, P: Port, G: Gate, R: Wait>(
 {
     let told = hear(rt, start);
     let ran = if *start.value(&told) {
-        Some(run_worker(rt, alloc, port, end, gate, parking))
+        Some(run_worker(rt, alloc, port, end, gate, desk))
     } else {
         None
     };
@@ -87,7 +87,7 @@ fn serve<'a, E: StorageEngine + Drop, C: Clock, R: Wait>(
     store: E,
     clock: C,
     end: StorageEnd,
-    parking: &ParkingWord,
+    desk: &StorageDesk,
 ) -> Finished<'a, StorageReport<C>>
     requires empty { (E.cache store ≡ empty_cache 0) × (E.moment store ≡ 0) }
     requires sizes { E.sizes store ≡ end.geometry }
@@ -96,7 +96,7 @@ fn serve<'a, E: StorageEngine + Drop, C: Clock, R: Wait>(
 {
     let told = hear(rt, start);
     let ran = if *start.value(&told) {
-        Some(run_storage(rt, store, clock, end, parking))
+        Some(run_storage(rt, store, clock, end, desk))
     } else {
         None
     };
@@ -117,7 +117,7 @@ pub fn start_storage<
     store: E,
     clock: C,
     end: StorageEnd,
-    parking: &'s ParkingWord,
+    desk: &'s StorageDesk,
 ) -> Result<StorageHandle<'s, E, C>, GroupFault>
     requires empty { (E.cache store ≡ empty_cache 0) × (E.moment store ≡ 0) }
     requires sizes { E.sizes store ≡ end.geometry }
@@ -135,7 +135,7 @@ pub fn start_storage<
     };
     match scope.spawn_with(
         promise,
-        move || serve(rt, start, store, clock, end, parking),
+        move || serve(rt, start, store, clock, end, desk),
     ) {
         Ok(handle) => Ok(handle),
         Err(_) => Err(GroupFault::NoThread),
@@ -151,7 +151,7 @@ fn start_worker<'s, 'e, P: Port + Send + 's, G: Gate + Sync, R: Threads + Wait +
     port: P,
     end: WorkerEnd,
     gate: &'s G,
-    parking: &'s ParkingWord,
+    desk: &'s StorageDesk,
 ) -> Result<WorkerHandle<'s, P>, GroupFault>
     requires port { IsSilent P.told port }
     requires fresh { HasSentNothing end }
@@ -166,7 +166,7 @@ fn start_worker<'s, 'e, P: Port + Send + 's, G: Gate + Sync, R: Threads + Wait +
     };
     match scope.spawn_with(
         promise,
-        move || work(rt, alloc, start, port, end, gate, parking),
+        move || work(rt, alloc, start, port, end, gate, desk),
     ) {
         Ok(handle) => Ok(handle),
         Err(_) => Err(GroupFault::NoThread),
@@ -182,7 +182,7 @@ pub fn start_workers<'s, 'e, P: Port + Send + 's, G: Gate + Sync, R: Threads + W
     ports: Vec<P>,
     ends: Vec<WorkerEnd>,
     gate: &'s G,
-    parking: &'s ParkingWord,
+    desk: &'s StorageDesk,
     mut handles: Vec<WorkerHandle<'s, P>>,
 ) -> Result<Vec<WorkerHandle<'s, P>>, GroupFault>
     requires ports { All (IsSilent P.told) ports.items }
@@ -199,7 +199,7 @@ pub fn start_workers<'s, 'e, P: Port + Send + 's, G: Gate + Sync, R: Threads + W
         let Some(port) = ports.next() else {
             unreachable!()
         };
-        let handle = start_worker(rt, alloc, scope, start, port, end, gate, parking)?;
+        let handle = start_worker(rt, alloc, scope, start, port, end, gate, desk)?;
         handles.push_reserved(handle);
     }
     Ok(handles)

@@ -63,6 +63,23 @@ impl Index {
         })
     }
 
+    /// What hashes a key, once it has taken in the seed.
+    pub fn hasher(&self) -> FoldHasher {
+        self.hasher
+    }
+
+    /// Reads what a look-up of a key with this hash reads first: the slot where it begins, and what stands at that slot's
+    /// place, where that may be the key's. It answers some of what it read.
+    pub fn prefetch(&self, pool: &Pool, hash: u64) -> u64 {
+        let home = home_of(self.slots.len(), hash);
+        let slot = self.slots.get(home);
+        if slot.tag == self.slots.layout().tag_of(hash) {
+            pool.peek(slot.place())
+        } else {
+            0
+        }
+    }
+
     /// How many keys have a place.
     pub fn len(&self) -> usize
         ensures count { result ≡ used_in self.now.slots }

@@ -2,10 +2,11 @@
 
 use exchange::make;
 use exchange_runs::Stopped;
-use parking::ParkingWord;
+use parking::StorageDesk;
 use plain_store::Store;
 use proto::Geometry;
 use std::alloc::Global;
+use std::hash::FoldHasher;
 use std::sync::Wait;
 use std::thread::Threads;
 use std::time::Duration;
@@ -22,17 +23,17 @@ pub fn wait<R: Threads + Wait + time::Clock + Sync>(
     let (mut ends, storage) = make(alloc, 1, geometry).ok()?;
     let mut end = ends.pop()?;
     let store = Store::new(alloc, geometry);
-    let word = ParkingWord::new();
-    let parking = &word;
+    let whole = StorageDesk::new(alloc, FoldHasher::default(), 1).ok()?;
+    let desk = &whole;
     thread::join(
         rt,
-        move || run_storage(rt, store, Stopped, storage, parking),
+        move || run_storage(rt, store, Stopped, storage, desk),
         || {
             thread::sleep(rt, Duration::from_secs(seconds));
             if !end.said_bye() && end.outstanding() == 0 {
                 end.bye();
             }
-            parking.unpark();
+            desk.parking().unpark();
         },
     );
     Some(())

@@ -7,10 +7,11 @@ ghost use Rattle.worker.specs.Ports.{PortStory};
 
 use crate::runs::SteadyClock;
 use exchange::{StorageEnd, WorkerEnd, make};
-use parking::ParkingWord;
+use parking::StorageDesk;
 use plain_store::Store;
 use proto::Geometry;
 use std::alloc::Global;
+use std::hash::FoldHasher;
 use std::process::Abort;
 use std::sync::{Arc, Wait};
 use std::thread::Threads;
@@ -44,8 +45,9 @@ where
     requires { (story : PortStory) → P.told port ≡ Some story → story.events ≡ [] }
 {
     let handle = *rt;
-    let parking = Arc::new(alloc, ParkingWord::new()).expect(rt, "memory");
-    let of_storage = Arc::try_clone(&parking).expect(rt, "memory");
+    let desk = StorageDesk::new(alloc, FoldHasher::default(), 1).expect(rt, "memory");
+    let desk = Arc::new(alloc, desk).expect(rt, "memory");
+    let of_storage = Arc::try_clone(&desk).expect(rt, "memory");
     let (end, storage_end, store) = made(rt, alloc, geometry);
     let child = thread::spawn(
         rt,
@@ -55,7 +57,7 @@ where
         { run_storage(&handle, store, SteadyClock, storage_end, &of_storage) },
     )
     .expect(rt, "a thread");
-    let report = run_worker(rt, alloc, port, end, gate, &parking);
+    let report = run_worker(rt, alloc, port, end, gate, &desk);
     child.join(rt);
     report
 }

@@ -1,8 +1,12 @@
-//! How a thread that looks for work without a lock sleeps while there is none.
+//! How a thread that looks for work without a lock sleeps while there is none, and what it is told beside its work.
 #![tactic(auto)]
 
+mod desk;
 mod hope;
+#[cfg(test)]
+mod tests;
 
+pub use desk::StorageDesk;
 pub use hope::Hope;
 use std::sync::Wait;
 use std::sync::atomic::{AtomicU64, Ordering};

@@ -9,6 +9,7 @@ use crate::live_entries::LiveEntries;
 use engine::{EntryRef, LiveMap};
 use proto::{ByteString, Geometry, NoMemory};
 use std::alloc::Global;
+use std::hash::FoldHasher;
 
 /// A plain map of live entries. It is there to be compared with.
 #[derive(Drop)]
@@ -75,6 +76,15 @@ impl LiveMap for PlainMap {
 
     fn last_moment(&self) -> u64 {
         self.live.moment()
+    }
+
+    /// A plain map finds no key by its hash, and reads nothing ahead.
+    fn key_hasher(&self) -> FoldHasher {
+        FoldHasher::default()
+    }
+
+    fn prefetch(&self, _hash: u64) -> u64 {
+        0
     }
 
     fn advance(&mut self, now: u64) {

@@ -12,6 +12,7 @@ use crate::plain_map::PlainMap;
 use engine::{Engine, StorageEngine};
 use proto::{Geometry, Reply, Request};
 use std::alloc::Global;
+use std::hash::FoldHasher;
 use std::marker::Model;
 
 /// The plain cache.
@@ -96,6 +97,14 @@ impl StorageEngine for Store {
 
     fn last_moment(&self) -> u64 {
         Store::last_moment(self)
+    }
+
+    fn key_hasher(&self) -> FoldHasher {
+        self.engine.key_hasher()
+    }
+
+    fn prefetch(&self, hash: u64) -> u64 {
+        self.engine.prefetch(hash)
     }
 
     fn handle(&mut self, now: u64, request: &mut Request) -> Reply {

@@ -6,11 +6,12 @@ ghost use Rattle.storage_thread.specs.Serving.{IsUnused};
 
 use crate::quiet_port::QuietPort;
 use exchange::{StorageEnd, WorkerEnd, make};
-use parking::ParkingWord;
+use parking::StorageDesk;
 use plain_store::Store;
 use proto::Geometry;
 use session_book::EndCause;
 use std::alloc::Global;
+use std::hash::FoldHasher;
 use std::sync::{Arc, Wait};
 use std::thread::Threads;
 use std::{thread, time};
@@ -85,8 +86,9 @@ where
     R: Threads + Wait + time::Clock + Copy + Drop + Send + Sync + 'static,
 {
     let handle = *rt;
-    let parking = Arc::new(alloc, ParkingWord::new()).ok()?;
-    let of_storage = Arc::try_clone(&parking).ok()?;
+    let desk = StorageDesk::new(alloc, FoldHasher::default(), 2).ok()?;
+    let desk = Arc::new(alloc, desk).ok()?;
+    let of_storage = Arc::try_clone(&desk).ok()?;
     let (end, storage_end, store) = made(alloc)?;
     let child = thread::spawn(
         rt,
@@ -96,7 +98,7 @@ where
         { run_storage(&handle, store, SteadyClock, storage_end, &of_storage) },
     )
     .ok()?;
-    let report = run_worker(rt, alloc, QuietPort::new(INPUTS), end, &OpenGate, &parking);
+    let report = run_worker(rt, alloc, QuietPort::new(INPUTS), end, &OpenGate, &desk);
     child.join(rt);
     Some(report)
 }

@@ -17,6 +17,7 @@ use index::{Index, layout_for, slots_for};
 use proto::{Geometry, NoMemory};
 use segments::{ItemRef, Place, Pool, bucket_of};
 use std::alloc::Global;
+use std::hash::FoldHasher;
 use std::marker::Model;
 use tally::Tally;
 
@@ -112,6 +113,14 @@ impl LiveMap for SegmentMap {
 
     fn last_moment(&self) -> u64 {
         self.moment
+    }
+
+    fn key_hasher(&self) -> FoldHasher {
+        self.index.hasher()
+    }
+
+    fn prefetch(&self, hash: u64) -> u64 {
+        self.index.prefetch(&self.pool, hash)
     }
 
     fn advance(&mut self, now: u64) {

@@ -13,6 +13,7 @@ use crate::segment_map::SegmentMap;
 use engine::{Engine, StorageEngine};
 use proto::{Geometry, NoMemory, Reply, Request};
 use std::alloc::Global;
+use std::hash::FoldHasher;
 
 /// The segmented cache.
 #[derive(Drop)]
@@ -113,6 +114,14 @@ impl StorageEngine for Store {
 
     fn last_moment(&self) -> u64 {
         Store::last_moment(self)
+    }
+
+    fn key_hasher(&self) -> FoldHasher {
+        self.engine.key_hasher()
+    }
+
+    fn prefetch(&self, hash: u64) -> u64 {
+        self.engine.prefetch(hash)
     }
 
     fn handle(&mut self, now: u64, request: &mut Request) -> Reply {

@@ -4,6 +4,7 @@
 
 mod clock;
 mod idle;
+mod reading_ahead;
 mod serving;
 #[cfg(test)]
 mod tests;

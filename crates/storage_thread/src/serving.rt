@@ -11,9 +11,10 @@ ghost use Rattle.storage_thread.specs.Keeping.{LeadsKeeping, MayForgetNothing};
 
 use crate::clock::Clock;
 use crate::idle::IdleTurns;
+use crate::reading_ahead::ReadAhead;
 use engine::{MAX_MOMENT, StorageEngine};
 use exchange::{Answered, Posted, StorageBatch, StorageEnd, Taken};
-use parking::ParkingWord;
+use parking::StorageDesk;
 use std::sync::Wait;
 
 /// The workers are told of their answers at least at each so many.
@@ -92,22 +93,23 @@ fn take_next(end: &mut StorageBatch, executed: u64) -> Option<Taken>
 }
 
 // An idle turn, in which the thread may park. No worker waits for an answer that was given.
-fn pass_turn<R: Wait>(rt: &R, _end: &StorageBatch, idle: &mut IdleTurns, parking: &ParkingWord)
+fn pass_turn<R: Wait>(rt: &R, _end: &StorageBatch, idle: &mut IdleTurns, desk: &StorageDesk)
     requires told { _end.now.told ≡ _end.now.end.history }
 {
-    idle.turn(rt, parking);
+    idle.turn(rt, desk.parking());
 }
 
 /// Executes requests until each worker has said bye. The store is empty, for the geometry that the exchange was
 /// made for, and nothing was taken from the end. The clock is asked once for each request. The messages that a look named
 /// are served before it looks again; the workers are told of each eighth answer, and of all before it looks. While
-/// nothing comes, the thread parks on the word: who has posted or said bye unparks it.
+/// nothing comes, the thread parks on the desk's word: who has posted or said bye unparks it. By the hints on the desk it
+/// reads ahead.
 pub fn run_storage<R: Wait, S: StorageEngine + Drop, C: Clock>(
     rt: &R,
     store: S,
     clock: C,
     storage_end: StorageEnd,
-    parking: &ParkingWord,
+    desk: &StorageDesk,
 ) -> StorageReport<C>
     requires empty { (S.cache store ≡ empty_cache 0) × (S.moment store ≡ 0) }
     requires sizes { S.sizes store ≡ storage_end.geometry }
@@ -131,6 +133,7 @@ pub fn run_storage<R: Wait, S: StorageEngine + Drop, C: Clock>(
     let mut executed = 0u64;
     let mut left = end.workers();
     let mut idle = IdleTurns::new();
+    let mut ahead = ReadAhead::new();
     for _ in rt.forever() {
         if left == 0 {
             end.flush_answers();
@@ -142,15 +145,16 @@ pub fn run_storage<R: Wait, S: StorageEngine + Drop, C: Clock>(
         }
         match take_next(&mut end, executed) {
             Some(Taken::Asked { worker, posted }) => {
+                ahead.note_taken(&store, &end, desk);
                 execute(&mut store, &mut clock, &mut end, worker, posted);
                 executed = executed.saturating_add(1);
-                idle.reset(parking);
+                idle.reset(desk.parking());
             }
             Some(Taken::Bye { worker: _ }) => {
                 left -= 1;
-                idle.reset(parking);
+                idle.reset(desk.parking());
             }
-            None => pass_turn(rt, &end, &mut idle, parking),
+            None => pass_turn(rt, &end, &mut idle, desk),
         }
     }
     unreachable!()

@@ -8,10 +8,11 @@ ghost use Rattle.storage_thread.specs.Serving.{IsUnused, IsSameExchange};
 use crate::clock::Clock;
 use crate::serving::{StorageReport, execute, run_storage};
 use exchange::{MakeFault, Posted, StorageBatch, StorageEnd, Taken, WorkerEnd, gather, make};
-use parking::ParkingWord;
+use parking::StorageDesk;
 use plain_store::Store;
 use proto::{ByteString, Geometry, Reply, Request};
 use std::alloc::Global;
+use std::hash::FoldHasher;
 use std::snapshot::Snapshot;
 use std::sync::atomic::{AtomicU64, Ordering};
 use std::sync::{Arc, Wait};
@@ -69,7 +70,7 @@ fn call<R: Wait>(
     alloc: Global,
     end: &mut WorkerEnd,
     good: &AtomicU64,
-    parking: &ParkingWord,
+    desk: &StorageDesk,
 )
     ensures { (end.new.exchange ≡ end.old.exchange) × (end.new.worker ≡ end.old.worker) }
 {
@@ -78,7 +79,7 @@ fn call<R: Wait>(
         if end.sent() < REQUESTS && ask(alloc, end).is_none() {
             return;
         }
-        parking.unpark();
+        desk.parking().unpark();
         match end.take() {
             Some(answered) => {
                 if answered.number.wrapping_sub(1) == last {
@@ -92,7 +93,7 @@ fn call<R: Wait>(
             if !end.said_bye() {
                 end.bye();
             }
-            parking.unpark();
+            desk.parking().unpark();
             return;
         }
     }
@@ -169,8 +170,9 @@ impl Promise<StorageReport<Count>> for StorageStays {
 #[test]
 fn many_callers(rt: HostRuntime) -> Result<(), Fail> {
     let alloc: Global = rt.alloc();
-    let parking = Arc::new(alloc, ParkingWord::new())?;
-    let of_storage = Arc::try_clone(&parking)?;
+    let desk = StorageDesk::new(alloc, FoldHasher::default(), CALLERS)?;
+    let desk = Arc::new(alloc, desk)?;
+    let of_storage = Arc::try_clone(&desk)?;
     let (mut ends, storage, store) = made(alloc, CALLERS)?;
     let good = AtomicU64::new(0);
     let promise = StorageStays(Snapshot::of(&storage));
@@ -185,7 +187,7 @@ fn many_callers(rt: HostRuntime) -> Result<(), Fail> {
     )?;
     let ask = |_: usize, end: &mut WorkerEnd|
         ensures { (end.exit.now.exchange ≡ end.entry.now.exchange) × (end.exit.now.worker ≡ end.entry.now.worker) }
-    { call(&rt, alloc, end, &good, &parking) };
+    { call(&rt, alloc, end, &good, &desk) };
     thread::for_each_mut(&rt, ends.as_mut_slice(), CALLERS, &ask);
     let report = child.join(&rt);
     assert_eq!(rt; report.executed, 80_000);

@@ -1,7 +1,7 @@
 //! The worker's end of its lane, which tells storage of several requests at once.
 
 use exchange::{Answered, Posted, WorkerBatch, WorkerEnd};
-use parking::ParkingWord;
+use parking::StorageDesk;
 use std::marker::Model;
 
 /// A worker's end that sends its requests together. Contracts see it as it is once all that was put is flushed, so what
@@ -64,13 +64,16 @@ impl BatchedEnd {
     }
 
     // Puts a request, or hands it back unchanged. Where storage has nothing else of this worker it is told at once, so that
-    // it begins while the worker reads on; else at the next flush.
-    pub(crate) fn post(&mut self, posted: Posted, storage: &ParkingWord) -> Result<(), Posted>
+    // it begins while the worker reads on; else at the next flush. A hint of the key is left for it.
+    pub(crate) fn post(&mut self, posted: Posted, storage: &StorageDesk) -> Result<(), Posted>
         requires { posted.number ≡ length self.old.sent + 1 }
         ensures { MatchResult result
             (λ _. CanPost self.old × (self.new ≡ record self.old { sent = self.old.sent ++ posted ∷ [] }))
             (λ p. (¬ (CanPost self.old)) × (p ≡ posted) × (self.new ≡ self.old)) }
     {
+        if let Some(key) = posted.request.first_key() {
+            storage.leave_hint(self.batch.worker(), posted.number - 1, key);
+        }
         let is_first = self.batch.outstanding() == self.batch.waiting();
         self.batch.put(posted)?;
         if is_first {
@@ -80,12 +83,12 @@ impl BatchedEnd {
     }
 
     // Tells storage of all that was put, and unparks it.
-    pub(crate) fn flush(&mut self, storage: &ParkingWord)
+    pub(crate) fn flush(&mut self, storage: &StorageDesk)
         ensures { self.new ≡ self.old }
     {
         if self.batch.waiting() > 0 {
             self.batch.flush();
-            storage.unpark();
+            storage.parking().unpark();
         }
     }
 

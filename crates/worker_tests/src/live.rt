@@ -9,9 +9,10 @@ use crate::gates::OpenGate;
 use crate::running::{SteadyClock, made};
 use crate::scripts::repeated;
 use bytes::Bytes;
-use parking::ParkingWord;
+use parking::StorageDesk;
 use std::alloc::Global;
 use std::collections::VecDeque;
+use std::hash::FoldHasher;
 use std::process::Abort;
 use std::sync::{Arc, Wait};
 use std::thread;
@@ -138,8 +139,9 @@ where
         waits_early: false,
     };
     let handle = *rt;
-    let parking = Arc::new(alloc, ParkingWord::new()).expect(rt, "memory");
-    let of_storage = Arc::try_clone(&parking).expect(rt, "memory");
+    let desk = StorageDesk::new(alloc, FoldHasher::default(), 1).expect(rt, "memory");
+    let desk = Arc::new(alloc, desk).expect(rt, "memory");
+    let of_storage = Arc::try_clone(&desk).expect(rt, "memory");
     let (end, storage_end, store) = made(rt, alloc);
     let child = thread::spawn(
         rt,
@@ -149,7 +151,7 @@ where
         { run_storage(&handle, store, SteadyClock, storage_end, &of_storage) },
     )
     .expect(rt, "a thread");
-    let report = run_worker(rt, alloc, port, end, &OpenGate, &parking);
+    let report = run_worker(rt, alloc, port, end, &OpenGate, &desk);
     child.join(rt);
     assert!(*rt; report.port.is_served());
     assert_eq!(*rt; report.port.was_shut, peer.wanted == 0);

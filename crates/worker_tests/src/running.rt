@@ -6,11 +6,12 @@ ghost use Rattle.storage_thread.specs.Serving.{IsUnused};
 
 use crate::port::TestPort;
 use exchange::{StorageEnd, WorkerEnd, make};
-use parking::ParkingWord;
+use parking::StorageDesk;
 use plain_store::Store;
 use proto::Geometry;
 use session_book::EndCause;
 use std::alloc::Global;
+use std::hash::FoldHasher;
 use std::process::Abort;
 use std::sync::{Arc, Wait};
 use std::thread::Threads;
@@ -67,8 +68,9 @@ where
     requires { port.records.items ≡ [] }
 {
     let handle = *rt;
-    let parking = Arc::new(alloc, ParkingWord::new()).expect(rt, "memory");
-    let of_storage = Arc::try_clone(&parking).expect(rt, "memory");
+    let desk = StorageDesk::new(alloc, FoldHasher::default(), 1).expect(rt, "memory");
+    let desk = Arc::new(alloc, desk).expect(rt, "memory");
+    let of_storage = Arc::try_clone(&desk).expect(rt, "memory");
     let (end, storage_end, store) = made(rt, alloc);
     let child = thread::spawn(
         rt,
@@ -78,7 +80,7 @@ where
         { run_storage(&handle, store, SteadyClock, storage_end, &of_storage) },
     )
     .expect(rt, "a thread");
-    let report = run_worker(rt, alloc, port, end, gate, &parking);
+    let report = run_worker(rt, alloc, port, end, gate, &desk);
     let executed = child.join(rt).executed;
     assert_eq!(*rt; report.unopened, 0);
     Outcome {

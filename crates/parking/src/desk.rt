@@ -1,0 +1,87 @@
+//! What workers leave for the storage thread beside their lanes.
+
+use crate::ParkingWord;
+use std::alloc::{AllocError, Global};
+use std::hash::{FoldHasher, Hasher};
+use std::sync::atomic::{AtomicU64, Ordering};
+
+/// So many workers have words,
+const WORKERS: usize = 8;
+
+/// each for so many requests that are on their way at a time.
+const REQUESTS: u64 = 64;
+
+/// The word that storage alone writes stands behind all of theirs.
+const READ_AHEAD: usize = 512;
+
+const WORDS: usize = 513;
+
+/// The word that the storage thread parks on, and a row of hints: the hashes of the keys that the requests on their way
+/// begin with. By these storage reads ahead what it will look up. No answer rests on a hint: one that is missing, or of
+/// another request, costs time alone.
+#[derive(Drop)]
+pub struct StorageDesk {
+    parking: ParkingWord,
+    hasher: FoldHasher,
+    hints: Vec<AtomicU64>,
+}
+
+impl StorageDesk {
+    /// A desk for so many workers. A single one leaves no hints, since hashing each key first takes it more time than
+    /// storage wins. The hasher is the one by which the store looks keys up.
+    pub fn new(
+        alloc: Global,
+        hasher: FoldHasher,
+        workers: usize,
+    ) -> Result<StorageDesk, AllocError> {
+        let count = if workers > 1 { WORDS } else { 0 };
+        let mut hints = Vec::with_capacity(alloc, count)?;
+        for _ in 0..count {
+            hints.push(AtomicU64::new(0))?;
+        }
+        Ok(StorageDesk {
+            parking: ParkingWord::new(),
+            hasher,
+            hints,
+        })
+    }
+
+    /// The word that the storage thread parks on.
+    pub fn parking(&self) -> &ParkingWord {
+        &self.parking
+    }
+
+    /// The worker is about to post its message of this number, a request that begins with the key. Messages are counted
+    /// from 0.
+    pub fn leave_hint(&self, worker: usize, number: u64, key: &[u8]) {
+        if let Some(hint) = self.hints.get(place_of(worker, number)) {
+            let mut hasher = self.hasher;
+            hasher.write(key);
+            hint.store(hasher.finish(), Ordering::Relaxed);
+        }
+    }
+
+    /// Whether hints are left.
+    pub fn has_hints(&self) -> bool {
+        !self.hints.is_empty()
+    }
+
+    /// The hash that was left for the worker's message of this number, or for one 64, 128 .. before.
+    pub fn hint(&self, worker: usize, number: u64) -> u64 {
+        match self.hints.get(place_of(worker, number)) {
+            Some(hint) => hint.load(Ordering::Relaxed),
+            None => 0,
+        }
+    }
+
+    /// Keeps some of what was read ahead, so that a compiler doesn't leave the reading out.
+    pub fn keep(&self, read: u64) {
+        if let Some(word) = self.hints.get(READ_AHEAD) {
+            word.store(read, Ordering::Relaxed);
+        }
+    }
+}
+
+fn place_of(worker: usize, number: u64) -> usize {
+    worker % WORKERS * REQUESTS as usize + (number % REQUESTS) as usize
+}

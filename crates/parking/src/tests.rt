@@ -1,0 +1,46 @@
+//! Tests of the desk.
+
+use crate::desk::StorageDesk;
+use std::hash::{FoldHasher, Hasher};
+use std::test::Fail;
+
+fn hash_of(key: &[u8]) -> u64 {
+    let mut hasher = FoldHasher::default();
+    hasher.write(key);
+    hasher.finish()
+}
+
+/// A key of its own for each worker's message.
+fn key(worker: usize, number: u64) -> [u8; 2] {
+    [worker as u8, number as u8]
+}
+
+#[test]
+fn each_message_has_a_hint(rt: HostRuntime) -> Result<(), Fail> {
+    let desk = StorageDesk::new(rt.alloc(), FoldHasher::default(), 2)?;
+    assert!(rt; desk.has_hints());
+    for worker in 0..8 {
+        for number in 0..64 {
+            desk.leave_hint(worker, number, &key(worker, number));
+        }
+    }
+    desk.keep(1);
+    for worker in 0..8 {
+        for number in 0..64 {
+            assert_eq!(rt; desk.hint(worker, number), hash_of(&key(worker, number)));
+        }
+    }
+    desk.leave_hint(3, 64, &key(3, 64));
+    assert_eq!(rt; desk.hint(3, 64), hash_of(&key(3, 64)));
+    assert_eq!(rt; desk.hint(3, 1), hash_of(&key(3, 1)));
+    Ok(())
+}
+
+#[test]
+fn a_single_worker_leaves_none(rt: HostRuntime) -> Result<(), Fail> {
+    let desk = StorageDesk::new(rt.alloc(), FoldHasher::default(), 1)?;
+    assert!(rt; !desk.has_hints());
+    desk.leave_hint(0, 0, b"alpha");
+    assert_eq!(rt; desk.hint(0, 0), 0);
+    Ok(())
+}

@@ -1,0 +1,49 @@
+//! Reading ahead what the next messages will look up.
+
+use engine::StorageEngine;
+use exchange::StorageBatch;
+use parking::StorageDesk;
+
+/// For so many messages storage reads ahead at once: their slots and items come from memory at the same time.
+const MESSAGES_AHEAD: u64 = 8;
+
+/// For how many of the next messages that was done.
+#[derive(Drop)]
+pub struct ReadAhead {
+    left: u64,
+}
+
+impl ReadAhead {
+    pub fn new() -> ReadAhead {
+        ReadAhead { left: 0 }
+    }
+
+    /// A message was taken. Where it isn't one of those, storage reads ahead for it and for those seen behind it.
+    pub fn note_taken<S: StorageEngine>(
+        &mut self,
+        store: &S,
+        end: &StorageBatch,
+        desk: &StorageDesk,
+    ) {
+        if self.left > 0 {
+            self.left -= 1;
+        } else if desk.has_hints() {
+            self.left = read_ahead(store, end, desk);
+        }
+    }
+}
+
+// Reads ahead for the messages seen, and says how many of them there are behind the first one.
+fn read_ahead<S: StorageEngine>(store: &S, end: &StorageBatch, desk: &StorageDesk) -> u64 {
+    let (lane, first, seen) = end.seen();
+    let count = seen.min(MESSAGES_AHEAD);
+    if count < 2 {
+        return 0;
+    }
+    let mut read = 0;
+    for place in 0..count {
+        read ^= store.prefetch(desk.hint(lane, first.wrapping_add(place)));
+    }
+    desk.keep(read);
+    count - 1
+}

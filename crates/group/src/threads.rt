@@ -133,10 +133,7 @@ pub fn start_storage<
         clock: Snapshot::of(&clock),
         end: Snapshot::of(&end),
     };
-    match scope.spawn_with(
-        promise,
-        move || serve(rt, start, store, clock, end, desk),
-    ) {
+    match scope.spawn_with(promise, move || serve(rt, start, store, clock, end, desk)) {
         Ok(handle) => Ok(handle),
         Err(_) => Err(GroupFault::NoThread),
     }

@@ -11,8 +11,11 @@ fn hash_of(key: &[u8]) -> u64 {
 }
 
 /// A key of its own for each worker's message.
-fn key(worker: usize, number: u64) -> [u8; 2] {
-    [worker as u8, number as u8]
+fn key(worker: usize, number: u64) -> [u8; 8] {
+    (worker as u64)
+        .wrapping_mul(1000)
+        .wrapping_add(number)
+        .to_le_bytes()
 }
 
 #[test]

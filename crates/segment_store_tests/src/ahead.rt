@@ -19,7 +19,10 @@ fn a_stored_key_is_read_ahead(rt: HostRuntime) -> Result<(), Fail> {
     let alloc = rt.alloc();
     let mut store = Store::seeded(alloc, Geometry::new(4096, 8)?, 0, 77)?;
     assert_eq!(rt; read_ahead(&store, b"alpha"), 0);
-    assert_eq!(rt; answer(alloc, &mut store, 1, "set alpha 0 0 1\r\nx\r\n")?.as_slice(), b"STORED\r\n");
+    assert_eq!(rt;
+        answer(alloc, &mut store, 1, "set alpha 0 0 1\r\nx\r\n")?.as_slice(),
+        b"STORED\r\n".as_slice()
+    );
     // An item begins with its cas number.
     assert_eq!(rt; read_ahead(&store, b"alpha"), 1);
     assert_eq!(rt; read_ahead(&store, b"beta"), 0);

@@ -65,13 +65,7 @@ fn ask(alloc: Global, end: &mut WorkerEnd) -> Option<bool>
 }
 
 /// Posts all requests, takes all answers and says bye. Counts the answers whose number is one above the last.
-fn call<R: Wait>(
-    rt: &R,
-    alloc: Global,
-    end: &mut WorkerEnd,
-    good: &AtomicU64,
-    desk: &StorageDesk,
-)
+fn call<R: Wait>(rt: &R, alloc: Global, end: &mut WorkerEnd, good: &AtomicU64, desk: &StorageDesk)
     ensures { (end.new.exchange ≡ end.old.exchange) × (end.new.worker ≡ end.old.worker) }
 {
     let mut last = 0u64;

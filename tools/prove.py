@@ -10,6 +10,8 @@ are processors and memory for; --at-once N asks for N. Ends with status 1 where 
 
 rt keeps other runs out of a crate that it proves and out of all that it stands on. So each crate is proved in a room of its own, a folder with
 links to its files and to the libraries below it, from which its folder out/ comes back.
+
+The crates from which the way to the top takes longest go first, by as many jobs as there are processors; the others get what they leave.
 """
 import argparse
 import os
@@ -24,7 +26,17 @@ TOP = os.path.dirname(os.path.dirname(os.path.abspath(__file__)))
 # Where the rooms are: among the files of git, where rt doesn't look for sources.
 ROOMS = f"{TOP}/.git/rooms" if os.path.isdir(f"{TOP}/.git") else f"{TOP}/out/rooms"
 # What the proof of a crate may take, in gigabytes, where nothing is kept.
-GIGABYTES_A_PROOF = 3.5
+GIGABYTES_A_PROOF = 4.5
+# Crates from which the way to the top takes less than this share of the longest one are proved by so many jobs, and yield to
+# the others by so much (nice).
+SHARE_OF_LONGEST = 0.75
+JOBS_BESIDE = 2
+NICE_BESIDE = 10
+# Where the minutes stand that each crate's proofs took in a run of the gate, and the first line of that table.
+ARCHITECTURE = f"{TOP}/docs/ARCHITECTURE.md"
+MINUTES_BEGIN = "| Crate | Proofs | Tests | Must-fail edits | In all |"
+# A crate that isn't in that table is taken to need a minute for so many lines.
+LINES_A_MINUTE = 2500
 # Of a crate that isn't proved so many characters are shown, the last ones.
 SHOWN = 3000
 # So many seconds lie between two looks at what runs.
@@ -56,24 +68,33 @@ def at_once():
     return max(1, min(len(os.sched_getaffinity(0)), int(free / 1024 / 1024 / GIGABYTES_A_PROOF)))
 
 
-def lines_of(name):
-    """How many lines a crate has, by which its proof's time is guessed."""
+def recorded_minutes():
+    """What the proofs of each crate took in a run of the gate."""
+    with open(ARCHITECTURE, encoding="utf-8") as file:
+        table = file.read().partition(MINUTES_BEGIN)[2].partition("\n\n")[0]
+    return {name: float(minutes) for name, minutes in re.findall(r"^\| `(\w+)` \| ([\d.]+) \|", table, re.M)}
+
+
+def guessed_minutes(name):
+    """What the proof of a crate may take, by its lines."""
     folders = [f"{TOP}/crates/{name}/{part}" for part in ("src", "specs", "proofs")]
     files = [f"{top}/{file}" for folder in folders for top, _, files in os.walk(folder) for file in files]
-    return sum(len(open(file, encoding="utf-8").readlines()) for file in files)
+    return sum(len(open(file, encoding="utf-8").readlines()) for file in files) / LINES_A_MINUTE
 
 
-def longest_first(crates, names):
-    """These crates, each before those that stand on it, and those first from which the way to the top is longest."""
-    way = {}
+def ways_to_the_top(crates, names):
+    """What the longest way takes from each of these crates to one on which none of them stands, in minutes."""
+    recorded, ways = recorded_minutes(), {}
 
     def measure(name):
-        if name not in way:
+        if name not in ways:
             above = [it for it in names if name in crates[it]]
-            way[name] = lines_of(name) + max(map(measure, above), default=0)
-        return way[name]
+            ways[name] = (recorded.get(name) or guessed_minutes(name)) + max(map(measure, above), default=0)
+        return ways[name]
 
-    return sorted(names, key=measure, reverse=True)
+    for name in names:
+        measure(name)
+    return ways
 
 
 def copy_by_links(source, target, ignored=()):
@@ -95,15 +116,15 @@ def room_for(crates, name):
 
 
 class Proof:
-    """A crate that is being proved, by so many jobs."""
+    """A crate that is being proved, by so many jobs, which yield to others by so much."""
 
-    def __init__(self, crates, name, jobs):
+    def __init__(self, crates, name, jobs, nice):
         self.name = name
         self.room = room_for(crates, name)
         self.said = tempfile.TemporaryFile("w+", errors="replace")
         folder = f"{self.room}/crates/{name}"
         command = "check" if os.path.exists(f"{folder}/src/main.rt") else "lib"
-        words = ["rt", command, "--jobs", str(jobs)]
+        words = ["nice", "-n", str(nice), "rt", command, "--jobs", str(jobs)]
         self.ran = subprocess.Popen(words, cwd=folder, stdin=subprocess.DEVNULL, stdout=self.said, stderr=subprocess.STDOUT)
 
     def has_ended(self):
@@ -123,23 +144,26 @@ class Proof:
         return self.ran.returncode
 
 
-def start(crates, waiting, proved, running, at_once):
-    """Starts what may be proved now, up to so many crates at a time. Each is proved by two jobs, or by more where few are left."""
-    ready = [it for it in waiting if all(below in proved for below in crates[it])]
-    jobs = max(min(2, at_once), at_once // max(1, len(running) + len(ready)))
-    for name in ready[: at_once - len(running)]:
-        running.append(Proof(crates, name, jobs))
-        waiting.remove(name)
+def start(crates, ways, proved, running, at_once):
+    """Starts what may be proved now, up to so many crates at a time, the longest way first."""
+    begun = {proof.name for proof in running}.union(proved)
+    longest = max(ways[name] for name in ways if name not in proved)
+    ready = [name for name in ways if name not in begun and all(below in proved for below in crates[name])]
+    for name in sorted(ready, key=ways.get, reverse=True)[: at_once - len(running)]:
+        goes_first = ways[name] >= SHARE_OF_LONGEST * longest
+        jobs, nice = (at_once, 0) if goes_first else (min(JOBS_BESIDE, at_once), NICE_BESIDE)
+        running.append(Proof(crates, name, jobs, nice))
 
 
 def prove(crates, names, at_once):
     """Proves crates side by side, with a line for each, and gives the status."""
     print(f"{len(names)} crates to prove, {at_once} at a time", flush=True)
     shutil.rmtree(ROOMS, ignore_errors=True)
-    began, waiting, proved, running, status = time.monotonic(), list(names), [], [], 0
-    while running or (waiting and not status):
-        if not status:
-            start(crates, waiting, proved, running, at_once)
+    ways = ways_to_the_top(crates, names)
+    began, proved, running, status = time.monotonic(), [], [], 0
+    while running or (len(proved) < len(names) and not status):
+        if not status and len(proved) < len(names):
+            start(crates, ways, proved, running, at_once)
         time.sleep(EVERY)
         for proof in [it for it in running if it.has_ended()]:
             running.remove(proof)
@@ -164,11 +188,11 @@ def main():
     crates = read_crates()
     most = words.at_once or at_once()
     if words.all:
-        return prove(crates, longest_first(crates, list(crates)), most)
+        return prove(crates, list(crates), most)
     if words.name not in crates:
         parser.error("name a crate of crates.txt, or --all")
     names = with_those_below(crates, words.name) - ({words.name} if words.below else set())
-    return prove(crates, longest_first(crates, names), most)
+    return prove(crates, names, most)
 
 
 if __name__ == "__main__":

@@ -305,8 +305,8 @@ impl<M: LiveMap> StorageEngine for Engine<M> {
         self.map.key_hasher()
     }
 
-    fn prefetch(&self, hash: u64) -> u64 {
-        self.map.prefetch(hash)
+    fn prefetch(&self, hash: u64) {
+        self.map.prefetch(hash);
     }
 
     fn handle(&mut self, now: u64, request: &mut Request) -> Reply {

@@ -11,6 +11,7 @@ ghost use Rattle.engine.specs.Showing.{HasShown};
 use crate::entry_ref::EntryRef;
 use crate::live_map::LiveMap;
 use proto::{HitRef, HitWriter, Keys, NoMemory};
+use std::hash::Hasher;
 
 /// The entry at the key, lent.
 fn hit_of<'a>(key: &'a [u8], entry: EntryRef<'a>) -> HitRef<'a>
@@ -103,6 +104,19 @@ fn hit_of_only<M: LiveMap>(map: &mut M, only: &[u8], hits: HitWriter) -> Result<
     Ok(hits)
 }
 
+/// What the search for these keys will read is read ahead, for several of them at the same time.
+fn read_ahead<M: LiveMap>(map: &M, keys: &Keys) {
+    let mut words = keys.iter();
+    for _ in 0..keys.len() {
+        let Some(key) = words.next() else {
+            return;
+        };
+        let mut hasher = map.key_hasher();
+        hasher.write(key);
+        map.prefetch(hasher.finish());
+    }
+}
+
 /// The hits of the keys, each of which is looked up once, and for which all memory is taken at once. The writer is new.
 fn hits_of_keys<M: LiveMap>(
     map: &mut M,
@@ -115,6 +129,7 @@ fn hits_of_keys<M: LiveMap>(
     ensures refused { OnErr result (map.new ≡ map.old) }
 {
     let mut hits = hits;
+    read_ahead(map, keys);
     let (found, room) = find_keys(map, keys)?;
     hits.reserve(room)?;
     Ok(hits_found(map, found.as_slice(), hits))

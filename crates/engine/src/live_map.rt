@@ -60,9 +60,9 @@ pub trait LiveMap {
     /// What hashes the keys for `prefetch`.
     fn key_hasher(&self) -> FoldHasher;
 
-    /// Reads what the search for a key with this hash will read, so that the processor has it at hand. It answers some of
-    /// what it read, of which no clause speaks.
-    fn prefetch(&self, hash: u64) -> u64;
+    /// Reads what the search for a key with this hash will read, so that the processor has it at hand. What it
+    /// reads is kept where no clause speaks of it.
+    fn prefetch(&self, hash: u64);
 
     /// Time goes on to this moment.
     fn advance(&mut self, now: u64)

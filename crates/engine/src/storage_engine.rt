@@ -37,9 +37,9 @@ pub trait StorageEngine {
     /// What hashes the keys for `prefetch`.
     fn key_hasher(&self) -> FoldHasher;
 
-    /// Reads what a request with a key of this hash will look up, so that the processor has it at hand. It answers some of
-    /// what it read, of which no clause speaks.
-    fn prefetch(&self, hash: u64) -> u64;
+    /// Reads what a request with a key of this hash will look up, so that the processor has it at hand. What it
+    /// reads is kept where no clause speaks of it.
+    fn prefetch(&self, hash: u64);
 
     /// Executes the request at this moment in seconds, which is at most `MAX_MOMENT`. The room that a `get` was lent may be
     /// taken for its hits: of that no clause speaks.

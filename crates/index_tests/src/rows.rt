@@ -50,6 +50,17 @@ fn small_table(rt: HostRuntime) -> Result<(), Fail> {
     Ok(())
 }
 
+/// An item begins with its cas number, and behind the only one nothing stands.
+#[test]
+fn a_key_is_read_ahead(rt: HostRuntime) -> Result<(), Fail> {
+    let mut shelf = Small::new(rt.alloc(), Geometry::new(65_536, 8)?, 77)?;
+    assert_eq!(rt; shelf.read_ahead(b"alpha"), 0);
+    assert!(rt; shelf.put(b"alpha", 9));
+    assert_eq!(rt; shelf.read_ahead(b"alpha"), 9);
+    assert_eq!(rt; shelf.read_ahead(b"beta"), 0);
+    Ok(())
+}
+
 /// A pool of eight segments of 4,096 bytes is full with 1,024 items of 32 bytes, which use half of the 2,048 slots.
 /// Then the keys of one segment are forgotten, which are as many as the bytes of a segment hold.
 #[test]

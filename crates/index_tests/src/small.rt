@@ -4,6 +4,7 @@ use index::{Index, layout_for};
 use proto::{Geometry, NoMemory};
 use segments::{ItemRef, LASTING, Pool, size_of};
 use std::alloc::Global;
+use std::hash::Hasher;
 use std::marker::Model;
 
 /// The items of keys, in a pool that may hold more of them than the index has slots for.
@@ -73,6 +74,13 @@ impl Small {
     pub fn cas_of(&self, key: &[u8]) -> Option<u64> {
         let place = self.index.look_up(&self.pool, key)?;
         Some(self.pool.item(place).cas)
+    }
+
+    /// What the index reads ahead for the key.
+    pub fn read_ahead(&self, key: &[u8]) -> u64 {
+        let mut hasher = self.index.hasher();
+        hasher.write(key);
+        self.index.prefetch(&self.pool, hasher.finish())
     }
 
     /// Takes the key out.

@@ -5,16 +5,11 @@ use std::alloc::{AllocError, Global};
 use std::hash::{FoldHasher, Hasher};
 use std::sync::atomic::{AtomicU64, Ordering};
 
-/// So many workers have words,
+/// Each of so many workers
 const WORKERS: usize = 8;
 
-/// each for so many requests that are on their way at a time.
-const REQUESTS: u64 = 64;
-
-/// The word that storage alone writes stands behind all of theirs.
-const READ_AHEAD: usize = 512;
-
-const WORDS: usize = 513;
+/// has a hint for each of so many requests, which may be on their way at a time.
+const REQUESTS: usize = 64;
 
 /// The word that the storage thread parks on, and a row of hints: the hashes of the keys that the requests on their way
 /// begin with. By these storage reads ahead what it will look up. No answer rests on a hint: one that is missing, or of
@@ -34,7 +29,7 @@ impl StorageDesk {
         hasher: FoldHasher,
         workers: usize,
     ) -> Result<StorageDesk, AllocError> {
-        let count = if workers > 1 { WORDS } else { 0 };
+        let count = if workers > 1 { WORKERS * REQUESTS } else { 0 };
         let mut hints = Vec::with_capacity(alloc, count)?;
         for _ in 0..count {
             hints.push(AtomicU64::new(0))?;
@@ -73,15 +68,8 @@ impl StorageDesk {
             None => 0,
         }
     }
-
-    /// Keeps some of what was read ahead, so that a compiler doesn't leave the reading out.
-    pub fn keep(&self, read: u64) {
-        if let Some(word) = self.hints.get(READ_AHEAD) {
-            word.store(read, Ordering::Relaxed);
-        }
-    }
 }
 
 fn place_of(worker: usize, number: u64) -> usize {
-    worker % WORKERS * REQUESTS as usize + (number % REQUESTS) as usize
+    worker % WORKERS * REQUESTS + number as usize % REQUESTS
 }

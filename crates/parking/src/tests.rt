@@ -27,7 +27,6 @@ fn each_message_has_a_hint(rt: HostRuntime) -> Result<(), Fail> {
             desk.leave_hint(worker, number, &key(worker, number));
         }
     }
-    desk.keep(1);
     for worker in 0..8 {
         for number in 0..64 {
             assert_eq!(rt; desk.hint(worker, number), hash_of(&key(worker, number)));

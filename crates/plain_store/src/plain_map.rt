@@ -83,9 +83,7 @@ impl LiveMap for PlainMap {
         FoldHasher::default()
     }
 
-    fn prefetch(&self, _hash: u64) -> u64 {
-        0
-    }
+    fn prefetch(&self, _hash: u64) {}
 
     fn advance(&mut self, now: u64) {
         self.live.advance(now);

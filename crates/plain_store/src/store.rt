@@ -103,8 +103,8 @@ impl StorageEngine for Store {
         self.engine.key_hasher()
     }
 
-    fn prefetch(&self, hash: u64) -> u64 {
-        self.engine.prefetch(hash)
+    fn prefetch(&self, hash: u64) {
+        self.engine.prefetch(hash);
     }
 
     fn handle(&mut self, now: u64, request: &mut Request) -> Reply {

@@ -19,6 +19,7 @@ use segments::{ItemRef, Place, Pool, bucket_of};
 use std::alloc::Global;
 use std::hash::FoldHasher;
 use std::marker::Model;
+use std::sync::atomic::{AtomicU64, Ordering};
 use tally::Tally;
 
 /// Entries in the segments of a pool, found by an index. All memory is taken when the map is made.
@@ -29,6 +30,8 @@ pub struct SegmentMap {
     /// Which items of the pool the index has.
     tally: Tally,
     moment: u64,
+    /// Some of what was read ahead last, so that a compiler doesn't leave the reading out.
+    read_ahead: AtomicU64,
 }
 
 impl Model for SegmentMap {
@@ -77,6 +80,7 @@ impl SegmentMap {
             index: Index::new(alloc, slots_for(geometry), layout_for(geometry), seed)?,
             tally: Tally::new(alloc, geometry)?,
             moment: 0,
+            read_ahead: AtomicU64::new(0),
         })
     }
 }
@@ -119,8 +123,9 @@ impl LiveMap for SegmentMap {
         self.index.hasher()
     }
 
-    fn prefetch(&self, hash: u64) -> u64 {
-        self.index.prefetch(&self.pool, hash)
+    fn prefetch(&self, hash: u64) {
+        let read = self.index.prefetch(&self.pool, hash);
+        self.read_ahead.store(read, Ordering::Relaxed);
     }
 
     fn advance(&mut self, now: u64) {

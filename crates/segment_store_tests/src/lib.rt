@@ -1,8 +1,6 @@
 //! Tests of the segmented store by its public calls.
 #![tactic(auto)]
 
-#[cfg(test)]
-mod ahead;
 pub mod asking;
 #[cfg(test)]
 mod beside_plain;

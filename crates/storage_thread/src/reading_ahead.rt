@@ -40,10 +40,8 @@ fn read_ahead<S: StorageEngine>(store: &S, end: &StorageBatch, desk: &StorageDes
     if count < 2 {
         return 0;
     }
-    let mut read = 0;
     for place in 0..count {
-        read ^= store.prefetch(desk.hint(lane, first.wrapping_add(place)));
+        store.prefetch(desk.hint(lane, first.wrapping_add(place)));
     }
-    desk.keep(read);
     count - 1
 }

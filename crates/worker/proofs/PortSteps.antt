@@ -1,5 +1,6 @@
 -- What an event of the port leaves true of a worker.
-use Rattle.std.proofs.Common.{◌≡◌, ◌≢◌, ℕ, ◌+◌, ◌-◌, ◌^◌, ◌<◌, ◌≤◌, ◌==◌, Bool, true, false, true≢false, ◌||◌, ◌&&◌, not, cond, eq-eqb, ne_eqb, List, [], ◌∷◌}
+use Rattle.std.proofs.Common.{◌≡◌, ◌≢◌, ℕ, ◌+◌, ◌-◌, ◌^◌, ◌<◌, ◌≤◌, ◌==◌, Bool, true}
+use Rattle.std.proofs.Common.{false, true≢false, ◌||◌, ◌&&◌, not, cond, eq-eqb, ne_eqb, List, [], ◌∷◌}
 use Rattle.std.proofs.Common.{◌++◌, length, min, refl, sym, ap, subst, ◌∙◌, append-nil, arith, Option, Some, None, is_some, ◌⊎◌, ⊎_elim}
 use Rattle.std.proofs.lemmas.List.{length-append}
 use Rattle.std.specs.Option.{option_map, option_and_then}

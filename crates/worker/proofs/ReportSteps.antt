@@ -1,5 +1,6 @@
 -- What a worker that has drained reports.
-use Rattle.std.proofs.Common.{◌≡◌, ◌≢◌, ℕ, suc, ◌<◌, ◌==◌, ◌&&◌, Bool, true, false, true≢false, cond, eq-eqb, ne_eqb, List, [], ◌∷◌, ◌++◌, length, map, refl}
+use Rattle.std.proofs.Common.{◌≡◌, ◌≢◌, ℕ, suc, ◌<◌, ◌==◌, ◌&&◌, Bool, true, false}
+use Rattle.std.proofs.Common.{true≢false, cond, eq-eqb, ne_eqb, List, [], ◌∷◌, ◌++◌, length, map, refl}
 use Rattle.std.proofs.Common.{sym, ap, subst, ◌∙◌, append-nil, arith, Option, Some, None, is_some, get_or}
 use Rattle.std.specs.Prelude.{IsSome}
 use Rattle.std.specs.List.{filter, concat}

@@ -160,16 +160,35 @@ fn tick<'a>(alloc: Global) -> Arg<'a> {
         .default_value("0")
 }
 
-fn replay_command<'a>(alloc: Global) -> Result<Command<'a>, AllocError> {
-    let file = Arg::new(alloc, "file")
+fn file<'a>(alloc: Global) -> Arg<'a> {
+    Arg::new(alloc, "file")
         .value_name("FILE")
         .help("The script")
-        .required(true);
+        .required(true)
+}
+
+fn listen<'a>(alloc: Global) -> Arg<'a> {
+    Arg::new(alloc, "listen")
+        .long("listen")
+        .value_name("ADDR")
+        .help("An IP address and a port; port 0 is any free one")
+        .required(true)
+}
+
+fn sessions<'a>(alloc: Global) -> Arg<'a> {
+    Arg::new(alloc, "sessions")
+        .long("sessions")
+        .value_name("COUNT")
+        .help("Accept so many streams, and end when their sessions have ended")
+        .value_parser(clap::value_parser!(u64).range(1..))
+}
+
+fn replay_command<'a>(alloc: Global) -> Result<Command<'a>, AllocError> {
     Command::new(alloc, "replay")
         .about("Runs a script and prints what each session was given")
         .override_usage("segcached replay [OPTIONS] <FILE>")
         .after_help(REPLAY_HELP)
-        .arg(file)?
+        .arg(file(alloc))?
         .arg(workers(alloc, "1"))?
         .arg(segment_size(alloc))?
         .arg(segments(alloc))?
@@ -180,23 +199,13 @@ fn replay_command<'a>(alloc: Global) -> Result<Command<'a>, AllocError> {
 }
 
 fn serve_command<'a>(alloc: Global) -> Result<Command<'a>, AllocError> {
-    let listen = Arg::new(alloc, "listen")
-        .long("listen")
-        .value_name("ADDR")
-        .help("An IP address and a port; port 0 is any free one")
-        .required(true);
-    let sessions = Arg::new(alloc, "sessions")
-        .long("sessions")
-        .value_name("COUNT")
-        .help("Accept so many streams, and end when their sessions have ended")
-        .value_parser(clap::value_parser!(u64).range(1..));
     Command::new(alloc, "serve")
         .about("Listens on an address and serves")
         .override_usage("segcached serve [OPTIONS] --listen <ADDR>")
         .after_help(SERVE_HELP)
-        .arg(listen)?
+        .arg(listen(alloc))?
         .arg(workers(alloc, "2"))?
-        .arg(sessions)?
+        .arg(sessions(alloc))?
         .arg(segment_size(alloc))?
         .arg(segments(alloc))
 }
@@ -237,7 +246,6 @@ fn replay_options(alloc: Global, matches: &ArgMatches<'_>) -> Result<Options, Wo
     ensures { IfOk result IsReplayInRange }
 {
     Ok(Options {
-        file: String::from_str(alloc, matches.get_str("file").unwrap_or(""))?,
         workers: number_in(alloc, matches, "workers", 1, 8)?,
         segment_size: number_in(alloc, matches, "segment-size", 4096, 1_048_576)?,
         segments: number_in(alloc, matches, "segments", 8, 65_536)?,
@@ -245,6 +253,7 @@ fn replay_options(alloc: Global, matches: &ArgMatches<'_>) -> Result<Options, Wo
         tick: number(matches, "tick"),
         accept: number_in(alloc, matches, "accept", 0, 65_536)?,
         fail_give: number(matches, "fail-give"),
+        file: String::from_str(alloc, matches.get_str("file").unwrap_or(""))?,
     })
 }
 
@@ -252,11 +261,11 @@ fn serve_options(alloc: Global, matches: &ArgMatches<'_>) -> Result<ServeOptions
     ensures { IfOk result IsServeInRange }
 {
     Ok(ServeOptions {
-        listen: String::from_str(alloc, matches.get_str("listen").unwrap_or(""))?,
         workers: number_in(alloc, matches, "workers", 1, 8)?,
         sessions: matches.get_one::<u64>("sessions"),
         segment_size: number_in(alloc, matches, "segment-size", 4096, 1_048_576)?,
         segments: number_in(alloc, matches, "segments", 8, 65_536)?,
+        listen: String::from_str(alloc, matches.get_str("listen").unwrap_or(""))?,
     })
 }
 

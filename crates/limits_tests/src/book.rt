@@ -16,6 +16,16 @@ const PIECES: [(usize, usize, Result<(), FeedFault>); 6] = [
     (262_144, 1, Err(FeedFault::Full)),
 ];
 
+/// Feeds so many bytes without a line end.
+fn feed_piece(
+    alloc: Global,
+    book: &mut Book,
+    length: usize,
+) -> Result<Result<(), FeedFault>, Fail> {
+    let piece = vec![in alloc; b'k'; length]?;
+    Ok(book.feed(1, piece.as_slice()))
+}
+
 fn check_pieces(
     rt: &impl Abort,
     alloc: Global,
@@ -24,8 +34,8 @@ fn check_pieces(
     for (held, length, wanted) in rows {
         let mut book = Book::new(alloc, 0);
         book.open(1)?;
-        book.feed(1, vec![in alloc; b'k'; *held]?.as_slice())?;
-        let fed = book.feed(1, vec![in alloc; b'k'; *length]?.as_slice());
+        feed_piece(alloc, &mut book, *held)??;
+        let fed = feed_piece(alloc, &mut book, *length)?;
         assert_eq!(rt; fed, *wanted, "{length} behind {held}");
     }
     Ok(())
@@ -36,14 +46,20 @@ fn unread_bytes_end_at_their_limit(rt: HostRuntime) -> Result<(), Fail> {
     check_pieces(&rt, rt.alloc(), &PIECES)
 }
 
-/// Reads the next `get a` of a session, and settles it with a value of this length.
-fn answer(alloc: Global, book: &mut Book, session: u64, length: usize) -> Result<Settled, Fail> {
+/// Sends a session's `get a`, and tells the number of the request that the book gives then.
+fn ask(book: &mut Book, session: u64) -> Result<Option<u64>, Fail> {
     book.feed(session, b"get a\r\n")?;
-    let Some((request, number)) = book.next_ask(session)? else {
-        return Err(Fail::new("no request"));
-    };
+    match book.next_ask(session)? {
+        Some((_, number)) => Ok(Some(number)),
+        None => Ok(None),
+    }
+}
+
+/// Settles a request of session 1 with a value of this length.
+fn answer(alloc: Global, book: &mut Book, number: u64, length: usize) -> Result<Settled, Fail> {
+    let request = Request::FlushAll { delay: 0 };
     let reply = value_of(alloc, length)?;
-    Ok(book.settle(&answered(session, number, request, reply)))
+    Ok(book.settle(&answered(1, number, request, reply)))
 }
 
 fn answered(session: u64, number: u64, request: Request, reply: Reply) -> Answered {
@@ -88,13 +104,14 @@ fn check_outputs(
     for (length, waiting, is_read) in rows {
         let mut book = Book::new(alloc, 0);
         book.open(1)?;
+        assert_eq!(rt; ask(&mut book, 1)?, Some(1));
         assert_eq!(rt; answer(alloc, &mut book, 1, *length)?, Settled::Kept);
         assert_eq!(rt; book.out(1).len(), *waiting);
-        book.feed(1, b"get b\r\n")?;
-        let asked = book.next_ask(1)?;
-        let has_asked = asked.is_some();
-        drop(asked);
-        assert_eq!(rt; has_asked, *is_read, "while {waiting} bytes wait");
+        assert_eq!(rt;
+            ask(&mut book, 1)?.is_some(),
+            *is_read,
+            "while {waiting} bytes wait"
+        );
     }
     Ok(())
 }
@@ -109,16 +126,10 @@ fn check_waiting(rt: &impl Abort, alloc: Global) -> Result<(), Fail> {
     let mut book = Book::new(alloc, 0);
     book.open(1)?;
     for number in 1..=64 {
-        book.feed(1, b"get a\r\n")?;
-        let Some((request, asked)) = book.next_ask(1)? else {
-            return Err(Fail::new("no request"));
-        };
-        drop(request);
-        assert_eq!(rt; asked, number);
+        assert_eq!(rt; ask(&mut book, 1)?, Some(number));
     }
     for number in 1..=64 {
-        let request = Request::FlushAll { delay: 0 };
-        let settled = book.settle(&answered(1, number, request, value_of(alloc, 131_000)?));
+        let settled = answer(alloc, &mut book, number, 131_000)?;
         assert_eq!(rt; settled, Settled::Kept, "answer {number}");
     }
     assert_eq!(rt; book.out(1).len(), 8_385_600);
@@ -140,10 +151,7 @@ fn check_unsettled(rt: &impl Abort, alloc: Global, rows: &[u64]) -> Result<(), F
         for turn in 0..130u64 {
             let session = turn.min(sessions.saturating_sub(1)) + 1;
             let _ = book.open(session);
-            book.feed(session, b"get a\r\n")?;
-            let given = book.next_ask(session)?;
-            asked = asked.saturating_add(u64::from(given.is_some()));
-            drop(given);
+            asked = asked.saturating_add(u64::from(ask(&mut book, session)?.is_some()));
         }
         assert_eq!(rt; asked, 64, "over {sessions} sessions");
     }

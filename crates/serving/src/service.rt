@@ -6,6 +6,7 @@ ghost use Rattle.std.specs.Io.KnownBytes.{Appends};
 ghost use Rattle.proto.specs.Sizes.{IsGeometry, sizes_of};
 ghost use Rattle.faults.specs.declared.fault.Fault.TheVariants.{BadGeometry};
 ghost use Rattle.serving.specs.Listening.{IsListeningLine};
+ghost use Rattle.serving.specs.NewStores.{IsNewStore};
 
 use clocks::UnixClock;
 use command_line::ServeOptions;
@@ -96,6 +97,72 @@ fn announce<W: Write>(line: &str, out: &mut W) -> Result<(), Fault>
     Ok(())
 }
 
+/// What is made before the line is printed: the listener with its ends of the hands, the workers' ports and the store.
+#[derive(Drop)]
+struct Opened<H: Drop> {
+    listener: Listener,
+    hands: Vec<Hand>,
+    ports: Vec<MioPort<H>>,
+    store: Store,
+}
+
+/// Listens on the options' address, and makes the rest.
+fn open<H>(
+    rt: H,
+    alloc: Global,
+    options: &ServeOptions,
+    geometry: Geometry,
+    seed: u64,
+) -> Result<Opened<H>, Fault>
+where
+    H: Wait + Net + time::Clock + Copy + Drop,
+    ensures { IfOk result (λ opened. IsNewStore geometry opened.store) }
+{
+    let listener = match Listener::bind(&rt, alloc, options.listen.as_str()) {
+        Ok(listener) => listener,
+        Err(fault) => return Err(cannot_listen(alloc, options, fault)),
+    };
+    let (hands, ports) = match make_ports(rt, alloc, options.workers as usize) {
+        Ok(made) => made,
+        Err(fault) => return Err(cannot_listen(alloc, options, fault)),
+    };
+    Ok(Opened {
+        listener,
+        hands,
+        ports,
+        store: Store::seeded(alloc, geometry, 0, seed)?,
+    })
+}
+
+/// Accepts streams in a thread of its own, up to the limit, and runs the group until it has ended.
+fn run<H>(
+    rt: H,
+    alloc: Global,
+    opened: Opened<H>,
+    geometry: Geometry,
+    limit: Option<u64>,
+) -> Result<(), Fault>
+where
+    H: Threads + Wait + Net + time::Clock + Copy + Drop + Send + Sync + 'static,
+    requires { IsNewStore geometry opened.store }
+{
+    let Opened {
+        mut listener,
+        hands,
+        ports,
+        store,
+    } = opened;
+    let Ok(listening) = thread::spawn(&rt, move || listener.run(&rt, hands.as_slice(), limit))
+    else {
+        return Err(Fault::NoThread);
+    };
+    let config = Config { geometry };
+    let clock = UnixClock::new(rt);
+    let _ = run_group(&rt, alloc, ports, config, store, clock, &OpenGate)?;
+    listening.join(&rt);
+    Ok(())
+}
+
 /// Listens on the options' address, prints it, and serves: a thread accepts streams, a group of workers serves them,
 /// and moments are Unix seconds. Keys are hashed with the seed. With a number of sessions it accepts so many streams, and ends when their sessions
 /// have ended; else it goes on.
@@ -112,25 +179,8 @@ where
     ensures { OnOk result ((port : ℕ) × (line : List ℕ) × IsListeningLine (string_bytes options.entry.now.listen) port line
         × Appends (W.contents out.old) (W.contents out.new) line) }
 {
-    let mut listener = match Listener::bind(&rt, alloc, options.listen.as_str()) {
-        Ok(listener) => listener,
-        Err(fault) => return Err(cannot_listen(alloc, options, fault)),
-    };
-    let (hands, ports) = match make_ports(rt, alloc, options.workers as usize) {
-        Ok(made) => made,
-        Err(fault) => return Err(cannot_listen(alloc, options, fault)),
-    };
-    let store = Store::seeded(alloc, geometry, 0, seed)?;
-    let line = listening_line(alloc, options, listener.port())?;
+    let opened = open(rt, alloc, options, geometry, seed)?;
+    let line = listening_line(alloc, options, opened.listener.port())?;
     announce(line.as_str(), out)?;
-    let limit = options.sessions;
-    let Ok(listening) = thread::spawn(&rt, move || listener.run(&rt, hands.as_slice(), limit))
-    else {
-        return Err(Fault::NoThread);
-    };
-    let config = Config { geometry };
-    let clock = UnixClock::new(rt);
-    let _ = run_group(&rt, alloc, ports, config, store, clock, &OpenGate)?;
-    listening.join(&rt);
-    Ok(())
+    run(rt, alloc, opened, geometry, options.sessions)
 }

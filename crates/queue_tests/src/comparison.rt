@@ -1,10 +1,24 @@
 //! The same requests through the lanes and through the queues.
 
-use exchange_runs::{Workload, run_lanes, run_queues};
+use exchange_runs::{CallingWorker, Workload, run_lanes, run_queues};
+use std::process::Abort;
 use std::test::Fail;
 
 /// The requests of each run, of all workers together: 80,000 in all, each way.
 const REQUESTS: u64 = 10_000;
+
+/// Through both a worker was given an answer to each of its requests, and the same ones.
+fn check_worker(
+    rt: &impl Abort,
+    lane: &CallingWorker<exchange::WorkerEnd>,
+    queue: &CallingWorker<queue_exchange::WorkerEnd>,
+    each: u64,
+) {
+    assert_eq!(rt; lane.counts(), (each, 0));
+    assert_eq!(rt; queue.counts(), (each, 0));
+    assert!(rt; lane.answers().len() as u64 >= each);
+    assert!(rt; lane.answers() == queue.answers());
+}
 
 #[test]
 fn both_give_each_worker_the_same_answers(rt: HostRuntime) -> Result<(), Fail> {
@@ -22,10 +36,7 @@ fn both_give_each_worker_the_same_answers(rt: HostRuntime) -> Result<(), Fail> {
         assert_eq!(rt; lanes.players.len(), workers);
         assert_eq!(rt; queues.players.len(), workers);
         for (lane, queue) in lanes.players.iter().zip(queues.players.iter()) {
-            assert_eq!(rt; lane.counts(), (load.each, 0));
-            assert_eq!(rt; queue.counts(), (load.each, 0));
-            assert!(rt; lane.answers().len() as u64 >= load.each);
-            assert!(rt; lane.answers() == queue.answers());
+            check_worker(&rt, lane, queue, load.each);
         }
     }
     Ok(())

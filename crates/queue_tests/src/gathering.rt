@@ -62,23 +62,58 @@ fn gathered(alloc: Global, end: WorkerEnd, storage: StorageEnd) -> Result<Gather
     Ok(gather(ends, storage))
 }
 
+/// What is seen of a full window, of which one request is answered.
+#[derive(Clone, Copy)]
+struct Seen {
+    workers: usize,
+    sent: u64,
+    before: Option<u64>,
+    was_request: bool,
+    is_open: bool,
+    answer: Option<u64>,
+    after: Option<u64>,
+    sent_then: u64,
+    gathered: Gathered,
+}
+
+fn see<R: Wait>(rt: &R, alloc: Global) -> Result<Seen, Fail> {
+    let (mut ends, mut storage, mut store) = made(alloc)?;
+    let Some(mut end) = ends.pop() else {
+        return Err(Fail::new("no end"));
+    };
+    let workers = storage.workers();
+    let sent = fill(rt, &mut end);
+    let before = number(rt, &mut end);
+    let served = serve_next(rt, &mut store, &mut storage);
+    let is_open = storage.is_open();
+    let answer = number(rt, &mut end);
+    let after = number(rt, &mut end);
+    let sent_then = fill(rt, &mut end);
+    Ok(Seen {
+        workers,
+        sent,
+        before,
+        was_request: matches!(served, Served::Request),
+        is_open,
+        answer,
+        after,
+        sent_then,
+        gathered: gathered(alloc, end, storage)?,
+    })
+}
+
 #[test]
 fn a_full_window_and_one_answer(rt: HostRuntime) -> Result<(), Fail> {
-    let (mut ends, mut storage, mut store) = made(rt.alloc())?;
-    let Some(mut end) = ends.pop() else {
-        panic!(rt; "no end")
-    };
-    assert_eq!(rt; storage.workers(), 1);
-    assert_eq!(rt; fill(&rt, &mut end), 64);
-    assert_eq!(rt; number(&rt, &mut end), None);
-    let served = serve_next(&rt, &mut store, &mut storage);
-    assert!(rt; matches!(served, Served::Request));
-    assert!(rt; !storage.is_open());
-    assert_eq!(rt; number(&rt, &mut end), Some(1));
-    assert_eq!(rt; number(&rt, &mut end), None);
-    assert_eq!(rt; fill(&rt, &mut end), 1);
-    let gathered = gathered(rt.alloc(), end, storage)?;
-    assert_eq!(rt; gathered.sent, [65, 0, 0, 0, 0, 0, 0, 0]);
-    assert_eq!(rt; gathered.back, [1, 0, 0, 0, 0, 0, 0, 0]);
+    let seen = see(&rt, rt.alloc())?;
+    assert_eq!(rt; seen.workers, 1);
+    assert_eq!(rt; seen.sent, 64);
+    assert_eq!(rt; seen.before, None);
+    assert!(rt; seen.was_request);
+    assert!(rt; !seen.is_open);
+    assert_eq!(rt; seen.answer, Some(1));
+    assert_eq!(rt; seen.after, None);
+    assert_eq!(rt; seen.sent_then, 1);
+    assert_eq!(rt; seen.gathered.sent, [65, 0, 0, 0, 0, 0, 0, 0]);
+    assert_eq!(rt; seen.gathered.back, [1, 0, 0, 0, 0, 0, 0, 0]);
     Ok(())
 }

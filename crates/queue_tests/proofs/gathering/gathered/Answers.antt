@@ -1,7 +1,4 @@
-use Rattle.std.proofs.Common.{◌≡◌, ◌⊎◌, ℕ, [], ◌∷◌, ◌++◌, length, sym, ap, subst, ◌∙◌}
-use mathlib.Core.Option.{some, some-injective, some-ne-none}
-use lib.ListN.{get_elem?}
-use Rattle.queue_exchange.specs.Queues.{WorkerQueues, StorageQueues, IsEndOf, AreOfOne}
+use Rattle.std.proofs.Common.{[], ◌∷◌, ◌++◌, ap, ◌∙◌}
 use Rattle.queue_tests.proofs.One.{one_end}
 use Rattle.queue_tests.proofs.gathering.gathered.Goals as goal
 

@@ -1,5 +1,6 @@
 -- Which pieces are held follows from what the book has of the sessions.
-use Rattle.std.proofs.Common.{◌≡◌, ◌≢◌, ℕ, ◌==◌, Bool, true, false, cond, eq-eqb, List, [], ◌++◌, refl, sym, ap, ◌∙◌, Option, Some, None, is_some}
+use Rattle.std.proofs.Common.{◌≡◌, ◌≢◌, ℕ, ◌==◌, Bool, true, false, cond, eq-eqb}
+use Rattle.std.proofs.Common.{List, [], ◌++◌, refl, sym, ap, ◌∙◌, Option, Some, None, is_some}
 use Rattle.std.specs.Option.{option_map}
 use Rattle.session_book.specs.Session.{SessionState, once_fed, gave}
 use Rattle.session_book.specs.Book.{BookState, session_of, held_of, OnlyAt}

@@ -57,20 +57,15 @@ fn ask(book: &mut Book, session: u64) -> Result<Option<u64>, Fail> {
 
 /// Settles a request of session 1 with a value of this length.
 fn answer(alloc: Global, book: &mut Book, number: u64, length: usize) -> Result<Settled, Fail> {
-    let request = Request::FlushAll { delay: 0 };
-    let reply = value_of(alloc, length)?;
-    Ok(book.settle(&answered(1, number, request, reply)))
-}
-
-fn answered(session: u64, number: u64, request: Request, reply: Reply) -> Answered {
-    Answered {
+    let answered = Answered {
         worker: 0,
-        session,
+        session: 1,
         number,
-        request,
+        request: Request::FlushAll { delay: 0 },
         moment: 1000,
-        reply,
-    }
+        reply: value_of(alloc, length)?,
+    };
+    Ok(book.settle(&answered))
 }
 
 fn value_of(alloc: Global, length: usize) -> Result<Reply, Fail> {

@@ -7,7 +7,7 @@ use mathlib.Core.Option.{none, some, some-injective}
 use native.Mathlib.Decide.{ℕ_discrete, dec_le}
 use lib.ListN.{get_elem?}
 use lib.Seq.{set-get_or}
-use Rattle.atomic_table.specs.Table.{State, Me, Step, step, Act, keeps, takes, gives, rest, stepped, homes_after, Allows, Splits, Joins, opening}
+use Rattle.atomic_table.specs.Table.{step, Act, keeps, takes, gives, stepped, Allows}
 use Rattle.proto.specs.declared.history.Posted.{Posted}
 use Rattle.proto.specs.declared.history.Answered.{Answered}
 use Rattle.exchange.specs.declared.messages.LaneMessage.{LaneMessage}
@@ -24,8 +24,8 @@ use Rattle.proto.specs.Counts.{times}
 use Rattle.exchange.specs.Steps.{holding_slot, placed, put_on, all_sent, with_bye, learnt_of, took_seen, took_out, begun, request_put, posted, bye_posted}
 use Rattle.exchange.specs.Steps.{seen_taken, Learnt, DoneTells, done_loaded, slot_returned}
 use Rattle.exchange.proofs.Lists.{at_some, starts_at, starts_below, starts_whole, starts_self, take_whole}
-use Rattle.exchange.proofs.Lane.{Else, all_more, one_bye, begins, puts, sends, posts_last, takes_back, is_told, returns_slot, opens, replies, settles_bye}
-use Rattle.exchange.proofs.Lane.{sent_at, SentAt, count}
+use Rattle.exchange.proofs.Lane.{all_more, one_bye, begins, puts, sends, posts_last, takes_back, is_told, returns_slot}
+use Rattle.exchange.proofs.Lane.{count}
 use Rattle.exchange.proofs.Lane.{at_most_one, asked_told}
 use Rattle.exchange.proofs.Shares.{share_starts}
 use Rattle.exchange.proofs.Table.{slot_below, slot_else, slot_here, slot_other, lane_same, St, worker_of, lane_of, worker_moves}

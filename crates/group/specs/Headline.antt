@@ -1,5 +1,5 @@
 -- The headline: what holds once a group has ended.
-use Rattle.std.specs.Prelude.{◌≡◌, ℕ, ◌^◌, ◌-◌, ◌<◌, ◌≤◌, Bool, true, List, [], length, min, All, Contains, Option, Some, None, is_some, IsSome, slice_index}
+use Rattle.std.specs.Prelude.{◌≡◌, ℕ, ◌^◌, ◌-◌, ◌<◌, ◌≤◌, true, List, [], length, min, All, Contains, Option, Some, None, is_some, IsSome, slice_index}
 use mathlib.Core.Option.{some}
 use lib.ListN.{get_elem?}
 use Rattle.proto.specs.declared.message.Message.{Message}

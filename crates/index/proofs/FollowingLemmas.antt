@@ -8,7 +8,6 @@ use Rattle.std.proofs.lemmas.Slice.Eq.{bytes_eq-Decides}
 use Rattle.std.proofs.lemmas.List.Folds.{list_any_at, list_any_none}
 use Rattle.segments.specs.declared.place.Place.{Place}
 use Rattle.segments.specs.declared.place.Move.{Move}
-use Rattle.segments.specs.Items.{Item}
 use Rattle.segments.specs.Pools.{PoolState, Standing, segment_at, items_of, item_in, standing}
 use Rattle.segments.specs.Places.{same_place}
 use Rattle.segments.proofs.Places.{standing_by}

@@ -11,8 +11,8 @@ use Rattle.std.proofs.lemmas.Bool.{cases_eq}
 use Rattle.std.proofs.lemmas.Bool.Decides.{leb_tells}
 use Rattle.std.proofs.lemmas.Grind.{in_remove}
 use Rattle.segments.specs.declared.place.Place.{Place}
-use Rattle.segments.specs.Items.{Item, size_of_item, item_at}
-use Rattle.segments.specs.Pools.{PoolState, IsPool, Standing, segment_at, items_of, item_in, standing, standing_from}
+use Rattle.segments.specs.Items.{Item, item_at}
+use Rattle.segments.specs.Pools.{PoolState, IsPool, Standing, segment_at, items_of, item_in, standing}
 use Rattle.segments.specs.Places.{IsAppended, same_place}
 use Rattle.segments.proofs.Places.{pool_items_few, standing_by}
 use Rattle.segments.proofs.MovedPlaces.{same_place_itself}

@@ -12,7 +12,7 @@ use Rattle.std.proofs.lemmas.Bool.{cases_Bool}
 use Rattle.std.proofs.lemmas.Map.Text.{is_eq-slice_cmp}
 use Rattle.std.proofs.lemmas.Slice.Eq.{bytes_eq-Decides}
 use Rattle.proto.specs.Cache.{Entry, no_entries, is_live, live}
-use Rattle.proto.proofs.CacheLemmas.{same_entries, get-insert, get-remove, get-no_entries, if_live, get-live}
+use Rattle.proto.proofs.CacheLemmas.{same_entries, get-insert, get-remove, if_live, get-live}
 use Rattle.plain_store.specs.Live.{entries_of}
 use Rattle.proto.proofs.StepLemmas.{live-empty}
 

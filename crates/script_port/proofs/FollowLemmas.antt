@@ -10,7 +10,7 @@ use Rattle.std.proofs.lemmas.List.Elements.{filter_map-append}
 use Rattle.exchange.specs.Beginnings.{StartsWith}
 use Rattle.script.specs.declared.event.ScriptEvent.{ScriptEvent}
 use Rattle.script.specs.declared.event.ScriptEvent.TheVariants.{Open, Send, Gone}
-use Rattle.script.specs.Events.{newest_after, open_after, sent, sent_by, goes_by_event, goes_in_script}
+use Rattle.script.specs.Events.{open_after, sent, sent_by, goes_by_event, goes_in_script}
 use Rattle.script.specs.Events as script
 use Rattle.worker.specs.declared.port.PortRecord.{PortRecord}
 use Rattle.worker.specs.declared.port.PortRecord.TheVariants as was

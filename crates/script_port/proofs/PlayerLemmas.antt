@@ -10,7 +10,7 @@ use Rattle.script.specs.declared.event.ScriptEvent.{ScriptEvent}
 use Rattle.script.specs.Events as script
 use Rattle.worker.specs.declared.port.PortRecord.{PortRecord}
 use Rattle.worker.specs.declared.port.PortRecord.TheVariants as was
-use Rattle.worker.specs.Ports.{has_ended, is_end, was_opened, MayCome}
+use Rattle.worker.specs.Ports.{has_ended}
 use Rattle.worker.specs.Ports as list
 use Rattle.worker.specs.Sessions.{PortFacts, port_facts}
 use Rattle.worker.proofs.Facts.{about, elsewhere, gone_here, shut_here, accepted_here}

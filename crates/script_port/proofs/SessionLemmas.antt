@@ -8,8 +8,6 @@ use Rattle.std.proofs.lemmas.List.{get_or_default}
 use Rattle.std.proofs.lemmas.List.Sorted.{IsPartitionedBy-ltb}
 use Rattle.std.specs.List.Sorted.{IsNonDecreasingBy, IsPartitionedBy}
 use Rattle.std.specs.Prelude.{nat_lt}
-use mathlib.Core.Logic.{dite}
-use native.Mathlib.Decide.{ℕ_discrete}
 use Rattle.script_port.specs.declared.stage.Stage.{Stage}
 use Rattle.script_port.specs.Sessions.{ScriptSessionState, numbers, RisesFrom, last_from, session_entry, is_closed}
 use Rattle.script_port.specs.Sessions.{is_session_open, is_some_and, with_stage}

@@ -1,11 +1,8 @@
 -- What a walk through a segment says of the pool.
-use Rattle.std.proofs.Common.{◌≡◌, ℕ, ◌+◌, List, [], ◌∷◌, ◌++◌, Some, refl, sym, ap, subst, ◌∙◌, append_assoc}
+use Rattle.std.proofs.Common.{◌≡◌, ℕ, ◌+◌, List, [], ◌∷◌, ◌++◌, Some, refl, sym, subst, ◌∙◌}
 use Rattle.std.specs.Prelude.{All}
-use Rattle.std.proofs.lemmas.List.Elements.{All-cons, All-nil, All-tail}
-use Rattle.std.proofs.lemmas.List.Sums.{sum_by_push}
-use Rattle.segments.specs.Items.{Item, size_of_item, size_of_all, item_at}
-use Rattle.segments.specs.Pools.{PoolState, Standing, segment_at, item_in, items_of, standing_from, standing}
-use Rattle.segments.proofs.WalkLemmas.{item_behind}
+use Rattle.std.proofs.lemmas.List.Elements.{All-tail}
+use Rattle.segments.specs.Pools.{PoolState, Standing, segment_at, item_in, items_of, standing}
 use Rattle.segments.proofs.PlanLemmas.{found_from}
 
 -- each item that is left of a walk from the first one on is found at its place

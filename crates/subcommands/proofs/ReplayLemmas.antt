@@ -1,16 +1,14 @@
 -- From a group's run over the ports of a script to what the script's bytes make it print.
-use Rattle.std.proofs.Common.{◌≡◌, ℕ, zero, suc, ◌+◌, ◌<◌, nat_lt, inl, inr, ⊎_elim, ◌==◌, Bool, true, false, ◌||◌, cond, List, [], ◌∷◌, ◌++◌, length, map}
-use Rattle.std.proofs.Common.{take, Option, Some, None, All, Contains, IsSome, refl, sym, ap, subst, ◌∙◌, arith}
-use Rattle.std.specs.Prelude.{⊤, flat_map, slice_index_or}
+use Rattle.std.proofs.Common.{◌≡◌, ℕ, zero, suc, ◌+◌, ◌<◌, nat_lt, inl, inr, ⊎_elim, ◌==◌, Bool, true, ◌||◌, cond, List, [], ◌∷◌, ◌++◌, length, map}
+use Rattle.std.proofs.Common.{Option, Some, None, All, refl, sym, ap, subst, ◌∙◌, arith}
+use Rattle.std.specs.Prelude.{⊤, flat_map}
 use Rattle.std.specs.List.{list_any}
 use Rattle.std.proofs.lemmas.List.{length-map}
 use Rattle.std.proofs.Common.{length-append}
 use mathlib.Core.Option.{some}
-use lib.ListN.{get_elem?}
 use Rattle.proto.specs.declared.message.Message.{Message}
 use Rattle.proto.specs.declared.history.Answered.{Answered}
 use Rattle.proto.specs.Sizes.{Sizes}
-use Rattle.proto.specs.History.{worker_share}
 use Rattle.proto.proofs.GrammarLaws.{has_reading}
 use Rattle.exchange.proofs.Lists.{at_below, at_some}
 use Rattle.session_book.specs.declared.causes.EndCause.{EndCause}
@@ -23,7 +21,7 @@ use Rattle.script.specs.Clocks.{ClockState, answer_of, first_answers}
 use Rattle.script.specs.Scripts.{Workers, AreEventsOf}
 use Rattle.worker.specs.declared.port.PortRecord.{PortRecord}
 use Rattle.worker.specs.declared.port.PortRecord.TheVariants as was
-use Rattle.worker.specs.Ports.{PortStory, fed, given, was_opened, is_opening}
+use Rattle.worker.specs.Ports.{PortStory, fed, given, was_opened}
 use Rattle.worker.specs.Sessions.{cause_of}
 use Rattle.worker.specs.Reports.{IsCauseOf}
 use Rattle.clocks.specs.declared.told_clock.ToldClock.{ToldClock}
@@ -39,8 +37,8 @@ use Rattle.group.specs.declared.report.GroupReport.{GroupReport}
 use Rattle.group.specs.Threads.{AreEach}
 use Rattle.group.specs.Headline.{AreAnsweredIn, IsRun}
 use Rattle.group.proofs.Places.{at_mapped}
-use Rattle.subcommands.specs.Printed.{printed_line, printed_lines, lines_from, events_of, IsPort, ArePlayed}
-use Rattle.subcommands.specs.Replayed.{SessionOutcome, MayEnd, GivesAnswersOf, IsOutcomeOf, AreOutcomesOf, outcome_lines, IsReplayOf}
+use Rattle.subcommands.specs.Printed.{printed_line, lines_from, events_of, IsPort, ArePlayed}
+use Rattle.subcommands.specs.Replayed.{SessionOutcome, MayEnd, IsOutcomeOf, AreOutcomesOf, outcome_lines, IsReplayOf}
 
 -- ---- what a worker leaves, session by session
 

@@ -8,7 +8,7 @@
 `text` prints a script in which each FILE is a session (`-` is standard input). A line feed of a file is sent as the end of a line of
 the protocol, CR LF, unless a CR stands before it already; with --bytes the bytes are sent as they are.
 
-`record` is a proxy: what its clients send goes to the server at --to, and the answers back. When it is interrupted, or when
+`record` is a proxy: what its clients send goes to the server at --to, and the answers back. When it is interrupted or ended, or when
 --sessions have come and gone, it prints the script of what was sent, in the order in which it came. --answers writes what each
 session was answered, in the form in which `segcached replay` prints it, to be compared with it.
 
@@ -18,6 +18,7 @@ Sessions are numbered from 1, and go to the workers in turn (one worker, unless 
 """
 import argparse
 import contextlib
+import signal
 import socket
 import sys
 import threading
@@ -149,6 +150,9 @@ class Recorder:
 
 
 def run_record(words):
+    # A shell that starts it in the background has it ignore interrupts.
+    for number in (signal.SIGINT, signal.SIGTERM):
+        signal.signal(number, signal.default_int_handler)
     recorder = Recorder(words)
     recorder.run()
     sys.stdout.write(recorder.script.text())

@@ -6,3 +6,4 @@ pub mod NoDeadlines
 pub mod EngineLemmas
 pub mod KeepingLemmas
 pub mod ReachingLemmas
+pub mod PlainLemmas

@@ -10,3 +10,7 @@ pub mod Finding
 pub mod Showing
 pub mod Engines
 pub mod Reaching
+pub mod PlainEntries
+pub mod PlainState
+pub mod PlainWrites
+pub mod Plain

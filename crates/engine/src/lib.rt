@@ -1,12 +1,17 @@
-//! The commands of the cache, over any map of live entries, and what any store of it promises.
+//! The commands of the cache, over any map of live entries; what any store of it promises; and the plain store, which forgets
+//! nothing and is there to be compared with.
 #![tactic(auto)]
 
 mod commands;
 mod deadline;
 mod entry_ref;
 mod hits;
+mod live_entries;
 mod live_map;
 mod number;
+mod plain_entry;
+mod plain_map;
+mod plain_store;
 mod size;
 mod storage_engine;
 
@@ -14,4 +19,6 @@ pub use commands::Engine;
 pub use deadline::has_arrived;
 pub use entry_ref::EntryRef;
 pub use live_map::LiveMap;
+pub use plain_map::PlainMap;
+pub use plain_store::PlainStore;
 pub use storage_engine::{MAX_MOMENT, StorageEngine};

@@ -1,11 +1,15 @@
-//! Lanes between workers and one storage thread, without a lock.
+//! Lanes between workers and one storage thread, without a lock; the word that a thread parks on; and the hints by which
+//! storage reads ahead.
 #![tactic(auto)]
 
 mod gathering;
 mod messages;
 mod opening;
+mod parking_word;
 mod rule;
+mod signals;
 mod slots;
+mod spin_policy;
 mod steps;
 mod storage;
 mod storage_batch;
@@ -16,7 +20,10 @@ mod worker_batch;
 pub use gathering::{Gathered, gather};
 pub use messages::Taken;
 pub use opening::{MakeFault, make};
+pub use parking_word::ParkingWord;
 pub use proto::{Answered, MAX_POSTS, Posted, WINDOW};
+pub use signals::StorageSignals;
+pub use spin_policy::SpinPolicy;
 pub use storage::StorageEnd;
 pub use storage_batch::StorageBatch;
 pub use worker::{SentList, WorkerEnd};

@@ -1,6 +1,6 @@
 //! A worker that calls either exchange, the lanes with single requests or with batches.
 
-use parking::ParkingWord;
+use exchange::ParkingWord;
 use proto::{Answered, ByteString, Keys, NoMemory, Posted, Put, Request, Words, show_reply};
 use std::alloc::{AllocError, Global};
 use std::sync::Wait;

@@ -7,8 +7,8 @@ ghost use Rattle.exchange_runs.specs.Serving.{HasTakenNothing};
 
 use crate::caller::{Caller, CallingWorker, Workload};
 use crate::serving::serve_queues;
-use parking::{ParkingWord, StorageDesk};
-use plain_store::Store;
+use exchange::{ParkingWord, StorageSignals};
+use engine::PlainStore;
 use proto::Geometry;
 use queue_exchange::StorageEnd;
 use std::alloc::{AllocError, Global};
@@ -65,8 +65,8 @@ fn players<C: Caller + Drop>(
 // The players, each in a thread, beside the storage thread's loop over an empty store.
 fn play_lanes<R: Threads + Wait + time::Clock + Sync, C: Caller + Drop + Send>(
     rt: &R,
-    store: Store,
-    desk: &StorageDesk,
+    store: PlainStore,
+    signals: &StorageSignals,
     players: Vec<CallingWorker<C>>,
     storage: exchange::StorageEnd,
 ) -> Run<C>
@@ -78,12 +78,12 @@ fn play_lanes<R: Threads + Wait + time::Clock + Sync, C: Caller + Drop + Send>(
     let start = Instant::now(rt).ok();
     thread::join(
         rt,
-        move || run_storage(rt, store, Stopped, storage, desk),
+        move || run_storage(rt, store, Stopped, storage, signals),
         || thread::for_each_mut(
             rt,
             players.as_mut_slice(),
             8,
-            &|_, player: &mut CallingWorker<C>| player.play(rt, desk.parking()),
+            &|_, player: &mut CallingWorker<C>| player.play(rt, signals.parking()),
         ),
     );
     let elapsed = elapsed(rt, start);
@@ -100,8 +100,8 @@ pub fn run_lanes<R: Threads + Wait + time::Clock + Sync>(
     let geometry = Geometry::new(4096, 8).ok()?;
     let (ends, storage) = exchange::make(alloc, workers, geometry).ok()?;
     let players = players(alloc, ends, load).ok()?;
-    let desk = StorageDesk::new(alloc, FoldHasher::default(), workers).ok()?;
-    Some(play_lanes(rt, Store::new(alloc, geometry), &desk, players, storage))
+    let signals = StorageSignals::new(alloc, FoldHasher::default(), workers).ok()?;
+    Some(play_lanes(rt, PlainStore::new(alloc, geometry), &signals, players, storage))
 }
 
 fn batched(
@@ -126,14 +126,14 @@ pub fn run_batches<R: Threads + Wait + time::Clock + Sync>(
     let (ends, storage) = exchange::make(alloc, workers, geometry).ok()?;
     let ends = batched(alloc, ends).ok()?;
     let players = players(alloc, ends, load).ok()?;
-    let desk = StorageDesk::new(alloc, FoldHasher::default(), workers).ok()?;
-    Some(play_lanes(rt, Store::new(alloc, geometry), &desk, players, storage))
+    let signals = StorageSignals::new(alloc, FoldHasher::default(), workers).ok()?;
+    Some(play_lanes(rt, PlainStore::new(alloc, geometry), &signals, players, storage))
 }
 
 // The players, each in a thread, beside the storage loop of the queues.
 fn play_queues<R: Threads + Wait + time::Clock + Sync>(
     rt: &R,
-    store: Store,
+    store: PlainStore,
     players: Vec<CallingWorker<queue_exchange::WorkerEnd>>,
     storage: StorageEnd,
 ) -> Run<queue_exchange::WorkerEnd>
@@ -168,5 +168,5 @@ pub fn run_queues<R: Threads + Wait + time::Clock + Sync>(
     let geometry = Geometry::new(4096, 8).ok()?;
     let (ends, storage) = queue_exchange::make(alloc, workers, geometry).ok()?;
     let players = players(alloc, ends, load).ok()?;
-    Some(play_queues(rt, Store::new(alloc, geometry), players, storage))
+    Some(play_queues(rt, PlainStore::new(alloc, geometry), players, storage))
 }

@@ -12,8 +12,7 @@ use crate::report::{Config, GroupReport, GroupWorker};
 use crate::start::tell;
 use crate::threads::{join_storage, join_workers, start_storage, start_workers};
 use engine::StorageEngine;
-use exchange::{WorkerEnd, gather, make};
-use parking::StorageDesk;
+use exchange::{StorageSignals, WorkerEnd, gather, make};
 use std::alloc::Global;
 use std::sync::{OnceLock, Wait};
 use std::thread;
@@ -99,7 +98,7 @@ fn run_in<
     alloc: Global,
     scope: &'s Scope<'s, &'e ()>,
     start: &'s OnceLock<bool>,
-    desk: &'s StorageDesk,
+    signals: &'s StorageSignals,
     ports: Vec<P>,
     config: Config,
     store: E,
@@ -119,8 +118,8 @@ fn run_in<
     let reports = Vec::with_capacity(alloc, count)?;
     let workers = Vec::with_capacity(alloc, count)?;
     let ends_left = Vec::with_capacity(alloc, count)?;
-    let storage = start_storage(rt, scope, start, store, clock, storage_end, desk)?;
-    match start_workers(rt, alloc, scope, start, ports, ends, gate, desk, handles) {
+    let storage = start_storage(rt, scope, start, store, clock, storage_end, signals)?;
+    match start_workers(rt, alloc, scope, start, ports, ends, gate, signals, handles) {
         Ok(handles) => {
             let told = tell(rt, start, true);
             if !*start.value(&told) {
@@ -173,8 +172,8 @@ pub fn run_group<
     }
     let lock = OnceLock::new();
     let start = &lock;
-    let whole = StorageDesk::new(alloc, store.key_hasher(), ports.len())?;
-    let desk = &whole;
+    let whole = StorageSignals::new(alloc, store.key_hasher(), ports.len())?;
+    let signals = &whole;
     thread::scope(
         thread::scope_env(),
         rt,
@@ -185,7 +184,7 @@ pub fn run_group<
             ensures fault { IfErr result (λ fault. fault ≢ BadConfig) }
         {
             run_in(
-                rt, alloc, scope, start, desk, ports, config, store, clock, gate,
+                rt, alloc, scope, start, signals, ports, config, store, clock, gate,
             )
         },
     )

@@ -10,8 +10,7 @@ ghost use Rattle.group.specs.Threads.{IsFinished, HasSentNothing, IsSilent, Keep
 use crate::fault::GroupFault;
 use crate::start::{Finished, hear};
 use engine::StorageEngine;
-use exchange::{StorageEnd, WorkerEnd};
-use parking::StorageDesk;
+use exchange::{StorageEnd, StorageSignals, WorkerEnd};
 use std::alloc::Global;
 use std::snapshot::Snapshot;
 use std::sync::{OnceLock, OnceToken, Wait};
@@ -65,7 +64,7 @@ fn work<'a, P: Port, G: Gate, R: Wait>(
     port: P,
     end: WorkerEnd,
     gate: &G,
-    desk: &StorageDesk,
+    signals: &StorageSignals,
 ) -> Finished<'a, WorkerReport<P>>
     requires port { IsSilent P.told port }
     requires fresh { HasSentNothing end }
@@ -73,7 +72,7 @@ fn work<'a, P: Port, G: Gate, R: Wait>(
 {
     let told = hear(rt, start);
     let ran = if *start.value(&told) {
-        Some(run_worker(rt, alloc, port, end, gate, desk))
+        Some(run_worker(rt, alloc, port, end, gate, signals))
     } else {
         None
     };
@@ -87,7 +86,7 @@ fn serve<'a, E: StorageEngine + Drop, C: Clock, R: Wait>(
     store: E,
     clock: C,
     end: StorageEnd,
-    desk: &StorageDesk,
+    signals: &StorageSignals,
 ) -> Finished<'a, StorageReport<C>>
     requires empty { (E.cache store ≡ empty_cache 0) × (E.moment store ≡ 0) }
     requires sizes { E.sizes store ≡ end.geometry }
@@ -96,7 +95,7 @@ fn serve<'a, E: StorageEngine + Drop, C: Clock, R: Wait>(
 {
     let told = hear(rt, start);
     let ran = if *start.value(&told) {
-        Some(run_storage(rt, store, clock, end, desk))
+        Some(run_storage(rt, store, clock, end, signals))
     } else {
         None
     };
@@ -117,7 +116,7 @@ pub fn start_storage<
     store: E,
     clock: C,
     end: StorageEnd,
-    desk: &'s StorageDesk,
+    signals: &'s StorageSignals,
 ) -> Result<StorageHandle<'s, E, C>, GroupFault>
     requires empty { (E.cache store ≡ empty_cache 0) × (E.moment store ≡ 0) }
     requires sizes { E.sizes store ≡ end.geometry }
@@ -133,7 +132,7 @@ pub fn start_storage<
         clock: Snapshot::of(&clock),
         end: Snapshot::of(&end),
     };
-    match scope.spawn_with(promise, move || serve(rt, start, store, clock, end, desk)) {
+    match scope.spawn_with(promise, move || serve(rt, start, store, clock, end, signals)) {
         Ok(handle) => Ok(handle),
         Err(_) => Err(GroupFault::NoThread),
     }
@@ -148,7 +147,7 @@ fn start_worker<'s, 'e, P: Port + Send + 's, G: Gate + Sync, R: Threads + Wait +
     port: P,
     end: WorkerEnd,
     gate: &'s G,
-    desk: &'s StorageDesk,
+    signals: &'s StorageSignals,
 ) -> Result<WorkerHandle<'s, P>, GroupFault>
     requires port { IsSilent P.told port }
     requires fresh { HasSentNothing end }
@@ -163,7 +162,7 @@ fn start_worker<'s, 'e, P: Port + Send + 's, G: Gate + Sync, R: Threads + Wait +
     };
     match scope.spawn_with(
         promise,
-        move || work(rt, alloc, start, port, end, gate, desk),
+        move || work(rt, alloc, start, port, end, gate, signals),
     ) {
         Ok(handle) => Ok(handle),
         Err(_) => Err(GroupFault::NoThread),
@@ -179,7 +178,7 @@ pub fn start_workers<'s, 'e, P: Port + Send + 's, G: Gate + Sync, R: Threads + W
     ports: Vec<P>,
     ends: Vec<WorkerEnd>,
     gate: &'s G,
-    desk: &'s StorageDesk,
+    signals: &'s StorageSignals,
     mut handles: Vec<WorkerHandle<'s, P>>,
 ) -> Result<Vec<WorkerHandle<'s, P>>, GroupFault>
     requires ports { All (IsSilent P.told) ports.items }
@@ -196,7 +195,7 @@ pub fn start_workers<'s, 'e, P: Port + Send + 's, G: Gate + Sync, R: Threads + W
         let Some(port) = ports.next() else {
             unreachable!()
         };
-        let handle = start_worker(rt, alloc, scope, start, port, end, gate, desk)?;
+        let handle = start_worker(rt, alloc, scope, start, port, end, gate, signals)?;
         handles.push_reserved(handle);
     }
     Ok(handles)

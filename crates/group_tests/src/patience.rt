@@ -1,7 +1,6 @@
 //! When a gate that holds workers opens for good.
 
-use gates::HoldGate;
-use worker::Gate;
+use worker::{Gate, HoldGate};
 
 /// As many refusals as there may be, less one.
 const REFUSALS: u64 = 999_999;

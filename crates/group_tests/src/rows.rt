@@ -5,7 +5,7 @@ use crate::ports::{Counters, TestClock, TestPort};
 use crate::running::{are_complete, ports_of, run};
 use crate::second_gate::SecondGate;
 use bytes::Bytes;
-use gates::{HoldGate, OpenGate};
+use worker::{HoldGate, OpenGate};
 use group::GroupFault;
 use std::alloc::Global;
 use std::test::Fail;

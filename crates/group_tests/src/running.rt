@@ -3,7 +3,7 @@
 use crate::ports::{Counters, TestPort};
 use bytes::Bytes;
 use group::{Config, GroupFault, GroupReport, GroupWorker, run_group};
-use plain_store::Store;
+use engine::PlainStore;
 use proto::Geometry;
 use session_book::EndCause;
 use std::alloc::Global;
@@ -62,7 +62,7 @@ pub(crate) fn run<
     gate: &G,
 ) -> Result<GroupReport<TestPort<'a>, C>, GroupFault> {
     let geometry = Geometry::new(65_536, 64).expect(rt, "a geometry");
-    let store = Store::new(alloc, geometry);
+    let store = PlainStore::new(alloc, geometry);
     run_group(rt, alloc, ports, Config { geometry }, store, clock, gate)
 }
 

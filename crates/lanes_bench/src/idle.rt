@@ -1,9 +1,8 @@
 //! A storage thread for which nothing comes.
 
-use exchange::make;
+use exchange::{StorageSignals, make};
 use exchange_runs::Stopped;
-use parking::StorageDesk;
-use plain_store::Store;
+use engine::PlainStore;
 use proto::Geometry;
 use std::alloc::Global;
 use std::hash::FoldHasher;
@@ -22,18 +21,18 @@ pub fn wait<R: Threads + Wait + time::Clock + Sync>(
     let geometry = Geometry::new(4096, 8).ok()?;
     let (mut ends, storage) = make(alloc, 1, geometry).ok()?;
     let mut end = ends.pop()?;
-    let store = Store::new(alloc, geometry);
-    let whole = StorageDesk::new(alloc, FoldHasher::default(), 1).ok()?;
-    let desk = &whole;
+    let store = PlainStore::new(alloc, geometry);
+    let whole = StorageSignals::new(alloc, FoldHasher::default(), 1).ok()?;
+    let signals = &whole;
     thread::join(
         rt,
-        move || run_storage(rt, store, Stopped, storage, desk),
+        move || run_storage(rt, store, Stopped, storage, signals),
         || {
             thread::sleep(rt, Duration::from_secs(seconds));
             if !end.said_bye() && end.outstanding() == 0 {
                 end.bye();
             }
-            desk.parking().unpark();
+            signals.parking().unpark();
         },
     );
     Some(())

@@ -3,14 +3,13 @@
 
 use crate::runs::SteadyClock;
 use bytes::Bytes;
-use gates::OpenGate;
+use worker::{Gone, OpenGate, Port, PortEvent};
 use group::{Config, run_group};
-use plain_store::Store;
+use engine::PlainStore;
 use proto::Geometry;
 use std::test::Fail;
 use std::thread;
 use std::time::{Clock, Duration, Instant};
-use worker::{Gone, Port, PortEvent};
 
 /// How many requests come.
 const REQUESTS: usize = 200;
@@ -83,7 +82,7 @@ fn requests_after_pauses_are_answered_soon(rt: HostRuntime) -> Result<(), Fail> 
     };
     let geometry = Geometry::new(65_536, 64)?;
     let config = Config { geometry };
-    let store = Store::new(alloc, geometry);
+    let store = PlainStore::new(alloc, geometry);
     let ports = vec![in alloc; port]?;
     let start = Instant::now(&rt)?;
     let report = run_group(&rt, alloc, ports, config, store, SteadyClock, &OpenGate)?;

@@ -2,11 +2,10 @@
 
 ghost use Rattle.std.specs.Prelude.{◌≡◌, []};
 ghost use Rattle.worker.specs.Ports.{IsOpenIn};
-ghost use Rattle.script_port.specs.States.{story_told};
+ghost use Rattle.script.specs.States.{story_told};
 
 use bytes::Bytes;
-use script::ScriptEvent;
-use script_port::ScriptPort;
+use script::{ScriptEvent, ScriptPort};
 use std::alloc::Global;
 use std::process::Abort;
 use std::test::Fail;

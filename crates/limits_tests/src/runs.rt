@@ -2,11 +2,10 @@
 
 use crate::serving::serve;
 use crate::talk::{Shape, Talk, script_of, talk_of};
-use gates::OpenGate;
-use plain_store::Store;
+use worker::{OpenGate, WorkerReport};
+use engine::PlainStore;
 use proto::Geometry;
-use script::{ScriptClock, WorkerScript, read_script};
-use script_port::ScriptPort;
+use script::{ScriptClock, ScriptPort, WorkerScript, read_script, replay_sequentially};
 use session_book::EndCause;
 use std::alloc::Global;
 use std::process::Abort;
@@ -15,8 +14,6 @@ use std::test::Fail;
 use std::thread::Threads;
 use std::time;
 use storage_thread::Clock;
-use straight::replay_straight;
-use worker::WorkerReport;
 
 /// The size and the number of a store's segments; and the bytes of a value, how many keys stand in a line that asks
 /// for it, and how many such lines there are.
@@ -79,9 +76,9 @@ struct Case<'a> {
 /// The plain program gives each session its output.
 fn check_straight<R: Abort>(rt: &R, alloc: Global, case: &Case) {
     let events = events_of(rt, alloc, case.script);
-    let store = Store::new(alloc, case.geometry);
+    let store = PlainStore::new(alloc, case.geometry);
     let clock = ScriptClock::new(1000, 0);
-    let given = replay_straight(alloc, store, clock, events.as_slice()).expect(rt, "memory");
+    let given = replay_sequentially(alloc, store, clock, events.as_slice()).expect(rt, "memory");
     assert_eq!(*rt; given.len() as u64, case.sessions);
     for session in given.as_slice() {
         let number = session.session;

@@ -6,9 +6,8 @@ ghost use Rattle.storage_thread.specs.Serving.{IsUnused};
 ghost use Rattle.worker.specs.Ports.{PortStory};
 
 use crate::runs::SteadyClock;
-use exchange::{StorageEnd, WorkerEnd, make};
-use parking::StorageDesk;
-use plain_store::Store;
+use exchange::{StorageEnd, StorageSignals, WorkerEnd, make};
+use engine::PlainStore;
 use proto::Geometry;
 use std::alloc::Global;
 use std::hash::FoldHasher;
@@ -20,14 +19,14 @@ use storage_thread::{StorageReport, run_storage};
 use worker::{Gate, Port, WorkerReport, run_worker};
 
 /// The ends of an exchange of one worker, and an empty store.
-fn made<R: Abort>(rt: &R, alloc: Global, geometry: Geometry) -> (WorkerEnd, StorageEnd, Store)
+fn made<R: Abort>(rt: &R, alloc: Global, geometry: Geometry) -> (WorkerEnd, StorageEnd, PlainStore)
     ensures worker { (result.0.sent ≡ []) × (result.0.back ≡ []) × (result.0.said_bye ≡ false) }
     ensures storage { IsUnused result.1 }
     ensures store { result.2 ≡ record { sizes = result.1.geometry; cache = empty_cache 0; moment = 0 } }
 {
     let (mut ends, storage) = make(alloc, 1, geometry).expect(rt, "an exchange");
     let end = ends.pop().expect(rt, "an end");
-    (end, storage, Store::new(alloc, geometry))
+    (end, storage, PlainStore::new(alloc, geometry))
 }
 
 /// Runs the worker to its end, and the storage thread.
@@ -45,9 +44,9 @@ where
     requires { (story : PortStory) → P.told port ≡ Some story → story.events ≡ [] }
 {
     let handle = *rt;
-    let desk = StorageDesk::new(alloc, FoldHasher::default(), 1).expect(rt, "memory");
-    let desk = Arc::new(alloc, desk).expect(rt, "memory");
-    let of_storage = Arc::try_clone(&desk).expect(rt, "memory");
+    let signals = StorageSignals::new(alloc, FoldHasher::default(), 1).expect(rt, "memory");
+    let signals = Arc::new(alloc, signals).expect(rt, "memory");
+    let of_storage = Arc::try_clone(&signals).expect(rt, "memory");
     let (end, storage_end, store) = made(rt, alloc, geometry);
     let child = thread::spawn(
         rt,
@@ -57,7 +56,7 @@ where
         { run_storage(&handle, store, SteadyClock, storage_end, &of_storage) },
     )
     .expect(rt, "a thread");
-    let report = run_worker(rt, alloc, port, end, gate, &desk);
+    let report = run_worker(rt, alloc, port, end, gate, &signals);
     child.join(rt);
     report
 }

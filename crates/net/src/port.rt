@@ -8,7 +8,7 @@ use crate::fault::NetFault;
 use crate::hand::{BELL, Hand};
 use crate::streams::{Reading, Streams};
 use mio::{Events, Poll};
-use parking::Hope;
+use exchange::SpinPolicy;
 use std::alloc::Global;
 use std::net::Net;
 use std::sync::Wait;
@@ -53,7 +53,7 @@ pub struct MioPort<R: Drop> {
     quiet: u32,
     // Whether the port has waited in this row.
     has_waited: bool,
-    hope: Hope,
+    spin_policy: SpinPolicy,
 }
 
 impl<R: Wait + Clock + Drop> MioPort<R> {
@@ -83,7 +83,7 @@ impl<R: Wait + Clock + Drop> MioPort<R> {
             ceasing: CeasingSessions::new(alloc),
             quiet: 0,
             has_waited: false,
-            hope: Hope::new(),
+            spin_policy: SpinPolicy::new(),
         })
     }
 
@@ -111,7 +111,7 @@ impl<R: Wait + Clock + Drop> MioPort<R> {
 
     // How many idle calls in a row poll without waiting while the worker may wait.
     fn row(&self) -> u32 {
-        if self.hope.is_long() {
+        if self.spin_policy.is_long() {
             LONG_ROW
         } else {
             SHORT_ROW
@@ -125,7 +125,7 @@ impl<R: Wait + Clock + Drop> MioPort<R> {
         if self.quiet == 0 {
             return;
         }
-        self.hope.note(self.has_waited);
+        self.spin_policy.note(self.has_waited);
         self.has_waited = false;
         self.quiet = 0;
     }

@@ -1,11 +1,11 @@
 //! Groups of workers over sockets.
 
 use crate::clients::{ANSWER_A, ANSWER_B, ROW_A, ROW_B, ask, connect, send};
-use clocks::UnixClock;
-use gates::OpenGate;
+use storage_thread::UnixClock;
+use worker::OpenGate;
 use group::{Config, GroupWorker, run_group};
 use net::{Hand, ListenReport, Listener, MioPort};
-use plain_store::Store;
+use engine::PlainStore;
 use proto::Geometry;
 use session_book::EndCause;
 use std::alloc::Global;
@@ -60,7 +60,7 @@ where
     let geometry = Geometry::new(65_536, 64).expect(&rt, "a geometry");
     let config = Config { geometry };
     let clock = UnixClock::new(rt);
-    let store = Store::new(alloc, geometry);
+    let store = PlainStore::new(alloc, geometry);
     let report = run_group(&rt, alloc, ports, config, store, clock, &OpenGate).expect(
         &rt, "a group",
     );

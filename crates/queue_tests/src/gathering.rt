@@ -7,14 +7,14 @@ ghost use Rattle.queue_exchange.specs.Queues.{AreQueuesMade, IsEndOf};
 ghost use Rattle.queue_tests.specs.Ends.{IsSameEnd};
 
 use exchange_runs::{Served, serve_next};
-use plain_store::Store;
+use engine::PlainStore;
 use proto::{Geometry, Posted, Request};
 use queue_exchange::{Gathered, MakeFault, StorageEnd, WorkerEnd, gather, make};
 use std::alloc::{AllocError, Global};
 use std::sync::Wait;
 use std::test::Fail;
 
-fn made(alloc: Global) -> Result<(Vec<WorkerEnd>, StorageEnd, Store), MakeFault>
+fn made(alloc: Global) -> Result<(Vec<WorkerEnd>, StorageEnd, PlainStore), MakeFault>
     ensures { IfOk result (λ r. (g : Sizes) × AreQueuesMade 1 g r.0.items r.1
         × (r.2 ≡ record { sizes = g; cache = empty_cache 0; moment = 0 })) }
 {
@@ -22,7 +22,7 @@ fn made(alloc: Global) -> Result<(Vec<WorkerEnd>, StorageEnd, Store), MakeFault>
         return Err(MakeFault::BadCount);
     };
     let (ends, storage) = make(alloc, 1, geometry)?;
-    Ok((ends, storage, Store::new(alloc, geometry)))
+    Ok((ends, storage, PlainStore::new(alloc, geometry)))
 }
 
 /// Posts requests until one is handed back, and says how many were sent.

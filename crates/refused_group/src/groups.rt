@@ -2,9 +2,9 @@
 
 use crate::quiet_port::{Counters, QuietPort, SteadyClock};
 use crate::served::{Allowed, is_allowed, is_whole};
-use gates::OpenGate;
+use worker::OpenGate;
 use group::{Config, GroupFault, GroupReport, run_group};
-use plain_store::Store;
+use engine::PlainStore;
 use proto::Geometry;
 use std::alloc::Global;
 use std::sync::Wait;
@@ -83,7 +83,7 @@ fn run<R: Threads + Wait + time::Clock + Sync>(rt: &R, alloc: Global) -> Outcome
     let clock = SteadyClock {
         counters: &counters,
     };
-    let store = Store::new(alloc, geometry);
+    let store = PlainStore::new(alloc, geometry);
     match run_group(
         rt,
         alloc,

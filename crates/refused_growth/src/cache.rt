@@ -1,7 +1,7 @@
 //! Where memory is refused, the plain store keeps its entries, its cas counter, its pending flush and its
 //! moment, and executes the request when it is asked again.
 
-use plain_store::Store;
+use engine::PlainStore;
 use proto::{Geometry, Message, Next, NoMemory, Reply, Request, next_message, show};
 use std::alloc::Global;
 
@@ -40,7 +40,7 @@ pub fn read(alloc: Global, input: &[u8]) -> Option<Message> {
     None
 }
 
-fn handle(store: &mut Store, now: u64, request: &mut Request) -> Option<Reply> {
+fn handle(store: &mut PlainStore, now: u64, request: &mut Request) -> Option<Reply> {
     if store.last_moment() > now || now > LAST_MOMENT {
         return None;
     }
@@ -54,7 +54,7 @@ fn shown(alloc: Global, request: Request, reply: &Reply) -> Result<Vec<u8>, NoMe
 }
 
 /// What stands in the store, where it is shown at the first, the second or the third try.
-fn entries(alloc: Global, store: &mut Store, now: u64) -> Option<Vec<u8>> {
+fn entries(alloc: Global, store: &mut PlainStore, now: u64) -> Option<Vec<u8>> {
     for _ in 0..3 {
         let Some(Message::Ask(mut request, _)) = read(alloc, ALL) else {
             return None;
@@ -72,7 +72,7 @@ fn entries(alloc: Global, store: &mut Store, now: u64) -> Option<Vec<u8>> {
 
 /// The answer, where the request is executed at the first or the second try, and a refusal changes
 /// nothing.
-fn answer(alloc: Global, store: &mut Store, now: u64, input: &[u8]) -> Option<Vec<u8>> {
+fn answer(alloc: Global, store: &mut PlainStore, now: u64, input: &[u8]) -> Option<Vec<u8>> {
     let before = entries(alloc, store, now)?;
     let pending = store.pending();
     let Message::Ask(mut request, _) = read(alloc, input)? else {
@@ -104,7 +104,7 @@ pub fn is_repeatable<R: Print + AllocGlobal>(rt: &R) -> bool {
     let Ok(geometry) = Geometry::new(4096, 8) else {
         return false;
     };
-    let mut store = Store::new(rt.alloc(), geometry);
+    let mut store = PlainStore::new(rt.alloc(), geometry);
     let mut now = 1000;
     for input in INPUTS {
         let out = answer(rt.alloc(), &mut store, now, input);

@@ -2,7 +2,7 @@
 
 use crate::cache::read;
 use proto::{Geometry, Message, Reply, show};
-use segment_store::Store;
+use segcache::Store;
 use std::alloc::Global;
 
 /// Requests, and what they are answered.

@@ -5,9 +5,8 @@ ghost use Rattle.proto.specs.Cache.{empty_cache};
 ghost use Rattle.storage_thread.specs.Serving.{IsUnused};
 
 use crate::quiet_port::QuietPort;
-use exchange::{StorageEnd, WorkerEnd, make};
-use parking::StorageDesk;
-use plain_store::Store;
+use exchange::{StorageEnd, StorageSignals, WorkerEnd, make};
+use engine::PlainStore;
 use proto::Geometry;
 use session_book::EndCause;
 use std::alloc::Global;
@@ -65,7 +64,7 @@ impl Gate for OpenGate {
 }
 
 /// The ends of an exchange of one worker, and an empty store.
-fn made(alloc: Global) -> Option<(WorkerEnd, StorageEnd, Store)>
+fn made(alloc: Global) -> Option<(WorkerEnd, StorageEnd, PlainStore)>
     ensures worker { IfSome result (λ r. (r.0.sent ≡ []) × (r.0.back ≡ []) × (r.0.said_bye ≡ false)) }
     ensures storage { IfSome result (λ r. IsUnused r.1) }
     ensures store { IfSome result (λ r. r.2 ≡ record { sizes = r.1.geometry; cache = empty_cache 0; moment = 0 }) }
@@ -77,7 +76,7 @@ fn made(alloc: Global) -> Option<(WorkerEnd, StorageEnd, Store)>
         return None;
     };
     let end = ends.pop()?;
-    Some((end, storage, Store::new(alloc, geometry)))
+    Some((end, storage, PlainStore::new(alloc, geometry)))
 }
 
 /// The worker's report, where the exchange was made and the thread was started.
@@ -86,9 +85,9 @@ where
     R: Threads + Wait + time::Clock + Copy + Drop + Send + Sync + 'static,
 {
     let handle = *rt;
-    let desk = StorageDesk::new(alloc, FoldHasher::default(), 2).ok()?;
-    let desk = Arc::new(alloc, desk).ok()?;
-    let of_storage = Arc::try_clone(&desk).ok()?;
+    let signals = StorageSignals::new(alloc, FoldHasher::default(), 2).ok()?;
+    let signals = Arc::new(alloc, signals).ok()?;
+    let of_storage = Arc::try_clone(&signals).ok()?;
     let (end, storage_end, store) = made(alloc)?;
     let child = thread::spawn(
         rt,
@@ -98,7 +97,7 @@ where
         { run_storage(&handle, store, SteadyClock, storage_end, &of_storage) },
     )
     .ok()?;
-    let report = run_worker(rt, alloc, QuietPort::new(INPUTS), end, &OpenGate, &desk);
+    let report = run_worker(rt, alloc, QuietPort::new(INPUTS), end, &OpenGate, &signals);
     child.join(rt);
     Some(report)
 }

@@ -1,3 +1,17 @@
 pub mod LineLemmas
 pub mod TrackLemmas
 pub mod ReadingLemmas
+pub mod SessionLemmas
+pub mod EventLemmas
+pub mod RemainingLemmas
+pub mod PlayerLemmas
+pub mod StepLemmas
+pub mod ToldLemmas
+pub mod FollowLemmas
+pub mod PlayedLemmas
+pub mod HeldLemmas
+pub mod MessageLists
+pub mod Histories
+pub mod Serving
+pub mod Places
+pub mod Running

@@ -4,3 +4,15 @@ pub mod Scripts
 pub mod Clocks
 pub mod Tracking
 pub mod PlainLine
+pub mod PortEvents
+pub mod Remaining
+pub mod PortSessions
+pub mod Records
+pub mod Following
+pub mod States
+pub mod Players
+pub mod Execution
+pub mod SequentialSessions
+pub mod SequentialReplays
+pub mod Readings
+pub mod ClockLeading

@@ -1,15 +1,30 @@
-//! Scripts: what the peers of a run do, as lines of text.
+//! Scripts: what the peers of a run do, as lines of text; the clock and the port that play one to a group; and the sequential
+//! replay, the plain program on one thread that a group is compared with.
 #![tactic(auto)]
 
 mod clock;
 mod event;
+mod executor;
 mod fault;
 mod line;
+mod player;
+mod port;
 mod reader;
+mod readings;
+mod recording_clock;
+mod records;
+mod remaining;
+mod sequential_replay;
+mod sequential_session;
+mod sessions;
+mod stage;
 mod worker_script;
 
 pub use clock::ScriptClock;
 pub use event::ScriptEvent;
 pub use fault::ScriptFault;
+pub use port::ScriptPort;
 pub use reader::{MAX_SCRIPT, read_script};
+pub use recording_clock::RecordingClock;
+pub use sequential_replay::replay_sequentially;
 pub use worker_script::WorkerScript;

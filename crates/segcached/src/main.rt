@@ -2,8 +2,8 @@
 #![tactic(auto)]
 
 use command_line::{Job, Options, ServeOptions, WordsFault, parse_words, unreadable_words};
-use faults::Fault;
 use proto::Geometry;
+use replay::{cannot_read, geometry_of, replay};
 use serving::{seed_of, serve, serve_geometry};
 use std::fs::File;
 use std::io::{self, BufWriter};
@@ -12,7 +12,6 @@ use std::process::ExitCode;
 use std::sync::Wait;
 use std::thread::Threads;
 use std::{env, fs, time};
-use subcommands::{cannot_read, geometry_of, replay};
 
 /// Replays the script in the file that the options name, with these threads.
 fn replay_file<H: Threads + Wait + time::Clock + Sync>(
@@ -24,10 +23,11 @@ fn replay_file<H: Threads + Wait + time::Clock + Sync>(
     let geometry: Geometry = geometry_of(options)?;
     let script: File = match fs::open(rt, options.file.as_str()) {
         Ok(script) => script,
-        Err(error) => return Err(cannot_read(alloc, options, &error)),
+        Err(error) => return Err(cannot_read(alloc, options, &error).into()),
     };
     let mut out = BufWriter::new(alloc, io::writer(rt)).map_err(|_| Fault::NoMemory)?;
-    replay(threads, alloc, options, geometry, script, &mut out)
+    replay(threads, alloc, options, geometry, script, &mut out)?;
+    Ok(())
 }
 
 /// Serves as the options say.
@@ -39,7 +39,8 @@ fn serve_at<H: Threads + Wait + Net + time::Clock + Copy + Drop + Send + Sync + 
     let alloc = rt.alloc();
     let geometry = serve_geometry(options)?;
     let mut out = BufWriter::new(alloc, io::writer(rt)).map_err(|_| Fault::NoMemory)?;
-    serve(*threads, alloc, options, geometry, seed_of(rt), &mut out)
+    serve(*threads, alloc, options, geometry, seed_of(rt), &mut out)?;
+    Ok(())
 }
 
 /// What the words after the program's name ask for.

@@ -1,10 +1,10 @@
--- A tally of a pool for which a merge was planned, or none could be.
+-- A marks of a pool for which a merge was planned, or none could be.
 use Rattle.std.proofs.Common.{◌≡◌, Bool, true, false, sym, ap, subst}
 use Rattle.std.specs.Prelude.{MatchBool}
 use Rattle.segments.specs.Pools.{PoolState, Plan, IsPool}
 use Rattle.segments.specs.Merges.{IsPlan, NoneQualifies, planned, unplanned}
-use Rattle.tally.specs.Marks.{Marks, KnowsPool, lives_by}
-use Rattle.tally.proofs.MarkedPlaces.{knows_planned, knows_unplanned}
+use Rattle.segments.specs.Marks.{Marks, KnowsPool, lives_by}
+use Rattle.segments.proofs.MarkedPlaces.{knows_planned, knows_unplanned}
 
 -- marks that know a pool still know it once a merge was planned or none could be, and the pool's sizes stay
 pub planned_known : (t : Marks) (p q : PoolState) (b : Bool)

@@ -1,23 +1,22 @@
-//! A pool with a tally of its current items, and the steps that make room.
+//! A pool with a marks of its current items, and the steps that make room.
 
 ghost use Rattle.std.specs.Prelude.{◌≡◌};
-ghost use Rattle.tally.specs.Marks.{KnowsPool};
+ghost use Rattle.segments.specs.Marks.{KnowsPool};
 
 use crate::walks::has_item;
 use crate::writes::Writes;
 use proto::Geometry;
-use segments::{BUCKETS, ItemRef, Move, Place, Pool, size_of};
+use segments::{BUCKETS, ItemRef, LiveMarks, Move, Place, Pool, size_of};
 use std::alloc::Global;
 use std::test::Fail;
-use tally::Tally;
 
 #[derive(Drop)]
 pub struct Stock {
     pub pool: Pool,
-    tally: Tally,
+    marks: LiveMarks,
     pub geometry: Geometry,
     ghost sizes: { pool.sizes ≡ geometry },
-    ghost known: { KnowsPool tally pool },
+    ghost known: { KnowsPool marks pool },
 }
 
 impl Stock {
@@ -28,7 +27,7 @@ impl Stock {
         let pool = Pool::new(alloc, geometry)?;
         Ok(Stock {
             pool,
-            tally: Tally::new(alloc, geometry)?,
+            marks: LiveMarks::new(alloc, geometry)?,
             geometry,
         })
     }
@@ -62,7 +61,7 @@ impl Stock {
         let Ok(place) = self.pool.append(bucket, moment, item) else {
             return None;
         };
-        self.tally.mark(place);
+        self.marks.mark(place);
         Some(place)
     }
 
@@ -73,27 +72,27 @@ impl Stock {
         }
         if let Some(deadline) = self.pool.deadline(segment) {
             if deadline <= moment {
-                self.tally.clear_segment(segment);
+                self.marks.clear_segment(segment);
             }
         }
     }
 
     /// Frees the segments without a current item, and counts them.
     pub fn give_back(&mut self) -> usize {
-        self.pool.give_back(&self.tally)
+        self.pool.give_back(&self.marks)
     }
 
     /// Plans the next merge, where there is one.
     pub fn plan(&mut self) -> bool {
-        self.pool.plan_merge(&self.tally)
+        self.pool.plan_merge(&self.marks)
     }
 
     /// Carries out the next merge, where there is one.
     pub fn merge(&mut self, writes: &mut Writes) -> bool {
-        if !self.pool.plan_merge(&self.tally) {
+        if !self.pool.plan_merge(&self.marks) {
             return false;
         }
-        self.tally.carry(self.pool.moves());
+        self.marks.carry(self.pool.moves());
         writes.follow(self.pool.moves());
         self.pool.merge_next();
         true
@@ -102,7 +101,7 @@ impl Stock {
     /// Clears the segment that was opened first.
     pub fn clear_oldest(&mut self) -> Option<u32> {
         let segment = self.pool.oldest()?;
-        self.tally.clear_segment(segment);
+        self.marks.clear_segment(segment);
         self.pool.clear(segment);
         Some(segment)
     }
@@ -127,7 +126,7 @@ impl Stock {
     pub fn forget(&mut self, place: Place) {
         let marks = self.geometry.segment_size() / 32;
         if place.segment < self.geometry.segments() && place.offset / 32 < marks {
-            self.tally.unmark(place);
+            self.marks.unmark(place);
         }
     }
 

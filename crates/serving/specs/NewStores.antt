@@ -2,8 +2,8 @@
 use Rattle.std.specs.Prelude.{◌≡◌}
 use Rattle.proto.specs.Sizes.{Sizes}
 use Rattle.proto.specs.Cache.{empty_cache}
-use Rattle.segment_store.specs.StoreState.{sizes_in, segmented_cache, last_moment}
-use Rattle.segment_store.specs.declared.store.Store.{Store}
+use Rattle.segcache.specs.StoreState.{sizes_in, segmented_cache, last_moment}
+use Rattle.segcache.specs.declared.store.Store.{Store}
 
 pub record IsNewStore (sizes : Sizes) (store : Store) : Type 0 where
   pub sizes_are : sizes_in store.engine ≡ sizes

@@ -1,8 +1,10 @@
 //! `segcached serve`, and the seed of its keys' hash.
 #![tactic(auto)]
 
+mod fault;
 mod seed;
 mod service;
 
+pub use fault::Fault;
 pub use seed::seed_of;
 pub use service::{serve, serve_geometry};

@@ -4,18 +4,18 @@ ghost use Rattle.std.specs.Prelude.{◌≡◌, ℕ, List, IfOk, OnOk, MatchResul
 ghost use Rattle.std.specs.String.{string_bytes};
 ghost use Rattle.std.specs.Io.KnownBytes.{Appends};
 ghost use Rattle.proto.specs.Sizes.{IsGeometry, sizes_of};
-ghost use Rattle.faults.specs.declared.fault.Fault.TheVariants.{BadGeometry};
+ghost use Rattle.serving.specs.declared.fault.Fault.TheVariants.{BadGeometry};
 ghost use Rattle.serving.specs.Listening.{IsListeningLine};
 ghost use Rattle.serving.specs.NewStores.{IsNewStore};
 
-use clocks::UnixClock;
+use storage_thread::UnixClock;
 use command_line::ServeOptions;
-use faults::Fault;
-use gates::OpenGate;
+use crate::fault::Fault;
+use worker::OpenGate;
 use group::{Config, run_group};
 use net::{Hand, Listener, MioPort, NetFault};
 use proto::Geometry;
-use segment_store::Store;
+use segcache::Store;
 use std::alloc::Global;
 use std::io::Write;
 use std::net::Net;

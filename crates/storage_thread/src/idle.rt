@@ -1,6 +1,6 @@
 //! What a thread does in a turn in which nothing came.
 
-use parking::{Hope, ParkingWord};
+use exchange::{ParkingWord, SpinPolicy};
 use std::hint;
 use std::sync::Wait;
 use std::time::Duration;
@@ -25,7 +25,7 @@ pub struct IdleTurns {
     turns: u32,
     announced: bool,
     parked: bool,
-    hope: Hope,
+    spin_policy: SpinPolicy,
 }
 
 impl IdleTurns {
@@ -34,7 +34,7 @@ impl IdleTurns {
             turns: 0,
             announced: false,
             parked: false,
-            hope: Hope::new(),
+            spin_policy: SpinPolicy::new(),
         }
     }
 
@@ -47,14 +47,14 @@ impl IdleTurns {
             parking.cancel();
             self.announced = false;
         }
-        self.hope.note(self.parked);
+        self.spin_policy.note(self.parked);
         self.parked = false;
         self.turns = 0;
     }
 
     // How many turns this row has before the thread parks.
     fn limit(&self) -> u32 {
-        if self.hope.is_long() {
+        if self.spin_policy.is_long() {
             LONG_ROW
         } else {
             SHORT_ROW

@@ -8,6 +8,8 @@ mod reading_ahead;
 mod serving;
 #[cfg(test)]
 mod tests;
+mod unix_clock;
 
 pub use clock::Clock;
 pub use serving::{StorageReport, run_storage};
+pub use unix_clock::UnixClock;

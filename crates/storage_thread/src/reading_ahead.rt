@@ -1,8 +1,7 @@
 //! Reading ahead what the next messages will look up.
 
 use engine::StorageEngine;
-use exchange::StorageBatch;
-use parking::StorageDesk;
+use exchange::{StorageBatch, StorageSignals};
 
 /// For so many messages storage reads ahead at once: their slots and items come from memory at the same time.
 const MESSAGES_AHEAD: u64 = 8;
@@ -23,25 +22,25 @@ impl ReadAhead {
         &mut self,
         store: &S,
         end: &StorageBatch,
-        desk: &StorageDesk,
+        signals: &StorageSignals,
     ) {
         if self.left > 0 {
             self.left -= 1;
-        } else if desk.has_hints() {
-            self.left = read_ahead(store, end, desk);
+        } else if signals.has_hints() {
+            self.left = read_ahead(store, end, signals);
         }
     }
 }
 
 // Reads ahead for the messages seen, and says how many of them there are behind the first one.
-fn read_ahead<S: StorageEngine>(store: &S, end: &StorageBatch, desk: &StorageDesk) -> u64 {
+fn read_ahead<S: StorageEngine>(store: &S, end: &StorageBatch, signals: &StorageSignals) -> u64 {
     let (lane, first, seen) = end.seen();
     let count = seen.min(MESSAGES_AHEAD);
     if count < 2 {
         return 0;
     }
     for place in 0..count {
-        store.prefetch(desk.hint(lane, first.wrapping_add(place)));
+        store.prefetch(signals.hint(lane, first.wrapping_add(place)));
     }
     count - 1
 }

@@ -13,8 +13,7 @@ use crate::clock::Clock;
 use crate::idle::IdleTurns;
 use crate::reading_ahead::ReadAhead;
 use engine::{MAX_MOMENT, StorageEngine};
-use exchange::{Answered, Posted, StorageBatch, StorageEnd, Taken};
-use parking::StorageDesk;
+use exchange::{Answered, Posted, StorageBatch, StorageEnd, StorageSignals, Taken};
 use std::sync::Wait;
 
 /// The workers are told of their answers at least at each so many.
@@ -93,23 +92,23 @@ fn take_next(end: &mut StorageBatch, executed: u64) -> Option<Taken>
 }
 
 // An idle turn, in which the thread may park. No worker waits for an answer that was given.
-fn pass_turn<R: Wait>(rt: &R, _end: &StorageBatch, idle: &mut IdleTurns, desk: &StorageDesk)
+fn pass_turn<R: Wait>(rt: &R, _end: &StorageBatch, idle: &mut IdleTurns, signals: &StorageSignals)
     requires told { _end.now.told ≡ _end.now.end.history }
 {
-    idle.turn(rt, desk.parking());
+    idle.turn(rt, signals.parking());
 }
 
 /// Executes requests until each worker has said bye. The store is empty, for the geometry that the exchange was
 /// made for, and nothing was taken from the end. The clock is asked once for each request. The messages that a look named
 /// are served before it looks again; the workers are told of each eighth answer, and of all before it looks. While
-/// nothing comes, the thread parks on the desk's word: who has posted or said bye unparks it. By the hints on the desk it
+/// nothing comes, the thread parks on the signals's word: who has posted or said bye unparks it. By the hints on the signals it
 /// reads ahead.
 pub fn run_storage<R: Wait, S: StorageEngine + Drop, C: Clock>(
     rt: &R,
     store: S,
     clock: C,
     storage_end: StorageEnd,
-    desk: &StorageDesk,
+    signals: &StorageSignals,
 ) -> StorageReport<C>
     requires empty { (S.cache store ≡ empty_cache 0) × (S.moment store ≡ 0) }
     requires sizes { S.sizes store ≡ storage_end.geometry }
@@ -145,16 +144,16 @@ pub fn run_storage<R: Wait, S: StorageEngine + Drop, C: Clock>(
         }
         match take_next(&mut end, executed) {
             Some(Taken::Asked { worker, posted }) => {
-                ahead.note_taken(&store, &end, desk);
+                ahead.note_taken(&store, &end, signals);
                 execute(&mut store, &mut clock, &mut end, worker, posted);
                 executed = executed.saturating_add(1);
-                idle.reset(desk.parking());
+                idle.reset(signals.parking());
             }
             Some(Taken::Bye { worker: _ }) => {
                 left -= 1;
-                idle.reset(desk.parking());
+                idle.reset(signals.parking());
             }
-            None => pass_turn(rt, &end, &mut idle, desk),
+            None => pass_turn(rt, &end, &mut idle, signals),
         }
     }
     unreachable!()

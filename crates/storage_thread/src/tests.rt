@@ -7,9 +7,10 @@ ghost use Rattle.storage_thread.specs.Serving.{IsUnused, IsSameExchange};
 
 use crate::clock::Clock;
 use crate::serving::{StorageReport, execute, run_storage};
-use exchange::{MakeFault, Posted, StorageBatch, StorageEnd, Taken, WorkerEnd, gather, make};
-use parking::StorageDesk;
-use plain_store::Store;
+use engine::PlainStore;
+use exchange::{
+    MakeFault, Posted, StorageBatch, StorageEnd, StorageSignals, Taken, WorkerEnd, gather, make,
+};
 use proto::{ByteString, Geometry, Reply, Request};
 use std::alloc::Global;
 use std::hash::FoldHasher;
@@ -65,7 +66,13 @@ fn ask(alloc: Global, end: &mut WorkerEnd) -> Option<bool>
 }
 
 /// Posts all requests, takes all answers and says bye. Counts the answers whose number is one above the last.
-fn call<R: Wait>(rt: &R, alloc: Global, end: &mut WorkerEnd, good: &AtomicU64, desk: &StorageDesk)
+fn call<R: Wait>(
+    rt: &R,
+    alloc: Global,
+    end: &mut WorkerEnd,
+    good: &AtomicU64,
+    signals: &StorageSignals,
+)
     ensures { (end.new.exchange ≡ end.old.exchange) × (end.new.worker ≡ end.old.worker) }
 {
     let mut last = 0u64;
@@ -73,7 +80,7 @@ fn call<R: Wait>(rt: &R, alloc: Global, end: &mut WorkerEnd, good: &AtomicU64, d
         if end.sent() < REQUESTS && ask(alloc, end).is_none() {
             return;
         }
-        desk.parking().unpark();
+        signals.parking().unpark();
         match end.take() {
             Some(answered) => {
                 if answered.number.wrapping_sub(1) == last {
@@ -87,14 +94,17 @@ fn call<R: Wait>(rt: &R, alloc: Global, end: &mut WorkerEnd, good: &AtomicU64, d
             if !end.said_bye() {
                 end.bye();
             }
-            desk.parking().unpark();
+            signals.parking().unpark();
             return;
         }
     }
     unreachable!()
 }
 
-fn made(alloc: Global, workers: usize) -> Result<(Vec<WorkerEnd>, StorageEnd, Store), MakeFault>
+fn made(
+    alloc: Global,
+    workers: usize,
+) -> Result<(Vec<WorkerEnd>, StorageEnd, PlainStore), MakeFault>
     ensures { IfOk result (λ r. (g : Sizes) × AreMade workers g r.0.items r.1
         × (r.2 ≡ record { sizes = g; cache = empty_cache 0; moment = 0 })) }
 {
@@ -103,11 +113,11 @@ fn made(alloc: Global, workers: usize) -> Result<(Vec<WorkerEnd>, StorageEnd, St
         Err(_) => return Err(MakeFault::BadCount),
     };
     let (ends, storage) = make(alloc, workers, geometry)?;
-    Ok((ends, storage, Store::new(alloc, geometry)))
+    Ok((ends, storage, PlainStore::new(alloc, geometry)))
 }
 
 /// Executes and answers one request, and says whether there was one. Its worker isn't told yet.
-fn serve_one(store: &mut Store, clock: &mut Count, end: &mut StorageBatch) -> bool
+fn serve_one(store: &mut PlainStore, clock: &mut Count, end: &mut StorageBatch) -> bool
     requires ready { Reaches end.old.end.geometry end.old.end.history store.old.cache store.old.moment
         × (store.old.sizes ≡ end.old.end.geometry) × (end.old.end.open_request ≡ None) }
 {
@@ -164,9 +174,9 @@ impl Promise<StorageReport<Count>> for StorageStays {
 #[test]
 fn many_callers(rt: HostRuntime) -> Result<(), Fail> {
     let alloc: Global = rt.alloc();
-    let desk = StorageDesk::new(alloc, FoldHasher::default(), CALLERS)?;
-    let desk = Arc::new(alloc, desk)?;
-    let of_storage = Arc::try_clone(&desk)?;
+    let signals = StorageSignals::new(alloc, FoldHasher::default(), CALLERS)?;
+    let signals = Arc::new(alloc, signals)?;
+    let of_storage = Arc::try_clone(&signals)?;
     let (mut ends, storage, store) = made(alloc, CALLERS)?;
     let good = AtomicU64::new(0);
     let promise = StorageStays(Snapshot::of(&storage));
@@ -181,7 +191,7 @@ fn many_callers(rt: HostRuntime) -> Result<(), Fail> {
     )?;
     let ask = |_: usize, end: &mut WorkerEnd|
         ensures { (end.exit.now.exchange ≡ end.entry.now.exchange) × (end.exit.now.worker ≡ end.entry.now.worker) }
-    { call(&rt, alloc, end, &good, &desk) };
+    { call(&rt, alloc, end, &good, &signals) };
     thread::for_each_mut(&rt, ends.as_mut_slice(), CALLERS, &ask);
     let report = child.join(&rt);
     assert_eq!(rt; report.executed, 80_000);

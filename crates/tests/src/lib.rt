@@ -20,6 +20,8 @@ mod rooms;
 #[cfg(test)]
 mod session;
 #[cfg(test)]
+mod signals;
+#[cfg(test)]
 mod sizes;
 #[cfg(test)]
 mod store;

@@ -1,6 +1,6 @@
 //! The memory of hits goes round: of that no clause speaks.
 
-use plain_store::Store;
+use engine::PlainStore;
 use proto::{Geometry, Message, Next, Request, Room, next_message};
 use std::alloc::Global;
 use std::process::Abort;
@@ -35,7 +35,7 @@ fn capacity_of(room: Option<Room>) -> Option<usize> {
 /// The capacity of the room that the request hands back, and of the one that comes back with the reply.
 fn rooms_back(
     alloc: Global,
-    store: &mut Store,
+    store: &mut PlainStore,
     text: &str,
 ) -> Result<(Option<usize>, Option<usize>), Fail> {
     let mut request = read(alloc, text)?;
@@ -50,7 +50,7 @@ fn rooms_back(
 }
 
 fn check_rooms(rt: &impl Abort, alloc: Global, rows: &[(&str, Option<usize>)]) -> Result<(), Fail> {
-    let mut store = Store::new(alloc, Geometry::new(4096, 8)?);
+    let mut store = PlainStore::new(alloc, Geometry::new(4096, 8)?);
     for (text, comes_back) in rows {
         let (handed_back, room) = rooms_back(alloc, &mut store, text)?;
         assert_eq!(rt; room, *comes_back, "with the reply to {text}");

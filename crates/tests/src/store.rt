@@ -1,7 +1,7 @@
 //! Rows of whole sessions, and a store at its limits.
 
 use crate::session::replay;
-use plain_store::Store;
+use engine::PlainStore;
 use proto::{ByteString, Geometry, Put, Reply, Request};
 use std::alloc::Global;
 use std::process::Abort;
@@ -130,14 +130,14 @@ fn check_replay(
     input: &str,
     output: &str,
 ) -> Result<(), Fail> {
-    let mut store = Store::new(alloc, Geometry::new(65536, 64)?);
+    let mut store = PlainStore::new(alloc, Geometry::new(65536, 64)?);
     check_session(rt, alloc, &mut store, (now, tick), input, output)
 }
 
 fn check_session(
     rt: &impl Abort,
     alloc: Global,
-    store: &mut Store,
+    store: &mut PlainStore,
     (now, tick): (u64, u64),
     input: &str,
     output: &str,
@@ -183,7 +183,7 @@ fn deadlines_and_flushes(rt: HostRuntime) -> Result<(), Fail> {
 #[test]
 fn no_cas_number_left(rt: HostRuntime) -> Result<(), Fail> {
     let alloc = rt.alloc();
-    let mut store = Store::starting(alloc, Geometry::new(65536, 64)?, u64::MAX);
+    let mut store = PlainStore::starting(alloc, Geometry::new(65536, 64)?, u64::MAX);
     check_session(
         &rt,
         alloc,
@@ -196,7 +196,7 @@ fn no_cas_number_left(rt: HostRuntime) -> Result<(), Fail> {
 
 /// Whether a key and a value of these lengths are stored, or are too large; None for another answer.
 fn is_stored(alloc: Global, key: usize, value: usize) -> Result<Option<bool>, Fail> {
-    let mut store = Store::new(alloc, Geometry::new(4096, 8)?);
+    let mut store = PlainStore::new(alloc, Geometry::new(4096, 8)?);
     let key = vec![in alloc; b'k'; key]?;
     let value = vec![in alloc; b'v'; value]?;
     let mut request = Request::Set(Put {
@@ -238,7 +238,7 @@ fn lengths(rt: HostRuntime) -> Result<(), Fail> {
     check_lengths(&rt, rt.alloc(), &[(250, 238, true), (250, 239, false)])
 }
 
-fn check_state(rt: &impl Abort, store: &Store, moment: u64, pending: Option<u64>) {
+fn check_state(rt: &impl Abort, store: &PlainStore, moment: u64, pending: Option<u64>) {
     assert_eq!(rt; (store.last_moment(), store.pending()), (moment, pending));
 }
 
@@ -246,7 +246,7 @@ fn check_state(rt: &impl Abort, store: &Store, moment: u64, pending: Option<u64>
 #[test]
 fn moments(rt: HostRuntime) -> Result<(), Fail> {
     let alloc = rt.alloc();
-    let mut store = Store::new(alloc, Geometry::new(65536, 64)?);
+    let mut store = PlainStore::new(alloc, Geometry::new(65536, 64)?);
     check_state(&rt, &store, 0, None);
     check_session(&rt, alloc, &mut store, (7, 0), "flush_all 5\r\n", "OK\r\n")?;
     check_state(&rt, &store, 7, Some(12));

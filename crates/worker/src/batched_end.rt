@@ -1,7 +1,6 @@
 //! The worker's end of its lane, which tells storage of several requests at once.
 
-use exchange::{Answered, Posted, WorkerBatch, WorkerEnd};
-use parking::StorageDesk;
+use exchange::{Answered, Posted, StorageSignals, WorkerBatch, WorkerEnd};
 use std::marker::Model;
 
 /// A worker's end that sends its requests together. Contracts see it as it is once all that was put is flushed, so what
@@ -65,7 +64,7 @@ impl BatchedEnd {
 
     // Puts a request, or hands it back unchanged. Where storage has nothing else of this worker it is told at once, so that
     // it begins while the worker reads on; else at the next flush. A hint of the key is left for it.
-    pub(crate) fn post(&mut self, posted: Posted, storage: &StorageDesk) -> Result<(), Posted>
+    pub(crate) fn post(&mut self, posted: Posted, storage: &StorageSignals) -> Result<(), Posted>
         requires { posted.number ≡ length self.old.sent + 1 }
         ensures { MatchResult result
             (λ _. CanPost self.old × (self.new ≡ record self.old { sent = self.old.sent ++ posted ∷ [] }))
@@ -83,7 +82,7 @@ impl BatchedEnd {
     }
 
     // Tells storage of all that was put, and unparks it.
-    pub(crate) fn flush(&mut self, storage: &StorageDesk)
+    pub(crate) fn flush(&mut self, storage: &StorageSignals)
         ensures { self.new ≡ self.old }
     {
         if self.batch.waiting() > 0 {

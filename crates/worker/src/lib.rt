@@ -3,6 +3,8 @@
 
 mod batched_end;
 mod gate;
+mod hold_gate;
+mod open_gate;
 mod places;
 mod port;
 mod report;
@@ -11,6 +13,8 @@ mod run;
 mod worker;
 
 pub use gate::Gate;
+pub use hold_gate::HoldGate;
+pub use open_gate::OpenGate;
 pub use port::{Gone, MAX_PIECE, Port, PortEvent, PortRecord};
 pub use report::WorkerReport;
 pub use run::run_worker;

@@ -14,8 +14,7 @@ use crate::report::WorkerReport;
 use crate::rooms::Rooms;
 use crate::worker::Worker;
 use crossbeam_utils::Backoff;
-use exchange::WorkerEnd;
-use parking::StorageDesk;
+use exchange::{StorageSignals, WorkerEnd};
 use session_book::{Book, EndCause, MAX_POSTS, MAX_UNSETTLED};
 use std::alloc::Global;
 use std::sync::Wait;
@@ -28,7 +27,7 @@ const SLOW_A_TURN: usize = 2;
 
 // Takes what has come, in a few events, and asks at once what they bring: what a session has sent is asked before it is
 // taken that its peer has gone. They end where a session can't be asked further.
-fn take_events<P: Port, G: Gate>(worker: &mut Worker<P>, gate: &G, storage: &StorageDesk) -> bool
+fn take_events<P: Port, G: Gate>(worker: &mut Worker<P>, gate: &G, storage: &StorageSignals) -> bool
     requires { IsWorkerServing P.told worker.old }
     ensures goes_on { WorkerGoesOn P.told worker.old worker.new }
     ensures leads { P.leads_to worker.old.port worker.new.port }
@@ -65,7 +64,7 @@ fn ask_session<P: Port, G: Gate>(
     worker: &mut Worker<P>,
     session: u64,
     gate: &G,
-    storage: &StorageDesk,
+    storage: &StorageSignals,
 )
     requires { IsWorkerServing P.told worker.old }
     ensures goes_on { WorkerGoesOn P.told worker.old worker.new }
@@ -79,7 +78,7 @@ fn ask_session<P: Port, G: Gate>(
 }
 
 // Asks the next session that has input, unless no request can be asked now.
-fn ask_next<P: Port, G: Gate>(worker: &mut Worker<P>, gate: &G, storage: &StorageDesk) -> bool
+fn ask_next<P: Port, G: Gate>(worker: &mut Worker<P>, gate: &G, storage: &StorageSignals) -> bool
     requires { IsWorkerServing P.told worker.old }
     ensures goes_on { WorkerGoesOn P.told worker.old worker.new }
     ensures leads { P.leads_to worker.old.port worker.new.port }
@@ -97,7 +96,7 @@ fn ask_next<P: Port, G: Gate>(worker: &mut Worker<P>, gate: &G, storage: &Storag
 }
 
 // Asks the sessions in turn while the window has room.
-fn ask_sessions<P: Port, G: Gate>(worker: &mut Worker<P>, gate: &G, storage: &StorageDesk)
+fn ask_sessions<P: Port, G: Gate>(worker: &mut Worker<P>, gate: &G, storage: &StorageSignals)
     requires { IsWorkerServing P.told worker.old }
     ensures goes_on { WorkerGoesOn P.told worker.old worker.new }
     ensures leads { P.leads_to worker.old.port worker.new.port }
@@ -110,7 +109,11 @@ fn ask_sessions<P: Port, G: Gate>(worker: &mut Worker<P>, gate: &G, storage: &St
 }
 
 // Posts the held request, then what has come and what fits by now, and tells storage of all of it.
-fn post_requests<P: Port, G: Gate>(worker: &mut Worker<P>, gate: &G, storage: &StorageDesk) -> bool
+fn post_requests<P: Port, G: Gate>(
+    worker: &mut Worker<P>,
+    gate: &G,
+    storage: &StorageSignals,
+) -> bool
     requires { IsWorkerServing P.told worker.old }
     ensures goes_on { WorkerGoesOn P.told worker.old worker.new }
     ensures leads { P.leads_to worker.old.port worker.new.port }
@@ -169,7 +172,7 @@ fn give_slowly<P: Port>(worker: &mut Worker<P>) -> bool
 
 // One turn. False where there was nothing to do. Storage knows of all that was posted before the answers are looked for, so
 // nothing is kept back while the worker waits.
-fn take_turn<P: Port, G: Gate>(worker: &mut Worker<P>, gate: &G, storage: &StorageDesk) -> bool
+fn take_turn<P: Port, G: Gate>(worker: &mut Worker<P>, gate: &G, storage: &StorageSignals) -> bool
     requires { IsWorkerServing P.told worker.old }
     ensures goes_on { WorkerGoesOn P.told worker.old worker.new }
     ensures leads { P.leads_to worker.old.port worker.new.port }
@@ -252,14 +255,14 @@ fn new_worker<P: Port>(alloc: Global, port: P, worker_end: WorkerEnd) -> Worker<
 /// Serves a port until it has ended and all was answered and given, and then says bye.
 ///
 /// The end has sent nothing yet, and the list of a port that tells it is empty. It may wait: for events, for answers
-/// and for a port that accepts no bytes. It unparks the storage thread, which parks on the desk's word, where it has posted.
+/// and for a port that accepts no bytes. It unparks the storage thread, which parks on the signals's word, where it has posted.
 pub fn run_worker<P: Port, G: Gate, R: Wait>(
     rt: &R,
     alloc: Global,
     port: P,
     worker_end: WorkerEnd,
     gate: &G,
-    storage: &StorageDesk,
+    storage: &StorageSignals,
 ) -> WorkerReport<P>
     requires port { (story : PortStory) → P.told port ≡ Some story → story.events ≡ [] }
     requires fresh { (worker_end.sent ≡ []) × (worker_end.back ≡ []) × (worker_end.said_bye ≡ false) }
@@ -285,7 +288,7 @@ pub fn run_worker<P: Port, G: Gate, R: Wait>(
 }
 
 // Says bye, and leaves the report.
-fn leave<P: Port>(worker: Worker<P>, storage: &StorageDesk) -> WorkerReport<P>
+fn leave<P: Port>(worker: Worker<P>, storage: &StorageSignals) -> WorkerReport<P>
     requires serving { IsWorkerServing P.told worker }
     requires drained { IsDrained worker }
     ensures port { result.port ≡ worker.port }

@@ -15,7 +15,7 @@ use crate::places::set_cause;
 use crate::port::{Gone, Port, PortEvent};
 use crate::rooms::Rooms;
 use bytes::Bytes;
-use parking::StorageDesk;
+use exchange::StorageSignals;
 use proto::Posted;
 use session_book::{Book, EndCause, MAX_UNSETTLED, Received, Settled};
 
@@ -197,7 +197,7 @@ impl<P: Port> Worker<P> {
         &mut self,
         session: u64,
         gate: &G,
-        storage: &StorageDesk,
+        storage: &StorageSignals,
     ) -> bool
         requires { IsWorkerServing P.told self.old }
         ensures goes_on { WorkerGoesOn P.told self.old self.new }
@@ -215,7 +215,7 @@ impl<P: Port> Worker<P> {
     }
 
     // Posts the held request, if the gate lets it and there is room. Storage is told of it at the next flush, if not at once.
-    pub(crate) fn post<G: Gate>(&mut self, gate: &G, storage: &StorageDesk) -> bool
+    pub(crate) fn post<G: Gate>(&mut self, gate: &G, storage: &StorageSignals) -> bool
         requires { IsWorkerServing P.told self.old }
         ensures goes_on { WorkerGoesOn P.told self.old self.new }
         ensures leads { P.leads_to self.old.port self.new.port }
@@ -238,7 +238,7 @@ impl<P: Port> Worker<P> {
     }
 
     // Tells storage of all that was posted.
-    pub(crate) fn flush(&mut self, storage: &StorageDesk)
+    pub(crate) fn flush(&mut self, storage: &StorageSignals)
         requires { IsWorkerServing P.told self.old }
         ensures goes_on { WorkerGoesOn P.told self.old self.new }
         ensures leads { P.leads_to self.old.port self.new.port }

@@ -9,7 +9,7 @@ use crate::gates::OpenGate;
 use crate::running::{SteadyClock, made};
 use crate::scripts::repeated;
 use bytes::Bytes;
-use parking::StorageDesk;
+use exchange::StorageSignals;
 use std::alloc::Global;
 use std::collections::VecDeque;
 use std::hash::FoldHasher;
@@ -139,9 +139,9 @@ where
         waits_early: false,
     };
     let handle = *rt;
-    let desk = StorageDesk::new(alloc, FoldHasher::default(), 1).expect(rt, "memory");
-    let desk = Arc::new(alloc, desk).expect(rt, "memory");
-    let of_storage = Arc::try_clone(&desk).expect(rt, "memory");
+    let signals = StorageSignals::new(alloc, FoldHasher::default(), 1).expect(rt, "memory");
+    let signals = Arc::new(alloc, signals).expect(rt, "memory");
+    let of_storage = Arc::try_clone(&signals).expect(rt, "memory");
     let (end, storage_end, store) = made(rt, alloc);
     let child = thread::spawn(
         rt,
@@ -151,7 +151,7 @@ where
         { run_storage(&handle, store, SteadyClock, storage_end, &of_storage) },
     )
     .expect(rt, "a thread");
-    let report = run_worker(rt, alloc, port, end, &OpenGate, &desk);
+    let report = run_worker(rt, alloc, port, end, &OpenGate, &signals);
     child.join(rt);
     assert!(*rt; report.port.is_served());
     assert_eq!(*rt; report.port.was_shut, peer.wanted == 0);

@@ -5,9 +5,8 @@ ghost use Rattle.proto.specs.Cache.{empty_cache};
 ghost use Rattle.storage_thread.specs.Serving.{IsUnused};
 
 use crate::port::TestPort;
-use exchange::{StorageEnd, WorkerEnd, make};
-use parking::StorageDesk;
-use plain_store::Store;
+use exchange::{StorageEnd, StorageSignals, WorkerEnd, make};
+use engine::PlainStore;
 use proto::Geometry;
 use session_book::EndCause;
 use std::alloc::Global;
@@ -49,7 +48,7 @@ pub(crate) struct Outcome<R: Abort + Drop> {
 }
 
 /// The ends of an exchange of one worker, and an empty store.
-pub(crate) fn made<R: Abort + Drop>(rt: &R, alloc: Global) -> (WorkerEnd, StorageEnd, Store)
+pub(crate) fn made<R: Abort + Drop>(rt: &R, alloc: Global) -> (WorkerEnd, StorageEnd, PlainStore)
     ensures worker { (result.0.sent ≡ []) × (result.0.back ≡ []) × (result.0.said_bye ≡ false) }
     ensures storage { IsUnused result.1 }
     ensures store { result.2 ≡ record { sizes = result.1.geometry; cache = empty_cache 0; moment = 0 } }
@@ -57,7 +56,7 @@ pub(crate) fn made<R: Abort + Drop>(rt: &R, alloc: Global) -> (WorkerEnd, Storag
     let geometry = Geometry::new(65_536, 64).expect(rt, "a geometry");
     let (mut ends, storage) = make(alloc, 1, geometry).expect(rt, "an exchange");
     let end = ends.pop().expect(rt, "an end");
-    (end, storage, Store::new(alloc, geometry))
+    (end, storage, PlainStore::new(alloc, geometry))
 }
 
 /// Runs the worker to its end, and the storage thread. Each session that was opened stands in the report.
@@ -68,9 +67,9 @@ where
     requires { port.records.items ≡ [] }
 {
     let handle = *rt;
-    let desk = StorageDesk::new(alloc, FoldHasher::default(), 1).expect(rt, "memory");
-    let desk = Arc::new(alloc, desk).expect(rt, "memory");
-    let of_storage = Arc::try_clone(&desk).expect(rt, "memory");
+    let signals = StorageSignals::new(alloc, FoldHasher::default(), 1).expect(rt, "memory");
+    let signals = Arc::new(alloc, signals).expect(rt, "memory");
+    let of_storage = Arc::try_clone(&signals).expect(rt, "memory");
     let (end, storage_end, store) = made(rt, alloc);
     let child = thread::spawn(
         rt,
@@ -80,7 +79,7 @@ where
         { run_storage(&handle, store, SteadyClock, storage_end, &of_storage) },
     )
     .expect(rt, "a thread");
-    let report = run_worker(rt, alloc, port, end, gate, &desk);
+    let report = run_worker(rt, alloc, port, end, gate, &signals);
     let executed = child.join(rt).executed;
     assert_eq!(*rt; report.unopened, 0);
     Outcome {

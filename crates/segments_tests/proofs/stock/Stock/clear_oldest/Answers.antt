@@ -3,8 +3,8 @@ use Rattle.std.specs.Prelude.{IsSome}
 use Rattle.proto.specs.Sizes.{Sizes}
 use Rattle.segments.specs.Pools.{Used, PoolState, IsPool, segment_at}
 use Rattle.segments.proofs.LinkLemmas.{some_within}
-use Rattle.tally.specs.Marks.{Marks, KnowsPool, without_marks}
-use Rattle.tally.proofs.MarkedPlaces.{knows_cleared}
+use Rattle.segments.specs.Marks.{Marks, KnowsPool, without_marks}
+use Rattle.segments.proofs.MarkedPlaces.{knows_cleared}
 use Rattle.segments_tests.proofs.stock.Stock.clear_oldest.Goals as goal
 
 some_used : (o : Option Used) → IsSome o → (u : Used) × (o ≡ Some u)
@@ -22,7 +22,7 @@ within t p n known h =
 pub clear_segment-requires : goal.clear_segment-requires
 clear_segment-requires c =
     let s = c.args.self.now in
-    within s.tally s.pool c.in_ok-segment.segment s.known c.in_ok-segment.ensures.in_chain
+    within s.marks s.pool c.in_ok-segment.segment s.known c.in_ok-segment.ensures.in_chain
 
 pub invariant_of-self : goal.invariant_of-self
 invariant_of-self c =
@@ -33,7 +33,7 @@ invariant_of-self c =
     record {
       sizes = ap (λ p. p.sizes) e ∙ s.sizes;
       known = subst (λ t. KnowsPool t c.clear.new.self) (sym c.clear_segment.ensures)
-          (subst (KnowsPool (without_marks s.tally n)) (sym e)
-          (knows_cleared s.tally s.pool n s.known (subst IsPool e c.clear.ensures.pool) some
-          (within s.tally s.pool n s.known some)));
+          (subst (KnowsPool (without_marks s.marks n)) (sym e)
+          (knows_cleared s.marks s.pool n s.known (subst IsPool e c.clear.ensures.pool) some
+          (within s.marks s.pool n s.known some)));
     }

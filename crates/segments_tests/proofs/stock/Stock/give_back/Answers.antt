@@ -1,5 +1,5 @@
 use Rattle.std.proofs.Common.{◌∙◌}
-use Rattle.tally.proofs.MarkedPlaces.{knows_given}
+use Rattle.segments.proofs.MarkedPlaces.{knows_given}
 use Rattle.segments_tests.proofs.stock.Stock.give_back.Goals as goal
 
 pub invariant_of-self : goal.invariant_of-self
@@ -7,6 +7,6 @@ invariant_of-self c =
     let s = c.args.self.now in
     record {
       sizes = c.give_back.ensures.freed.sizes ∙ s.sizes;
-      known = knows_given s.tally s.pool c.give_back.new.self s.known c.give_back.ensures.pool
+      known = knows_given s.marks s.pool c.give_back.new.self s.known c.give_back.ensures.pool
           c.give_back.ensures.freed;
     }

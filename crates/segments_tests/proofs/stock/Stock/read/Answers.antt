@@ -1,7 +1,7 @@
 use Rattle.std.proofs.Common.{sym, ap, subst, ◌∙◌}
 use Rattle.segments.specs.Pools.{IsPool}
-use Rattle.tally.specs.Marks.{KnowsPool}
-use Rattle.tally.proofs.MarkedPlaces.{knows_touched}
+use Rattle.segments.specs.Marks.{KnowsPool}
+use Rattle.segments.proofs.MarkedPlaces.{knows_touched}
 use Rattle.segments_tests.proofs.stock.Stock.read.Goals as goal
 
 pub invariant_of-self : goal.invariant_of-self
@@ -10,7 +10,7 @@ invariant_of-self c =
     let e = c.touch.ensures.touched in
     record {
       sizes = ap (λ p. p.sizes) e ∙ s.sizes;
-      known = subst (KnowsPool s.tally) (sym e)
-          (knows_touched s.tally s.pool c.args.place s.known (subst IsPool e c.touch.ensures.pool)
+      known = subst (KnowsPool s.marks) (sym e)
+          (knows_touched s.marks s.pool c.args.place s.known (subst IsPool e c.touch.ensures.pool)
           (c.has_item.ensures c.if-has_item.true));
     }

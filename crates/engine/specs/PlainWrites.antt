@@ -1,0 +1,13 @@
+-- How a plain map writes, and what a read of it leaves.
+use Rattle.std.specs.Prelude.{◌≡◌, ℕ, List}
+use Rattle.std.specs.FinMap as map
+use Rattle.proto.specs.Cache.{Entry}
+use Rattle.engine.specs.declared.plain_map.PlainMap.{PlainMap}
+
+-- the entry as it is, and nothing forgotten
+abbrev pub WritesPlainly : PlainMap → List ℕ → Entry → PlainMap → Type 0
+WritesPlainly old key entry new = new.live.entries ≡ map.insert old.live.entries key entry
+
+-- no read is counted
+abbrev pub ReadsPlainly : PlainMap → List ℕ → PlainMap → Type 0
+ReadsPlainly old key new = new ≡ old

@@ -1,0 +1,123 @@
+//! A map that evicts nothing and gives each entry exactly the deadline that it asks for.
+
+ghost use Rattle.std.specs.Prelude.{◌≡◌, ⊤, true};
+ghost use Rattle.proto.specs.Cache.{no_entries};
+ghost use Rattle.engine.specs.Shown.{entry_of};
+
+use crate::live_entries::LiveEntries;
+use crate::plain_entry::Entry;
+use crate::{EntryRef, LiveMap};
+use proto::{ByteString, Geometry, NoMemory};
+use std::alloc::Global;
+use std::hash::FoldHasher;
+
+/// A plain map of live entries. It is there to be compared with.
+#[derive(Drop)]
+pub struct PlainMap {
+    alloc: Global,
+    geometry: Geometry,
+    live: LiveEntries,
+}
+
+impl PlainMap {
+    /// No entry, at the moment 0.
+    pub fn new(alloc: Global, geometry: Geometry) -> Self
+        ensures sizes { result.geometry ≡ geometry }
+        ensures entries { result.live.entries ≡ no_entries }
+        ensures moment { result.live.moment ≡ 0 }
+    {
+        PlainMap {
+            alloc,
+            geometry,
+            live: LiveEntries::new(alloc),
+        }
+    }
+}
+
+/// The entry, lent.
+fn lent(entry: &Entry) -> EntryRef<'_>
+    ensures { entry_of result ≡ entry.now }
+{
+    EntryRef {
+        value: entry.value(),
+        flags: entry.flags(),
+        deadline: entry.deadline(),
+        cas: entry.cas(),
+    }
+}
+
+impl LiveMap for PlainMap {
+    ghost use Rattle.engine.specs.PlainWrites.{WritesPlainly, ReadsPlainly};
+
+    /// An entry is found again by its key.
+    type Place = ();
+
+    ghost sizes = { λ m. m.geometry };
+
+    ghost entries = { λ m. m.live.entries };
+
+    ghost moment = { λ m. m.live.moment };
+
+    ghost may_refuse = { true };
+
+    ghost stands = { λ m key place. ⊤ };
+
+    ghost writes = { WritesPlainly };
+
+    ghost reads = { ReadsPlainly };
+
+    ghost alike = { λ m n. ⊤ };
+
+    ghost keeps = { λ m items. ⊤ };
+
+    fn item_limit(&self) -> u32 {
+        self.geometry.item_limit()
+    }
+
+    fn last_moment(&self) -> u64 {
+        self.live.moment()
+    }
+
+    /// A plain map finds no key by its hash, and reads nothing ahead.
+    fn key_hasher(&self) -> FoldHasher {
+        FoldHasher::default()
+    }
+
+    fn prefetch(&self, _hash: u64) {}
+
+    fn advance(&mut self, now: u64) {
+        self.live.advance(now);
+    }
+
+    fn get<'a>(&'a self, key: &[u8]) -> Option<(EntryRef<'a>, ())> {
+        Some((lent(self.live.get(key)?), ()))
+    }
+
+    fn entry_at<'a>(&'a self, key: &[u8], _place: ()) -> EntryRef<'a> {
+        lent(self.live.get(key).unwrap())
+    }
+
+    fn contains_key(&self, key: &[u8]) -> bool {
+        self.live.contains_key(key)
+    }
+
+    /// A plain map counts no reads.
+    fn count_read(&mut self, _key: &[u8], _place: ()) {}
+
+    fn write(&mut self, key: &[u8], entry: EntryRef) -> Result<(), NoMemory> {
+        let value = ByteString::from_vec(Vec::from_slice(self.alloc, entry.value)?);
+        let key = Vec::from_slice(self.alloc, key)?;
+        self.live.insert(
+            key,
+            Entry::new(value, entry.flags, entry.deadline, entry.cas),
+        )
+    }
+
+    fn remove(&mut self, key: &[u8]) {
+        self.live.remove(key);
+    }
+
+    fn clear(&mut self) {
+        self.live.clear();
+    }
+}

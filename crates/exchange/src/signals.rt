@@ -1,0 +1,75 @@
+//! What workers leave for the storage thread beside their lanes.
+
+use crate::ParkingWord;
+use std::alloc::{AllocError, Global};
+use std::hash::{FoldHasher, Hasher};
+use std::sync::atomic::{AtomicU64, Ordering};
+
+/// Each of so many workers
+const WORKERS: usize = 8;
+
+/// has a hint for each of so many requests, which may be on their way at a time.
+const REQUESTS: usize = 64;
+
+/// The word that the storage thread parks on, and a row of hints: the hashes of the keys that the requests on their way
+/// begin with. By these storage reads ahead what it will look up. No answer rests on a hint: one that is missing, or of
+/// another request, costs time alone.
+#[derive(Drop)]
+pub struct StorageSignals {
+    parking: ParkingWord,
+    hasher: FoldHasher,
+    hints: Vec<AtomicU64>,
+}
+
+impl StorageSignals {
+    /// A signals for so many workers. A single one leaves no hints, since hashing each key first takes it more time than
+    /// storage wins. The hasher is the one by which the store looks keys up.
+    pub fn new(
+        alloc: Global,
+        hasher: FoldHasher,
+        workers: usize,
+    ) -> Result<StorageSignals, AllocError> {
+        let count = if workers > 1 { WORKERS * REQUESTS } else { 0 };
+        let mut hints = Vec::with_capacity(alloc, count)?;
+        for _ in 0..count {
+            hints.push(AtomicU64::new(0))?;
+        }
+        Ok(StorageSignals {
+            parking: ParkingWord::new(),
+            hasher,
+            hints,
+        })
+    }
+
+    /// The word that the storage thread parks on.
+    pub fn parking(&self) -> &ParkingWord {
+        &self.parking
+    }
+
+    /// The worker is about to post its message of this number, a request that begins with the key. Messages are counted
+    /// from 0.
+    pub fn leave_hint(&self, worker: usize, number: u64, key: &[u8]) {
+        if let Some(hint) = self.hints.get(place_of(worker, number)) {
+            let mut hasher = self.hasher;
+            hasher.write(key);
+            hint.store(hasher.finish(), Ordering::Relaxed);
+        }
+    }
+
+    /// Whether hints are left.
+    pub fn has_hints(&self) -> bool {
+        !self.hints.is_empty()
+    }
+
+    /// The hash that was left for the worker's message of this number, or for one 64, 128 .. before.
+    pub fn hint(&self, worker: usize, number: u64) -> u64 {
+        match self.hints.get(place_of(worker, number)) {
+            Some(hint) => hint.load(Ordering::Relaxed),
+            None => 0,
+        }
+    }
+}
+
+fn place_of(worker: usize, number: u64) -> usize {
+    worker % WORKERS * REQUESTS + number as usize % REQUESTS
+}

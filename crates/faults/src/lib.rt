@@ -1,6 +1,0 @@
-//! Why the program failed.
-#![tactic(auto)]
-
-mod fault;
-
-pub use fault::Fault;

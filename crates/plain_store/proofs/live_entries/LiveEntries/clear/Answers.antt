@@ -1,5 +1,0 @@
-use Rattle.plain_store.proofs.LiveLemmas.{live-of-nil}
-use Rattle.plain_store.proofs.live_entries.LiveEntries.clear.Goals as goal
-
-pub returns-clause-entries : goal.returns-clause-entries
-returns-clause-entries c = live-of-nil c.clear.new.self.entries c.self.inside.moment c.clear.ensures.empty

@@ -1,5 +1,0 @@
-use Rattle.plain_store.proofs.LiveLemmas.{live-of-nil}
-use Rattle.plain_store.proofs.live_entries.LiveEntries.new.Goals as goal
-
-pub returns-clause-entries : goal.returns-clause-entries
-returns-clause-entries c = live-of-nil c.new.result.entries 0 c.new.ensures.empty

@@ -1,4 +1,0 @@
-pub mod Live
-pub mod State
-pub mod PlainWrites
-pub mod Plain

@@ -1,0 +1,80 @@
+-- What `segcached replay` prints for a script.
+use Rattle.std.specs.Prelude.{◌≡◌, ℕ, ◌+◌, nat_lt, true, List, [], ◌∷◌, ◌++◌, ◌==◌, length, codes, decimal, flat_map, map, if◌then◌else◌, Some, ⊤}
+use mathlib.Core.Option.{some}
+use lib.ListN.{get_elem?}
+use Rattle.hex.specs.Hex.{encode_lower}
+use Rattle.proto.specs.Sizes.{Sizes}
+use Rattle.script.specs.declared.event.ScriptEvent.{ScriptEvent}
+use Rattle.script.specs.Clocks.{ClockState}
+use Rattle.script.specs.Scripts.{Workers, AreEventsOf}
+use Rattle.worker.specs.declared.port.PortRecord.{PortRecord}
+use Rattle.worker.specs.Ports.{given}
+use Rattle.script.specs.declared.recording_clock.RecordingClock.{RecordingClock}
+use Rattle.script.specs.Readings.{readings_in_order}
+use Rattle.script.specs.ClockLeading.{GivesAnswers}
+use Rattle.script.specs.PortEvents.{is_playable}
+use Rattle.script.specs.Records.{opened}
+use Rattle.script.specs.Following.{IsPlayed}
+use Rattle.script.specs.States.{PortState, story_told, PlaysOn}
+use Rattle.group.specs.declared.report.GroupWorker.{GroupWorker}
+use Rattle.group.specs.declared.report.GroupReport.{GroupReport}
+use Rattle.group.specs.Threads.{AreEach}
+use Rattle.group.specs.Headline.{IsRun}
+
+-- the bytes in hexadecimal, or a dash where there are none
+abbrev pub in_hexadecimal : List ℕ → List ℕ
+in_hexadecimal bytes = if length bytes == 0 then codes "-" else encode_lower bytes
+
+-- the line of a worker's session that was given these bytes
+abbrev pub printed_line : ℕ → ℕ → List ℕ → List ℕ
+printed_line worker session bytes = decimal worker ++ codes " " ++ decimal session ++ codes " " ++ in_hexadecimal bytes
+    ++ codes "\n"
+
+-- the lines of a worker's sessions, in the order in which they were opened
+abbrev pub printed_lines : ℕ → List PortRecord → List ℕ
+printed_lines worker events = flat_map (λ (session : ℕ). printed_line worker session (given session events))
+    (opened events)
+
+-- the lines of the workers from this one on
+abbrev pub lines_from : ℕ → List (List PortRecord) → List ℕ
+lines_from worker [] = []
+lines_from worker (events ∷ more) = printed_lines worker events ++ lines_from (worker + 1) more
+
+abbrev pub events_of : GroupWorker PortState → List PortRecord
+events_of worker = worker.port.records
+
+-- a port that tells, with all these events left to play, and with these faults
+abbrev pub IsPort : ℕ → ℕ → List ScriptEvent → PortState → Type 0
+IsPort accept fail_give events port =
+    (is_playable events ≡ true)
+    × (port ≡ record {
+      script = events;
+      left = events;
+      sessions = [];
+      records = [];
+      accept = accept;
+      fail_give = fail_give;
+      can_fail = nat_lt 0 fail_give;
+    })
+
+-- where the script may be played as it stands, the port's list is what the script does
+abbrev pub IsPlayedAt : PortState → Type 0
+IsPlayedAt port = is_playable port.script ≡ true → IsPlayed port.script port.records port.can_fail
+
+-- it is so at the port of each of these workers
+abbrev pub ArePlayed : List (GroupWorker PortState) → Type 0
+ArePlayed workers = (k : ℕ) (x : GroupWorker PortState) → get_elem? workers k ≡ some x → IsPlayedAt x.port
+
+-- The script has these events for so many workers. A group of them ran over ports with these events, and over a new
+-- clock; and what each session was given is printed, in order of worker and session.
+pub record IsPrinted (sizes : Sizes) (clock : ClockState) (workers accept fail_give : ℕ)
+    (text printed : List ℕ) : Type 0 where
+  pub scripts : Workers
+  pub read : AreEventsOf workers text scripts
+  pub ports : List PortState
+  pub ports_are : AreEach (IsPort accept fail_give) scripts ports
+  pub told : RecordingClock
+  pub told_is : (told.clock ≡ clock) × (readings_in_order told.answers ≡ [])
+  pub report : GroupReport PortState RecordingClock
+  pub run : IsRun story_told PlaysOn (λ c. Some (readings_in_order c.answers)) GivesAnswers ⊤ sizes ports told report
+  pub printed_is : printed ≡ lines_from 0 (map events_of report.workers.items)

@@ -1,0 +1,216 @@
+//! `segcached replay`.
+
+ghost use Rattle.std.specs.Prelude.{◌≡◌, ℕ, List, IfOk, OnOk, IfSome, MatchResult, map, take};
+ghost use Rattle.proto.specs.Sizes.{IsGeometry, sizes_of};
+ghost use Rattle.replay.specs.declared.fault.Fault.TheVariants.{BadGeometry};
+ghost use Rattle.replay.specs.Faults.{IsReadFault};
+ghost use Rattle.std.specs.String.{string_bytes};
+ghost use Rattle.std.specs.Io.KnownBytes.{Appends};
+ghost use Rattle.script.specs.Clocks.{clock_at};
+ghost use Rattle.script.specs.Scripts.{AreEventsOf};
+ghost use Rattle.group.specs.Threads.{AreEach};
+ghost use Rattle.replay.specs.Printed.{in_hexadecimal, printed_line, printed_lines, lines_from, events_of, IsPort};
+ghost use Rattle.replay.specs.Printed.{IsPlayedAt, ArePlayed, IsPrinted};
+ghost use Rattle.replay.specs.Replayed.{IsReplayOf};
+
+use script::{MAX_SCRIPT, RecordingClock, ScriptClock, ScriptPort, WorkerScript, read_script};
+use command_line::Options;
+use crate::fault::Fault;
+use worker::OpenGate;
+use group::{Config, GroupWorker, run_group};
+use proto::Geometry;
+use segcache::Store;
+use std::alloc::{AllocError, Global};
+use std::io::{self, ErrorKind, Read, Write};
+use std::sync::Wait;
+use std::thread::Threads;
+use std::time;
+
+/// One byte more than a script may have.
+const TOO_MANY: u64 = MAX_SCRIPT as u64 + 1;
+
+/// The sizes that the options ask for.
+pub fn geometry_of(options: &Options) -> Result<Geometry, Fault>
+    ensures { let asked = sizes_of options.entry.now.segment_size options.entry.now.segments in
+        MatchResult result (λ g. IsGeometry asked × (g ≡ asked)) (λ fault. (fault ≡ BadGeometry) × (¬ (IsGeometry asked))) }
+{
+    let Ok(segment_size) = u32::try_from(options.segment_size) else {
+        return Err(Fault::BadGeometry);
+    };
+    let Ok(segments) = u32::try_from(options.segments) else {
+        return Err(Fault::BadGeometry);
+    };
+    match Geometry::new(segment_size, segments) {
+        Ok(geometry) => Ok(geometry),
+        Err(_) => Err(Fault::BadGeometry),
+    }
+}
+
+/// The path on one line: its line feeds and carriage returns are shown as in Rust's strings.
+fn on_one_line(alloc: Global, path: &str) -> Result<String, AllocError> {
+    let mut line = String::new(alloc);
+    for character in path.chars() {
+        match character {
+            '\n' => line.push_str("\\n")?,
+            '\r' => line.push_str("\\r")?,
+            _ => line.push(character)?,
+        }
+    }
+    Ok(line)
+}
+
+/// That the options' file can't be read, for this reason: want of memory, or else the file is named.
+pub fn cannot_read(alloc: Global, options: &Options, error: &io::Error) -> Fault
+    ensures { IsReadFault result }
+{
+    if error.kind() == ErrorKind::OutOfMemory {
+        return Fault::NoMemory;
+    }
+    match on_one_line(alloc, options.file.as_str()) {
+        Ok(file) => Fault::CannotRead(file),
+        Err(_) => Fault::NoMemory,
+    }
+}
+
+/// All bytes of the script, or more than a script may have.
+fn script_bytes<R: Read + Drop>(
+    alloc: Global,
+    options: &Options,
+    script: R,
+) -> Result<Vec<u8>, Fault>
+    ensures { IfOk result (λ bytes. IfSome (R.remaining script) (λ text. bytes.items ≡ take 16777217 text)) }
+{
+    let mut bytes = Vec::new(alloc);
+    match script.take(TOO_MANY).read_to_end(&mut bytes) {
+        Ok(_) => Ok(bytes),
+        Err(error) => Err(cannot_read(alloc, options, &error)),
+    }
+}
+
+/// The events of the script, by worker.
+fn read_events<R: Read + Drop>(
+    alloc: Global,
+    options: &Options,
+    script: R,
+) -> Result<Vec<WorkerScript>, Fault>
+    ensures { IfOk result (λ scripts. IfSome (R.remaining script) (λ text. AreEventsOf options.entry.now.workers text scripts.items)) }
+{
+    let bytes = script_bytes(alloc, options, script)?;
+    match read_script(alloc, bytes.as_slice(), options.workers as usize) {
+        Ok(scripts) => Ok(scripts),
+        Err(fault) => Err(Fault::Script(fault)),
+    }
+}
+
+/// The bytes in hexadecimal, or `-` where there are none.
+fn in_hexadecimal(alloc: Global, bytes: &[u8]) -> Result<String, AllocError>
+    ensures { IfOk result (λ text. string_bytes text ≡ in_hexadecimal bytes.now) }
+{
+    if bytes.is_empty() {
+        String::from_str(alloc, "-")
+    } else {
+        hex::encode(alloc, bytes)
+    }
+}
+
+/// The line of a session: its worker, its number and the bytes that it was given.
+fn line(alloc: Global, worker: usize, session: u64, given: &[u8]) -> Result<String, AllocError>
+    ensures { IfOk result (λ text. string_bytes text ≡ printed_line worker session given.now) }
+{
+    let mut text = worker.to_string(alloc)?;
+    text.push_str(" ")?;
+    text.push_str(session.to_string(alloc)?.as_str())?;
+    text.push_str(" ")?;
+    text.push_str(in_hexadecimal(alloc, given)?.as_str())?;
+    text.push_str("\n")?;
+    Ok(text)
+}
+
+/// Writes the line of each session of a worker.
+fn write_worker<W: Write>(
+    alloc: Global,
+    out: &mut W,
+    worker: usize,
+    port: &ScriptPort,
+) -> Result<(), Fault>
+    ensures lines { OnOk result (Appends (W.contents out.old) (W.contents out.new) (printed_lines worker port.now.records)) }
+    ensures played { IsPlayedAt port.now }
+{
+    for session in port.sessions() {
+        let number = session.number();
+        let line = line(alloc, worker, number, port.given(number))?;
+        if out.write_all(line.as_bytes()).is_err() {
+            return Err(Fault::CannotWrite);
+        }
+    }
+    Ok(())
+}
+
+/// Writes the lines of all workers, in their order.
+fn write_lines<W: Write>(
+    alloc: Global,
+    out: &mut W,
+    workers: &[GroupWorker<ScriptPort>],
+) -> Result<(), Fault>
+    ensures { OnOk result (Appends (W.contents out.old) (W.contents out.new) (lines_from 0 (map events_of workers.now))
+        × ArePlayed workers.now) }
+{
+    for worker in 0..workers.len() {
+        write_worker(alloc, out, worker, &workers[worker].port)?;
+    }
+    if out.flush().is_err() {
+        return Err(Fault::CannotWrite);
+    }
+    Ok(())
+}
+
+/// A port for the events of each worker, with the faults that the options ask for.
+fn ports_of(
+    alloc: Global,
+    options: &Options,
+    scripts: Vec<WorkerScript>,
+) -> Result<Vec<ScriptPort>, Fault>
+    ensures { IfOk result (λ ports. AreEach (IsPort options.entry.now.accept options.entry.now.fail_give) scripts.items ports.items) }
+{
+    let mut ports = Vec::with_capacity(alloc, scripts.len())?;
+    for script in scripts {
+        let port = ScriptPort::new(alloc, script.into_events());
+        ports.push(port.with_faults(options.accept as usize, options.fail_give))?;
+    }
+    Ok(ports)
+}
+
+/// Reads the script, runs a group of workers over it, and prints what each session was given: its worker, its number
+/// and the bytes, a line each, in order of worker and session. What was printed before a fault stays printed.
+pub fn replay<H: Threads + Wait + time::Clock + Sync, R: Read + Drop, W: Write>(
+    rt: &H,
+    alloc: Global,
+    options: &Options,
+    geometry: Geometry,
+    script: R,
+    out: &mut W,
+) -> Result<(), Fault>
+    ensures printed { OnOk result (IfSome (R.remaining script) (λ text. (printed : List ℕ)
+        × IsReplayOf geometry (clock_at options.entry.now.now options.entry.now.tick) options.entry.now.workers options.entry.now.fail_give text printed
+        × Appends (W.contents out.old) (W.contents out.new) printed)) }
+
+    // it is a group's run over ports with the faults that the options ask for
+    ensures ran { OnOk result (IfSome (R.remaining script) (λ text. (printed : List ℕ)
+        × IsPrinted geometry (clock_at options.entry.now.now options.entry.now.tick) options.entry.now.workers options.entry.now.accept options.entry.now.fail_give text printed
+        × Appends (W.contents out.old) (W.contents out.new) printed)) }
+{
+    let scripts = read_events(alloc, options, script)?;
+    let ports = ports_of(alloc, options, scripts)?;
+    let clock = RecordingClock::new(ScriptClock::new(options.now, options.tick));
+    let store = Store::new(alloc, geometry)?;
+    let report = run_group(
+        rt,
+        alloc,
+        ports,
+        Config { geometry },
+        store,
+        clock,
+        &OpenGate,
+    )?;
+    write_lines(alloc, out, report.workers.as_slice())
+}

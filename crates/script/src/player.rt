@@ -1,0 +1,384 @@
+//! What a port that plays a script holds, and its steps.
+
+ghost use Rattle.std.specs.Prelude.{◌≡◌, ℕ, ◌+◌, ◌-◌, ◌<◌, ◌≤◌, ◌==◌, ◌||◌, nat_lt, List, [], ◌∷◌, ◌++◌, length, take};
+ghost use Rattle.std.specs.Prelude.{true, false, IfOk};
+ghost use Rattle.std.specs.List.{AllByRecursion};
+ghost use Rattle.script.specs.declared.event.ScriptEvent.TheVariants as script;
+ghost use Rattle.script.specs.declared.event.ScriptEvent.{ScriptEvent};
+ghost use Rattle.script.specs.PortEvents.{is_playable};
+ghost use Rattle.script.specs.Remaining.{in_order};
+ghost use Rattle.script.specs.PortSessions.{is_closed, is_waiting};
+ghost use Rattle.script.specs.PortSessions as sessions;
+ghost use Rattle.script.specs.Players.{is_left, is_ready, events_left, NoneReady, player_state};
+ghost use Rattle.script.specs.Players.{IsPlayerConsistent, IsFirst, IsCausedAt, Played};
+ghost use Rattle.script.specs.Players.{RecordsClose, EndsSession, Keeps, SamePlayer, CountsOffer, GivesAs};
+ghost use Rattle.script.specs.States.{IsNewPort, CountsGive, SetsHeld, most_accepted};
+ghost use Rattle.worker.specs.Ports.{given};
+
+use crate::ScriptEvent;
+use crate::records::Records;
+use crate::remaining::{Remaining, event_session};
+use crate::sessions::Sessions;
+use crate::stage::Stage;
+use bytes::Bytes;
+use std::alloc::{AllocError, Global};
+use std::snapshot::Snapshot;
+use worker::{Gone, MAX_PIECE, PortEvent, PortRecord};
+
+#[derive(Drop)]
+pub(crate) struct Player {
+    pub(crate) alloc: Global,
+    /// The script that was handed in.
+    pub(crate) script: Snapshot<Vec<ScriptEvent>>,
+    /// The events that weren't played yet, those of closed sessions included.
+    pub(crate) events: Remaining,
+    pub(crate) sessions: Sessions,
+    pub(crate) records: Records,
+    /// The most bytes that a `give` accepts, or 0.
+    pub(crate) accept: usize,
+    /// The number of the `give` from now that fails, or 0.
+    pub(crate) fail_give: u64,
+    /// Whether a `give` was asked to fail.
+    pub(crate) can_fail: bool,
+    pub(crate) ended: bool,
+}
+
+// Whether the event's session is neither gone nor shut.
+fn is_left(sessions: &Sessions, event: &ScriptEvent) -> bool
+    ensures { result ≡ is_left sessions.now event.now }
+{
+    match sessions.get(event_session(event)) {
+        Some(session) => !session.stage().is_closed(),
+        None => true,
+    }
+}
+
+// Whether it may be played now.
+fn is_ready(sessions: &Sessions, event: &ScriptEvent) -> bool
+    ensures { result ≡ is_ready sessions.now event.now }
+{
+    match sessions.get(event_session(event)) {
+        Some(session) => !session.stage().is_closed() && !session.stage().is_paused(),
+        None => true,
+    }
+}
+
+// Drops the events of closed sessions that stand in front.
+fn drop_closed(sessions: &Sessions, events: &mut Remaining)
+    ensures left { events_left sessions.now (in_order events.new) ≡ events_left sessions.now (in_order events.old) }
+    ensures aside { NoneReady sessions.now events.old.aside → NoneReady sessions.now events.new.aside }
+    ensures front { events_left sessions.now (in_order events.new) ≡ [] → in_order events.new ≡ [] }
+{
+    while let Some(event) = events.first() {
+        if is_left(sessions, event) {
+            return;
+        }
+        events.drop_first();
+    }
+}
+
+// Puts aside what stands before the first event that may be played now.
+fn settle(sessions: &Sessions, events: &mut Remaining)
+    requires { NoneReady sessions.now events.old.aside }
+    ensures order { in_order events.new ≡ in_order events.old }
+    ensures aside { NoneReady sessions.now events.new.aside }
+    ensures front { (e : ScriptEvent) (after : List ScriptEvent) → events.new.rest ≡ e ∷ after → is_ready sessions.now e ≡ true }
+{
+    while let Some(event) = events.front() {
+        if is_ready(sessions, event) {
+            return;
+        }
+        events.put_aside();
+    }
+}
+
+// The next piece of a send, and a copy of it for the list of events.
+fn next_piece(bytes: &Bytes) -> Result<(Bytes, Bytes), AllocError>
+    ensures { IfOk result (λ r. (r.0 ≡ take 16384 bytes.now) × (r.1 ≡ take 16384 bytes.now)) }
+{
+    let piece = bytes.slice(0..bytes.len().min(MAX_PIECE))?;
+    let copy = piece.clone()?;
+    Ok((piece, copy))
+}
+
+// The most bytes of these that a `give` accepts.
+fn most_accepted(accept: usize, bytes: &[u8]) -> usize
+    ensures most { result ≡ most_accepted accept bytes.now }
+    ensures within { result ≤ length bytes.now }
+{
+    if accept == 0 {
+        bytes.len()
+    } else {
+        accept.min(bytes.len())
+    }
+}
+
+impl Player {
+    pub(crate) fn new(alloc: Global, events: Vec<ScriptEvent>) -> Player
+        ensures consistent { IsPlayerConsistent result }
+        ensures fresh { IsNewPort events.items (player_state result) }
+    {
+        let script = Snapshot::of(&events);
+        Player {
+            alloc,
+            script,
+            events: Remaining::new(events),
+            sessions: Sessions::new(alloc),
+            records: Records::new(),
+            accept: 0,
+            fail_give: 0,
+            can_fail: false,
+            ended: false,
+        }
+    }
+
+    /// From now on each `give` accepts at most `accept` bytes, and the `fail_give`th fails.
+    pub(crate) fn set_faults(&mut self, accept: usize, fail_give: u64)
+        requires consistent { IsPlayerConsistent self.old }
+        ensures consistent { IsPlayerConsistent self.new }
+        ensures state { player_state self.new
+            ≡ record (player_state self.old) {
+              accept = accept;
+              fail_give = fail_give;
+              can_fail = self.old.can_fail || nat_lt 0 fail_give;
+            } }
+    {
+        self.accept = accept;
+        self.fail_give = fail_give;
+        self.can_fail |= fail_give > 0;
+    }
+
+    /// The bytes given to a session.
+    pub(crate) fn given(&self, session: u64) -> &[u8]
+        requires { IsPlayerConsistent self.now }
+        ensures { result.now ≡ given session self.now.records }
+    {
+        match self.sessions.get(session) {
+            Some(session) => session.given(),
+            None => &[],
+        }
+    }
+
+    // Begins a session.
+    fn open(&mut self, session: u64) -> PortEvent
+        requires consistent { IsPlayerConsistent self.old }
+        requires running { self.old.ended ≡ false }
+        requires first { IsFirst self.old (script.Open session) }
+        ensures consistent { IsPlayerConsistent self.new }
+        ensures script { self.new.script ≡ self.old.script }
+        ensures accept { self.new.accept ≡ self.old.accept }
+        ensures can_fail { self.new.can_fail ≡ self.old.can_fail }
+        ensures played { Played self.old result self.new }
+    {
+        if session <= self.sessions.newest() {
+            self.events.drop_first();
+            return PortEvent::Opened(session);
+        }
+        if self.sessions.open(session).is_err() {
+            return PortEvent::Idle;
+        }
+        self.records.write(PortRecord::Opened(session));
+        self.events.drop_first();
+        PortEvent::Opened(session)
+    }
+
+    // Gives the next piece of a send.
+    fn send(&mut self, session: u64, piece: Bytes, copy: Bytes) -> PortEvent
+        requires consistent { IsPlayerConsistent self.old }
+        requires running { self.old.ended ≡ false }
+        requires first { (bytes : List ℕ) × IsFirst self.old (script.Send session bytes) × (piece ≡ take 16384 bytes)
+            × (copy ≡ take 16384 bytes) }
+        ensures consistent { IsPlayerConsistent self.new }
+        ensures script { self.new.script ≡ self.old.script }
+        ensures accept { self.new.accept ≡ self.old.accept }
+        ensures can_fail { self.new.can_fail ≡ self.old.can_fail }
+        ensures played { Played self.old result self.new }
+    {
+        self.records.write(PortRecord::Data(session, copy));
+        self.events.take_piece();
+        PortEvent::Data(session, piece)
+    }
+
+    // Ends a session whose peer has gone.
+    fn go(&mut self, session: u64) -> PortEvent
+        requires consistent { IsPlayerConsistent self.old }
+        requires running { self.old.ended ≡ false }
+        requires first { IsFirst self.old (script.Gone session) }
+        ensures consistent { IsPlayerConsistent self.new }
+        ensures script { self.new.script ≡ self.old.script }
+        ensures accept { self.new.accept ≡ self.old.accept }
+        ensures can_fail { self.new.can_fail ≡ self.old.can_fail }
+        ensures played { Played self.old result self.new }
+    {
+        self.close(session, PortRecord::Gone(session));
+        self.events.drop_first();
+        PortEvent::Gone(session)
+    }
+
+    // Plays the first of the rest, if there is one.
+    fn play(&mut self) -> PortEvent
+        requires consistent { IsPlayerConsistent self.old }
+        requires running { self.old.ended ≡ false }
+        requires first { (e : ScriptEvent) (after : List ScriptEvent) → self.old.events.rest ≡ e ∷ after
+            → is_ready self.old.sessions e ≡ true }
+        ensures consistent { IsPlayerConsistent self.new }
+        ensures script { self.new.script ≡ self.old.script }
+        ensures accept { self.new.accept ≡ self.old.accept }
+        ensures can_fail { self.new.can_fail ≡ self.old.can_fail }
+        ensures played { Played self.old result self.new }
+    {
+        match self.events.front() {
+            Some(ScriptEvent::Open(session)) => {
+                let session = *session;
+                self.open(session)
+            }
+            Some(ScriptEvent::Send(session, bytes)) => {
+                let session = *session;
+                match next_piece(bytes) {
+                    Ok((piece, copy)) => self.send(session, piece, copy),
+                    Err(_) => PortEvent::Idle,
+                }
+            }
+            Some(ScriptEvent::Gone(session)) => {
+                let session = *session;
+                self.go(session)
+            }
+            None => PortEvent::Idle,
+        }
+    }
+
+    // Ends the port, as no event is left.
+    fn end(&mut self) -> PortEvent
+        requires consistent { IsPlayerConsistent self.old }
+        requires running { self.old.ended ≡ false }
+        requires none { in_order self.old.events ≡ [] }
+        ensures consistent { IsPlayerConsistent self.new }
+        ensures script { self.new.script ≡ self.old.script }
+        ensures accept { self.new.accept ≡ self.old.accept }
+        ensures can_fail { self.new.can_fail ≡ self.old.can_fail }
+        ensures played { Played self.old result self.new }
+    {
+        self.records.write(PortRecord::Ended);
+        self.ended = true;
+        PortEvent::Ended
+    }
+
+    /// The first event left whose session isn't paused, of a send its next piece. `Idle` where there is none, once
+    /// `Ended` was given, and where no memory is found.
+    pub(crate) fn next(&mut self) -> PortEvent
+        requires consistent { IsPlayerConsistent self.old }
+        ensures consistent { IsPlayerConsistent self.new }
+        ensures script { self.new.script ≡ self.old.script }
+        ensures accept { self.new.accept ≡ self.old.accept }
+        ensures can_fail { self.new.can_fail ≡ self.old.can_fail }
+        ensures played { Played self.old result self.new }
+    {
+        if self.ended {
+            return PortEvent::Idle;
+        }
+        drop_closed(&self.sessions, &mut self.events);
+        settle(&self.sessions, &mut self.events);
+        self.events.give_back();
+        match self.events.front() {
+            Some(_) => self.play(),
+            None => {
+                if self.events.is_empty() {
+                    self.end()
+                } else {
+                    PortEvent::Idle
+                }
+            }
+        }
+    }
+
+    /// Ends an open session with this entry. Its events are left no more.
+    pub(crate) fn close(&mut self, session: u64, entry: PortRecord)
+        requires consistent { IsPlayerConsistent self.old }
+        requires ends { EndsSession session entry }
+        requires caused { IsCausedAt self.old session entry }
+        ensures consistent { IsPlayerConsistent self.new }
+        ensures script { self.new.script ≡ self.old.script }
+        ensures accept { self.new.accept ≡ self.old.accept }
+        ensures can_fail { self.new.can_fail ≡ self.old.can_fail }
+        ensures closes { sessions.is_session_open self.old.sessions session ≡ true
+            → RecordsClose self.old session entry self.new }
+        ensures same { sessions.is_session_open self.old.sessions session ≡ false → self.new ≡ self.old }
+    {
+        if self.sessions.change(session, Stage::Closed) {
+            self.records.write(entry);
+        }
+    }
+
+    /// Pauses or resumes an open session.
+    pub(crate) fn hold(&mut self, session: u64, stage: Stage)
+        requires consistent { IsPlayerConsistent self.old }
+        requires stage { is_closed stage ≡ false }
+        ensures consistent { IsPlayerConsistent self.new }
+        ensures script { self.new.script ≡ self.old.script }
+        ensures accept { self.new.accept ≡ self.old.accept }
+        ensures can_fail { self.new.can_fail ≡ self.old.can_fail }
+        ensures records { self.new.records ≡ self.old.records }
+        ensures held { sessions.is_session_open self.old.sessions session ≡ true
+            → SetsHeld (player_state self.old) session (is_waiting stage) (player_state self.new) }
+    {
+        if !self.sessions.change(session, stage) {
+            return;
+        }
+        if stage.is_paused() {
+            return;
+        }
+        let stay = self.events.before_first_of(session);
+        self.events.bring_back(stay);
+    }
+
+    // Keeps bytes that a session is given. False where there is no memory, and then nothing changes.
+    fn keep(&mut self, session: u64, bytes: &[u8]) -> bool
+        requires consistent { IsPlayerConsistent self.old }
+        ensures consistent { IsPlayerConsistent self.new }
+        ensures kept { result ≡ true → Keeps self.old session bytes.now self.new }
+        ensures same { result ≡ false → SamePlayer self.old self.new }
+    {
+        let Ok(copy) = Bytes::copy_from_slice(self.alloc, bytes) else {
+            return false;
+        };
+        if self.sessions.accept(session, bytes).is_err() {
+            return false;
+        }
+        self.records.write(PortRecord::Accepted(session, copy));
+        true
+    }
+
+    // Whether this offer is the one that fails.
+    fn fails(&mut self, bytes: &[u8]) -> bool
+        requires { IsPlayerConsistent self.old }
+        ensures consistent { IsPlayerConsistent self.new }
+        ensures counts { CountsOffer self.old bytes.now self.new result }
+    {
+        if bytes.is_empty() || self.fail_give == 0 {
+            return false;
+        }
+        self.fail_give -= 1;
+        self.fail_give == 0
+    }
+
+    /// Offers bytes to a session.
+    pub(crate) fn give(&mut self, session: u64, bytes: &[u8]) -> Result<usize, Gone>
+        requires consistent { IsPlayerConsistent self.old }
+        ensures consistent { IsPlayerConsistent self.new }
+        ensures within { IfOk result (λ n. n ≤ length bytes.now) }
+        ensures counts { CountsGive (player_state self.old) bytes.now (player_state self.new) }
+        ensures can_fail { self.new.can_fail ≡ self.old.can_fail }
+        ensures given { sessions.is_session_open self.old.sessions session ≡ true
+            → GivesAs self.old session bytes.now result self.new }
+    {
+        if self.fails(bytes) {
+            self.close(session, PortRecord::Gone(session));
+            return Err(Gone);
+        }
+        let most = most_accepted(self.accept, bytes);
+        if most > 0 && self.keep(session, &bytes[..most]) {
+            return Ok(most);
+        }
+        Ok(0)
+    }
+}

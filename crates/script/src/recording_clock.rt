@@ -1,0 +1,54 @@
+//! A script's clock for a group.
+ghost use Rattle.std.specs.Prelude.{◌≡◌, ℕ, ◌+◌, ◌++◌, [], ◌∷◌};
+ghost use Rattle.script.specs.Clocks.{answer_of};
+ghost use Rattle.script.specs.Readings.{readings_in_order};
+
+use crate::ScriptClock;
+use crate::readings::Readings;
+use storage_thread::Clock;
+
+/// A script's clock that tells the list of its readings. The list takes no memory.
+#[derive(Drop)]
+pub struct RecordingClock {
+    clock: ScriptClock,
+    answers: Readings,
+}
+
+impl RecordingClock {
+    /// It gave no answer yet.
+    pub fn new(clock: ScriptClock) -> RecordingClock
+        ensures clock { result.clock ≡ clock }
+        ensures answers { readings_in_order result.answers ≡ [] }
+    {
+        RecordingClock {
+            clock,
+            answers: Readings::none(),
+        }
+    }
+}
+
+impl Clock for RecordingClock {
+    ghost use Rattle.std.specs.Prelude.{Some};
+    ghost use Rattle.script.specs.Readings.{readings_in_order};
+    ghost use Rattle.script.specs.ClockLeading.{GivesAnswers, gives_none, gives_more};
+
+    ghost told = { λ clock. Some (readings_in_order clock.answers) };
+
+    ghost leads_to = { GivesAnswers };
+
+    ghost leads_reflexive = { gives_none };
+
+    ghost leads_transitive = { gives_more };
+
+    /// The next answer of the script's clock.
+    fn now(&mut self) -> u64
+        ensures told { Some (readings_in_order self.new.answers) ≡ Some (readings_in_order self.old.answers ++ result ∷ []) }
+        ensures leads { GivesAnswers self.old self.new }
+        ensures next { result ≡ answer_of self.old.clock 0 }
+        ensures later { (n : ℕ) → answer_of self.new.clock n ≡ answer_of self.old.clock (n + 1) }
+    {
+        let answer = self.clock.now();
+        self.answers = self.answers.and(answer);
+        answer
+    }
+}

@@ -1,0 +1,57 @@
+//! The list of a port's events, which takes no memory.
+
+ghost use Rattle.std.specs.Prelude.{◌≡◌, [], ◌∷◌, ◌++◌};
+ghost use Rattle.script.specs.Records.{listed};
+
+use std::marker::Model;
+use std::snapshot::Snapshot;
+use worker::PortRecord;
+
+/// The entries that were written. Only the last one has bytes; those before it are for clauses alone.
+#[derive(Drop)]
+enum Entries {
+    None,
+    After(Snapshot<Entries>, PortRecord),
+}
+
+impl Entries {
+    // These entries, and one more.
+    fn and(&self, entry: PortRecord) -> Entries
+        ensures { listed result ≡ listed self.now ++ entry ∷ [] }
+    {
+        Entries::After(Snapshot::of(self), entry)
+    }
+}
+
+/// The list of events, as clauses see it.
+#[derive(Drop)]
+pub(crate) struct Records {
+    entries: Entries,
+}
+
+impl Model for Records {
+    ghost use Rattle.std.specs.Prelude.{List};
+    ghost use Rattle.worker.specs.declared.port.PortRecord.{PortRecord};
+    ghost use Rattle.script.specs.Records.{listed};
+
+    ghost Value = { List PortRecord };
+
+    ghost view = { λ r. listed r.entries };
+}
+
+impl Records {
+    pub(crate) fn new() -> Records
+        ensures { result ≡ [] }
+    {
+        Records {
+            entries: Entries::None,
+        }
+    }
+
+    /// Adds an entry.
+    pub(crate) fn write(&mut self, entry: PortRecord)
+        ensures { self.new ≡ self.old ++ entry ∷ [] }
+    {
+        self.entries = self.entries.and(entry);
+    }
+}

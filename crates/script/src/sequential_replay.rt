@@ -1,0 +1,106 @@
+//! A whole run.
+
+ghost use Rattle.std.specs.Prelude.{◌≡◌, ℕ, ◌<◌, ◌++◌, ◌∷◌, [], List, length, map, IfOk, OnOk, slice_index, slice_set};
+ghost use Rattle.proto.specs.Cache.{empty_cache};
+ghost use Rattle.script.specs.declared.event.ScriptEvent.{ScriptEvent};
+ghost use Rattle.script.specs.Events.{IsPlayable, MayFollow};
+ghost use Rattle.script.specs.declared.sequential_session.SequentialSession.{SequentialSession};
+ghost use Rattle.script.specs.SequentialSessions.{Setup, Feeds};
+ghost use Rattle.script.specs.SequentialReplays.{FeedsAt, IsSessionAt, IsReplay, IsRising, RunsEvent, numbers_of, output_of};
+
+use crate::executor::Executor;
+use crate::sequential_session::SequentialSession;
+use crate::{ScriptClock, ScriptEvent};
+use engine::StorageEngine;
+use proto::{ByteString, NoMemory};
+use std::alloc::Global;
+
+/// A session, and all bytes that it was given.
+#[derive(Debug, Drop)]
+pub struct SessionOutput {
+    pub session: u64,
+    pub output: ByteString,
+}
+
+/// The place of the session with this number.
+fn place_of(sessions: &[SequentialSession], number: u64) -> Option<usize>
+    requires { IsRising (numbers_of sessions.now) }
+    ensures { IsSessionAt sessions.now number result }
+{
+    match sessions.binary_search_by_key(&number, |session| session.number) {
+        Ok(at) => Some(at),
+        Err(_) => None,
+    }
+}
+
+/// Feeds the session at a place.
+fn feed_at<E: StorageEngine + Drop>(
+    alloc: Global,
+    executor: &mut Executor<E>,
+    sessions: &mut Vec<SequentialSession>,
+    at: usize,
+    piece: &[u8],
+) -> Result<(), NoMemory>
+    requires { at < length sessions.old.items }
+    ensures { OnOk result (FeedsAt sessions.old.items at executor.old piece.now sessions.new.items executor.new) }
+{
+    sessions[at].feed(alloc, executor, piece)
+}
+
+/// Plays the next event.
+fn play<E: StorageEngine + Drop>(
+    alloc: Global,
+    executor: &mut Executor<E>,
+    sessions: &mut Vec<SequentialSession>,
+    event: &ScriptEvent,
+) -> Result<(), NoMemory>
+    requires { IsRising (numbers_of sessions.old.items) }
+    ensures { OnOk result (RunsEvent executor.old sessions.old.items event.now executor.new sessions.new.items) }
+{
+    match event {
+        ScriptEvent::Open(number) => sessions.push(SequentialSession::new(alloc, *number))?,
+        ScriptEvent::Send(number, bytes) => {
+            if let Some(at) = place_of(sessions.as_slice(), *number) {
+                feed_at(alloc, executor, sessions, at, bytes.as_slice())?;
+            }
+        }
+        ScriptEvent::Gone(_) => {}
+    }
+    Ok(())
+}
+
+/// What the sessions were given.
+fn outputs(alloc: Global, sessions: Vec<SequentialSession>) -> Result<Vec<SessionOutput>, NoMemory>
+    ensures { IfOk result (λ given. given.items ≡ map output_of sessions.items) }
+{
+    let mut given = Vec::with_capacity(alloc, sessions.len())?;
+    for session in sessions {
+        given.push(SessionOutput {
+            session: session.number,
+            output: ByteString::from_vec(session.output),
+        })?;
+    }
+    Ok(given)
+}
+
+/// Runs the events of one worker, in order, on one thread: what of a session is whole is executed and
+/// answered before the next event. The store is new. Gives each session that was opened, in order of its
+/// number, with all bytes that it was given.
+pub fn replay_sequentially<E: StorageEngine + Drop>(
+    alloc: Global,
+    store: E,
+    clock: ScriptClock,
+    events: &[ScriptEvent],
+) -> Result<Vec<SessionOutput>, NoMemory>
+    requires playable { IsPlayable events.now }
+    requires no_entry { E.cache store ≡ empty_cache 0 }
+    requires no_request { E.moment store ≡ 0 }
+    ensures { IfOk result (λ given. IsReplay (E.sizes store) clock events.now given.items) }
+{
+    let mut executor = Executor::new(store, clock);
+    let mut sessions = Vec::new(alloc);
+    for event in events {
+        play(alloc, &mut executor, &mut sessions, event)?;
+    }
+    outputs(alloc, sessions)
+}

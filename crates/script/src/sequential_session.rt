@@ -1,0 +1,109 @@
+//! One session of a run.
+
+ghost use Rattle.std.specs.Prelude.{◌≡◌, ℕ, ◌≤◌, [], false, length, take, drop, IfOk, OnOk};
+ghost use Rattle.proto.specs.Grammar.{SpellsNone};
+ghost use Rattle.proto.specs.Reading.{ends_session};
+ghost use Rattle.script.specs.SequentialSessions.{AnswersNext, AnswersAll, IsNew, Feeds};
+
+use crate::executor::Executor;
+use engine::StorageEngine;
+use proto::{Message, Next, NoMemory, next_message};
+use std::alloc::Global;
+
+/// Whether nothing of the session is read after the message.
+fn ends(message: &Message) -> bool
+    ensures { result ≡ ends_session message.now }
+{
+    match message {
+        Message::Quit | Message::Fatal(_) => true,
+        Message::Ask(_, _) | Message::Wrong(_) => false,
+    }
+}
+
+/// Reads and answers the message with which the bytes begin, if there is one. It says how many bytes it
+/// has, and whether it ends the session.
+fn answer_next<E: StorageEngine + Drop>(
+    alloc: Global,
+    executor: &mut Executor<E>,
+    unread: &[u8],
+    output: &mut Vec<u8>,
+) -> Result<Option<(usize, bool)>, NoMemory>
+    ensures { IfOk result (λ found. AnswersNext executor.old unread.now found executor.new output.old.items output.new.items) }
+{
+    match next_message(alloc, unread)? {
+        Next::More => Ok(None),
+        Next::Found(mut message, length) => {
+            let answered = executor.answer(&mut message, output);
+            let ended = ends(&message);
+            drop(message);
+            answered?;
+            Ok(Some((length, ended)))
+        }
+    }
+}
+
+/// Reads and answers the messages with which the bytes begin. It says how many bytes they have, and
+/// whether the last one ended the session.
+fn answer_all<E: StorageEngine + Drop>(
+    alloc: Global,
+    executor: &mut Executor<E>,
+    unread: &[u8],
+    output: &mut Vec<u8>,
+) -> Result<(usize, bool), NoMemory>
+    ensures answered { IfOk result (λ r. AnswersAll executor.old unread.now r.0 r.1 executor.new output.old.items output.new.items) }
+    ensures within { IfOk result (λ r. r.0 ≤ length unread.now) }
+    ensures more { IfOk result (λ r. r.1 ≡ false → SpellsNone (drop r.0 unread.now)) }
+{
+    let mut taken = 0;
+    while let Some((length, ended)) = answer_next(alloc, executor, &unread[taken..], output)? {
+        taken += length;
+        if ended {
+            return Ok((taken, true));
+        }
+    }
+    Ok((taken, false))
+}
+
+/// A session: what it sent and wasn't read yet, and what it was answered.
+#[derive(Debug, Drop)]
+pub struct SequentialSession {
+    pub number: u64,
+    pub unread: Vec<u8>,
+    pub output: Vec<u8>,
+    /// Whether it has quit or sent a fatal line.
+    pub ended: bool,
+}
+
+impl SequentialSession {
+    pub fn new(alloc: Global, number: u64) -> SequentialSession
+        ensures { IsNew number result }
+    {
+        SequentialSession {
+            number,
+            unread: Vec::new(alloc),
+            output: Vec::new(alloc),
+            ended: false,
+        }
+    }
+
+    /// Takes further bytes of the session, and executes and answers what is whole now.
+    pub fn feed<E: StorageEngine + Drop>(
+        &mut self,
+        alloc: Global,
+        executor: &mut Executor<E>,
+        piece: &[u8],
+    ) -> Result<(), NoMemory>
+        ensures { OnOk result (Feeds self.old executor.old piece.now self.new executor.new) }
+    {
+        if self.ended {
+            return Ok(());
+        }
+        self.unread.extend_from_slice(piece)?;
+        let (taken, ended) = answer_all(alloc, executor, self.unread.as_slice(), &mut self.output)?;
+        self.ended = ended;
+        if taken > 0 {
+            self.unread = Vec::from_slice(alloc, &self.unread[taken..])?;
+        }
+        Ok(())
+    }
+}

@@ -1,0 +1,178 @@
+//! The sessions that a port has opened.
+
+ghost use Rattle.std.specs.Prelude.{◌≡◌, ℕ, ◌+◌, ◌<◌, [], ◌∷◌, ◌++◌, length, map, true, false, Some, None, option_map};
+ghost use Rattle.std.specs.Prelude.{MatchOption, OnOk, OnErr, slice_index_or, if◌then◌else◌};
+ghost use Rattle.script.specs.PortSessions.{ScriptSessionState, numbers, RisesFrom, newest, session_entry};
+ghost use Rattle.script.specs.PortSessions.{is_session_open, ChangesAt, with_stage, IsPlaceOf, is_closed, AcceptsAt};
+
+use crate::stage::Stage;
+use std::alloc::{AllocError, Global};
+use std::marker::Model;
+
+/// A session that was opened.
+#[derive(Drop)]
+pub struct ScriptSession {
+    number: u64,
+    stage: Stage,
+    output: Vec<u8>,
+}
+
+impl Model for ScriptSession {
+    ghost use Rattle.script.specs.PortSessions.{ScriptSessionState};
+
+    ghost Value = { ScriptSessionState };
+
+    ghost view = { λ s. record { number = s.number; stage = s.stage; output = s.output.items } };
+}
+
+impl ScriptSession {
+    fn new(alloc: Global, number: u64) -> ScriptSession
+        ensures { result ≡ record { number = number; stage = Stage.Playing; output = [] } }
+    {
+        ScriptSession {
+            number,
+            stage: Stage::Playing,
+            output: Vec::new(alloc),
+        }
+    }
+
+    pub fn number(&self) -> u64
+        ensures { result ≡ self.now.number }
+    {
+        self.number
+    }
+
+    /// The bytes that it was given.
+    pub fn given(&self) -> &[u8]
+        ensures { result.now ≡ self.now.output }
+    {
+        self.output.as_slice()
+    }
+
+    pub(crate) fn stage(&self) -> Stage
+        ensures { result ≡ self.now.stage }
+    {
+        self.stage
+    }
+
+    fn set_stage(&mut self, stage: Stage)
+        ensures { self.new ≡ record self.old { stage = stage } }
+    {
+        self.stage = stage;
+    }
+
+    fn accept(&mut self, bytes: &[u8]) -> Result<(), AllocError>
+        ensures ok { OnOk result (self.new ≡ record self.old { output = self.old.output ++ bytes.now }) }
+        ensures err { OnErr result (self.new ≡ self.old) }
+    {
+        self.output.extend_from_slice(bytes)
+    }
+}
+
+/// The sessions, by rising numbers.
+#[derive(Drop)]
+pub(crate) struct Sessions {
+    alloc: Global,
+    entries: Vec<ScriptSession>,
+}
+
+impl Model for Sessions {
+    ghost use Rattle.std.specs.Prelude.{List};
+    ghost use Rattle.script.specs.PortSessions.{ScriptSessionState, RisesFrom, numbers};
+
+    ghost Value = { List ScriptSessionState };
+
+    ghost view = { λ s. s.entries.items };
+
+    ghost invariant = { λ s. RisesFrom 0 (numbers s.entries.items) };
+}
+
+// The place of the session with this number.
+fn place_of(sessions: &[ScriptSession], number: u64) -> Option<usize>
+    requires { RisesFrom 0 (numbers sessions.now) }
+    ensures { IsPlaceOf sessions.now number result }
+{
+    let at = sessions.partition_point(|session| session.number() < number);
+    if at < sessions.len() && sessions[at].number() == number {
+        Some(at)
+    } else {
+        None
+    }
+}
+
+impl Sessions {
+    pub(crate) fn new(alloc: Global) -> Sessions
+        ensures { result ≡ [] }
+    {
+        Sessions {
+            alloc,
+            entries: Vec::new(alloc),
+        }
+    }
+
+    pub(crate) fn as_slice(&self) -> &[ScriptSession]
+        ensures { result.now ≡ self.now }
+    {
+        self.entries.as_slice()
+    }
+
+    /// The session with this number.
+    pub(crate) fn get(&self, number: u64) -> Option<&ScriptSession>
+        ensures { MatchOption result (session_entry self.now number ≡ None) (λ s. session_entry self.now number ≡ Some s.now) }
+    {
+        let at = place_of(self.entries.as_slice(), number)?;
+        Some(&self.entries[at])
+    }
+
+    /// The number that was opened last, 0 before the first.
+    pub(crate) fn newest(&self) -> u64
+        ensures { result ≡ newest self.now }
+    {
+        match self.entries.last() {
+            Some(session) => session.number(),
+            None => 0,
+        }
+    }
+
+    /// Adds a session, or changes nothing.
+    pub(crate) fn open(&mut self, number: u64) -> Result<(), AllocError>
+        requires { newest self.old < number }
+        ensures ok { OnOk result (self.new ≡ self.old ++ (record { number = number; stage = Stage.Playing; output = [] }) ∷ []) }
+        ensures err { OnErr result (self.new ≡ self.old) }
+    {
+        self.entries.reserve(1)?;
+        self.entries
+            .push_reserved(ScriptSession::new(self.alloc, number));
+        Ok(())
+    }
+
+    /// Writes what becomes of a session. False where it isn't open, and then nothing changes.
+    pub(crate) fn change(&mut self, number: u64, stage: Stage) -> bool
+        ensures open { result ≡ is_session_open self.old number }
+        ensures changes { result ≡ true → ChangesAt self.old number (with_stage stage) self.new }
+        ensures same { result ≡ false → self.new ≡ self.old }
+    {
+        let Some(at) = place_of(self.entries.as_slice(), number) else {
+            return false;
+        };
+        if self.entries[at].stage().is_closed() {
+            return false;
+        }
+        self.entries[at].set_stage(stage);
+        true
+    }
+
+    /// Keeps bytes that were accepted for an open session, or changes nothing.
+    pub(crate) fn accept(&mut self, number: u64, bytes: &[u8]) -> Result<(), AllocError>
+        ensures ok { OnOk result (AcceptsAt self.old number bytes.now self.new) }
+        ensures err { OnErr result (self.new ≡ self.old) }
+    {
+        let Some(at) = place_of(self.entries.as_slice(), number) else {
+            return Err(AllocError);
+        };
+        if self.entries[at].stage().is_closed() {
+            return Err(AllocError);
+        }
+        self.entries[at].accept(bytes)
+    }
+}

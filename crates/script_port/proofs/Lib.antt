@@ -1,9 +1,0 @@
-pub mod SessionLemmas
-pub mod EventLemmas
-pub mod RemainingLemmas
-pub mod PlayerLemmas
-pub mod StepLemmas
-pub mod ToldLemmas
-pub mod FollowLemmas
-pub mod PlayedLemmas
-pub mod HeldLemmas

@@ -1,0 +1,98 @@
+-- What an engine's request leaves, read as what it does to the segments.
+use Rattle.std.proofs.Common.{◌≡◌, ℕ, false, List, Option, Some, None, refl, sym, ap, subst, ◌∙◌, inl, inr}
+use Rattle.proto.specs.declared.message.Request.{Request}
+use Rattle.proto.specs.declared.message.Reply.{Reply}
+use Rattle.proto.specs.declared.message.Reply.TheVariants.{Stored, NotStored, Exists, NotFound, Values, Deleted, Number, Flushed, TooLarge, NoMemory}
+use Rattle.proto.specs.declared.message.Reply.TheVariants.{NotNumber, NoCas}
+use Rattle.proto.specs.Cache.{Cache}
+use Rattle.proto.specs.Commands.{Outcome}
+use Rattle.proto.specs.Steps.{has_hits}
+use Rattle.segments.specs.declared.place.Place.{Place}
+use Rattle.engine.specs.declared.commands.Engine.{Engine}
+use Rattle.engine.specs.declared.live_map.LiveMap.{Ghosts as MapOf}
+use Rattle.engine.specs.Outcomes.{outcome_at}
+use Rattle.engine.specs.Counting.{CountsShown}
+use Rattle.engine.specs.Engines.{Changes, IsHandled}
+use Rattle.segcache.specs.declared.segment_map.SegmentMap.{SegmentMap}
+use Rattle.segcache.specs.Shown.{shown_entries}
+use Rattle.segcache.specs.State.{MapState, IsSegmentedMap}
+use Rattle.segcache.specs.StoreState.{sizes_in, segmented_cache}
+use Rattle.segcache.specs.Writes.{StandsAt, WritesToSegments, IsReadAgain, HasSamePool}
+use Rattle.segcache.specs.Keeping.{KeepsStored}
+use Rattle.segcache.specs.Handling.{LeavesSegments, HandlesSegments}
+use Rattle.segcache.specs.Handling.LeavesSegments.{writes, reads, stays, refuses}
+
+-- the members of a segmented map
+abbrev pub members : MapOf SegmentMap Place
+members =
+    record {
+      sizes = λ m. m.pool.sizes;
+      entries = λ m. shown_entries m.pool m.index m.moment;
+      moment = λ m. m.moment;
+      may_refuse = false;
+      stands = StandsAt;
+      writes = WritesToSegments;
+      reads = IsReadAgain;
+      alike = HasSamePool;
+      keeps = KeepsStored;
+    }
+
+-- a reply without hits leaves the pool, and one with hits counts their reads
+shown_by : (found : MapState) (done : Outcome) (after : MapState) (r : Reply) → IsSegmentedMap found
+    → done.stored ≡ None → done.reply ≡ r
+    → CountsShown IsReadAgain HasSamePool found r after → LeavesSegments found done after done.reply
+shown_by found done after (Values hits) kept none e counts = reads hits none e counts
+shown_by found done after Stored kept none e alike =
+    stays none (ap has_hits e) (alike found (record { pool = refl; kept = kept })).pool
+shown_by found done after NotStored kept none e alike =
+    stays none (ap has_hits e) (alike found (record { pool = refl; kept = kept })).pool
+shown_by found done after Exists kept none e alike =
+    stays none (ap has_hits e) (alike found (record { pool = refl; kept = kept })).pool
+shown_by found done after NotFound kept none e alike =
+    stays none (ap has_hits e) (alike found (record { pool = refl; kept = kept })).pool
+shown_by found done after Deleted kept none e alike =
+    stays none (ap has_hits e) (alike found (record { pool = refl; kept = kept })).pool
+shown_by found done after (Number n) kept none e alike =
+    stays none (ap has_hits e) (alike found (record { pool = refl; kept = kept })).pool
+shown_by found done after Flushed kept none e alike =
+    stays none (ap has_hits e) (alike found (record { pool = refl; kept = kept })).pool
+shown_by found done after TooLarge kept none e alike =
+    stays none (ap has_hits e) (alike found (record { pool = refl; kept = kept })).pool
+shown_by found done after NoMemory kept none e alike =
+    stays none (ap has_hits e) (alike found (record { pool = refl; kept = kept })).pool
+shown_by found done after NotNumber kept none e alike =
+    stays none (ap has_hits e) (alike found (record { pool = refl; kept = kept })).pool
+shown_by found done after NoCas kept none e alike =
+    stays none (ap has_hits e) (alike found (record { pool = refl; kept = kept })).pool
+
+-- what was asked for is written, or nothing is
+changed_by : (found : MapState) (done : Outcome) (after : MapState) (stored : Option (List ℕ)) → IsSegmentedMap found
+    → done.stored ≡ stored
+    → Changes members found done stored after → LeavesSegments found done after done.reply
+changed_by found done after None kept e is = shown_by found done after done.reply kept e refl is.shown
+changed_by found done after (Some key) kept e s = writes key s.entry e s.asked_is s.exactly
+
+-- what an engine over segments handles
+pub handles_segments : (before : Engine SegmentMap) (t : ℕ) (q : Request) (reply : Reply) (after : Engine SegmentMap)
+    → IsHandled members before t q reply after
+    → HandlesSegments before t q reply after
+handles_segments before t q reply after h =
+    let found = h.found.map in
+    let done = outcome_at (sizes_in before) (segmented_cache before) t q in
+    let kept = h.alike.kept in
+    record {
+      found = found;
+      is_found = record {
+        pool = h.alike.pool;
+        kept = kept;
+        moment = h.moment_is;
+        entries = ap (shown_entries found.pool found.index) (sym h.moment_is)
+            ∙ ap (λ (c : Cache). c.entries) h.found_is;
+      };
+      leaves = elim h.leaves.gives [
+        | inl d ↦ subst (LeavesSegments found done after.map) (sym d.reply_is)
+            (changed_by found done after.map done.stored kept refl d.changes)
+        | inr d ↦ subst (LeavesSegments found done after.map) (sym d.reply_is)
+            (refuses (d.alike found (record { pool = refl; kept = kept })).pool)
+      ];
+    }

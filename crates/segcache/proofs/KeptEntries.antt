@@ -1,0 +1,212 @@
+-- What a segmented map keeps of what was stored, where an entry is written, and where items leave or are read.
+use Rattle.std.proofs.Common.{◌≡◌, ℕ, ◌≤◌, Bool, true, false, cond, List, [], Option, Some, None, refl, sym, ap, subst, ◌∙◌, inl, inr, arith, le-leb}
+use Rattle.std.specs.Prelude.{◌==◌, option_map, IsSome}
+use Rattle.std.specs.Option.{option_map_or}
+use Rattle.std.specs.FinMap as finite
+use Rattle.std.proofs.lemmas.Bool.{cases_Bool, eq-eqb}
+use Rattle.std.proofs.lemmas.Option.{none-some}
+use Rattle.proto.specs.Sizes.{Sizes, item_limit}
+use Rattle.proto.specs.Buckets.{bucket_of, time_to_live, MayLive}
+use Rattle.proto.proofs.StepLemmas.{get-stored}
+use Rattle.proto.specs.Cache.{Entry, Entries, is_live, entry_size}
+use Rattle.proto.specs.Steps as steps
+use Rattle.proto.specs.Stored.{StoredItem, written}
+use Rattle.proto.proofs.CacheLemmas.{if_live}
+use Rattle.engine.specs.Keeping.{StaysKept, AddsNoDeadline, KeepsEntry}
+use Rattle.segments.specs.declared.place.Place.{Place}
+use Rattle.segments.specs.Items.{Item, IsStorable}
+use Rattle.segments.specs.Pools.{PoolState, IsPool, Used, Liveness, item_in, place_deadline, deadline_in, segment_at, lasting}
+use Rattle.segments.specs.Changes.{read_in, touched, new_pool}
+use Rattle.segments.specs.Filling.{IsFilled, held_size}
+use Rattle.segments.proofs.Places.{appended, touched_segment}
+use Rattle.segments.proofs.FilledLemmas.{filled_touched}
+use Rattle.index.specs.Table.{Places}
+use Rattle.segcache.specs.Shown.{current, shown_entries, live_entries, entry_at, kept_entry, gone}
+use Rattle.segcache.specs.State.{MapState}
+use Rattle.segcache.specs.Kept.{IsPast}
+use Rattle.segcache.specs.Living.{live_others}
+use Rattle.segcache.specs.Writes.{unread, WritesToSegments}
+use Rattle.segcache.specs.Forgetting.{PlacesItem, keys_forgotten}
+use Rattle.segcache.specs.Keeping.{AllLast, KeepsStored}
+use Rattle.segcache.proofs.Showing.{get-live_in, entry_is}
+use Rattle.segcache.proofs.Appending.{appended_here}
+use Rattle.segcache.proofs.Keeping.{kept_with, holds_little, written_more, all_last, last_appended}
+use Rattle.segments.proofs.MarkedPlaces.{nothing_at}
+
+-- ---- no entry has a deadline where all segments are of the bucket of what has none
+
+-- a segment of the bucket of what has no deadline has none, nor has a free one
+undated_segment : (o : Option Used) → ((u : Used) → o ≡ Some u → u.bucket ≡ lasting) → deadline_in o ≡ None
+undated_segment None all = refl
+undated_segment (Some u) all = let z = eq-eqb u.bucket lasting (all u refl) in rw z refl
+
+-- where all segments are of that bucket, no place has a deadline
+undated_place : (p : PoolState) (r : Place) → AllLast p → place_deadline p r ≡ None
+undated_place p r all = undated_segment (segment_at p r.segment) (all r.segment)
+
+-- the deadline of an entry, none where there is no entry
+abbrev asked_at : Option Entry → Option ℕ
+asked_at o = option_map_or (λ (e : Entry). e.deadline) o None
+
+-- what is shown of a place without a deadline has none either; where no item stands there, nothing is shown
+undated_item : (t : ℕ) (d : Option ℕ) (o : Option Item) → d ≡ None
+    → asked_at (if_live t (Some (option_map_or (kept_entry d) o gone))) ≡ None
+undated_item t d None none = let z = le-leb 0 t (omega arith) in rw z refl
+undated_item t d (Some i) none = by_test (is_live (kept_entry d i) t)
+  where
+    by_test : (b : Bool) → asked_at (cond b (Some (kept_entry d i)) None) ≡ None
+    by_test true = none
+    by_test false = refl
+
+-- where all segments are of that bucket, what is shown of a place, if there is one, has no deadline
+undated_entry : (p : PoolState) (t : ℕ) (o : Option Place) → AllLast p
+    → asked_at (if_live t (option_map (entry_at p) o)) ≡ None
+unfolding entry_at
+undated_entry p t None all = refl
+undated_entry p t (Some r) all = undated_item t (place_deadline p r) (item_in p r) (undated_place p r all)
+
+-- where all segments are of that bucket, no key is shown with a deadline
+undated_shown : (p : PoolState) (m : Places) (t : ℕ) (key : List ℕ) → AllLast p
+    → steps.deadline_at (live_entries p m t) key ≡ None
+undated_shown p m t key all = ap asked_at (get-live_in p m t key) ∙ undated_entry p t (finite.get m key) all
+
+-- so an entry that is written has none either
+adds_none : (p : PoolState) (m : Places) (t : ℕ) (key : List ℕ) (e : Entry) → AllLast p
+    → AddsNoDeadline (live_entries p m t) key e → e.deadline ≡ None
+adds_none p m t key e all (inl none) = none
+adds_none p m t key e all (inr same) = same ∙ undated_shown p m t key all
+
+-- ---- one write
+
+-- the entry of an item that was appended, in a pool without deadlines
+entry_there : (after : PoolState) (place : Place) (key : List ℕ) (e : Entry)
+    → item_in after place ≡ Some (unread key e) → AllLast after → e.deadline ≡ None → entry_at after place ≡ e
+entry_there after place key e here all none =
+    entry_is after place (unread key e) here
+    ∙ ap (λ (d : Option ℕ). kept_entry d (unread key e)) (undated_place after place all ∙ sym none)
+
+-- An entry that is written where little is stored, and nothing with a deadline, is kept with what was.
+pub keeps_entry : (lives : Liveness) (old new : MapState) (key : List ℕ) (e : Entry) → IsPool old.pool
+    → IsPast old.pool old.moment
+    → IsStorable (item_limit old.pool.sizes) (unread key e)
+    → new.moment ≡ old.moment
+    → PlacesItem lives old.pool old.index (bucket_of (time_to_live e.deadline old.moment)) old.moment
+    (unread key e) new.pool new.index
+    → KeepsEntry (λ (m : MapState). m.pool.sizes) (λ (m : MapState). shown_entries m.pool m.index m.moment)
+    (λ (m : MapState). m.moment) KeepsStored old key e new
+keeps_entry lives old new key e pool past storable moment placed items keeps adds within =
+    let p = old.pool in
+    let left = old.index in
+    let t = old.moment in
+    let none : e.deadline ≡ None = adds_none p (current p old.index) t key e keeps.all_last adds in
+    let bucket : bucket_of (time_to_live e.deadline t) ≡ lasting =
+    ap (λ (d : Option ℕ). bucket_of (time_to_live d t)) none in
+    let one : StoredItem = record { size = entry_size key e; bucket = bucket_of (time_to_live e.deadline t) } in
+    let i = unread key e in
+    let little = holds_little p t items one pool keeps.all_last keeps.undated bucket keeps.held within in
+    let x : PlacesItem lives p left lasting t i new.pool new.index =
+    subst (λ (b : ℕ). PlacesItem lives p left b t i new.pool new.index) bucket placed in
+    let kept = kept_with lives p left lasting t i new.pool new.index pool past storable keeps.filled little x in
+    let all = last_appended p t i new.pool x.place pool past kept.added keeps.all_last in
+    let here = appended_here p new.pool lasting t i x.place (appended p lasting t i new.pool x.place pool kept.added) in
+    let is = entry_there new.pool x.place key e here all none in
+    let held = kept.held in
+    let more = written_more items one in
+    let was = keeps.held in (
+      ap (λ (u : ℕ). shown_entries new.pool new.index u) moment ∙ kept.entries
+          ∙ ap (finite.insert (shown_entries p left t) key) is,
+      record {
+        filled = kept.filled;
+        all_last = all;
+        undated = all_last items one keeps.undated bucket;
+        held = omega arith;
+      },
+    )
+
+-- what two maps have at one key, put into them to the same end, is the same
+same_put : (all m n : Entries) (key : List ℕ) (a b : Entry) → all ≡ finite.insert m key a
+    → all ≡ finite.insert n key b → a ≡ b
+same_put all m n key a b one other =
+    let first : finite.get all key ≡ Some a = ap (λ (x : Entries). finite.get x key) one ∙ get-stored m key a in
+    let second : finite.get all key ≡ Some b = ap (λ (x : Entries). finite.get x key) other ∙ get-stored n key b in
+    let same : Some a ≡ Some b = sym first ∙ second in
+    cc
+
+-- An item that was placed is that of the entry, with the deadline that is shown.
+pub writes_to_segments : (old new : MapState) (key : List ℕ) (e : Entry)
+    → IsStorable (item_limit old.pool.sizes) (unread key e)
+    → PlacesItem (live_others key old.marks old.moment) old.pool old.index
+    (bucket_of (time_to_live e.deadline old.moment)) old.moment (unread key e) new.pool new.index
+    → (deadline : Option ℕ) → MayLive old.moment e.deadline deadline → (kept : Entries)
+    → shown_entries new.pool new.index old.moment ≡ finite.insert kept key (kept_entry deadline (unread key e))
+    → WritesToSegments old key e new
+writes_to_segments old new key e storable placed deadline may kept entries =
+    let lives = live_others key old.marks old.moment in
+    let bucket = bucket_of (time_to_live e.deadline old.moment) in
+    let keys = keys_forgotten lives old.pool bucket old.moment
+    (unread key e) placed.written.roomy placed.written.room in
+    record {
+      storable = storable;
+      placed = placed;
+      deadline = deadline;
+      may_live = may;
+      stands = same_put (shown_entries new.pool new.index old.moment)
+          (steps.without (shown_entries old.pool old.index old.moment) keys) kept key
+          (entry_at new.pool placed.place)
+          (kept_entry deadline (unread key e)) placed.entries entries;
+    }
+
+-- ---- what else happens to a map
+
+-- a segment of the bucket of what has no deadline is still of it when one of its items has been read
+same_bucket : (offset : ℕ) (o : Option Used) (u : Used) → option_map (read_in offset) o ≡ Some u
+    → ((s : Used) → o ≡ Some s → s.bucket ≡ lasting) → u.bucket ≡ lasting
+same_bucket offset None u e all = absurd (none-some u e)
+same_bucket offset (Some s) u e all = (let f : read_in offset s ≡ u = cc in
+    sym (ap (λ (x : Used). x.bucket) f) ∙ all s refl)
+
+-- a read keeps what was kept
+pub keeps_read : (old new : MapState) (place : Place) → IsSome (item_in old.pool place)
+    → new.pool ≡ touched old.pool place
+    → StaysKept KeepsStored old new
+keeps_read old new place some is items keeps =
+    let p = old.pool in
+    let read = filled_touched p place keeps.filled in
+    let held = read.1 in
+    let was = keeps.held in
+    let size : held_size new.pool ≡ held_size (touched p place) = ap held_size is in
+    record {
+      filled = subst IsFilled (sym is) read.0;
+      all_last = λ n u e.
+          (let at = touched_segment p place n some in
+          let now : segment_at (touched p place) n ≡ Some u = ap (λ (q : PoolState). segment_at q n) (sym is) ∙ e in
+          elim (cases_Bool (n == place.segment)) [
+            | inl y ↦ same_bucket place.offset (segment_at p place.segment) u (sym (at ∙ rw y refl) ∙ now)
+                (keeps.all_last place.segment)
+            | inr f ↦ keeps.all_last n u (sym (at ∙ rw f refl) ∙ now)
+          ]);
+      undated = keeps.undated;
+      held = omega arith;
+    }
+
+-- where the pool stays, all is kept
+pub keeps_same : (old new : MapState) → new.pool ≡ old.pool → StaysKept KeepsStored old new
+keeps_same old new is items keeps =
+    record {
+      filled = subst IsFilled (sym is) keeps.filled;
+      all_last = subst AllLast (sym is) keeps.all_last;
+      undated = keeps.undated;
+      held = subst (λ (q : PoolState). held_size q ≤ written items) (sym is) keeps.held;
+    }
+
+-- an empty pool keeps nothing
+pub keeps_none : (m : MapState) (sizes : Sizes) → m.pool ≡ new_pool sizes → KeepsStored m []
+unfolding new_pool
+keeps_none m sizes is =
+    subst (λ (q : PoolState). KeepsStored (record m { pool = q }) []) (sym is)
+    (record {
+      filled = tt;
+      all_last = λ n u e. absurd (none-some u (sym (nothing_at None sizes.segments n) ∙ e));
+      undated = tt;
+      held = omega arith;
+    })

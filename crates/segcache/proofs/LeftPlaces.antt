@@ -1,0 +1,202 @@
+-- Items of a segment that leave one after the other, segments whose items leave, and all items at once.
+use Rattle.std.proofs.Common.{◌≡◌, ◌≢◌, ℕ, ◌+◌, ◌<◌, ◌≤◌, Bool, true, false, List, [], ◌∷◌, get_or, Some, refl, sym, ap, subst, ◌∙◌, inl, inr, arith}
+use Rattle.std.specs.Prelude.{All}
+use Rattle.std.specs.List.{list_any}
+use Rattle.std.specs.FinMap as finite
+use Rattle.std.proofs.lemmas.Bool.{cases_Bool, cases_eq, false≢true}
+use Rattle.std.proofs.lemmas.List.Folds.{list_any_at}
+use Rattle.std.proofs.lemmas.List.Elements.{All-head, All-tail}
+use Rattle.segments.specs.declared.place.Place.{Place}
+use Rattle.segments.specs.Items.{Item}
+use Rattle.segments.specs.Pools.{PoolState, Standing, item_in, items_of, segment_at, standing, deadline_in, place_deadline}
+use Rattle.proto.specs.Cache.{has_arrived}
+use Rattle.segments.specs.Places.{same_place}
+use Rattle.segments.proofs.Places.{standing_by, mark_within}
+use Rattle.segments.proofs.MovedPlaces.{same_place_is, same_place_itself}
+use Rattle.segments.proofs.Agreeing.{in_segment}
+use Rattle.segments.proofs.PlanLemmas.{found_from}
+use Rattle.segments.specs.Marks.{Marks, is_marked}
+use Rattle.index.specs.Table.{Table, Places}
+use Rattle.segcache.specs.Shown.{current}
+use Rattle.segcache.specs.Kept.{IsTied}
+use Rattle.segcache.specs.Leaving.{HasLeft, HaveExpiredLeft}
+use Rattle.segcache.proofs.Tying.{current_item, removed_at, removed_other}
+
+-- whether a place is among those that are left of a walk
+abbrev pub is_left : List Standing → Place → Bool
+is_left left r = list_any (λ (s : Standing). same_place s.place r) left
+
+-- Of the keys of a segment those behind a point of a walk haven't left yet.
+pub record IsLeaving (p : PoolState) (n : ℕ) (old : Places) (index : Table) (t : Marks)
+    (left : List Standing) : Type 0 where
+  pub tied : IsTied p index t
+  pub before : (q : List ℕ) (r : Place) → finite.get (current p index) q ≡ Some r → finite.get old q ≡ Some r
+  pub others : (q : List ℕ) (r : Place) → finite.get old q ≡ Some r → r.segment ≢ n
+      → finite.get (current p index) q ≡ Some r
+  pub rest : (q : List ℕ) (r : Place) → finite.get (current p index) q ≡ Some r → r.segment ≡ n → is_left left r ≡ true
+  pub standing : All (λ (s : Standing). (s.place.segment ≡ n) × (item_in p s.place ≡ Some s.item)) left
+
+-- what a walk shows stands there
+pub standing_all : (p : PoolState) (n : ℕ)
+    → All (λ (s : Standing). (s.place.segment ≡ n) × (item_in p s.place ≡ Some s.item)) (standing p n)
+standing_all p n k d lt = (
+  in_segment n 0 (items_of (segment_at p n)) k d lt,
+  found_from p n [] (items_of (segment_at p n)) refl k d lt,
+)
+
+-- an item of a segment is one of those that a walk shows
+pub standing_left : (p : PoolState) (r : Place) (i : Item) → item_in p r ≡ Some i
+    → is_left (standing p r.segment) r ≡ true
+standing_left p r i e =
+    let w = standing_by r.segment 0 (items_of (segment_at p r.segment)) r.offset i e in
+    let zero_plus : 0 + r.offset ≡ r.offset = omega arith in
+    let d : Standing = record { place = record { segment = r.segment; offset = 0 }; item = i } in
+    let there : get_or (standing p r.segment) w.0 d ≡ record { place = r; item = i } = w.2
+    ∙ ap (λ x. record { place = record { segment = r.segment; offset = x }; item = i }) zero_plus in
+    list_any_at (λ (s : Standing). same_place s.place r) (standing p r.segment) w.0 d w.1
+    (ap (λ (s : Standing). same_place s.place r) there ∙ same_place_itself r)
+
+-- at the start of a walk through a segment none of its keys has left yet
+pub leaving_first : (p : PoolState) (n : ℕ) (index : Table) (t : Marks) (left : List Standing) → IsTied p index t
+    → left ≡ standing p n
+    → IsLeaving p n (current p index) index t left
+leaving_first p n index t left tied is =
+    record {
+      tied = tied;
+      before = λ q r h. h;
+      others = λ q r h ne. h;
+      rest = λ q r h e.
+          (let x = current_item p index q r h in
+          ap (λ (ss : List Standing). is_left ss r) (is ∙ ap (standing p) (sym e))
+          ∙ standing_left p r x.0 x.1);
+      standing = subst (All (λ (s : Standing). (s.place.segment ≡ n) × (item_in p s.place ≡ Some s.item))) (sym is)
+          (standing_all p n);
+    }
+
+-- the next item isn't current
+pub leaving_passed : (p : PoolState) (n : ℕ) (old : Places) (index : Table) (t : Marks) (s : Standing)
+    (left : List Standing)
+    → IsLeaving p n old index t (s ∷ left)
+    → is_marked t s.place ≡ false → IsLeaving p n old index t left
+leaving_passed p n old index t s left h free =
+    record {
+      tied = h.tied;
+      before = h.before;
+      others = h.others;
+      rest = λ q r e same.
+          elim (cases_Bool (same_place s.place r)) [
+            | inl y ↦ absurd (false≢true (sym free ∙ ap (is_marked t) (same_place_is s.place r y) ∙ h.tied.held q r e))
+            | inr f ↦ (let l : is_left (s ∷ left) r ≡ true = h.rest q r e same in rw f at l)
+          ];
+      standing = All-tail (λ (x : Standing). (x.place.segment ≡ n) × (item_in p x.place ≡ Some x.item)) s left
+          h.standing;
+    }
+
+-- the next item has left
+pub leaving_more : (p : PoolState) (n : ℕ) (old : Places) (index found : Table) (t u : Marks) (s : Standing)
+    (left : List Standing)
+    → IsLeaving p n old index t (s ∷ left)
+    → finite.get (current p index) s.item.key ≡ Some s.place
+    → IsTied p found u → current p found ≡ finite.remove (current p index) s.item.key → IsLeaving p n old found u left
+leaving_more p n old index found t u s left h there tied is =
+    let here = All-head (λ (x : Standing). (x.place.segment ≡ n) × (item_in p x.place ≡ Some x.item)) s left
+    h.standing in
+    record {
+      tied = tied;
+      before = λ q r e. h.before q r (removed_at (current p index) s.item.key q r
+          (ap (λ (m : Places). finite.get m q) (sym is) ∙ e)).1;
+      others = λ q r e ne.
+          (let was = h.others q r e ne in
+          ap (λ (m : Places). finite.get m q) is ∙ removed_other (current p index) s.item.key q r
+          (λ same. ne
+          (let one : Some r ≡ Some s.place = sym was ∙ ap (finite.get (current p index)) same ∙ there in
+          let e : r ≡ s.place = cc in ap (λ (x : Place). x.segment) e ∙ here.0)) was);
+      rest = λ q r e same.
+          (let was = removed_at (current p index) s.item.key q r (ap (λ (m : Places). finite.get m q) (sym is) ∙ e) in
+          elim (cases_Bool (same_place s.place r)) [
+            | inl y ↦
+                let x = current_item p index q r was.1 in
+                let one : Some x.0 ≡ Some s.item =
+                sym x.1 ∙ ap (item_in p) (sym (same_place_is s.place r y)) ∙ here.1 in
+                let key : x.0.key ≡ s.item.key = cc in
+                absurd (was.0 (sym x.2 ∙ key))
+            | inr f ↦ (let l : is_left (s ∷ left) r ≡ true = h.rest q r was.1 same in rw f at l)
+          ]);
+      standing = All-tail (λ (x : Standing). (x.place.segment ≡ n) × (item_in p x.place ≡ Some x.item)) s left
+          h.standing;
+    }
+
+-- at the end of the walk exactly the keys with a place in the segment have left
+pub has_left : (p : PoolState) (n : ℕ) (old : Places) (index : Table) (t : Marks) (left : List Standing)
+    → IsLeaving p n old index t left → left ≡ [] → HasLeft n old (current p index)
+has_left p n old index t left h none =
+    record {
+      before = h.before;
+      elsewhere = λ q r e same. false≢true (ap (λ (ss : List Standing). is_left ss r) (sym none) ∙ h.rest q r e same);
+      others = h.others;
+    }
+
+-- ---- segments whose deadline has come
+
+-- Of the segments before a number the keys have left whose deadline is at or before the moment t.
+pub record IsExpiring (p : PoolState) (t : ℕ) (old : Places) (index : Table) (marks : Marks) (n : ℕ) : Type 0 where
+  pub tied : IsTied p index marks
+  pub before : (q : List ℕ) (r : Place) → finite.get (current p index) q ≡ Some r → finite.get old q ≡ Some r
+  pub others : (q : List ℕ) (r : Place) → finite.get old q ≡ Some r → has_arrived (place_deadline p r) t ≡ false
+      → finite.get (current p index) q ≡ Some r
+  pub waiting : (q : List ℕ) (r : Place) → finite.get (current p index) q ≡ Some r → r.segment < n
+      → has_arrived (place_deadline p r) t ≡ false
+
+-- before the first segment no key has left yet
+pub expiring_first : (p : PoolState) (t : ℕ) (index : Table) (marks : Marks) → IsTied p index marks
+    → IsExpiring p t (current p index) index marks 0
+expiring_first p t index marks tied = record {
+  tied = tied;
+  before = λ q r h. h;
+  others = λ q r h w. h;
+  waiting = λ q r h lt. absurd (omega arith);
+}
+
+-- the deadline of the next segment hasn't come
+pub expiring_passed : (p : PoolState) (t : ℕ) (old : Places) (index : Table) (marks : Marks) (n : ℕ)
+    → IsExpiring p t old index marks n
+    → has_arrived (deadline_in (segment_at p n)) t ≡ false → IsExpiring p t old index marks (n + 1)
+expiring_passed p t old index marks n h waits =
+    record {
+      tied = h.tied;
+      before = h.before;
+      others = h.others;
+      waiting = λ q r e lt.
+          elim (cases_eq r.segment n) [
+            | inl same ↦ ap (λ m. has_arrived (deadline_in (segment_at p m)) t) same ∙ waits
+            | inr other ↦ h.waiting q r e (omega (arith, lt, other))
+          ];
+    }
+
+-- the keys of the next segment have left
+pub expiring_more : (p : PoolState) (t : ℕ) (old : Places) (index found : Table) (marks others : Marks) (n : ℕ)
+    → IsExpiring p t old index marks n
+    → has_arrived (deadline_in (segment_at p n)) t ≡ true → IsTied p found others
+    → HasLeft n (current p index) (current p found)
+    → IsExpiring p t old found others (n + 1)
+expiring_more p t old index found marks others n h arrived tied left =
+    record {
+      tied = tied;
+      before = λ q r e. h.before q r (left.before q r e);
+      others = λ q r e w. left.others q r (h.others q r e w)
+          (λ same. false≢true (sym w ∙ ap (λ m. has_arrived (deadline_in (segment_at p m)) t) same ∙ arrived));
+      waiting = λ q r e lt. (let ne = left.elsewhere q r e in
+          h.waiting q r (left.before q r e) (omega (arith, lt, ne)));
+    }
+
+-- behind the last segment exactly the keys have left whose deadline has come
+pub expired_left : (p : PoolState) (t : ℕ) (old : Places) (index : Table) (marks : Marks) (n : ℕ)
+    → IsExpiring p t old index marks n → p.sizes.segments ≤ n → HaveExpiredLeft p t old (current p index)
+expired_left p t old index marks n h le =
+    record {
+      before = h.before;
+      waiting = λ q r e.
+          (let x = current_item p index q r e in let lt = (mark_within p r x.0 h.tied.known.pool x.1).0 in
+          h.waiting q r e (omega (arith, lt, le)));
+      others = h.others;
+    }

@@ -1,0 +1,259 @@
+-- What a merge forgets, and that it makes room.
+use Rattle.std.proofs.Common.{◌≡◌, ℕ, ◌+◌, ◌*◌, ◌≤◌, Bool, true, false, List, [], ◌∷◌, length, map, Option, Some, None, refl, sym, ap, subst, ◌∙◌, inl, inr}
+use Rattle.std.proofs.Common.{arith}
+use Rattle.std.specs.Prelude.{IsTrue, IfSome, All, ◌||◌, not, is_some, filter, sum_by, option_map, option_and_then, ◌==◌, if◌then◌else◌}
+use Rattle.std.specs.List.{list_any}
+use Rattle.std.specs.FinMap as finite
+use Rattle.std.proofs.Math.Nat.{mul-le-mul_left}
+use Rattle.std.proofs.lemmas.Bool.{cases_Bool, false≢true, eq-eqb}
+use Rattle.std.proofs.lemmas.Option.{none-some}
+use Rattle.std.proofs.lemmas.List.{length-take}
+use Rattle.std.proofs.lemmas.List.Sums.{sum_by-cons, sum_by-append}
+use Rattle.std.proofs.lemmas.List.Elements.{All-nil, All-append, All-filter}
+use Rattle.segments.specs.declared.place.Place.{Place}
+use Rattle.segments.specs.declared.place.Move.{Move}
+use Rattle.segments.specs.Items.{Item, halved}
+use Rattle.segments.specs.Changes.{with_items}
+use Rattle.proto.specs.Counts.{times}
+use Rattle.segments.specs.Pools.{PoolState, Plan, IsPool, Used, Standing, segment_at, item_in, place_deadline, standing, live_standing}
+use Rattle.segments.specs.Places.{same_place, moved_by}
+use Rattle.segments.specs.Merges.{qualifies, front, merged_segments, merged_into, live_items, contains_number, carried_out, carried_items}
+use Rattle.segments.proofs.MovedPlaces.{moved_other, moved_live, live_source, sources_live, same_place_is, merged_front, merged_in_chain, merged_segment}
+use Rattle.segments.specs.Filling.{IsInOrder}
+use Rattle.segments.proofs.InTimeLemmas.{order_part, part_merged}
+use Rattle.segments.specs.Marks.{Marks, is_marked, lives_by}
+use Rattle.index.specs.Table.{Table}
+use Rattle.segcache.specs.Shown.{current, entry_at, kept_entry}
+use Rattle.segcache.specs.Kept.{IsTied, IsPast}
+use Rattle.segcache.specs.Room.{IsCrowded, IsRoomMade}
+use Rattle.segcache.proofs.Showing.{entry_is}
+use Rattle.segcache.proofs.Tying.{current_item}
+use Rattle.segcache.proofs.LeftPlaces.{is_left, standing_all}
+use Rattle.segcache.proofs.Evicting.{IsCurrent, HaveStayed, size_in, segment_sizes, evicted_kept, current_among}
+use Rattle.segcache.proofs.MergedMarks.{IsMergeFollowed}
+
+-- ---- when segments were opened
+
+-- a segment with other items has its moment
+filled_opened : (items : List Item) (o : Option Used) (u : Used) → option_map (with_items items) o ≡ Some u
+    → (s : Used) × (o ≡ Some s) × (u.opened ≡ s.opened)
+filled_opened items None u e = absurd (none-some u e)
+filled_opened items (Some s) u e = (
+  s,
+  refl,
+  (let f : with_items items s ≡ u = cc in sym (ap (λ (x : Used). x.opened) f)),
+)
+
+-- a segment that stays, or becomes another one with other items, unless it is freed, was opened by a moment by which both were
+opened_by : (c e : Bool) (items : List Item) (f o : Option Used) (t : ℕ) (u : Used)
+    → (if c then None else (if e then option_map (with_items items) f else o)) ≡ Some u
+    → ((s : Used) → f ≡ Some s → s.opened ≤ t) → ((s : Used) → o ≡ Some s → s.opened ≤ t) → u.opened ≤ t
+opened_by true e items f o t u h a b = absurd (none-some u h)
+opened_by false true items f o t u h a b = let r = filled_opened items f u h in
+    subst (λ (x : ℕ). x ≤ t) (sym r.2) (a r.0 r.1)
+opened_by false false items f o t u h a b = b u h
+
+-- no segment gets another moment
+past_merged : (p : PoolState) (plan : Plan) (after : PoolState) (t : ℕ) → IsTrue (qualifies p plan.bucket)
+    → after ≡ carried_out p plan → IsPast p t
+    → IsPast after t
+past_merged p plan after t qualifying is past =
+    let f = merged_front p plan.bucket qualifying in
+    let first = f.0 in
+    let others : List ℕ = f.1.0 ∷ f.1.1.0 in
+    let whole : merged_segments p plan.bucket ≡ first ∷ others = f.1.1.1.whole in
+    let items = carried_items p plan.moves in
+    let z = eq-eqb first first refl in
+    let some : 1 ≤ times first (merged_segments p plan.bucket) =
+    (let e : times first (merged_segments p plan.bucket) ≡ 1 + times first others = ap (times first) whole
+    ∙ rw z refl in omega (arith, e)) in
+    let used = merged_in_chain p plan.bucket first some in
+    let now : after ≡ merged_into p plan.bucket (first ∷ others) items =
+    is ∙ ap (λ (xs : List ℕ). merged_into p plan.bucket xs items) whole in
+    record {
+      within = past.within;
+      opened = λ n u e.
+          opened_by (contains_number others n) (n == first) items (segment_at p first) (segment_at p n) t u
+          (sym (ap (λ (r : PoolState). segment_at r n) now
+          ∙ merged_segment p plan.bucket first others items n used.within) ∙ e) (past.opened first)
+          (past.opened n);
+      in_order = subst IsInOrder (sym is)
+          (order_part p (carried_out p plan) (part_merged p plan.bucket items qualifying) past.in_order);
+    }
+
+-- ---- the items that are forgotten
+
+-- those that moves put nowhere
+abbrev pub lost : List Move → List Standing → List Standing
+lost moves ss = filter (λ (s : Standing). not (is_some (moved_by moves s.place))) ss
+
+-- an option that has no place is empty
+none_of : (o : Option Place) → is_some o ≡ false → o ≡ None
+none_of None h = refl
+none_of (Some r) h = absurd (false≢true (sym h))
+
+-- the place of a lost item goes nowhere
+lost_none : (moves : List Move) (ss : List Standing) (r : Place) → is_left (lost moves ss) r ≡ true
+    → moved_by moves r ≡ None
+lost_none moves [] r h = absurd (false≢true h)
+lost_none moves (s ∷ ss) r h =
+    elim (cases_Bool (is_some (moved_by moves s.place))) [
+      | inl y ↦ (let later : is_left (lost moves ss) r ≡ true = rw y at h in lost_none moves ss r later)
+      | inr n ↦
+          let here : is_left (s ∷ lost moves ss) r ≡ true = rw n at h in
+          elim (cases_Bool (same_place s.place r)) [
+            | inl z ↦ ap (moved_by moves) (sym (same_place_is s.place r z)) ∙ none_of (moved_by moves s.place) n
+            | inr f ↦ (let later : is_left (lost moves ss) r ≡ true = rw f at here in lost_none moves ss r later)
+          ]
+    ]
+
+-- and one of these places that goes nowhere is that of a lost item
+is_lost : (moves : List Move) (ss : List Standing) (r : Place) → is_left ss r ≡ true → moved_by moves r ≡ None
+    → is_left (lost moves ss) r ≡ true
+is_lost moves [] r h e = h
+is_lost moves (s ∷ ss) r h e =
+    elim (cases_Bool (same_place s.place r)) [
+      | inl y ↦
+          let none : is_some (moved_by moves s.place) ≡ false =
+          ap (λ (x : Place). is_some (moved_by moves x)) (same_place_is s.place r y) ∙ ap is_some e in
+          rw (none, y) refl
+      | inr n ↦
+          let rest = is_lost moves ss r (let later : is_left ss r ≡ true = rw n at h in later) e in
+          elim (cases_Bool (is_some (moved_by moves s.place))) [
+            | inl z ↦ rw z rest
+            | inr z ↦ rw (z, n) rest
+          ]
+    ]
+
+-- ---- the live items of merged segments
+
+-- a place is among the places of some things exactly where one of them has that place
+any_at : {X : Type 0} (f : X → Place) (r : Place) (xs : List X)
+    → list_any (λ (x : Place). same_place x r) (map f xs) ≡ list_any (λ (x : X). same_place (f x) r) xs
+any_at f r [] = refl
+any_at f r (x ∷ xs) = ap (λ (b : Bool). same_place (f x) r || b) (any_at f r xs)
+
+-- a marked place of a merged segment is that of one of them
+merged_left : (p : PoolState) (plan : Plan) (after : PoolState) (index found : Table) (marks : Marks)
+    → IsMergeFollowed p plan after index found marks
+    → (r : Place) (i : Item)
+    → item_in p r ≡ Some i → is_marked marks r ≡ true → contains_number (merged_segments p plan.bucket) r.segment ≡ true
+    → is_left (live_items (lives_by marks) p (merged_segments p plan.bucket)) r ≡ true
+merged_left p plan after index found marks w r i e h n =
+    sym (any_at (λ (s : Standing). s.place) r (live_items (lives_by marks) p (merged_segments p plan.bucket)))
+    ∙ ap (list_any (λ (x : Place). same_place x r)) (sym (sources_live (lives_by marks) p plan w.is_plan))
+    ∙ any_at (λ (m : Move). m.source) r plan.moves ∙ live_source (lives_by marks) p plan r i w.is_plan e h n
+
+-- they are current
+pub live_current : (p : PoolState) (index : Table) (marks : Marks) (numbers : List ℕ) → IsTied p index marks
+    → All (IsCurrent p index) (live_items (lives_by marks) p numbers)
+live_current p index marks [] tied = All-nil (IsCurrent p index)
+live_current p index marks (n ∷ numbers) tied =
+    All-append (IsCurrent p index) (live_standing (lives_by marks) p n) (live_items (lives_by marks) p numbers)
+    (current_among p index marks (standing p n) tied (λ k d lt. (standing_all p n k d lt).1))
+    (live_current p index marks numbers tied)
+
+-- some of them are no more than all
+part_sizes : (test : Standing → Bool) (ss : List Standing) → sum_by size_in (filter test ss) ≤ sum_by size_in ss
+part_sizes test [] = omega arith
+part_sizes test (s ∷ ss) =
+    let rest = part_sizes test ss in
+    let whole = sum_by-cons size_in s ss in
+    elim (cases_Bool (test s)) [
+      | inl y ↦ (let part = sum_by-cons size_in s (filter test ss) in rw y (omega (arith, rest, whole, part)))
+      | inr n ↦ rw n (omega (arith, rest, whole))
+    ]
+
+-- and no more than what fits into the segments
+live_sizes : (p : PoolState) (marks : Marks) (numbers : List ℕ) → IsPool p
+    → sum_by size_in (live_items (lives_by marks) p numbers) ≤ p.sizes.segment_size * length numbers
+live_sizes p marks [] k = omega arith
+live_sizes p marks (n ∷ numbers) k =
+    let split = sum_by-append size_in (live_standing (lives_by marks) p n) (live_items (lives_by marks) p numbers) in
+    let part = part_sizes (λ (s : Standing). is_marked marks s.place) (standing p n) in
+    let one = segment_sizes p n k in
+    let rest = live_sizes p marks numbers k in
+    omega (arith, split, part, one, rest)
+
+-- ---- what stays
+
+-- a moved item's entry stays
+moved_entry : (p : PoolState) (plan : Plan) (after : PoolState) (index found : Table) (marks : Marks)
+    → IsMergeFollowed p plan after index found marks
+    → (q : List ℕ) (r s : Place)
+    → finite.get (current p index) q ≡ Some r → moved_by plan.moves r ≡ Some s → entry_at after s ≡ entry_at p r
+moved_entry p plan after index found marks w q r s e m =
+    let x = current_item p index q r e in
+    elim (cases_Bool (contains_number (merged_segments p plan.bucket) r.segment)) [
+      | inl y ↦
+          let there : (item_in after s ≡ Some (halved x.0)) × (place_deadline after s ≡ place_deadline p r) =
+          subst (λ (o : Option Place). IfSome o
+          (λ place. (item_in after place ≡ Some (halved x.0)) × (place_deadline after place ≡ place_deadline p r))) m
+          (moved_live (lives_by marks) p plan after r x.0 w.is_plan w.out x.1 (w.tied.held q r e) y) in
+          entry_is after s (halved x.0) there.0 ∙ ap (λ (d : Option ℕ). kept_entry d x.0) there.1
+          ∙ sym (entry_is p r x.0 x.1)
+      | inr n ↦
+          let o = moved_other p plan after r w.out n in
+          let one : Some s ≡ Some r = sym m ∙ o.0 in
+          let same : s ≡ r = cc in
+          ap (entry_at after) same ∙ entry_is after r x.0 (o.1 ∙ x.1) ∙ ap (λ (d : Option ℕ). kept_entry d x.0) o.2
+          ∙ sym (entry_is p r x.0 x.1)
+    ]
+
+-- each key's entry stays but for the lost ones
+pub merged_stayed : (p : PoolState) (plan : Plan) (after : PoolState) (index found : Table) (marks : Marks)
+    → IsMergeFollowed p plan after index found marks
+    → HaveStayed p (current p index) after (current after found)
+    (lost plan.moves (live_items (lives_by marks) p (merged_segments p plan.bucket)))
+merged_stayed p plan after index found marks w =
+    let all = live_items (lives_by marks) p (merged_segments p plan.bucket) in
+    record {
+      none = λ q none. w.followed.places q ∙ ap (option_and_then (moved_by plan.moves)) none;
+      gone = λ q r e yes. w.followed.places q ∙ ap (option_and_then (moved_by plan.moves)) e
+          ∙ lost_none plan.moves all r yes;
+      stays = λ q r e apart. by q r e apart (moved_by plan.moves r) refl;
+    }
+  where
+    by : (q : List ℕ) (r : Place) → finite.get (current p index) q ≡ Some r
+        → is_left (lost plan.moves (live_items (lives_by marks) p (merged_segments p plan.bucket))) r ≡ false
+        → (o : Option Place) → moved_by plan.moves r ≡ o
+        → (s : Place) × (finite.get (current after found) q ≡ Some s) × (entry_at after s ≡ entry_at p r)
+    by q r e apart (Some s) m = (
+      s,
+      w.followed.places q ∙ ap (option_and_then (moved_by plan.moves)) e
+          ∙ m,
+      moved_entry p plan after index found marks w q r s e m,
+    )
+    by q r e apart None m =
+        let x = current_item p index q r e in
+        elim (cases_Bool (contains_number (merged_segments p plan.bucket) r.segment)) [
+          | inl y ↦
+              absurd (false≢true (sym apart
+              ∙ is_lost plan.moves (live_items (lives_by marks) p (merged_segments p plan.bucket)) r
+              (merged_left p plan after index found marks w r x.0 x.1 (w.tied.held q r e) y) m))
+          | inr n ↦ absurd (none-some r (sym m ∙ (moved_other p plan after r w.out n).0))
+        ]
+
+-- room is made
+pub merged_made : (p : PoolState) (plan : Plan) (after : PoolState) (index found : Table) (marks : Marks) (t : ℕ)
+    → IsMergeFollowed p plan after index found marks
+    → IsCrowded p index t → IsRoomMade p index t after found
+merged_made p plan after index found marks t w crowded =
+    let all = live_items (lives_by marks) p (merged_segments p plan.bucket) in
+    let ss = lost plan.moves all in
+    record {
+      sizes = w.out.sizes;
+      past = past_merged p plan after t w.is_plan.next.qualifying w.after_is crowded.past;
+      free = w.out.has_free;
+      absent = λ q none. w.followed.places q ∙ ap (option_and_then (moved_by plan.moves)) none;
+      kept = evicted_kept p index after found t ss crowded
+          (All-filter (λ (s : Standing). not (is_some (moved_by plan.moves s.place))) (IsCurrent p index) all
+          (live_current p index marks (merged_segments p plan.bucket) w.tied))
+          (merged_stayed p plan after index found marks w)
+          (let part = part_sizes (λ (s : Standing). not (is_some (moved_by plan.moves s.place))) all in
+          let whole = live_sizes p marks (merged_segments p plan.bucket) w.tied.known.pool in
+          let four : length (merged_segments p plan.bucket) ≤ 4 =
+          (let l = length-take 4 (front p plan.bucket) in omega (arith, l)) in
+          let most = mul-le-mul_left p.sizes.segment_size four in
+          omega (arith, part, whole, most));
+    }

@@ -1,0 +1,91 @@
+-- When segments were opened, behind each change of a pool.
+use Rattle.std.proofs.Common.{◌≡◌, ℕ, ◌≤◌, Bool, true, false, List, [], ◌∷◌, Option, Some, None, refl, sym, ap, subst, ◌∙◌, inl, inr, le_trans}
+use Rattle.std.specs.Prelude.{option_map, IsSome, All, ◌==◌, if◌then◌else◌}
+use Rattle.std.specs.Option.{option_map_or}
+use Rattle.std.proofs.lemmas.List.Elements.{All-nil, All-cons}
+use Rattle.std.proofs.lemmas.Bool.{cases_Bool}
+use Rattle.std.proofs.lemmas.Option.{none-some}
+use Rattle.segments.specs.declared.place.Place.{Place}
+use Rattle.segments.specs.Pools.{PoolState, IsPool, Used, Liveness, segment_at, has_live}
+use Rattle.segments.specs.Changes.{touched, cleared, read_in, IsGivenBack}
+use Rattle.segments.specs.Merges.{opened_at}
+use Rattle.segments.specs.Filling.{IsInTime}
+use Rattle.segments.proofs.Places.{touched_segment, cleared_segment}
+use Rattle.segments.proofs.GroupLemmas.{AreUsed, order_used}
+use Rattle.segments.proofs.InTimeLemmas.{order_touched, order_part, part_given, part_cleared}
+use Rattle.segments.specs.Pools.{item_in}
+use Rattle.segcache.specs.Kept.{IsPast}
+
+-- where segments stand in order and none was opened after a moment, it is so at each later moment within the limit
+pub past_later : (p : PoolState) (t u : ℕ) → IsPast p t → t ≤ u → u ≤ 4611686018427387904 → IsPast p u
+past_later p t u past le within = record {
+  within = within;
+  opened = λ n s e. le_trans (past.opened n s e) le;
+  in_order = past.in_order;
+}
+
+-- a segment that is there once one of its items was read was there before, opened at the same moment
+read_opened : (o : Option Used) (offset : ℕ) (u : Used) → option_map (read_in offset) o ≡ Some u
+    → (s : Used) × (o ≡ Some s) × (u.opened ≡ s.opened)
+read_opened None offset u e = absurd (none-some u e)
+read_opened (Some s) offset u e = (s, refl, (let f : read_in offset s ≡ u = cc in sym (ap (λ (x : Used). x.opened) f)))
+
+-- where an item is read, segments still stand in order, and none was opened after the moment
+pub past_touched : (p : PoolState) (t : ℕ) (place : Place) → IsPast p t → IsSome (item_in p place)
+    → IsPast (touched p place) t
+past_touched p t place past some =
+    record {
+      within = past.within;
+      opened = λ n u e.
+          elim (cases_Bool (n == place.segment)) [
+            | inl y ↦
+                let r = read_opened (segment_at p place.segment) place.offset u
+                (sym (touched_segment p place n some ∙ rw y refl) ∙ e) in
+                subst (λ x. x ≤ t) (sym r.2) (past.opened place.segment r.0 r.1)
+            | inr f ↦ past.opened n u (sym (touched_segment p place n some ∙ rw f refl) ∙ e)
+          ];
+      in_order = order_touched p place past.in_order;
+    }
+
+-- a segment that is kept where a test holds, and is there, is the one that was there
+part_of : (b : Bool) (o : Option Used) (u : Used) → (if b then o else None) ≡ Some u → o ≡ Some u
+part_of true o u e = e
+part_of false o u e = absurd (none-some u e)
+
+-- where segments are given back, the others still stand in order, and none was opened after the moment
+pub past_given : (lives : Liveness) (p after : PoolState) (t : ℕ) → IsPast p t → IsGivenBack lives p after
+    → IsPast after t
+past_given lives p after t past g =
+    record {
+      within = past.within;
+      opened = λ n u e. past.opened n u (part_of (has_live lives p n) (segment_at p n) u (sym (g.segments n) ∙ e));
+      in_order = order_part p after (part_given lives p after g) past.in_order;
+    }
+
+-- a segment that is taken away where a test holds, and is there, is the one that was there
+other_part : (b : Bool) (o : Option Used) (u : Used) → (if b then None else o) ≡ Some u → o ≡ Some u
+other_part true o u e = absurd (none-some u e)
+other_part false o u e = e
+
+-- where a segment is cleared, the others still stand in order, and none was opened after the moment
+pub past_cleared : (p : PoolState) (t n : ℕ) → IsPast p t → IsSome (segment_at p n) → IsPast (cleared p n) t
+past_cleared p t n past some =
+    record {
+      within = past.within;
+      opened = λ m u e. past.opened m u (other_part (m == n) (segment_at p m) u (sym (cleared_segment p n m some) ∙ e));
+      in_order = order_part p (cleared p n) (part_cleared p n some) past.in_order;
+    }
+
+-- the segments of chains were opened in time
+opened_all : (p : PoolState) (t : ℕ) (numbers : List ℕ) → AreUsed p numbers → IsPast p t
+    → All (λ m. opened_at p m ≤ t) numbers
+opened_all p t [] used past = All-nil (λ m. opened_at p m ≤ t)
+opened_all p t (n ∷ later) used past =
+    let u = used.0.0 in
+    let is : opened_at p n ≡ u.opened = ap (λ (o : Option Used). option_map_or (λ (s : Used). s.opened) o 0) used.0.1 in
+    All-cons (λ m. opened_at p m ≤ t) n later (subst (λ (x : ℕ). x ≤ t) (sym is) (past.opened n u used.0.1))
+    (opened_all p t later used.1 past)
+
+-- where no segment was opened after a moment, none that the pool's order names was, and they stand in the order of opening
+pub in_time_past : (p : PoolState) (t : ℕ) → IsPool p → IsPast p t → IsInTime p t
+in_time_past p t pool past = record { order = past.in_order; past = opened_all p t p.order (order_used p pool) past }

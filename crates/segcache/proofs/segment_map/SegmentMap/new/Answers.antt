@@ -1,0 +1,52 @@
+use Rattle.std.proofs.Common.{◌≡◌, ◌≤◌, ◌*◌, ◌/◌, length, sym, ap, subst, ◌∙◌, arith}
+use Rattle.proto.specs.Sizes.{Sizes}
+use Rattle.segments.specs.Changes.{new_pool}
+use Rattle.segments.specs.Pools.{PoolState}
+use Rattle.segments.specs.Marks.{no_marks}
+use Rattle.std.proofs.lemmas.List.{length-replicate}
+use Rattle.index.specs.Slots.{empty_slot}
+use Rattle.index.specs.Keys.{key_at}
+use Rattle.index.specs.Table.{Places}
+use Rattle.segcache.specs.Shown.{live_entries}
+use Rattle.segcache.specs.State.{MapState}
+use Rattle.segcache.proofs.KeptEntries.{keeps_none}
+use Rattle.segcache.proofs.Showing.{shown_empty}
+use Rattle.segcache.proofs.Starting.{tied_start, past_start}
+use Rattle.segcache.proofs.segment_map.SegmentMap.new.Goals as goal
+
+pub invariant_of-result : goal.invariant_of-result
+unfolding new_pool
+invariant_of-result c =
+    let p = c.in_ok-new.field-0 in
+    let sizes : p.sizes ≡ c.args.geometry = ap (λ (q : PoolState). q.sizes) c.in_ok-new.ensures.empty in
+    let len : length c.in_ok-new-2.field-0.slots ≡ c.slots_for.result = ap length c.in_ok-new-2.ensures.slots
+    ∙ length-replicate c.slots_for.result empty_slot in
+    let many = c.slots_for.ensures.1 in
+    let marks : c.in_ok-new-3.field-0 ≡ no_marks p.sizes = c.in_ok-new-3.ensures ∙ ap no_marks (sym sizes) in
+    record {
+      tied = tied_start p c.in_ok-new-2.field-0 c.in_ok-new-3.field-0 c.in_ok-new.ensures.pool marks
+          (c.in_ok-new-2.ensures.map (key_at p))
+          (subst (λ (s : Sizes). 2 * (s.segments * (s.segment_size / 32)) ≤ length c.in_ok-new-2.field-0.slots)
+          (sym sizes) (omega (arith, len, many)))
+          (rw (sizes, c.in_ok-new-2.ensures.layout) c.layout_for.ensures.sizes);
+      past = past_start p c.args.geometry c.in_ok-new.ensures.empty;
+    }
+
+pub returns-clause-sizes : goal.returns-clause-sizes
+unfolding new_pool
+returns-clause-sizes c = ap (λ (q : PoolState). q.sizes) c.in_ok-new.ensures.empty
+
+pub returns-clause-entries : goal.returns-clause-entries
+returns-clause-entries c =
+    let p = c.in_ok-new.field-0 in
+    ap (λ (m : Places). live_entries p m 0) (c.in_ok-new-2.ensures.map (key_at p)).places_are ∙ shown_empty p 0
+
+pub returns-clause-keeps : goal.returns-clause-keeps
+returns-clause-keeps c =
+    let m : MapState = record {
+      pool = c.in_ok-new.field-0;
+      index = c.in_ok-new-2.field-0;
+      marks = c.in_ok-new-3.field-0;
+      moment = 0;
+    } in
+    keeps_none m c.args.geometry c.in_ok-new.ensures.empty

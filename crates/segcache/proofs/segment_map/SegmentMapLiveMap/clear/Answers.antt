@@ -1,0 +1,10 @@
+use Rattle.std.proofs.Common.{ap, ◌∙◌}
+use Rattle.index.specs.Table.{Places}
+use Rattle.segcache.specs.Shown.{live_entries}
+use Rattle.segcache.proofs.Showing.{shown_empty}
+use Rattle.segcache.proofs.segment_map.SegmentMapLiveMap.clear.Goals as goal
+
+pub returns-clause-entries : goal.returns-clause-entries
+returns-clause-entries c =
+    let a = c.self.inside in
+    ap (λ (m : Places). live_entries a.pool m a.moment) c.leave_all.ensures.left ∙ shown_empty a.pool a.moment

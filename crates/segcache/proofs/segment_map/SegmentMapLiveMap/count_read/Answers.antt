@@ -1,0 +1,77 @@
+use Rattle.std.proofs.Common.{◌≡◌, Some, sym, ap, subst, ◌∙◌}
+use Rattle.std.specs.FinMap as finite
+use Rattle.index.specs.Table.{Places}
+use Rattle.segments.specs.Pools.{PoolState}
+use Rattle.segcache.specs.Kept.{IsPast}
+use Rattle.segcache.specs.State.{MapState}
+use Rattle.segcache.proofs.KeptEntries.{keeps_read}
+use Rattle.segcache.specs.Shown.{current, live_entries}
+use Rattle.segcache.proofs.Showing.{shown_same, touched_entry}
+use Rattle.segcache.proofs.Tying.{tied_touched, current_some}
+use Rattle.segcache.proofs.Opening.{past_touched}
+use Rattle.segcache.proofs.segment_map.SegmentMapLiveMap.count_read.Goals as goal
+
+pub touch-requires : goal.touch-requires
+touch-requires c =
+    let a = c.self.inside in
+    let there : finite.get (current a.pool a.index) c.args._key.now ≡ Some c.args.place =
+    (let h = c.requires in rw (← c.self.view_is) at h) in
+    current_some a.pool a.index c.args._key.now c.args.place there
+
+pub invariant_of-self : goal.invariant_of-self
+invariant_of-self c =
+    let a = c.self.inside in
+    let there : finite.get (current a.pool a.index) c.args._key.now ≡ Some c.args.place =
+    (let h = c.requires in rw (← c.self.view_is) at h) in
+    let some = current_some a.pool a.index c.args._key.now c.args.place there in
+    record {
+      tied = (tied_touched a.pool c.touch.new.self a.index a.marks c.args.place c.self.invariant.tied some
+          c.touch.ensures.pool c.touch.ensures.touched).0;
+      past = subst (λ (q : PoolState). IsPast q a.moment) (sym c.touch.ensures.touched)
+          (past_touched a.pool a.moment c.args.place c.self.invariant.past some);
+    }
+
+pub returns-clause-entries : goal.returns-clause-entries
+returns-clause-entries c =
+    let a = c.self.inside in
+    let there : finite.get (current a.pool a.index) c.args._key.now ≡ Some c.args.place =
+    (let h = c.requires in rw (← c.self.view_is) at h) in
+    let some = current_some a.pool a.index c.args._key.now c.args.place there in
+    let same = (tied_touched a.pool c.touch.new.self a.index a.marks c.args.place c.self.invariant.tied some
+    c.touch.ensures.pool c.touch.ensures.touched).1 in
+    rw (← c.self.view_is)
+    (ap (λ (m : Places). live_entries c.touch.new.self m a.moment) same
+    ∙ ap (λ (q : PoolState). live_entries q (current a.pool a.index) a.moment) c.touch.ensures.touched
+    ∙ shown_same a.pool _ (current a.pool a.index) a.moment (λ q r h. touched_entry a.pool c.args.place r some))
+
+pub returns-clause-counted : goal.returns-clause-counted
+returns-clause-counted c =
+    let a = c.self.inside in
+    record {
+      place = c.args.place;
+      stands = c.requires;
+      new_is = rw (← c.self.view_is) (ap
+          (λ (q : PoolState). record { pool = q; index = a.index; marks = a.marks; moment = a.moment })
+          c.touch.ensures.touched);
+    }
+
+pub returns-clause-kept : goal.returns-clause-kept
+returns-clause-kept c =
+    let a = c.self.inside in
+    let there : finite.get (current a.pool a.index) c.args._key.now ≡ Some c.args.place =
+    (let h = c.requires in rw (← c.self.view_is) at h) in
+    let some = current_some a.pool a.index c.args._key.now c.args.place there in
+    let new : MapState = record { pool = c.touch.new.self; index = a.index; marks = a.marks; moment = a.moment } in
+    rw (← c.self.view_is)
+    (keeps_read (record { pool = a.pool; index = a.index; marks = a.marks; moment = a.moment }) new c.args.place some
+    c.touch.ensures.touched)
+
+pub returns-clause-stands : goal.returns-clause-stands
+returns-clause-stands c =
+    let a = c.self.inside in
+    let there : finite.get (current a.pool a.index) c.args._key.now ≡ Some c.args.place =
+    (let h = c.requires in rw (← c.self.view_is) at h) in
+    let some = current_some a.pool a.index c.args._key.now c.args.place there in
+    let same = (tied_touched a.pool c.touch.new.self a.index a.marks c.args.place c.self.invariant.tied some
+    c.touch.ensures.pool c.touch.ensures.touched).1 in
+    rw (← c.self.view_is) (λ key place h. ap (λ (m : Places). finite.get m key) same ∙ h)

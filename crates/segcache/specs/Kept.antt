@@ -1,0 +1,31 @@
+-- What a segmented map keeps.
+use Rattle.std.specs.Prelude.{◌≡◌, ℕ, ◌*◌, ◌/◌, ◌≤◌, ◌^◌, true, List, length, Some}
+use Rattle.std.specs.FinMap as finite
+use Rattle.segments.specs.declared.place.Place.{Place}
+use Rattle.segments.specs.Items.{Item}
+use Rattle.segments.specs.Pools.{PoolState, Used, segment_at, item_in}
+use Rattle.segments.specs.Filling.{IsInOrder}
+use Rattle.segments.specs.Marks.{Marks, KnowsPool, is_marked}
+use Rattle.index.specs.Layouts.{IsLayoutOf}
+use Rattle.index.specs.Table.{Table, IsIndex}
+use Rattle.index.specs.Keys.{key_at}
+use Rattle.segcache.specs.Shown.{current}
+
+-- The marks marks exactly the current places, those that the index has, each of which holds an item of its key; and
+-- the index has a slot to spare for each item that fits into the pool, and its slots can say each place of the pool.
+pub record IsTied (p : PoolState) (index : Table) (marks : Marks) : Type 0 where
+  pub known : KnowsPool marks p
+  pub indexed : IsIndex (key_at p) index
+  pub held : (key : List ℕ) (place : Place) → finite.get (current p index) key ≡ Some place
+      → is_marked marks place ≡ true
+  pub marked : (place : Place) (i : Item) → item_in p place ≡ Some i → is_marked marks place ≡ true
+      → finite.get (current p index) i.key ≡ Some place
+  pub roomy : 2 * (p.sizes.segments * (p.sizes.segment_size / 32)) ≤ length index.slots
+  pub layout : IsLayoutOf p.sizes index.layout
+
+-- no segment was opened after the moment t, which is within its limit, and those of chains stand in the order of their
+-- opening moments
+pub record IsPast (p : PoolState) (t : ℕ) : Type 0 where
+  pub within : t ≤ 2 ^ 62
+  pub opened : (n : ℕ) (u : Used) → segment_at p n ≡ Some u → u.opened ≤ t
+  pub in_order : IsInOrder p

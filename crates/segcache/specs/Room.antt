@@ -1,0 +1,70 @@
+-- What is forgotten where room is made, and what an item that is written leaves.
+use Rattle.std.specs.Prelude.{◌≡◌, ℕ, ◌*◌, ◌≤◌, ◌⊎◌, false, List, [], sum_by, IsTrue, Option, Some, None}
+use Rattle.std.specs.List.{list_all}
+use Rattle.std.specs.FinMap as finite
+use Rattle.proto.specs.Sizes.{Sizes}
+use Rattle.proto.specs.Cache.{Entries, has_arrived}
+use Rattle.proto.specs.Buckets.{MayLive}
+use Rattle.proto.specs.Steps.{without, size_at}
+use Rattle.segments.specs.declared.place.Place.{Place}
+use Rattle.segments.specs.Items.{Item}
+use Rattle.segments.specs.Pools.{PoolState, place_deadline}
+use Rattle.segments.specs.Places.{HasFree}
+use Rattle.index.specs.Table.{Table, Places}
+use Rattle.segcache.specs.Shown.{current, shown_entries, kept_entry}
+use Rattle.segcache.specs.Kept.{IsPast}
+
+-- these are keys of entries, which are no fewer than the segments, and four segments' worth at most
+pub record AreEvicted (sizes : Sizes) (entries : Entries) (forgotten : List (List ℕ)) : Type 0 where
+  pub present : IsTrue (list_all (finite.contains_key entries) forgotten)
+  pub full : sizes.segments ≤ finite.len entries
+  pub bounded : sum_by (size_at entries) forgotten ≤ 4 * sizes.segment_size
+
+-- the entries were kept but for some that had to be forgotten
+pub record AreKept (sizes : Sizes) (old new : Entries) : Type 0 where
+  pub forgotten : List (List ℕ)
+  pub evicted : (forgotten ≡ []) ⊎ AreEvicted sizes old forgotten
+  pub entries : new ≡ without old forgotten
+
+-- no current item's deadline is at or before the moment t
+abbrev pub AllWait : PoolState → Places → ℕ → Type 0
+AllWait p m t = (key : List ℕ) (place : Place) → finite.get m key ≡ Some place
+    → has_arrived (place_deadline p place) t ≡ false
+
+-- At the moment t all current items are live, and there are no fewer than segments.
+pub record IsCrowded (p : PoolState) (index : Table) (t : ℕ) : Type 0 where
+  pub past : IsPast p t
+  pub waiting : AllWait p (current p index) t
+  pub many : p.sizes.segments ≤ finite.len (shown_entries p index t)
+
+-- A segment is free at the moment t, no key came, and what isn't shown any more was forgotten.
+pub record IsRoomMade (p : PoolState) (index : Table) (t : ℕ) (after : PoolState) (found : Table) : Type 0 where
+  pub sizes : after.sizes ≡ p.sizes
+  pub past : IsPast after t
+  pub free : HasFree after
+  pub absent : (key : List ℕ) → finite.get (current p index) key ≡ None → finite.get (current after found) key ≡ None
+  pub kept : AreKept p.sizes (shown_entries p index t) (shown_entries after found t)
+
+-- The item was written at the moment t with a deadline that it may get in place of the one asked for; of the entries
+-- before it some may have been forgotten.
+pub record IsPut (p : PoolState) (index : Table) (t : ℕ) (i : Item) (asked : Option ℕ) (after : PoolState)
+    (found : Table) : Type 0 where
+  pub sizes : after.sizes ≡ p.sizes
+  pub past : IsPast after t
+  pub deadline : Option ℕ
+  pub may_live : MayLive t asked deadline
+  pub kept : Entries
+  pub are_kept : AreKept p.sizes (shown_entries p index t) kept
+  pub entries : shown_entries after found t ≡ finite.insert kept i.key (kept_entry deadline i)
+
+-- The item was written at the moment t in place of its key's, with a deadline that it may get in place of the one asked for;
+-- of the other entries some may have been forgotten.
+pub record IsPutOver (p : PoolState) (index : Table) (t : ℕ) (i : Item) (asked : Option ℕ) (after : PoolState)
+    (found : Table) : Type 0 where
+  pub sizes : after.sizes ≡ p.sizes
+  pub past : IsPast after t
+  pub deadline : Option ℕ
+  pub may_live : MayLive t asked deadline
+  pub kept : Entries
+  pub are_kept : AreKept p.sizes (finite.remove (shown_entries p index t) i.key) kept
+  pub entries : shown_entries after found t ≡ finite.insert kept i.key (kept_entry deadline i)

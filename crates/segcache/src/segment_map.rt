@@ -1,0 +1,179 @@
+//! The map of live entries that stand in segments.
+
+ghost use Rattle.std.specs.Prelude.{◌≡◌, ◌≤◌, ◌<◌, [], false, IfOk, IsSome};
+ghost use Rattle.proto.specs.Cache.{no_entries};
+ghost use Rattle.proto.specs.Buckets.{time_to_live};
+ghost use Rattle.segments.specs.Pools.{item_in, place_deadline};
+ghost use Rattle.engine.specs.Shown.{entry_of};
+ghost use Rattle.segcache.specs.Kept.{IsTied};
+ghost use Rattle.segcache.specs.Shown.{entry_at, shown_entries};
+ghost use Rattle.segcache.specs.Keeping.{KeepsStored};
+
+use crate::finding::find;
+use crate::leaving::{leave_all, leave_key};
+use crate::room::write;
+use engine::{EntryRef, LiveMap};
+use index::{Index, layout_for, slots_for};
+use proto::{Geometry, NoMemory};
+use segments::{ItemRef, LiveMarks, Place, Pool, bucket_of};
+use std::alloc::Global;
+use std::hash::FoldHasher;
+use std::marker::Model;
+use std::sync::atomic::{AtomicU64, Ordering};
+
+/// Entries in the segments of a pool, found by an index. All memory is taken when the map is made.
+#[derive(Drop)]
+pub struct SegmentMap {
+    pool: Pool,
+    index: Index,
+    /// Which items of the pool the index has.
+    marks: LiveMarks,
+    moment: u64,
+    /// Some of what was read ahead last, so that a compiler doesn't leave the reading out.
+    read_ahead: AtomicU64,
+}
+
+impl Model for SegmentMap {
+    ghost use Rattle.segcache.specs.State.{MapState, IsSegmentedMap};
+
+    ghost Value = { MapState };
+
+    ghost view = { λ a. record { pool = a.pool; index = a.index; marks = a.marks; moment = a.moment } };
+
+    ghost invariant = { λ a. IsSegmentedMap (record { pool = a.pool; index = a.index; marks = a.marks; moment = a.moment }) };
+}
+
+/// The time to live in seconds of an entry that is written at the moment.
+fn time_to_live(deadline: Option<u64>, now: u64) -> Option<u64>
+    ensures { result ≡ time_to_live deadline now }
+{
+    let deadline = deadline?;
+    Some(deadline.saturating_sub(now).max(1))
+}
+
+/// The entry of the item at a place, lent.
+fn entry_at<'a>(pool: &'a Pool, place: Place) -> EntryRef<'a>
+    requires { IsSome (item_in pool.now place) }
+    ensures entry { entry_of result ≡ entry_at pool.now place }
+    ensures deadline { result.deadline ≡ place_deadline pool.now place }
+{
+    let item = pool.item(place);
+    EntryRef {
+        value: item.value,
+        flags: item.flags,
+        deadline: item.deadline,
+        cas: item.cas,
+    }
+}
+
+impl SegmentMap {
+    /// No entry, at the moment 0. Keys are hashed with the seed.
+    pub fn new(alloc: Global, geometry: Geometry, seed: u64) -> Result<SegmentMap, NoMemory>
+        ensures sizes { IfOk result (λ m. m.pool.sizes ≡ geometry) }
+        ensures entries { IfOk result (λ m. shown_entries m.pool m.index m.moment ≡ no_entries) }
+        ensures moment { IfOk result (λ m. m.moment ≡ 0) }
+        ensures keeps { IfOk result (λ m. KeepsStored m []) }
+    {
+        Ok(SegmentMap {
+            pool: Pool::new(alloc, geometry)?,
+            index: Index::new(alloc, slots_for(geometry), layout_for(geometry), seed)?,
+            marks: LiveMarks::new(alloc, geometry)?,
+            moment: 0,
+            read_ahead: AtomicU64::new(0),
+        })
+    }
+}
+
+impl LiveMap for SegmentMap {
+    ghost use Rattle.std.specs.Prelude.{false};
+    ghost use Rattle.segcache.specs.Shown.{shown_entries};
+    ghost use Rattle.segcache.specs.Writes.{StandsAt, WritesToSegments, IsReadAgain, HasSamePool};
+    ghost use Rattle.segcache.specs.Keeping.{KeepsStored};
+
+    type Place = Place;
+
+    ghost sizes = { λ m. m.pool.sizes };
+
+    ghost entries = { λ m. shown_entries m.pool m.index m.moment };
+
+    ghost moment = { λ m. m.moment };
+
+    ghost may_refuse = { false };
+
+    ghost stands = { StandsAt };
+
+    ghost writes = { WritesToSegments };
+
+    ghost reads = { IsReadAgain };
+
+    ghost alike = { HasSamePool };
+
+    ghost keeps = { KeepsStored };
+
+    fn item_limit(&self) -> u32 {
+        self.pool.geometry().item_limit()
+    }
+
+    fn last_moment(&self) -> u64 {
+        self.moment
+    }
+
+    fn key_hasher(&self) -> FoldHasher {
+        self.index.hasher()
+    }
+
+    fn prefetch(&self, hash: u64) {
+        let read = self.index.prefetch(&self.pool, hash);
+        self.read_ahead.store(read, Ordering::Relaxed);
+    }
+
+    fn advance(&mut self, now: u64) {
+        self.moment = now;
+    }
+
+    fn get<'a>(&'a self, key: &[u8]) -> Option<(EntryRef<'a>, Place)> {
+        let place = find(&self.pool, &self.index, self.moment, key)?;
+        Some((entry_at(&self.pool, place), place))
+    }
+
+    fn entry_at<'a>(&'a self, _key: &[u8], place: Place) -> EntryRef<'a> {
+        entry_at(&self.pool, place)
+    }
+
+    fn contains_key(&self, key: &[u8]) -> bool {
+        find(&self.pool, &self.index, self.moment, key).is_some()
+    }
+
+    fn count_read(&mut self, _key: &[u8], place: Place) {
+        self.pool.touch(place);
+    }
+
+    fn write(&mut self, key: &[u8], entry: EntryRef) -> Result<(), NoMemory> {
+        let item = ItemRef {
+            key,
+            value: entry.value,
+            flags: entry.flags,
+            deadline: entry.deadline,
+            cas: entry.cas,
+            reads: 0,
+        };
+        let bucket = bucket_of(time_to_live(entry.deadline, self.moment));
+        write(
+            &mut self.pool,
+            &mut self.index,
+            &mut self.marks,
+            bucket,
+            self.moment,
+            item,
+        );
+        Ok(())
+    }
+
+    fn remove(&mut self, key: &[u8]) {
+        leave_key(&self.pool, &mut self.index, &mut self.marks, key);
+    }
+
+    fn clear(&mut self) {
+        leave_all(&self.pool, &mut self.index, &mut self.marks);
+    }
+}

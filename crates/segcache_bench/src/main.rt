@@ -1,0 +1,136 @@
+//! How long requests take on the segmented store, of 64 segments of 64 KiB, beside the plain store: gets that find their
+//! key, gets that find none, sets of keys that are there, and sets of so many keys that segments are merged.
+//! `segment_store_bench N` sends N of each, and writes the times to the standard error. `segment_store_bench N B S V` sets N keys
+//! with values of V bytes in a segmented store of S segments of B bytes, then N more, and flushes it; and so in the plain one,
+//! which keeps them all.
+#![tactic(auto)]
+
+mod requests;
+mod steady;
+
+use crate::requests::{SMALL, gets, sets};
+use crate::steady::run_steady;
+use anyhow::Result;
+use engine::{PlainStore, StorageEngine};
+use proto::{Geometry, Reply, Request, Room};
+use segcache::Store;
+use std::alloc::Global;
+use std::env;
+use std::io::{Eprint, Print};
+use std::rt::Env;
+use std::time::{Clock, Duration, Instant};
+
+/// As many keys as find room, and so many that their items take four times the segments' bytes.
+const FEW: u64 = 10_000;
+
+const MANY: u64 = 120_000;
+
+fn number<R: Env + AllocGlobal>(rt: &R, at: usize) -> Option<u64> {
+    env::args(rt).ok()?.nth(at)?.as_str().parse::<u64>().ok()
+}
+
+/// The sizes of a segmented store and the bytes of a value, where they are arguments.
+fn sizes_asked<R: Env + AllocGlobal>(rt: &R) -> Option<(Geometry, usize)> {
+    let size = u32::try_from(number(rt, 2)?).ok()?;
+    let count = u32::try_from(number(rt, 3)?).ok()?;
+    let value = usize::try_from(number(rt, 4)?).ok()?;
+    Some((Geometry::new(size, count).ok()?, value))
+}
+
+/// Whether an item was stored or shown.
+fn did_something(reply: &Reply) -> bool {
+    match reply {
+        Reply::Stored => true,
+        Reply::Values(hits) => !hits.is_empty(),
+        _ => false,
+    }
+}
+
+/// Sends so many of the requests, over and over, and counts those that stored or showed an item. The memory of the hits
+/// goes round, as between a worker and the storage thread.
+fn send<E: StorageEngine>(store: &mut E, requests: &mut [Request], rounds: u64) -> u64 {
+    let mut done: u64 = 0;
+    let mut room: Option<Room> = None;
+    let count = (requests.len() as u64).max(1);
+    for sent in 0..rounds {
+        let Some(request) = requests.get_mut((sent % count) as usize) else {
+            return done;
+        };
+        if store.last_moment() > 0 {
+            return done;
+        }
+        if let Some(lent) = room.take() {
+            let _ = request.lend_room(lent);
+        }
+        let reply = store.handle(0, request);
+        if did_something(&reply) {
+            done = done.wrapping_add(1);
+        }
+        room = reply.into_room();
+    }
+    done
+}
+
+fn nanos_each(time: Duration, count: u64) -> u128 {
+    time.as_nanos() / count.max(1) as u128
+}
+
+/// Sends the requests, and writes how many did something, and the time of each.
+fn measure<E: StorageEngine, R: Print + Eprint + Clock>(
+    rt: &R,
+    name: &str,
+    store: &mut E,
+    requests: &mut [Request],
+    rounds: u64,
+) -> Result<()> {
+    let start = Instant::now(rt)?;
+    let done = send(store, requests, rounds);
+    let time = start.elapsed(rt)?;
+    println!(rt; "{name}: {done} of {rounds}")?;
+    eprintln!(rt; "{name}: {} ns each", nanos_each(time, rounds))?;
+    Ok(())
+}
+
+fn run<E: StorageEngine, R: Print + Eprint + Clock>(
+    rt: &R,
+    alloc: Global,
+    name: &str,
+    store: &mut E,
+    rounds: u64,
+) -> Result<()> {
+    let mut few = sets(alloc, 0, FEW, SMALL)?;
+    let mut found = gets(alloc, 0, FEW)?;
+    let mut missing = gets(alloc, MANY, FEW)?;
+    let mut many = sets(alloc, 0, MANY, SMALL)?;
+    println!(rt; "{name}: {} filled", send(store, few.as_mut_slice(), FEW))?;
+    measure(rt, "get, found", store, found.as_mut_slice(), rounds)?;
+    measure(rt, "get, missing", store, missing.as_mut_slice(), rounds)?;
+    measure(rt, "set, in place", store, few.as_mut_slice(), rounds)?;
+    measure(rt, "set, of many keys", store, many.as_mut_slice(), rounds)
+}
+
+fn main(rt: HostRuntime) -> Result<()> {
+    let alloc = rt.alloc();
+    let rounds = number(&rt, 1).unwrap_or(1000);
+    if let Some((geometry, value)) = sizes_asked(&rt) {
+        let mut store = Store::new(alloc, geometry)?;
+        run_steady(&rt, alloc, "segmented", &mut store, rounds, value)?;
+        let mut plain = PlainStore::new(alloc, geometry);
+        return run_steady(&rt, alloc, "plain", &mut plain, rounds, value);
+    }
+    let geometry = Geometry::new(65_536, 64)?;
+    run(
+        &rt,
+        alloc,
+        "segmented",
+        &mut Store::new(alloc, geometry)?,
+        rounds,
+    )?;
+    run(
+        &rt,
+        alloc,
+        "plain",
+        &mut PlainStore::new(alloc, geometry),
+        rounds,
+    )
+}

@@ -1,0 +1,106 @@
+//! Random requests, which the segmented store is to answer as the plain one does: what is live fits into one segment, so
+//! merges keep all of it.
+
+use crate::asking::answer;
+use crate::random::Random;
+use engine::PlainStore;
+use proto::Geometry;
+use segcache::Store;
+use std::alloc::{AllocError, Global};
+use std::process::Abort;
+use std::test::Fail;
+
+/// How many keys there are; with 400 bytes of value each their items take 10,368 bytes.
+const KEYS: u64 = 24;
+
+/// A number, or up to 400 letters.
+fn random_value(alloc: Global, random: &mut Random) -> Result<String, AllocError> {
+    if random.below(3) == 0 {
+        return format!(in alloc; "{}", random.below(1000));
+    }
+    let mut value = String::new(alloc);
+    for _ in 0..random.below(400) {
+        value.push_str("v")?;
+    }
+    Ok(value)
+}
+
+/// What a put has behind its verb: it sets no deadline, or one that has come already. `unique` is a cas number with a
+/// space before it, or nothing.
+fn random_put(
+    alloc: Global,
+    random: &mut Random,
+    verb: &str,
+    unique: &str,
+) -> Result<String, AllocError> {
+    let value = random_value(alloc, random)?;
+    let key = random.below(KEYS);
+    let flags = random.below(4_294_967_296);
+    let exptime = if random.below(10) == 0 { "-1" } else { "0" };
+    format!(in alloc;
+        "{verb} k{key} {flags} {exptime} {}{unique}\r\n{value}\r\n",
+        value.len()
+    )
+}
+
+/// A request for one or two keys.
+fn random_request(alloc: Global, random: &mut Random) -> Result<String, AllocError> {
+    let key = random.below(KEYS);
+    let other = random.below(KEYS);
+    match random.below(13) {
+        0..=1 => format!(in alloc; "get k{key} k{other}\r\n"),
+        2..=3 => format!(in alloc; "gets k{key} k{other} k{key}\r\n"),
+        4..=6 => random_put(alloc, random, "set", ""),
+        7 => random_put(alloc, random, "add", ""),
+        8 => random_put(alloc, random, "replace", ""),
+        9 => {
+            let unique = format!(in alloc; " {}", random.below(200))?;
+            random_put(alloc, random, "cas", unique.as_str())
+        }
+        10 => format!(in alloc; "delete k{key}\r\n"),
+        11 => format!(in alloc; "incr k{key} {other}\r\n"),
+        _ => match random.below(40) {
+            0 => format!(in alloc; "flush_all\r\n"),
+            1 => format!(in alloc; "flush_all 2\r\n"),
+            _ => format!(in alloc; "decr k{key} {other}\r\n"),
+        },
+    }
+}
+
+/// Sends 20,000 requests in 200 seconds to both, and compares the answers.
+fn compare(
+    rt: &impl Abort,
+    alloc: Global,
+    segmented: &mut Store,
+    plain: &mut PlainStore,
+) -> Result<(), Fail> {
+    let mut random = Random::new(88_172_645_463_325_252);
+    let mut shown = 0u32;
+    for turn in 0..20_000u64 {
+        let request = random_request(alloc, &mut random)?;
+        let now = 1000 + turn / 100;
+        let wanted = answer(alloc, plain, now, request.as_str())?;
+        let given = answer(alloc, segmented, now, request.as_str())?;
+        assert!(*rt; !wanted.is_empty(), "no request: {request}");
+        assert_eq!(*rt;
+            given.as_slice(),
+            wanted.as_slice(),
+            "at the request {turn}"
+        );
+        if wanted.starts_with(b"VALUE") {
+            shown = shown.saturating_add(1);
+        }
+    }
+    assert!(*rt; shown > 2000, "only {shown} answers show a value");
+    Ok(())
+}
+
+/// The answers are the plain store's. The items that are written take some twenty times the segments' bytes.
+#[test]
+fn nothing_is_forgotten(rt: HostRuntime) -> Result<(), Fail> {
+    let alloc = rt.alloc();
+    let geometry = Geometry::new(16_384, 8)?;
+    let mut segmented = Store::new(alloc, geometry)?;
+    let mut plain = PlainStore::new(alloc, geometry);
+    compare(&rt, alloc, &mut segmented, &mut plain)
+}

@@ -1,0 +1,13 @@
+use Rattle.std.proofs.Common.{◌/◌, List, Bool, false, ap, ◌∙◌}
+use Rattle.std.specs.Prelude.{replicate}
+use Rattle.segments.specs.Marks.{no_marks}
+use Rattle.segments.proofs.live_marks.LiveMarks.new.Goals as goal
+
+pub returns : goal.returns
+unfolding no_marks
+returns c =
+    let g = c.args.geometry in
+    ap (λ (rs : List (List Bool)). record { sizes = g; rows = rs })
+    (c.in_ok-empty_rows.ensures ∙ ap (λ n. replicate n (replicate (c.segment_size.result / 32) false))
+    c.segments.ensures.value
+    ∙ ap (λ n. replicate g.segments (replicate (n / 32) false)) c.segment_size.ensures.value)

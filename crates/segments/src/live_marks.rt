@@ -1,0 +1,128 @@
+//! Marks at the places of items, in all segments of a pool.
+
+ghost use Rattle.std.specs.Prelude.{◌≡◌, ◌<◌, ◌≤◌, ◌/◌, true, false, length, replicate, slice_index_or, All, IfOk, IfSome};
+ghost use Rattle.segments.specs.Marks.{no_marks, is_marked, marked, row_of, with_mark, without_marks, carried_marks, IsWithin};
+
+use crate::mark_row::Row;
+use crate::{ItemRef, Live, Move, Place};
+use proto::{Geometry, NoMemory};
+use std::alloc::Global;
+use std::marker::Model;
+
+/// A row of marks for each segment.
+#[derive(Drop)]
+pub struct LiveMarks {
+    geometry: Geometry,
+    rows: Vec<Row>,
+}
+
+impl Model for LiveMarks {
+    ghost use Rattle.segments.specs.Marks.{Marks};
+    ghost use Rattle.segments.specs.MarksInside.{marks_of, AreMarksKept};
+
+    ghost Value = { Marks };
+
+    ghost view = { marks_of };
+
+    ghost invariant = { AreMarksKept };
+}
+
+/// As many rows of as many marks, none set.
+fn empty_rows(alloc: Global, rows: u32, marks: u32) -> Result<Vec<Row>, NoMemory>
+    requires { marks ≤ 32768 }
+    ensures { IfOk result (λ v. v.items ≡ replicate rows (replicate marks false)) }
+{
+    let mut empty = Vec::with_capacity(alloc, rows as usize)?;
+    for _row in 0..rows {
+        empty.push(Row::new(alloc, marks)?)?;
+    }
+    Ok(empty)
+}
+
+impl LiveMarks {
+    /// No place is marked.
+    pub fn new(alloc: Global, geometry: Geometry) -> Result<LiveMarks, NoMemory>
+        ensures { IfOk result (λ t. t ≡ no_marks geometry) }
+    {
+        Ok(LiveMarks {
+            geometry,
+            rows: empty_rows(alloc, geometry.segments(), geometry.segment_size() / 32)?,
+        })
+    }
+
+    /// Whether the place is marked.
+    pub fn is_marked(&self, place: Place) -> bool
+        ensures { result ≡ is_marked self.now place }
+    {
+        match self.rows.get(place.segment as usize) {
+            Some(row) => row.is_marked(place.offset / 32),
+            None => false,
+        }
+    }
+
+    /// How many marks the segment has.
+    pub fn count(&self, segment: u32) -> u32
+        ensures { result ≡ marked (row_of self.now segment) }
+    {
+        match self.rows.get(segment as usize) {
+            Some(row) => row.count(),
+            None => 0,
+        }
+    }
+
+    /// Marks a place.
+    pub fn mark(&mut self, place: Place)
+        requires { IsWithin self.old.sizes place }
+        ensures { self.new ≡ with_mark true self.old place }
+    {
+        self.rows[place.segment as usize].mark(place.offset / 32);
+    }
+
+    /// Takes the mark of a place away.
+    pub fn unmark(&mut self, place: Place)
+        requires { IsWithin self.old.sizes place }
+        ensures { self.new ≡ with_mark false self.old place }
+    {
+        self.rows[place.segment as usize].unmark(place.offset / 32);
+    }
+
+    /// The marks are where moves put what they start at.
+    pub fn carry(&mut self, moves: &[Move])
+        requires sources { All (λ m. IsWithin self.old.sizes m.source) moves.now }
+        requires targets { All (λ m. IfSome m.target (IsWithin self.old.sizes)) moves.now }
+        ensures { self.new ≡ carried_marks self.old moves.now }
+    {
+        for step in moves {
+            self.unmark(step.source);
+        }
+        for step in moves {
+            if let Some(target) = step.target {
+                self.mark(target);
+            }
+        }
+    }
+
+    /// Takes the marks of a segment away.
+    pub fn clear_segment(&mut self, segment: u32)
+        requires { segment < self.old.sizes.segments }
+        ensures { self.new ≡ without_marks self.old segment }
+    {
+        self.rows[segment as usize].clear();
+    }
+}
+
+impl Live for LiveMarks {
+    ghost use Rattle.segments.specs.Marks.{lives_by, KnowsPool};
+
+    ghost lives_at = { lives_by };
+
+    ghost knows = { KnowsPool };
+
+    fn lives(&self, place: Place, _item: &ItemRef) -> bool {
+        self.is_marked(place)
+    }
+
+    fn has_live(&self, segment: u32) -> bool {
+        self.count(segment) > 0
+    }
+}

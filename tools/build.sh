@@ -1,12 +1,5 @@
 #!/usr/bin/env bash
-# Proves and builds segcached as crates/segcached/out/segcached.
+# Proves what segcached stands on, and proves and builds segcached as crates/segcached/out/segcached.
 set -eu
 cd "$(dirname "$0")/.."
-log=$(mktemp)
-trap 'rm -f "$log"' EXIT
-echo "Proving what segcached stands on, and then segcached ..."
-python3 tools/prove.py --below segcached
-(cd crates/segcached && rt run -- --help) >"$log" 2>&1 || {
-  tail -n 20 "$log"
-  exit 1
-}
+exec python3 tools/prove.py --build segcached

@@ -1,0 +1,171 @@
+#!/usr/bin/env python3
+"""What `make run` does: shows a script of two requests and what segcached answers, and then talks to a served socket.
+
+    tools/run.py
+
+Where nothing is proved yet, the script first runs on a build that is checked as it runs (`rt try`), which takes a minute or two, while the
+proofs begin; then the proofs go on, a line for each crate. At the end the proved program replays the script and serves. What was proved is
+kept: an interrupt loses none of it, and where all is kept the proved program runs at once.
+"""
+import contextlib
+import os
+import signal
+import socket
+import subprocess
+import sys
+import tempfile
+import time
+
+import machine
+import prove
+
+TOP = os.path.dirname(os.path.dirname(os.path.abspath(__file__)))
+SCRIPT = "scripts/first.script"
+REQUESTS = b"set a 0 0 1\r\nx\r\nget a\r\n"
+QUIT = b"quit\r\n"
+ANSWERS = b"STORED\r\nVALUE a 0 1\r\nx\r\nEND\r\n"
+CRATE = "crates/segcached"
+PROGRAM = f"{CRATE}/out/segcached"
+TRY = ["rt", "try", "--data", f"first.script=../../{SCRIPT}", "--", "replay", "first.script"]
+# By these signals the run is ended.
+ENDS = (signal.SIGINT, signal.SIGTERM, signal.SIGHUP)
+# So many seconds lie between two looks at what the proofs said.
+EVERY = 0.2
+# So long a socket may be silent.
+SECONDS = 10
+
+
+def say(text=""):
+    print(text, flush=True)
+
+
+def show(bytes_):
+    """Shows lines of the protocol."""
+    for line in bytes_.decode().splitlines():
+        say(f"    {line}")
+
+
+def spelled(bytes_):
+    return bytes_.decode().replace("\r", "\\r").replace("\n", "\\n")
+
+
+@contextlib.contextmanager
+def started(words, **how):
+    """A process in a group of its own; however the block ends, it waits until all of the group have ended, whom it asks to."""
+    process = subprocess.Popen(words, start_new_session=True, stdin=subprocess.DEVNULL, **how)
+    try:
+        yield process
+    finally:
+        with contextlib.suppress(ProcessLookupError):
+            os.killpg(process.pid, signal.SIGTERM)
+            process.wait()
+            while True:
+                os.killpg(process.pid, 0)
+                time.sleep(EVERY)
+
+
+def show_script():
+    say(f"The script {SCRIPT}:")
+    with open(SCRIPT, encoding="ascii") as file:
+        for line in file:
+            say(f"    {line.rstrip()}")
+    say(f"It opens session 1 and sends: {spelled(REQUESTS)}")
+    say()
+
+
+def show_replay(printed):
+    """Shows what a replay of the script printed, decoded, and ends with status 1 where it isn't what the protocol says."""
+    say(printed.rstrip("\n"))
+    say()
+    say("Worker 0 gave session 1 these bytes:")
+    given = bytes.fromhex(printed.split()[-1]) if printed.split() else b""
+    show(given)
+    say()
+    if given != ANSWERS:
+        sys.exit("segcached: that is not what the protocol says")
+
+
+def try_script():
+    """Runs the script on a build that is checked as it runs, and shows the answer."""
+    say("The first answer comes from a build that isn't proved yet and is checked as it runs; it takes a minute or two to start.")
+    say(f"$ cd {CRATE} && {' '.join(TRY)}")
+    with started(TRY, cwd=CRATE, stdout=subprocess.PIPE, stderr=subprocess.PIPE, text=True) as tried:
+        printed, said = tried.communicate()
+    if tried.returncode:
+        sys.exit(f"{said}segcached: the script did not run")
+    show_replay(printed)
+    say("This build is checked as it runs, and not proved yet.")
+    say()
+
+
+def follow(process, lines):
+    """Shows what a process writes to a file until it ends."""
+    while True:
+        has_ended = process.poll() is not None
+        for line in lines:
+            print(line, end="", flush=True)
+        if has_ended:
+            return
+        time.sleep(EVERY)
+
+
+def try_and_prove():
+    """Shows the first answer while the proofs begin, and then how they go on."""
+    with tempfile.NamedTemporaryFile("w", prefix="proofs-") as written, open(written.name, encoding="utf-8") as lines:
+        try:
+            with started(["bash", "tools/build.sh"], stdout=written, stderr=subprocess.STDOUT) as proving:
+                try_script()
+                follow(proving, lines)
+        finally:
+            # After an interrupt the last lines say what is kept.
+            print(lines.read(), end="", flush=True)
+    if proving.returncode:
+        sys.exit("segcached: not all of it is proved")
+
+
+def replay():
+    """Replays the script with the proved program."""
+    say(f"$ segcached replay {SCRIPT}")
+    show_replay(subprocess.run([PROGRAM, "replay", SCRIPT], stdout=subprocess.PIPE, text=True, check=True).stdout)
+
+
+def serve():
+    """Serves on a free port, and talks to it."""
+    say("$ segcached serve --listen 127.0.0.1:0")
+    with started([PROGRAM, "serve", "--listen", "127.0.0.1:0"], stdout=subprocess.PIPE, text=True) as server:
+        first = server.stdout.readline()
+        print(first, end="", flush=True)
+        host, _, port = first.split()[-1].rpartition(":")
+        say(f"A client sends {spelled(REQUESTS + QUIT)} to {host}:{port}, and reads:")
+        with socket.create_connection((host, int(port)), timeout=SECONDS) as client, client.makefile("rb") as answers:
+            client.sendall(REQUESTS + QUIT)
+            read = answers.read()
+        show(read)
+    if read != ANSWERS:
+        sys.exit("segcached: that is not what the protocol says")
+
+
+def end(number, _):
+    for it in ENDS:
+        signal.signal(it, signal.SIG_IGN)
+    sys.exit(128 + number)
+
+
+def main():
+    for it in ENDS:
+        signal.signal(it, end)
+    os.chdir(TOP)
+    machine.stop_where_lacking(machine.lacks_kit())
+    is_kept = prove.is_kept(prove.read_crates(), "segcached")
+    if not is_kept:
+        machine.stop_where_lacking(machine.lacks_memory())
+    show_script()
+    if not is_kept:
+        try_and_prove()
+        say()
+    replay()
+    serve()
+
+
+if __name__ == "__main__":
+    main()

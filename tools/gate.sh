@@ -1,12 +1,14 @@
 #!/usr/bin/env bash
 # The gate. `rt ci` proves every crate from nothing, tries the must-fail edits, and runs the tests and the
 # programs. Then each growth is refused in turn, and real sockets and real clients are tried against a served program. Each crate
-# that is proved gets a line with the time so far; a table says what each crate cost. The last line is 'N passed, M failed'.
+# that is proved gets a line with the time so far; a table says what each crate cost, which is left in out/gate_minutes.tsv, too. The last line
+# is 'N passed, M failed'.
 set -u
 cd "$(dirname "$0")/.."
 passed=0
 failed=0
 began=$SECONDS
+minutes=out/gate_minutes.tsv
 
 work=$(mktemp -d)
 times_pid=
@@ -41,7 +43,9 @@ part() {
   fi
 }
 
-python3 tools/gate_times.py "$work/times" &
+mkdir -p out
+rm -f "$minutes"
+python3 tools/gate_times.py measure "$minutes" &
 times_pid=$!
 rt ci 2>&1 | tee "$work/log" | with_progress
 kill "$times_pid" && wait "$times_pid"
@@ -53,8 +57,13 @@ else
   echo "gate: rt ci ended without its count"
   failed=1
 fi
-echo "gate: processor minutes of the prover, by crate"
-cat "$work/times"
+echo "gate: what each crate cost, in processor minutes of the prover"
+if python3 tools/gate_times.py show "$minutes"; then
+  echo "gate: these minutes stand in $minutes; tools/gate_times.py take $minutes records them"
+else
+  echo "gate: the minutes weren't measured"
+  failed=$((failed + 1))
+fi
 
 part refused_growth bash tools/refused_growth.sh
 
@@ -68,6 +77,6 @@ part "try_script_of" python3 tools/try_script_of.py "$program"
 part "hostile" python3 tools/hostile.py --program "$program" --late 10 \
   --only shared_counters,history,bad_peers,many_sessions,few_descriptors,refused_memory,little_memory,flooding,fuzz
 
-echo "gate: took $(((SECONDS - began) / 60)) minutes"
+echo "gate: took $(((SECONDS - began) / 60)) minutes; $(python3 tools/gate_times.py sums "$minutes")"
 echo "$passed passed, $failed failed"
 [ "$failed" -eq 0 ]

@@ -1,8 +1,10 @@
 #!/usr/bin/env python3
 """What the gate's checks cost: processor minutes of the prover for each crate, for proofs, for tests and for must-fail edits.
 
-    tools/gate_times.py measure FILE    until it is stopped, adds up what the prover's processes take, and writes it to FILE
-    tools/gate_times.py show FILE       prints FILE as a table, and the minutes in all
+    tools/gate_times.py measure FILE    until it is stopped, adds up what the prover's processes take that whoever started it started, too,
+                                        and writes it to FILE
+    tools/gate_times.py show FILE       prints FILE as a table
+    tools/gate_times.py sums FILE       prints its minutes in all
     tools/gate_times.py take FILE       makes FILE the recorded minutes, tools/gate_minutes.tsv, and writes the table of docs/GATE.md anew
     tools/gate_times.py page            writes that table anew
 
@@ -52,18 +54,27 @@ def crate_of(words):
     return words[words.index("--crate-name") + 1] if "--crate-name" in words else None
 
 
-def look(seen):
-    """Notes each prover's process by its number and start: its crate, its kind and its processor seconds."""
+def stat_of(pid):
+    """What the system says of a process, from its state on."""
+    return re.sub(r"^.*\) ", "", read(f"/proc/{pid}/stat")).split()
+
+
+def is_below(pid, above):
+    """Whether a process was started by another, or by one that this one started."""
+    while pid not in ("0", above):
+        fields = stat_of(pid)
+        pid = fields[1] if len(fields) > 1 else "0"
+    return pid == above
+
+
+def look(seen, above):
+    """Notes each prover's process below another by its number and start: its crate, its kind and its processor seconds."""
     for pid in filter(str.isdigit, os.listdir("/proc")):
         words = read(f"/proc/{pid}/cmdline").split("\0")
         if not words or os.path.basename(words[0]) != "rattle":
             continue
-        stat = read(f"/proc/{pid}/stat")
-        fields = re.sub(r"^.*\) ", "", stat).split()
-        if len(fields) < 20:
-            continue
-        crate, kind = crate_of(words), kind_of(pid, words)
-        if crate and kind:
+        fields, crate, kind = stat_of(pid), crate_of(words), kind_of(pid, words)
+        if len(fields) > 19 and crate and kind and is_below(pid, above):
             seconds = (int(fields[11]) + int(fields[12])) / TICKS
             seen[pid, fields[19]] = crate, kind, seconds
 
@@ -107,11 +118,12 @@ def note_of(path):
 
 
 def measure(path):
+    """Measures what runs below the program that started this one."""
     seen, ended, began = {}, [], time.time()
     load = " ".join(read("/proc/loadavg").split()[:3])
     signal.signal(signal.SIGTERM, lambda *_: ended.append(True))
     while not ended:
-        look(seen)
+        look(seen, str(os.getppid()))
         time.sleep(EVERY)
     when = time.strftime("%Y-%m-%d %H:%M UTC", time.gmtime(began))
     took = f"{(time.time() - began) / 60:.0f} minutes on {len(os.sched_getaffinity(0))} processors"
@@ -147,27 +159,30 @@ def write_page():
         file.write(f"{head}{BEGIN}\n\n{notes}\n{table_of(read_minutes(MINUTES), read_minutes(BEFORE))}\n{END}{tail}")
 
 
-def show(path):
-    minutes = read_minutes(path)
-    print(table_of(minutes, read_minutes(BEFORE)))
+def sums_in_words(minutes):
     sums = sums_of(minutes)
     kinds = ", ".join(f"{sums[kind]:.0f} for {kind}" for kind in KINDS)
-    print(f"{in_all(sums):.0f} processor minutes: {kinds}; {note_of(path)}")
+    return f"{in_all(sums):.0f} processor minutes of the prover, {kinds}"
 
 
 def main():
     verb, path = (sys.argv[1:] + ["", ""])[:2]
-    if verb == "measure" and path:
-        measure(path)
-    elif verb == "show" and path:
-        show(path)
-    elif verb == "take" and path:
-        shutil.copyfile(path, MINUTES)
-        write_page()
-    elif verb == "page":
-        write_page()
-    else:
+    if verb not in ("measure", "show", "sums", "take", "page") or bool(path) == (verb == "page"):
         sys.exit(__doc__)
+    if verb == "measure":
+        return measure(path)
+    minutes = read_minutes(path or MINUTES)
+    if not minutes:
+        sys.exit(f"{path} holds no minutes")
+    if verb == "show":
+        print(table_of(minutes, read_minutes(BEFORE)))
+    elif verb == "sums":
+        print(sums_in_words(minutes))
+    else:
+        if path:
+            shutil.copyfile(path, MINUTES)
+        write_page()
+    return None
 
 
 if __name__ == "__main__":

@@ -20,6 +20,7 @@ tools/gate_minutes.tsv, which the gate measures.
 import argparse
 import fcntl
 import hashlib
+import math
 import os
 import re
 import shutil
@@ -269,12 +270,19 @@ def stop(proofs):
         take_back(proof.name)
 
 
+def clear_rooms():
+    """Keeps what a run that was killed left in its rooms."""
+    for name in os.listdir(ROOMS) if os.path.isdir(ROOMS) else ():
+        take_back(name)
+
+
 def minutes_and_seconds(seconds):
     return f"{int(seconds) // 60}:{int(seconds) % 60:02}"
 
 
 def in_words(minutes):
-    return "less than a minute" if minutes < 1 else f"about {minutes + 0.5:.0f} minute{'s' if minutes >= 1.5 else ''}"
+    whole = math.ceil(minutes)
+    return f"about {whole} minutes" if whole > 1 else "less than a minute"
 
 
 class Progress:
@@ -284,12 +292,11 @@ class Progress:
         self.began, self.all, self.ended = time.monotonic(), len(names), len(kept)
         self.expected = expected_ends(crates, minutes_of(names - kept), at_once)
         self.in_all, self.reached = max(self.expected.values(), default=0), 0
-        proved = f"{len(kept)} of {len(names)} crates are kept and unchanged; " if kept else ""
-        left = len(names) - len(kept)
-        print(f"{proved}{left} crate{'s' * (left != 1)} to prove, {at_once} at a time", flush=True)
-        if left:
-            took = in_words(self.in_all)
-            print(f"This may take {took} on {machine.processors()} processors (an estimate, from what the proofs took before).", flush=True)
+        if kept:
+            print(f"{len(kept)} of {len(names)} crates are proved and kept, and nothing has changed since.", flush=True)
+        if names - kept:
+            print(f"{len(names - kept)} to prove, {at_once} at a time, on {machine.processors()} processors: {in_words(self.in_all)}", end="")
+            print(" (an estimate, from what they took in the gate)", flush=True)
 
     def say(self, name):
         seconds = time.monotonic() - self.began
@@ -363,10 +370,9 @@ def main():
     held, interrupts = alone_here(), []
     for it in (signal.SIGINT, signal.SIGTERM, signal.SIGHUP):
         signal.signal(it, lambda number, _: interrupts.append(number))
-    # What a run that was killed left is kept, too.
-    for name in os.listdir(ROOMS) if os.path.isdir(ROOMS) else ():
-        take_back(name)
+    clear_rooms()
     status = prove(crates, names, words.name if words.build else None, words.at_once or machine.at_once(), interrupts)
+    shutil.rmtree(ROOMS, ignore_errors=True)
     os.close(held)
     return status
 

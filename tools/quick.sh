@@ -4,4 +4,4 @@
 set -eu
 cd "$(dirname "$0")/.."
 python3 tools/prove.py --all
-(cd crates/subcommands_tests && rt test)
+(cd crates/replay_tests && rt test)

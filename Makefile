@@ -3,7 +3,7 @@
 help: ## says what each target does
 	@awk -F ':.*## ' '/^[a-z]+:.*## /{printf "make %-8s %s\n", $$1, $$2}' Makefile
 
-run: ## proves and builds segcached, replays the first script, and talks to a served socket
+run: ## shows a first answer, proves and builds segcached, replays the first script, and talks to a served socket
 	@python3 tools/run.py
 
 serve: ## builds segcached and serves on 127.0.0.1:11211

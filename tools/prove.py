@@ -302,8 +302,8 @@ class Progress:
         seconds = time.monotonic() - self.began
         self.ended += 1
         self.reached = max(self.reached, self.expected[name])
-        # As much slower or faster as it was until now, it goes on.
-        left = (self.in_all - self.reached) * seconds / 60 / self.reached
+        # It goes on as much slower as it was until now, or faster by up to a half; what is kept ends much faster.
+        left = (self.in_all - self.reached) * max(seconds / 60 / self.reached, 0.5)
         rest = f", {in_words(left)} left" if self.ended < self.all else ""
         print(f"  {self.ended:2} of {self.all}  {name:18} ({minutes_and_seconds(seconds)}{rest})", flush=True)
 

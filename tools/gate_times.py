@@ -154,7 +154,7 @@ def table_of(now, before):
 def write_page():
     head, _, rest = read(PAGE).partition(BEGIN)
     tail = rest.partition(END)[2]
-    notes = f"The run of the table: {note_of(MINUTES)}.\n\nThe run before: {note_of(BEFORE)}.\n"
+    notes = f"- Now: {note_of(MINUTES)}\n- Before: {note_of(BEFORE)}\n"
     with open(PAGE, "w", encoding="utf-8") as file:
         file.write(f"{head}{BEGIN}\n\n{notes}\n{table_of(read_minutes(MINUTES), read_minutes(BEFORE))}\n{END}{tail}")
 

@@ -29,6 +29,8 @@ PROGRAM = f"{CRATE}/out/segcached"
 TRY = ["rt", "try", "--data", f"first.script=../../{SCRIPT}", "--", "replay", "first.script"]
 # By these signals the run is ended.
 ENDS = (signal.SIGINT, signal.SIGTERM, signal.SIGHUP)
+# The proofs yield by so much (nice) to the first answer, which is made beside them.
+NICE = 10
 # So many seconds lie between two looks at what the proofs said.
 EVERY = 0.2
 # So long a socket may be silent.
@@ -113,7 +115,7 @@ def try_and_prove():
     """Shows the first answer while the proofs begin, and then how they go on."""
     with tempfile.NamedTemporaryFile("w", prefix="proofs-") as written, open(written.name, encoding="utf-8") as lines:
         try:
-            with started(["bash", "tools/build.sh"], stdout=written, stderr=subprocess.STDOUT) as proving:
+            with started(["nice", "-n", str(NICE), "bash", "tools/build.sh"], stdout=written, stderr=subprocess.STDOUT) as proving:
                 try_script()
                 follow(proving, lines)
         finally:

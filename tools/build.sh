@@ -2,4 +2,4 @@
 # Proves what segcached stands on, and proves and builds segcached as crates/segcached/out/segcached.
 set -eu
 cd "$(dirname "$0")/.."
-exec python3 tools/prove.py --build segcached
+python3 tools/prove.py --build segcached

@@ -40,14 +40,14 @@ ROOMS = f"{TOP}/.git/rooms" if os.path.isdir(f"{TOP}/.git") else f"{TOP}/out/roo
 PARTS = ("src", "specs", "proofs")
 # A crate that no run of the gate has measured is taken to need half a minute, and one more for so many lines.
 LINES_A_MINUTE = 2500
-# Crates from which the way to the top takes less than this share of the longest one are proved by so many jobs, and yield to the others by
-# so much (nice).
+# Beside what the gate measured a check loads the proofs of the libraries below it, on one processor: so many minutes.
+MINUTES_ALONE = 1.0
+# Crates from which the way to the top takes less than this share of the longest one are proved by so many jobs, and yield to the
+# others by so much (nice).
 SHARE_OF_LONGEST = 0.75
 JOBS_BESIDE = 2
 NICE_BESIDE = 10
-# For the estimate: beside what the gate measured a check loads the proofs of the libraries below it, so many minutes on one processor; and
-# where all processors have work, so much of their time is used.
-MINUTES_ALONE = 1.0
+# For the estimate: where all processors have work, so much of their time is used.
 SHARE_USED = 0.8
 # Of a crate that isn't proved so many characters are shown, the last ones.
 SHOWN = 3000
@@ -161,7 +161,7 @@ def ways_to_the_top(crates, minutes):
     def measure(name):
         if name not in ways:
             above = [it for it in minutes if name in crates[it]]
-            ways[name] = minutes[name] + max(map(measure, above), default=0)
+            ways[name] = MINUTES_ALONE + minutes[name] + max(map(measure, above), default=0)
         return ways[name]
 
     for name in minutes:
@@ -171,15 +171,19 @@ def ways_to_the_top(crates, minutes):
 
 def to_start(crates, ways, proved, running, at_once):
     """The crates to start now, up to so many at a time, the longest way first: each with its jobs, and how much it yields."""
-    left = [name for name in ways if name not in proved]
-    ready = [name for name in left if name not in running and all(it in proved or it not in ways for it in crates[name])]
+    left = [name for name in ways if name not in proved and name not in running]
+    ready = [name for name in left if all(it in proved or it not in ways for it in crates[name])]
     longest = max((ways[name] for name in left), default=0)
+    beside = min(JOBS_BESIDE, at_once)
     chosen = []
     for name in sorted(ready, key=ways.get, reverse=True)[: at_once - len(running)]:
-        goes_first = ways[name] >= SHARE_OF_LONGEST * longest
-        is_alone = len(left) == len(running) + len(chosen) + 1
-        jobs = at_once if goes_first or is_alone else min(JOBS_BESIDE, at_once)
-        chosen.append((name, jobs, 0 if goes_first else NICE_BESIDE))
+        if len(left) == len(chosen) + 1:
+            # Nothing comes behind it.
+            chosen.append((name, at_once, 0))
+        elif ways[name] >= SHARE_OF_LONGEST * longest:
+            chosen.append((name, max(at_once - 1, beside), 0))
+        else:
+            chosen.append((name, beside, NICE_BESIDE))
     return chosen
 
 

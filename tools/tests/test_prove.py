@@ -32,8 +32,9 @@ def names_of(chosen):
     return [name for name, _, _ in chosen]
 
 
-def test_a_way_adds_up_the_longest_of_those_above():
-    assert prove.ways_to_the_top(CRATES, MINUTES) == {"base": 8.0, "left": 6.0, "right": 2.0, "aside": 0.5, "top": 1.0}
+def test_a_way_adds_up_the_longest_of_those_above(monkeypatch):
+    monkeypatch.setattr(prove, "MINUTES_ALONE", 0.25)
+    assert prove.ways_to_the_top(CRATES, MINUTES) == {"base": 8.75, "left": 6.5, "right": 2.5, "aside": 0.75, "top": 1.25}
 
 
 def test_a_crate_waits_for_those_below_it():
@@ -42,8 +43,12 @@ def test_a_crate_waits_for_those_below_it():
     assert names_of(started(["base", "left", "right"])) == ["top", "aside"]
 
 
-def test_the_longest_way_goes_first_with_all_jobs_and_the_others_yield():
-    assert started(["base"]) == [("left", 4, 0), ("right", 2, 10), ("aside", 2, 10)]
+def test_the_longest_way_goes_first_with_more_jobs_and_the_others_yield():
+    assert started(["base"]) == [("left", 3, 0), ("right", 2, 10), ("aside", 2, 10)]
+
+
+def test_what_runs_already_makes_no_way_seem_short():
+    assert started(["base"], running=["left"]) == [("right", 3, 0), ("aside", 2, 10)]
 
 
 def test_no_more_are_proved_at_a_time_than_asked_for():

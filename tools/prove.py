@@ -15,7 +15,7 @@ rt keeps other runs out of a crate that it proves and out of all that it stands 
 links to its files and to the libraries below it, from which its folder out/ comes back.
 
 The crates from which the way to the top takes longest go first, and the others yield to them. What each takes stands in
-tools/gate_minutes.tsv, which the gate measures.
+tools/gate_minutes.tsv, by a run of the gate.
 """
 import argparse
 import fcntl
@@ -42,10 +42,11 @@ PARTS = ("src", "specs", "proofs")
 LINES_A_MINUTE = 2500
 # Beside what the gate measured a check loads the proofs of the libraries below it, on one processor: so many minutes.
 MINUTES_ALONE = 1.0
-# Crates from which the way to the top takes less than this share of the longest one are proved by so many jobs, and yield to the
-# others by so much (nice).
+# So many jobs has a check beside others. More shorten it little and cost much, since each loads the libraries again: of `engine` one took 174
+# seconds of processor time, two 189, and four 308.
+JOBS = 2
+# Crates from which the way to the top takes less than this share of the longest one yield to the others by so much (nice).
 SHARE_OF_LONGEST = 0.75
-JOBS_BESIDE = 2
 NICE_BESIDE = 10
 # For the estimate: where all processors have work, so much of their time is used.
 SHARE_USED = 0.8
@@ -174,16 +175,11 @@ def to_start(crates, ways, proved, running, at_once):
     left = [name for name in ways if name not in proved and name not in running]
     ready = [name for name in left if all(it in proved or it not in ways for it in crates[name])]
     longest = max((ways[name] for name in left), default=0)
-    beside = min(JOBS_BESIDE, at_once)
     chosen = []
     for name in sorted(ready, key=ways.get, reverse=True)[: at_once - len(running)]:
-        if len(left) == len(chosen) + 1:
-            # Nothing comes behind it.
-            chosen.append((name, at_once, 0))
-        elif ways[name] >= SHARE_OF_LONGEST * longest:
-            chosen.append((name, max(at_once - 1, beside), 0))
-        else:
-            chosen.append((name, beside, NICE_BESIDE))
+        is_last = len(left) == len(chosen) + 1
+        goes_first = ways[name] >= SHARE_OF_LONGEST * longest
+        chosen.append((name, at_once if is_last else min(JOBS, at_once), 0 if goes_first else NICE_BESIDE))
     return chosen
 
 

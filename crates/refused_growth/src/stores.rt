@@ -1,6 +1,7 @@
 //! A segmented store is made after a refusal, and does then what it would have done.
 
 use crate::cache::read;
+use engine::StorageEngine;
 use proto::{Geometry, Message, Reply, show};
 use segcache::Store;
 use std::alloc::Global;

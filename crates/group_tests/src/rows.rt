@@ -5,10 +5,10 @@ use crate::ports::{Counters, TestClock, TestPort};
 use crate::running::{are_complete, ports_of, run};
 use crate::second_gate::SecondGate;
 use bytes::Bytes;
-use worker::{HoldGate, OpenGate};
 use group::GroupFault;
 use std::alloc::Global;
 use std::test::Fail;
+use worker::{HoldGate, OpenGate};
 
 const KEYS: &[u8] = b"abcdefghi";
 

@@ -3,8 +3,8 @@
 use crate::ports::{Counters, TestPort};
 use bytes::Bytes;
 use group::{Config, GroupFault, GroupReport, GroupWorker, run_group};
-use engine::PlainStore;
 use proto::Geometry;
+use segcache::Store;
 use session_book::EndCause;
 use std::alloc::Global;
 use std::process::Abort;
@@ -48,7 +48,7 @@ pub(crate) fn ports_of<'a, R: Abort>(
     ports
 }
 
-/// Runs a group over a new plain store of 64 segments.
+/// Runs a group over a new store of 64 segments.
 pub(crate) fn run<
     'a,
     C: Clock + Send,
@@ -62,7 +62,7 @@ pub(crate) fn run<
     gate: &G,
 ) -> Result<GroupReport<TestPort<'a>, C>, GroupFault> {
     let geometry = Geometry::new(65_536, 64).expect(rt, "a geometry");
-    let store = PlainStore::new(alloc, geometry);
+    let store = Store::new(alloc, geometry).expect(rt, "memory");
     run_group(rt, alloc, ports, Config { geometry }, store, clock, gate)
 }
 

@@ -1,7 +1,7 @@
 //! Which answers let request 2 of a worker pass a gate that holds two workers.
 
-use worker::{Gate, HoldGate};
 use std::process::Abort;
+use worker::{Gate, HoldGate};
 
 /// The answer that is told, by worker and number; the worker whose request 2 comes then; whether it passes.
 const ROWS: [(usize, u64, usize, bool); 12] = [

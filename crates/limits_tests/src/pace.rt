@@ -3,13 +3,13 @@
 
 use crate::runs::SteadyClock;
 use bytes::Bytes;
-use worker::{Gone, OpenGate, Port, PortEvent};
-use group::{Config, run_group};
 use engine::PlainStore;
+use group::{Config, run_group};
 use proto::Geometry;
 use std::test::Fail;
 use std::thread;
 use std::time::{Clock, Duration, Instant};
+use worker::{Gone, OpenGate, Port, PortEvent};
 
 /// How many requests come.
 const REQUESTS: usize = 200;

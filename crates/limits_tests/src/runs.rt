@@ -2,7 +2,6 @@
 
 use crate::serving::serve;
 use crate::talk::{Shape, Talk, script_of, talk_of};
-use worker::{OpenGate, WorkerReport};
 use engine::PlainStore;
 use proto::Geometry;
 use script::{ScriptClock, ScriptPort, WorkerScript, read_script, replay_sequentially};
@@ -14,6 +13,7 @@ use std::test::Fail;
 use std::thread::Threads;
 use std::time;
 use storage_thread::Clock;
+use worker::{OpenGate, WorkerReport};
 
 /// The size and the number of a store's segments; and the bytes of a value, how many keys stand in a line that asks
 /// for it, and how many such lines there are.

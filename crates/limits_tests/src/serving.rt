@@ -6,8 +6,8 @@ ghost use Rattle.storage_thread.specs.Serving.{IsUnused};
 ghost use Rattle.worker.specs.Ports.{PortStory};
 
 use crate::runs::SteadyClock;
-use exchange::{StorageEnd, StorageSignals, WorkerEnd, make};
 use engine::PlainStore;
+use exchange::{StorageEnd, StorageSignals, WorkerEnd, make};
 use proto::Geometry;
 use std::alloc::Global;
 use std::hash::FoldHasher;

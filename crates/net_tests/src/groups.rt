@@ -1,12 +1,10 @@
 //! Groups of workers over sockets.
 
 use crate::clients::{ANSWER_A, ANSWER_B, ROW_A, ROW_B, ask, connect, send};
-use storage_thread::UnixClock;
-use worker::OpenGate;
 use group::{Config, GroupWorker, run_group};
 use net::{Hand, ListenReport, Listener, MioPort};
-use engine::PlainStore;
 use proto::Geometry;
+use segcache::Store;
 use session_book::EndCause;
 use std::alloc::Global;
 use std::net::{Net, TcpStream};
@@ -14,6 +12,8 @@ use std::process::Abort;
 use std::sync::Wait;
 use std::thread::{self, Threads};
 use std::time::Clock;
+use storage_thread::UnixClock;
+use worker::OpenGate;
 
 /// What serves two workers' sessions.
 #[derive(Drop)]
@@ -60,7 +60,7 @@ where
     let geometry = Geometry::new(65_536, 64).expect(&rt, "a geometry");
     let config = Config { geometry };
     let clock = UnixClock::new(rt);
-    let store = PlainStore::new(alloc, geometry);
+    let store = Store::new(alloc, geometry).expect(&rt, "memory");
     let report = run_group(&rt, alloc, ports, config, store, clock, &OpenGate).expect(
         &rt, "a group",
     );

@@ -2,14 +2,14 @@
 
 use crate::quiet_port::{Counters, QuietPort, SteadyClock};
 use crate::served::{Allowed, is_allowed, is_whole};
-use worker::OpenGate;
 use group::{Config, GroupFault, GroupReport, run_group};
-use engine::PlainStore;
 use proto::Geometry;
+use segcache::Store;
 use std::alloc::Global;
 use std::sync::Wait;
 use std::thread::Threads;
 use std::time;
+use worker::OpenGate;
 
 const INPUTS: [&[u8]; 2] = [
     b"set a 0 0 1\r\nx\r\nget a\r\n",
@@ -27,10 +27,7 @@ const ALLOWED: [Allowed; 2] = [
     },
 ];
 
-const REFUSED: [&[u8]; 2] = [
-    b"STORED\r\nSERVER_ERROR out of memory\r\n",
-    b"SERVER_ERROR out of memory\r\nEND\r\n",
-];
+const REFUSED: &[u8] = b"STORED\r\nSERVER_ERROR out of memory\r\n";
 
 /// What a run comes to.
 #[derive(Clone, Copy, PartialEq, Eq)]
@@ -83,7 +80,9 @@ fn run<R: Threads + Wait + time::Clock + Sync>(rt: &R, alloc: Global) -> Outcome
     let clock = SteadyClock {
         counters: &counters,
     };
-    let store = PlainStore::new(alloc, geometry);
+    let Ok(store) = Store::new(alloc, geometry) else {
+        return Outcome::Allowed;
+    };
     match run_group(
         rt,
         alloc,

@@ -4,24 +4,22 @@ use crate::quiet_port::QuietPort;
 use group::GroupWorker;
 use session_book::EndCause;
 
-/// What the session of a worker may be given: all as it is without a refusal, or one of its requests was answered
-/// with want of memory.
+/// What the session of a worker may be given: all as it is without a refusal, or its `get` was answered with want of
+/// memory.
 pub struct Allowed {
     pub whole: &'static [u8],
-    pub refused: [&'static [u8]; 2],
+    pub refused: &'static [u8],
 }
 
 impl Allowed {
     /// Whether the output is one of these.
     fn has(&self, output: &[u8]) -> bool {
-        self.whole == output || self.refused[0] == output || self.refused[1] == output
+        self.whole == output || self.refused == output
     }
 
     /// Whether one of these begins with the output.
     fn has_beginning(&self, output: &[u8]) -> bool {
-        self.whole.starts_with(output)
-            || self.refused[0].starts_with(output)
-            || self.refused[1].starts_with(output)
+        self.whole.starts_with(output) || self.refused.starts_with(output)
     }
 }
 

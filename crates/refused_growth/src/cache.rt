@@ -1,8 +1,9 @@
-//! Where memory is refused, the plain store keeps its entries, its cas counter, its pending flush and its
-//! moment, and executes the request when it is asked again.
+//! A store is made after a refusal. Where memory is refused, it keeps its entries, its cas counter, its pending flush and
+//! its moment, and executes the request when it is asked again.
 
-use engine::PlainStore;
+use engine::StorageEngine;
 use proto::{Geometry, Message, Next, NoMemory, Reply, Request, next_message, show};
+use segcache::Store;
 use std::alloc::Global;
 
 /// Requests that store, show, change, expire and flush.
@@ -40,7 +41,17 @@ pub fn read(alloc: Global, input: &[u8]) -> Option<Message> {
     None
 }
 
-fn handle(store: &mut PlainStore, now: u64, request: &mut Request) -> Option<Reply> {
+/// The store, where it is made at the first or the second try.
+fn make(alloc: Global, geometry: Geometry) -> Option<Store> {
+    for _ in 0..2 {
+        if let Ok(store) = Store::new(alloc, geometry) {
+            return Some(store);
+        }
+    }
+    None
+}
+
+fn handle(store: &mut Store, now: u64, request: &mut Request) -> Option<Reply> {
     if store.last_moment() > now || now > LAST_MOMENT {
         return None;
     }
@@ -54,7 +65,7 @@ fn shown(alloc: Global, request: Request, reply: &Reply) -> Result<Vec<u8>, NoMe
 }
 
 /// What stands in the store, where it is shown at the first, the second or the third try.
-fn entries(alloc: Global, store: &mut PlainStore, now: u64) -> Option<Vec<u8>> {
+fn entries(alloc: Global, store: &mut Store, now: u64) -> Option<Vec<u8>> {
     for _ in 0..3 {
         let Some(Message::Ask(mut request, _)) = read(alloc, ALL) else {
             return None;
@@ -72,7 +83,7 @@ fn entries(alloc: Global, store: &mut PlainStore, now: u64) -> Option<Vec<u8>> {
 
 /// The answer, where the request is executed at the first or the second try, and a refusal changes
 /// nothing.
-fn answer(alloc: Global, store: &mut PlainStore, now: u64, input: &[u8]) -> Option<Vec<u8>> {
+fn answer(alloc: Global, store: &mut Store, now: u64, input: &[u8]) -> Option<Vec<u8>> {
     let before = entries(alloc, store, now)?;
     let pending = store.pending();
     let Message::Ask(mut request, _) = read(alloc, input)? else {
@@ -99,12 +110,14 @@ fn answer(alloc: Global, store: &mut PlainStore, now: u64, input: &[u8]) -> Opti
     Some(out)
 }
 
-/// Writes the answers, and says whether each was given.
+/// Writes the answers, and says whether the store was made and each answer given.
 pub fn is_repeatable<R: Print + AllocGlobal>(rt: &R) -> bool {
     let Ok(geometry) = Geometry::new(4096, 8) else {
         return false;
     };
-    let mut store = PlainStore::new(rt.alloc(), geometry);
+    let Some(mut store) = make(rt.alloc(), geometry) else {
+        return false;
+    };
     let mut now = 1000;
     for input in INPUTS {
         let out = answer(rt.alloc(), &mut store, now, input);

@@ -10,7 +10,6 @@ mod lanes;
 mod pools;
 mod protocol;
 mod quiet_port;
-mod stores;
 mod workers;
 
 use std::process::ExitCode;
@@ -34,9 +33,8 @@ fn main(rt: HostRuntime) -> ExitCode {
     let exchange = report(&rt, "lanes", REPEATED, lanes::is_repeatable(alloc));
     let sessions = report(&rt, "sessions", REPEATED, book::is_repeatable(alloc));
     let segments = report(&rt, "pools", REPEATED, pools::is_repeatable(alloc));
-    let stores = report(&rt, "stores", REPEATED, stores::is_repeatable(alloc));
     let serving = report(&rt, "workers", NAMED, workers::is_named(&rt, alloc));
-    let repeated = messages && requests && exchange && sessions && segments && stores;
+    let repeated = messages && requests && exchange && sessions && segments;
     if repeated && serving {
         ExitCode::SUCCESS
     } else {

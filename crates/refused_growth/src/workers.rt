@@ -2,12 +2,13 @@
 
 ghost use Rattle.std.specs.Prelude.{◌≡◌, [], IfSome, false};
 ghost use Rattle.proto.specs.Cache.{empty_cache};
+ghost use Rattle.segcache.specs.StoreState.{sizes_in, segmented_cache, last_moment};
 ghost use Rattle.storage_thread.specs.Serving.{IsUnused};
 
 use crate::quiet_port::QuietPort;
 use exchange::{StorageEnd, StorageSignals, WorkerEnd, make};
-use engine::PlainStore;
 use proto::Geometry;
+use segcache::Store;
 use session_book::EndCause;
 use std::alloc::Global;
 use std::hash::FoldHasher;
@@ -22,11 +23,10 @@ const INPUTS: [&[u8]; 2] = [
     b"get b\r\ndelete c\r\n",
 ];
 
-/// What session 1 is given: all as it is without a refusal, or one request was answered with want of memory.
-const FIRST_OUTPUTS: [&[u8]; 3] = [
+/// What session 1 is given: all as it is without a refusal, or its `get` was answered with want of memory.
+const FIRST_OUTPUTS: [&[u8]; 2] = [
     b"STORED\r\nVALUE a 0 1\r\nx\r\nEND\r\nERROR\r\n",
     b"STORED\r\nSERVER_ERROR out of memory\r\nERROR\r\n",
-    b"SERVER_ERROR out of memory\r\nEND\r\nERROR\r\n",
 ];
 
 /// What session 2 is given. Its requests take no memory in the store.
@@ -64,10 +64,11 @@ impl Gate for OpenGate {
 }
 
 /// The ends of an exchange of one worker, and an empty store.
-fn made(alloc: Global) -> Option<(WorkerEnd, StorageEnd, PlainStore)>
+fn made(alloc: Global) -> Option<(WorkerEnd, StorageEnd, Store)>
     ensures worker { IfSome result (λ r. (r.0.sent ≡ []) × (r.0.back ≡ []) × (r.0.said_bye ≡ false)) }
     ensures storage { IfSome result (λ r. IsUnused r.1) }
-    ensures store { IfSome result (λ r. r.2 ≡ record { sizes = r.1.geometry; cache = empty_cache 0; moment = 0 }) }
+    ensures sizes { IfSome result (λ r. sizes_in r.2.engine ≡ r.1.geometry) }
+    ensures store { IfSome result (λ r. (segmented_cache r.2.engine ≡ empty_cache 0) × (last_moment r.2.engine ≡ 0)) }
 {
     let Ok(geometry) = Geometry::new(65_536, 64) else {
         return None;
@@ -76,7 +77,8 @@ fn made(alloc: Global) -> Option<(WorkerEnd, StorageEnd, PlainStore)>
         return None;
     };
     let end = ends.pop()?;
-    Some((end, storage, PlainStore::new(alloc, geometry)))
+    let store = Store::new(alloc, geometry).ok()?;
+    Some((end, storage, store))
 }
 
 /// The worker's report, where the exchange was made and the thread was started.
@@ -92,8 +94,9 @@ where
     let child = thread::spawn(
         rt,
         move || -> StorageReport<SteadyClock>
-            requires { (store.cache ≡ empty_cache 0) × (store.moment ≡ 0) × (store.sizes ≡ storage_end.geometry)
-                × IsUnused storage_end }
+            requires empty { (segmented_cache store.engine ≡ empty_cache 0) × (last_moment store.engine ≡ 0) }
+            requires sizes { sizes_in store.engine ≡ storage_end.geometry }
+            requires unused { IsUnused storage_end }
         { run_storage(&handle, store, SteadyClock, storage_end, &of_storage) },
     )
     .ok()?;

@@ -4,11 +4,11 @@ ghost use Rattle.std.specs.Prelude.{◌<◌};
 
 use crate::common::{options, printed};
 use command_line::Options;
+use replay::geometry_of;
 use script::{ScriptClock, read_script, replay_sequentially};
 use segcache::Store;
 use std::alloc::Global;
 use std::test::Fail;
-use replay::geometry_of;
 
 /// Numbers that look random, by xorshift.
 #[derive(Drop)]

@@ -1,9 +1,9 @@
 //! Faults of files, and of the geometry.
 
 use crate::common::options;
+use replay::{cannot_read, geometry_of, replay};
 use std::io::{self, ErrorKind, Read, Write};
 use std::test::Fail;
-use replay::{cannot_read, geometry_of, replay};
 
 /// Gives some bytes, and then fails.
 #[derive(Drop)]

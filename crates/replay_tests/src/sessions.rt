@@ -209,6 +209,14 @@ fn lengths_at_their_limits(rt: HostRuntime) -> Result<(), Fail> {
             "get a\r\n",
             "CLIENT_ERROR line too long\r\n",
         ),
+        (
+            small,
+            "set a 0 0 131073\r\n",
+            b'x',
+            0,
+            "get b\r\n",
+            "SERVER_ERROR object too large for cache\r\n",
+        ),
         ("", "", b'a', 2046, "\r\n", "ERROR\r\n"),
         (
             "",
@@ -217,15 +225,6 @@ fn lengths_at_their_limits(rt: HostRuntime) -> Result<(), Fail> {
             2047,
             "\r\nget a\r\n",
             "CLIENT_ERROR line too long\r\n",
-        ),
-        ("", "get ", b'k', 250, "\r\n", "END\r\n"),
-        (
-            "",
-            "get ",
-            b'k',
-            251,
-            "\r\nget a\r\n",
-            "CLIENT_ERROR bad command line format\r\nEND\r\n",
         ),
         ("", "set ", b'k', 251, " 0 0 1\r\nget a\r\n", BAD_LINE),
     ];
@@ -237,9 +236,23 @@ fn lengths_at_their_limits(rt: HostRuntime) -> Result<(), Fail> {
             "{times} after {before:?}"
         );
     }
-    let key = around(alloc, "set ", b'k', 250, " 0 0 1\r\nx\r\nget ")?;
-    let whole = around(alloc, String::from_utf8(key)?.as_str(), b'k', 250, "\r\n")?;
-    let shown = around(alloc, "STORED\r\nVALUE ", b'k', 250, " 0 1\r\nx\r\nEND\r\n")?;
+    let set = around(alloc, "set ", b'k', 250, " 0 0 1\r\nx\r\nget ")?;
+    let longer = around(
+        alloc,
+        String::from_utf8(set)?.as_str(),
+        b'k',
+        251,
+        "\r\nget ",
+    )?;
+    let whole = around(
+        alloc,
+        String::from_utf8(longer)?.as_str(),
+        b'k',
+        250,
+        "\r\n",
+    )?;
+    let refused = "STORED\r\nCLIENT_ERROR bad command line format\r\nVALUE ";
+    let shown = around(alloc, refused, b'k', 250, " 0 1\r\nx\r\nEND\r\n")?;
     assert_eq!(rt;
         line(&rt, alloc, "", whole.as_slice())?.as_str(),
         expected(alloc, shown.as_slice())?.as_str()
@@ -262,6 +275,17 @@ fn lives_end_with_their_segment(rt: HostRuntime) -> Result<(), Fail> {
             "--now 1000 --tick 16",
             "set a 0 16 1\r\nx\r\nget a\r\n",
             GONE,
+        ),
+        (
+            "--now 1000 --tick 0",
+            "set a 0 5 1\r\nx\r\nget a\r\n",
+            SHOWN,
+        ),
+        ("--now 1000 --tick 1", "set a 0 5 1\r\nx\r\nget a\r\n", GONE),
+        (
+            "--now 1000 --tick 3",
+            "set a 0 16 1\r\nw\r\nset b 0 16 1\r\nx\r\nset c 0 16 1\r\ny\r\nset d 0 16 1\r\nz\r\nget a b c d\r\nget a b c d\r\nget a b c d\r\n",
+            "STORED\r\nSTORED\r\nSTORED\r\nSTORED\r\nVALUE a 0 1\r\nw\r\nVALUE b 0 1\r\nx\r\nVALUE c 0 1\r\ny\r\nVALUE d 0 1\r\nz\r\nEND\r\nVALUE a 0 1\r\nw\r\nVALUE b 0 1\r\nx\r\nVALUE c 0 1\r\ny\r\nVALUE d 0 1\r\nz\r\nEND\r\nVALUE d 0 1\r\nz\r\nEND\r\n",
         ),
         (
             "--now 1000 --tick 3",

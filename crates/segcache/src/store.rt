@@ -5,6 +5,7 @@ ghost use Rattle.proto.specs.Cache.{empty_cache, found_at};
 ghost use Rattle.proto.specs.Steps.{Step};
 ghost use Rattle.proto.specs.History.{max_moment};
 ghost use Rattle.engine.specs.Outcomes.{outcome_at, needs_memory};
+ghost use Rattle.engine.specs.Keeping.{KeepsAll};
 ghost use Rattle.segcache.specs.StoreState.{sizes_in, segmented_cache, last_moment, keeps_stored};
 ghost use Rattle.segcache.specs.Handling.{HandlesSegments};
 ghost use Rattle.segcache.specs.StayingFilled.{StaysFilled};
@@ -76,29 +77,6 @@ impl Store {
     {
         self.engine.pending()
     }
-
-    /// Executes the request at this moment, in seconds.
-    pub fn handle(&mut self, now: u64, request: &mut Request) -> Reply
-        requires not_before { last_moment self.old.engine ≤ now }
-        requires in_range { now ≤ max_moment }
-        ensures request { request.new ≡ request.old }
-        ensures step { Step (sizes_in self.old.engine) (segmented_cache self.old.engine) now request.old result (segmented_cache self.new.engine) }
-        ensures sizes { sizes_in self.new.engine ≡ sizes_in self.old.engine }
-        ensures moment { last_moment self.new.engine ≡ now }
-
-        // how room is made and what is forgotten, in which bucket an item stands, and which reads are counted
-        ensures segments { HandlesSegments self.old.engine now request.old result self.new.engine }
-
-        // nothing is forgotten where segments hold little
-        ensures bounded { StaysFilled self.old.engine now request.old result self.new.engine }
-
-        // where memory was refused, what was found stays; and only what shows a hit needs any
-        ensures refused { result ≡ Reply.NoMemory
-            → segmented_cache self.new.engine ≡ found_at (segmented_cache self.old.engine) now }
-        ensures succeeds { needs_memory false (outcome_at (sizes_in self.old.engine) (segmented_cache self.old.engine) now request.old) ≡ false → result ≢ Reply.NoMemory }
-    {
-        self.engine.execute_at(now, request)
-    }
 }
 
 impl StorageEngine for Store {
@@ -124,7 +102,27 @@ impl StorageEngine for Store {
         self.engine.prefetch(hash);
     }
 
-    fn handle(&mut self, now: u64, request: &mut Request) -> Reply {
+    /// Executes the request at this moment, in seconds.
+    fn handle(&mut self, now: u64, request: &mut Request) -> Reply
+        requires not_before { last_moment self.old.engine ≤ now }
+        requires in_range { now ≤ max_moment }
+        ensures request { request.new ≡ request.old }
+        ensures step { Step (sizes_in self.old.engine) (segmented_cache self.old.engine) now request.old result (segmented_cache self.new.engine) }
+        ensures sizes { sizes_in self.new.engine ≡ sizes_in self.old.engine }
+        ensures moment { last_moment self.new.engine ≡ now }
+
+        // how room is made and what is forgotten, in which bucket an item stands, and which reads are counted
+        ensures segments { HandlesSegments self.old.engine now request.old result self.new.engine }
+
+        // nothing is forgotten where segments hold little; nor while little is stored, and nothing with a deadline
+        ensures bounded { StaysFilled self.old.engine now request.old result self.new.engine }
+        ensures kept { KeepsAll sizes_in segmented_cache keeps_stored self.old.engine now request.old result self.new.engine }
+
+        // where memory was refused, what was found stays; and only what shows a hit needs any
+        ensures refused { result ≡ Reply.NoMemory
+            → segmented_cache self.new.engine ≡ found_at (segmented_cache self.old.engine) now }
+        ensures succeeds { needs_memory false (outcome_at (sizes_in self.old.engine) (segmented_cache self.old.engine) now request.old) ≡ false → result ≢ Reply.NoMemory }
+    {
         self.engine.execute_at(now, request)
     }
 }

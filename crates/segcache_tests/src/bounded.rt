@@ -66,6 +66,13 @@ impl Script {
         Ok(())
     }
 
+    /// A text is sent, and answered so.
+    fn send_text(&mut self, input: &str, output: &str) -> Result<(), Fail> {
+        self.input.push_str(input)?;
+        self.output.push_str(output)?;
+        Ok(())
+    }
+
     fn check(
         &self,
         rt: &impl Abort,
@@ -85,7 +92,7 @@ impl Script {
         segment_size: u32,
         segments: u32,
     ) -> Result<(), Fail> {
-        let given = answers(alloc, store, NOW, self.input.as_bytes())?;
+        let given = answers(alloc, store, NOW, 0, self.input.as_bytes())?;
         assert_eq!(rt;
             given.as_slice(),
             self.output.as_bytes(),
@@ -115,6 +122,24 @@ fn the_bound_itself(rt: HostRuntime) -> Result<(), Fail> {
     for key in 1..=49u64 {
         script.get(alloc, key, Some((b'v', 484)))?;
     }
+    script.check(&rt, alloc, 4096, 8)
+}
+
+/// 64 items fill all segments, and are all forgotten by a flush: the next one finds room, and is found alone.
+#[test]
+fn a_flush_makes_room(rt: HostRuntime) -> Result<(), Fail> {
+    let alloc = rt.alloc();
+    let mut script = Script::new(alloc);
+    for key in 1..=64u64 {
+        script.set(alloc, key, b'v', 476)?;
+    }
+    script.send_text("flush_all\r\n", "OK\r\n")?;
+    script.set(alloc, 65, b'v', 476)?;
+    let shown = value(alloc, b'v', 476)?;
+    script.send_text(
+        "get k064 k065\r\n",
+        format!(in alloc; "VALUE k065 0 476\r\n{shown}\r\nEND\r\n")?.as_str(),
+    )?;
     script.check(&rt, alloc, 4096, 8)
 }
 

@@ -7,7 +7,11 @@ mod beside_plain;
 #[cfg(test)]
 mod bounded;
 #[cfg(test)]
+mod commands;
+#[cfg(test)]
 mod in_turn;
 pub mod random;
+#[cfg(test)]
+mod rooms;
 #[cfg(test)]
 mod session;

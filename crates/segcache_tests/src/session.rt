@@ -24,13 +24,16 @@ fn reply<S: StorageEngine>(store: &mut S, now: u64, message: &mut Message) -> Op
     }
 }
 
-/// Executes the messages that the bytes spell, all at one moment, and gives what the session is sent.
+/// Executes the messages that the bytes spell, each so many seconds after the one before, and gives what the session is
+/// sent.
 pub fn answers<S: StorageEngine>(
     alloc: Global,
     store: &mut S,
     now: u64,
+    tick: u64,
     input: &[u8],
 ) -> Result<Vec<u8>, NoMemory> {
+    let mut now = now;
     let mut rest = input;
     let mut out = Vec::new(alloc);
     for _ in 0..input.len() {
@@ -39,6 +42,7 @@ pub fn answers<S: StorageEngine>(
         };
         let reply = reply(store, now, &mut message);
         show(&message, reply.as_ref(), &mut out)?;
+        now = now.saturating_add(tick);
         rest = rest.get(length..).unwrap_or(&[]);
     }
     Ok(out)

@@ -6,8 +6,6 @@ mod clock;
 mod idle;
 mod reading_ahead;
 mod serving;
-#[cfg(test)]
-mod tests;
 mod unix_clock;
 
 pub use clock::Clock;

@@ -29,7 +29,7 @@ pub struct StorageReport<C: Clock> {
 }
 
 // Executes the open request, and answers it. Its worker is told at the next flush, or before.
-pub(crate) fn execute<S: StorageEngine, C: Clock>(
+fn execute<S: StorageEngine, C: Clock>(
     store: &mut S,
     clock: &mut C,
     end: &mut StorageBatch,

@@ -1,4 +1,4 @@
-//! Tests of the libraries below the worker: messages, stores, books and lanes.
+//! Tests of the libraries below the worker: messages, the plain store, books and lanes.
 #![tactic(auto)]
 
 #[cfg(test)]
@@ -16,12 +16,6 @@ mod player;
 #[cfg(test)]
 mod random;
 #[cfg(test)]
-mod rooms;
-#[cfg(test)]
-mod session;
-#[cfg(test)]
 mod signals;
 #[cfg(test)]
 mod sizes;
-#[cfg(test)]
-mod store;

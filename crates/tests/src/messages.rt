@@ -254,6 +254,92 @@ fn begins_with_nothing(rt: &impl Abort, alloc: Global, input: &[u8]) -> Result<(
     Ok(())
 }
 
+/// Spellings that the tables above don't have, with a byte so many times between what stands before and behind it.
+const SPELLINGS: [(&str, u8, usize, &str); 46] = [
+    ("set a 0 0 0\r\n", b'x', 0, "\r\n"),
+    ("set a 0 5 1\r\n", b'x', 1, "\r\n"),
+    ("set a 0 6 1\r\n", b'x', 1, "\r\n"),
+    ("set a 0 16 1\r\n", b'x', 1, "\r\n"),
+    ("set a 0 2592000 1\r\n", b'x', 1, "\r\n"),
+    ("set a 0 2592001 1\r\n", b'x', 1, "\r\n"),
+    ("set a 0 9999999999 1\r\n", b'x', 1, "\r\n"),
+    ("set a 0 -1 1\r\n", b'x', 1, "\r\n"),
+    ("set b 0 0 1\r\n", b'y', 1, "\r\n"),
+    ("set k1 0 8 1\r\n", b'x', 1, "\r\n"),
+    ("set k9 0 72 1\r\n", b'x', 1, "\r\n"),
+    ("set n 0 0 1\r\n", b'3', 1, "\r\n"),
+    ("set n 0 16 1\r\n", b'1', 1, "\r\n"),
+    ("set n 0 0 20\r\n18446744073709551615", b'x', 0, "\r\n"),
+    ("set n 0 0 20\r\n", b'0', 19, "7\r\n"),
+    ("set a 4294967295 0 1\r\n", b'x', 1, "\r\n"),
+    ("set k001 0 0 476\r\n", b'v', 476, "\r\n"),
+    ("set a 0 0 487\r\n", b'x', 487, "\r\n"),
+    ("set a 0 0 488\r\n", b'x', 488, "\r\n"),
+    ("set ", b'k', 250, " 0 0 1\r\nx\r\n"),
+    ("set ", b'k', 251, " 0 0 1\r\n"),
+    ("set a 0 10000000000 1\r\n", b'x', 0, ""),
+    ("set a 0 0 10000000000\r\n", b'x', 0, ""),
+    ("cas a 0 0 1 1\r\n", b'y', 1, "\r\n"),
+    ("cas b 0 0 1 1\r\n", b'w', 1, "\r\n"),
+    ("get b\r\n", b'x', 0, ""),
+    ("get n\r\n", b'x', 0, ""),
+    ("get a b\r\n", b'x', 0, ""),
+    ("get a b c d\r\n", b'x', 0, ""),
+    ("get k001\r\n", b'x', 0, ""),
+    ("get k064 k065\r\n", b'x', 0, ""),
+    ("get ", b'k', 250, "\r\n"),
+    ("get ", b'k', 251, "\r\n"),
+    ("gets b\r\n", b'x', 0, ""),
+    ("incr a 18446744073709551615\r\n", b'x', 0, ""),
+    ("flush_all\r\n", b'x', 0, ""),
+    ("flush_all 0\r\n", b'x', 0, ""),
+    ("flush_all 5\r\n", b'x', 0, ""),
+    ("flush_all 20\r\n", b'x', 0, ""),
+    ("flush_all 10 noreply\r\n", b'x', 0, ""),
+    ("flush_all -1\r\n", b'x', 0, ""),
+    ("", b'a', 2046, "\r\n"),
+    ("", b'a', 2047, "\r"),
+    ("", b'a', 2048, ""),
+    ("add a 0 0 1 noreply\r\n", b'x', 1, "\r\n"),
+    ("replace a 0 0 1\r\n", b'x', 1, "\r\n"),
+];
+
+/// Each input spells a message, and no shorter beginning of it spells anything.
+fn check_spellings(
+    rt: &impl Abort,
+    alloc: Global,
+    rows: &[(&str, u8, usize, &str)],
+) -> Result<(), Fail> {
+    for (before, byte, times, behind) in rows {
+        let input = spelling(alloc, before, *byte, *times, behind)?;
+        let message = whole(rt, alloc, input.as_slice())?;
+        assert!(rt; message.is_some(), "at {before:?}");
+        drop(message);
+        begins_with_nothing(rt, alloc, input.as_slice())?;
+    }
+    Ok(())
+}
+
+#[test]
+fn no_shorter_beginning_spells(rt: HostRuntime) -> Result<(), Fail> {
+    check_spellings(&rt, rt.alloc(), &SPELLINGS)
+}
+
+/// Some text, a byte so many times, and further text.
+fn spelling(
+    alloc: Global,
+    before: &str,
+    byte: u8,
+    times: usize,
+    behind: &str,
+) -> Result<Vec<u8>, AllocError> {
+    let mut all = Vec::from_slice(alloc, before.as_bytes())?;
+    let middle = vec![in alloc; byte; times]?;
+    all.extend_from_slice(middle.as_slice())?;
+    all.extend_from_slice(behind.as_bytes())?;
+    Ok(all)
+}
+
 /// As many letters `a`, and then these bytes.
 fn letters(alloc: Global, count: usize, behind: &[u8]) -> Result<Vec<u8>, AllocError> {
     let mut line = vec![in alloc; b'a'; count]?;

@@ -5,8 +5,8 @@ ghost use Rattle.proto.specs.Cache.{empty_cache};
 ghost use Rattle.storage_thread.specs.Serving.{IsUnused};
 
 use crate::port::TestPort;
-use exchange::{StorageEnd, StorageSignals, WorkerEnd, make};
 use engine::PlainStore;
+use exchange::{StorageEnd, StorageSignals, WorkerEnd, make};
 use proto::Geometry;
 use session_book::EndCause;
 use std::alloc::Global;

@@ -2,7 +2,7 @@ use Rattle.std.proofs.Common.{rules, List, length, drop, get_or, sym, ap, ◌∙
 use Rattle.exchange.specs.Ends.{WorkerView, AreTogether}
 use Rattle.storage_thread.specs.Serving.{IsSameExchange}
 use Rattle.storage_thread.proofs.Callers.{AreSame, together, whole}
-use Rattle.storage_thread.proofs.tests.many_callers.Goals as goal
+use Rattle.storage_thread_tests.proofs.callers.many_callers.Goals as goal
 
 pub gather-gathered-requires : goal.gather-gathered-requires
 gather-gathered-requires g c = let each = c.for_each_mut.ensures in let made = c.in_ok-ends.ensures in

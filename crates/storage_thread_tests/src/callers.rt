@@ -1,17 +1,13 @@
-ghost use Rattle.std.specs.Prelude.{◌≡◌, ℕ, IfOk, None};
-ghost use Rattle.proto.specs.Sizes.{Sizes};
+//! Eight workers' threads beside the storage thread.
+
+ghost use Rattle.std.specs.Prelude.{◌≡◌};
 ghost use Rattle.proto.specs.Cache.{empty_cache};
-ghost use Rattle.exchange.specs.Ends.{AreMade};
-ghost use Rattle.engine.specs.Reaching.{Reaches};
+ghost use Rattle.segcache.specs.StoreState.{sizes_in, segmented_cache, last_moment};
 ghost use Rattle.storage_thread.specs.Serving.{IsUnused, IsSameExchange};
 
-use crate::clock::Clock;
-use crate::serving::{StorageReport, execute, run_storage};
-use engine::PlainStore;
-use exchange::{
-    MakeFault, Posted, StorageBatch, StorageEnd, StorageSignals, Taken, WorkerEnd, gather, make,
-};
-use proto::{ByteString, Geometry, Reply, Request};
+use crate::ends::{ask, made};
+use exchange::{StorageEnd, StorageSignals, WorkerEnd, gather};
+use segcache::Store;
 use std::alloc::Global;
 use std::hash::FoldHasher;
 use std::snapshot::Snapshot;
@@ -20,6 +16,7 @@ use std::sync::{Arc, Wait};
 use std::test::Fail;
 use std::thread;
 use std::thread::Promise;
+use storage_thread::{Clock, StorageReport, run_storage};
 
 const CALLERS: usize = 8;
 
@@ -46,23 +43,6 @@ impl Clock for Count {
         self.last = self.last.saturating_add(1);
         self.last
     }
-}
-
-/// Posts one more request of session 7, and says whether it was sent.
-fn ask(alloc: Global, end: &mut WorkerEnd) -> Option<bool>
-    ensures { (end.new.exchange ≡ end.old.exchange) × (end.new.worker ≡ end.old.worker) }
-{
-    let Ok(key) = Vec::from_slice(alloc, b"key") else {
-        return None;
-    };
-    let posted = Posted {
-        session: 7,
-        number: end.sent() + 1,
-        request: Request::Delete {
-            key: ByteString::from_vec(key),
-        },
-    };
-    Some(end.post(posted).is_ok())
 }
 
 /// Posts all requests, takes all answers and says bye. Counts the answers whose number is one above the last.
@@ -101,67 +81,6 @@ fn call<R: Wait>(
     unreachable!()
 }
 
-fn made(
-    alloc: Global,
-    workers: usize,
-) -> Result<(Vec<WorkerEnd>, StorageEnd, PlainStore), MakeFault>
-    ensures { IfOk result (λ r. (g : Sizes) × AreMade workers g r.0.items r.1
-        × (r.2 ≡ record { sizes = g; cache = empty_cache 0; moment = 0 })) }
-{
-    let geometry = match Geometry::new(4096, 8) {
-        Ok(geometry) => geometry,
-        Err(_) => return Err(MakeFault::BadCount),
-    };
-    let (ends, storage) = make(alloc, workers, geometry)?;
-    Ok((ends, storage, PlainStore::new(alloc, geometry)))
-}
-
-/// Executes and answers one request, and says whether there was one. Its worker isn't told yet.
-fn serve_one(store: &mut PlainStore, clock: &mut Count, end: &mut StorageBatch) -> bool
-    requires ready { Reaches end.old.end.geometry end.old.end.history store.old.cache store.old.moment
-        × (store.old.sizes ≡ end.old.end.geometry) × (end.old.end.open_request ≡ None) }
-{
-    match end.next() {
-        Some(Taken::Asked { worker, posted }) => {
-            execute(store, clock, end, worker, posted);
-            true
-        }
-        _ => false,
-    }
-}
-
-#[test]
-fn an_answer_makes_room(rt: HostRuntime) -> Result<(), Fail> {
-    let (mut ends, storage, mut store) = made(rt.alloc(), 1)?;
-    let Some(mut end) = ends.pop() else {
-        panic!(rt; "no end")
-    };
-    let mut clock = Count { last: 0 };
-    for _ in 0..64 {
-        assert_eq!(rt; ask(rt.alloc(), &mut end), Some(true));
-    }
-    assert_eq!(rt; ask(rt.alloc(), &mut end), Some(false));
-    assert!(rt; end.take().is_none());
-    let mut storage = storage.batched();
-    assert!(rt; serve_one(&mut store, &mut clock, &mut storage));
-    assert!(rt; end.take().is_none());
-    storage.flush_answers();
-    match end.take() {
-        Some(answered) => {
-            assert_eq!(rt; answered.worker, 0);
-            assert_eq!(rt; answered.session, 7);
-            assert_eq!(rt; answered.number, 1);
-            assert_eq!(rt; answered.moment, 1);
-            assert!(rt; matches!(answered.reply, Reply::NotFound));
-        }
-        None => panic!(rt; "no answer"),
-    }
-    assert!(rt; end.take().is_none());
-    assert_eq!(rt; ask(rt.alloc(), &mut end), Some(true));
-    assert_eq!(rt; ask(rt.alloc(), &mut end), Some(false));
-    Ok(())
-}
-
 #[derive(Drop)]
 struct StorageStays(Snapshot<StorageEnd>);
 
@@ -185,7 +104,9 @@ fn many_callers(rt: HostRuntime) -> Result<(), Fail> {
         &rt,
         promise,
         move || -> StorageReport<Count>
-            requires { (store.cache ≡ empty_cache 0) × (store.moment ≡ 0) × (store.sizes ≡ storage.geometry) × IsUnused storage }
+            requires empty { (segmented_cache store.engine ≡ empty_cache 0) × (last_moment store.engine ≡ 0) }
+            requires sizes { sizes_in store.engine ≡ storage.geometry }
+            requires unused { IsUnused storage }
             ensures { IsSameExchange storage result.storage_end }
         { run_storage(&rt, store, clock, storage, &of_storage) },
     )?;

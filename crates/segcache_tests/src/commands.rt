@@ -1,8 +1,9 @@
 //! Rows of whole sessions, and a store at its limits.
 
-use crate::session::replay;
-use engine::PlainStore;
+use crate::session::answers;
+use engine::StorageEngine;
 use proto::{ByteString, Geometry, Put, Reply, Request};
+use segcache::Store;
 use std::alloc::Global;
 use std::process::Abort;
 use std::test::Fail;
@@ -58,17 +59,17 @@ const COMMANDS: [(&str, &str); 13] = [
 ];
 
 /// What a session sends and what it is sent: the moment of its first request, the seconds between two requests,
-/// and the bytes.
-const MOMENTS: [(u64, u64, &str, &str); 10] = [
+/// and the bytes. An entry's deadline is that of its segment.
+const MOMENTS: [(u64, u64, &str, &str); 12] = [
     (
         1000,
-        4,
+        0,
         "set a 0 5 1\r\nx\r\nget a\r\n",
         "STORED\r\nVALUE a 0 1\r\nx\r\nEND\r\n",
     ),
     (
         1000,
-        5,
+        1,
         "set a 0 5 1\r\nx\r\nget a\r\n",
         "STORED\r\nEND\r\n",
     ),
@@ -76,7 +77,19 @@ const MOMENTS: [(u64, u64, &str, &str); 10] = [
         1000,
         5,
         "set a 0 6 1\r\nx\r\nget a\r\n",
+        "STORED\r\nEND\r\n",
+    ),
+    (
+        1000,
+        15,
+        "set a 0 16 1\r\nx\r\nget a\r\n",
         "STORED\r\nVALUE a 0 1\r\nx\r\nEND\r\n",
+    ),
+    (
+        1000,
+        16,
+        "set a 0 16 1\r\nx\r\nget a\r\n",
+        "STORED\r\nEND\r\n",
     ),
     (
         2592000,
@@ -111,14 +124,14 @@ const MOMENTS: [(u64, u64, &str, &str); 10] = [
     (
         1000,
         3,
-        "set a 0 16 1\r\nw\r\nset b 0 16 1\r\nx\r\nset c 0 16 1\r\ny\r\nset d 0 16 1\r\nz\r\nget a b c d\r\nget a\r\nget a b c d\r\n",
-        "STORED\r\nSTORED\r\nSTORED\r\nSTORED\r\nVALUE a 0 1\r\nw\r\nVALUE b 0 1\r\nx\r\nVALUE c 0 1\r\ny\r\nVALUE d 0 1\r\nz\r\nEND\r\nVALUE a 0 1\r\nw\r\nEND\r\nVALUE b 0 1\r\nx\r\nVALUE c 0 1\r\ny\r\nVALUE d 0 1\r\nz\r\nEND\r\n",
+        "set a 0 16 1\r\nw\r\nset b 0 16 1\r\nx\r\nset c 0 16 1\r\ny\r\nset d 0 16 1\r\nz\r\nget a b c d\r\nget a b c d\r\nget a b c d\r\n",
+        "STORED\r\nSTORED\r\nSTORED\r\nSTORED\r\nVALUE a 0 1\r\nw\r\nVALUE b 0 1\r\nx\r\nVALUE c 0 1\r\ny\r\nVALUE d 0 1\r\nz\r\nEND\r\nVALUE a 0 1\r\nw\r\nVALUE b 0 1\r\nx\r\nVALUE c 0 1\r\ny\r\nVALUE d 0 1\r\nz\r\nEND\r\nVALUE d 0 1\r\nz\r\nEND\r\n",
     ),
     (
         1000,
         3,
-        "set n 0 16 1\r\n1\r\nincr n 1\r\nget n\r\nget n\r\nget n\r\nget n\r\n",
-        "STORED\r\n2\r\nVALUE n 0 1\r\n2\r\nEND\r\nVALUE n 0 1\r\n2\r\nEND\r\nVALUE n 0 1\r\n2\r\nEND\r\nVALUE n 0 1\r\n2\r\nEND\r\n",
+        "set n 0 16 1\r\n1\r\nincr n 1\r\nget n\r\nget n\r\nget n\r\n",
+        "STORED\r\n2\r\nVALUE n 0 1\r\n2\r\nEND\r\nVALUE n 0 1\r\n2\r\nEND\r\nEND\r\n",
     ),
 ];
 
@@ -130,19 +143,19 @@ fn check_replay(
     input: &str,
     output: &str,
 ) -> Result<(), Fail> {
-    let mut store = PlainStore::new(alloc, Geometry::new(65536, 64)?);
+    let mut store = Store::new(alloc, Geometry::new(65536, 64)?)?;
     check_session(rt, alloc, &mut store, (now, tick), input, output)
 }
 
 fn check_session(
     rt: &impl Abort,
     alloc: Global,
-    store: &mut PlainStore,
+    store: &mut Store,
     (now, tick): (u64, u64),
     input: &str,
     output: &str,
 ) -> Result<(), Fail> {
-    let given = replay(alloc, store, now, tick, input.as_bytes())?;
+    let given = answers(alloc, store, now, tick, input.as_bytes())?;
     assert_eq!(rt;
         given.as_slice(),
         output.as_bytes(),
@@ -183,7 +196,7 @@ fn deadlines_and_flushes(rt: HostRuntime) -> Result<(), Fail> {
 #[test]
 fn no_cas_number_left(rt: HostRuntime) -> Result<(), Fail> {
     let alloc = rt.alloc();
-    let mut store = PlainStore::starting(alloc, Geometry::new(65536, 64)?, u64::MAX);
+    let mut store = Store::starting(alloc, Geometry::new(65536, 64)?, u64::MAX)?;
     check_session(
         &rt,
         alloc,
@@ -196,7 +209,7 @@ fn no_cas_number_left(rt: HostRuntime) -> Result<(), Fail> {
 
 /// Whether a key and a value of these lengths are stored, or are too large; None for another answer.
 fn is_stored(alloc: Global, key: usize, value: usize) -> Result<Option<bool>, Fail> {
-    let mut store = PlainStore::new(alloc, Geometry::new(4096, 8)?);
+    let mut store = Store::new(alloc, Geometry::new(4096, 8)?)?;
     let key = vec![in alloc; b'k'; key]?;
     let value = vec![in alloc; b'v'; value]?;
     let mut request = Request::Set(Put {
@@ -238,7 +251,7 @@ fn lengths(rt: HostRuntime) -> Result<(), Fail> {
     check_lengths(&rt, rt.alloc(), &[(250, 238, true), (250, 239, false)])
 }
 
-fn check_state(rt: &impl Abort, store: &PlainStore, moment: u64, pending: Option<u64>) {
+fn check_state(rt: &impl Abort, store: &Store, moment: u64, pending: Option<u64>) {
     assert_eq!(rt; (store.last_moment(), store.pending()), (moment, pending));
 }
 
@@ -246,7 +259,7 @@ fn check_state(rt: &impl Abort, store: &PlainStore, moment: u64, pending: Option
 #[test]
 fn moments(rt: HostRuntime) -> Result<(), Fail> {
     let alloc = rt.alloc();
-    let mut store = PlainStore::new(alloc, Geometry::new(65536, 64)?);
+    let mut store = Store::new(alloc, Geometry::new(65536, 64)?)?;
     check_state(&rt, &store, 0, None);
     check_session(&rt, alloc, &mut store, (7, 0), "flush_all 5\r\n", "OK\r\n")?;
     check_state(&rt, &store, 7, Some(12));

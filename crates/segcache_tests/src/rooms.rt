@@ -1,7 +1,8 @@
 //! The memory of hits goes round: of that no clause speaks.
 
-use engine::PlainStore;
+use engine::StorageEngine;
 use proto::{Geometry, Message, Next, Request, Room, next_message};
+use segcache::Store;
 use std::alloc::Global;
 use std::process::Abort;
 use std::test::Fail;
@@ -35,7 +36,7 @@ fn capacity_of(room: Option<Room>) -> Option<usize> {
 /// The capacity of the room that the request hands back, and of the one that comes back with the reply.
 fn rooms_back(
     alloc: Global,
-    store: &mut PlainStore,
+    store: &mut Store,
     text: &str,
 ) -> Result<(Option<usize>, Option<usize>), Fail> {
     let mut request = read(alloc, text)?;
@@ -50,7 +51,7 @@ fn rooms_back(
 }
 
 fn check_rooms(rt: &impl Abort, alloc: Global, rows: &[(&str, Option<usize>)]) -> Result<(), Fail> {
-    let mut store = PlainStore::new(alloc, Geometry::new(4096, 8)?);
+    let mut store = Store::new(alloc, Geometry::new(4096, 8)?)?;
     for (text, comes_back) in rows {
         let (handed_back, room) = rooms_back(alloc, &mut store, text)?;
         assert_eq!(rt; room, *comes_back, "with the reply to {text}");

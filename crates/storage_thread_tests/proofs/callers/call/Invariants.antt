@@ -1,5 +1,5 @@
 use Rattle.std.proofs.Common.{◌≡◌}
-use Rattle.storage_thread.proofs.tests.call.Given as goal
+use Rattle.storage_thread_tests.proofs.callers.call.Given as goal
 
 abbrev pub invariant-loop : goal.invariant-loop
 invariant-loop g l =

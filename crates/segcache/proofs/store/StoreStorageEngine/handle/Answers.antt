@@ -1,6 +1,6 @@
 use Rattle.segcache.proofs.Handling.{handles_segments}
 use Rattle.segcache.proofs.StayingFilled.{stays_filled}
-use Rattle.segcache.proofs.store.Store.handle.Goals as goal
+use Rattle.segcache.proofs.store.StoreStorageEngine.handle.Goals as goal
 
 pub returns-clause-segments : goal.returns-clause-segments
 returns-clause-segments c =

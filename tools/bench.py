@@ -20,8 +20,8 @@ import sys
 import tempfile
 import time
 
-TOP = os.path.dirname(os.path.dirname(os.path.abspath(__file__)))
-PROGRAM = f"{TOP}/crates/segcached/out/segcached"
+from served import PROGRAM, TOP, OnPort, Server, Trouble, free_port
+
 BEGIN, END = "<!-- bench: begin -->", "<!-- bench: end -->"
 MIB = 1 << 20
 # memcached's threads, and the workers that stand beside them
@@ -59,59 +59,22 @@ IDLE = "idle, 50 connections"
 MEMORIES = ((100, 1500000, 79), (1000, 300000, 79))
 
 
-class Trouble(Exception):
-    """A run that can't count."""
-
-
-def free_port():
-    with socket.socket() as it:
-        it.bind(("127.0.0.1", 0))
-        return it.getsockname()[1]
-
-
-class Server:
+def started(kind, size, megabytes):
     """A server on a free port."""
-
-    def __init__(self, kind, size, megabytes):
-        self.kind, self.port = kind, free_port()
-        if kind == "memcached":
-            words = ["memcached", "-u", "nobody", "-l", "127.0.0.1", "-p", str(self.port), "-t", str(size), "-m", str(megabytes), "-c", "4096"]
-        else:
-            words = [PROGRAM, "serve", "--listen", f"127.0.0.1:{self.port}", "--workers", str(size)]
-            words += ["--segment-size", str(MIB), "--segments", str(megabytes)]
-        tuned = {**os.environ, **TUNABLES}
-        self.process = subprocess.Popen(words, env=tuned, stdout=subprocess.DEVNULL, stderr=subprocess.DEVNULL)
-        self.await_port()
-
-    def await_port(self):
-        until = time.monotonic() + 20
-        while time.monotonic() < until and self.process.poll() is None:
-            try:
-                socket.create_connection(("127.0.0.1", self.port), 1).close()
-                return
-            except OSError:
-                time.sleep(0.02)
-        raise Trouble(f"{self.kind} didn't come up on port {self.port}")
-
-    def processor_seconds(self):
-        """What all its threads have run (the kernel counts nanoseconds there, and ticks elsewhere)."""
-        spent, folder = 0, f"/proc/{self.process.pid}/task"
-        for task in os.listdir(folder):
-            with open(f"{folder}/{task}/schedstat", encoding="ascii") as file:
-                spent += int(file.read().split()[0])
-        return spent / 1e9
-
-    def resident_mib(self):
-        with open(f"/proc/{self.process.pid}/statm", encoding="ascii") as file:
-            return int(file.read().split()[1]) * os.sysconf("SC_PAGE_SIZE") / MIB
-
-    def stop(self):
-        self.process.kill()
-        self.process.wait()
+    tuned = {**os.environ, **TUNABLES}
+    if kind == "memcached":
+        port = free_port()
+        words = ["memcached", "-u", "nobody", "-l", "127.0.0.1", "-p", str(port), "-t", str(size), "-m", str(megabytes), "-c", "4096"]
+        server = OnPort(port, words, tuned)
+    else:
+        words = ["--workers", str(size), "--segment-size", str(MIB), "--segments", str(megabytes)]
+        server = Server(PROGRAM, *words, environment=tuned)
+    server.kind = kind
+    return server
 
 
 def both(size, memcached_megabytes=1024, segments=SEGMENTS[100]):
-    return [Server("memcached", size[0], memcached_megabytes), Server("segcached", size[1], segments)]
+    return [started("memcached", size[0], memcached_megabytes), started("segcached", size[1], segments)]
 
 
 class Bench:
@@ -233,7 +196,7 @@ def memory_table(bench, memories):
                 bench.run(server, *words, "--requests", 2 * keys)
                 ran = bench.run(server, *words, "--requests", keys, "--seed", 2)
                 hits = 100 * ran["hits"] / (ran["hits"] + ran["misses"])
-                cells.append((f"{server.resident_mib():.0f}", f"{hits:.1f}"))
+                cells.append((f"{server.kilobytes('VmRSS') / 1024:.0f}", f"{hits:.1f}"))
                 misses.append(100 - hits)
         finally:
             for server in servers:

@@ -65,17 +65,13 @@ else
   failed=$((failed + 1))
 fi
 
-part refused_growth bash tools/refused_growth.sh
-
+# Each file of tests is a part.
+for file in tools/tests/test_*.py; do
+  part "$file" bash tools/tests.sh "$file"
+done
 program=crates/segcached/out/segcached
-part "try_sockets" tools/try_sockets.py "$program"
-part "try_clients" tools/try_clients.sh "$program"
-part "try_proxy" tools/try_proxy.py "$program"
-part "try_replay" tools/try_replay.py "$program"
-part "try_model" python3 tools/try_model.py "$program"
-part "try_script_of" python3 tools/try_script_of.py "$program"
 part "hostile" python3 tools/hostile.py --program "$program" --late 10 \
-  --only shared_counters,history,bad_peers,many_sessions,few_descriptors,refused_memory,little_memory,flooding,fuzz
+  --only shared_counters,history,bad_peers,many_sessions,few_descriptors,refused_memory,little_memory,fuzz
 
 echo "gate: took $(((SECONDS - began) / 60)) minutes; $(python3 tools/gate_times.py sums "$minutes")"
 echo "$passed passed, $failed failed"

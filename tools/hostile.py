@@ -15,7 +15,6 @@ import re
 import resource
 import select
 import socket
-import struct
 import subprocess
 import sys
 import tempfile
@@ -23,8 +22,10 @@ import threading
 import time
 import traceback
 
-TOP = os.path.dirname(os.path.dirname(os.path.abspath(__file__)))
-PROGRAM = f"{TOP}/crates/segcached/out/segcached"
+import served
+from served import TOP, NotServing, Trouble, read_to_end, reset
+
+PROGRAM = served.PROGRAM
 # What a session leaves behind until the server ends: its number and its end.
 BYTES_A_SESSION = 16
 # (six answers to the canary may take so many seconds)
@@ -33,54 +34,8 @@ LATE = 1.0
 FUZZ_SECONDS = None
 
 
-class Trouble(Exception):
-    """What must not happen did."""
-
-
-class Server:
-    """The served program, on a free port."""
-
-    def __init__(self, *words, limits=None, environment=None):
-        def limit():
-            for what, most in (limits or {}).items():
-                resource.setrlimit(what, (most, most))
-
-        line = [PROGRAM, "serve", "--listen", "127.0.0.1:0", *words]
-        self.process = subprocess.Popen(line, stdout=subprocess.PIPE, stderr=subprocess.PIPE, text=True, preexec_fn=limit, env=environment)
-        first = self.process.stdout.readline()
-        found = re.fullmatch(r"listening on 127\.0\.0\.1:(\d+)\n", first)
-        if not found:
-            self.process.kill()
-            raise Trouble(f"the first line is {first!r}, and on standard error {self.process.stderr.read()!r}")
-        self.port = int(found[1])
-
-    def __enter__(self):
-        return self
-
-    def __exit__(self, *_):
-        self.process.kill()
-        self.process.wait()
-        self.process.stdout.close()
-        self.process.stderr.close()
-
-    def connect(self, seconds=10):
-        return socket.create_connection(("127.0.0.1", self.port), seconds)
-
-    def kilobytes(self, what):
-        with open(f"/proc/{self.process.pid}/status", encoding="ascii") as file:
-            return int(re.search(rf"{what}:\s+(\d+)", file.read())[1])
-
-    def resident_kilobytes(self):
-        return self.kilobytes("VmRSS")
-
-    def processor_seconds(self):
-        with open(f"/proc/{self.process.pid}/stat", encoding="ascii") as file:
-            fields = file.read().rpartition(") ")[2].split()
-        return (int(fields[11]) + int(fields[12])) / os.sysconf("SC_CLK_TCK")
-
-    def must_run(self):
-        if self.process.poll() is not None:
-            raise Trouble(f"the server ended with status {self.process.returncode}: {self.process.stderr.read()}")
+def serve(*words, **named):
+    return served.Server(PROGRAM, *words, **named)
 
 
 class Client:
@@ -311,7 +266,7 @@ def fuzz(is_long):
     """Bad bytes on up to 1,000 connections, beside the canary."""
     seconds = FUZZ_SECONDS or (1800 if is_long else 60)
     chance = random.Random(20260101)
-    with Server("--workers", "2") as server:
+    with serve("--workers", "2") as server:
         canary, crowd, sent = Canary(server), Crowd(server, 1000 if is_long else 300), 0
         canary.start()
         until, settled = time.monotonic() + seconds, None
@@ -320,9 +275,9 @@ def fuzz(is_long):
             sent += crowd.send(chance)
             crowd.read(chance)
             if settled is None and time.monotonic() > until - seconds * 0.75:
-                settled = server.resident_kilobytes(), crowd.opened
+                settled = server.kilobytes("VmRSS"), crowd.opened
             server.must_run()
-        grown, opened = server.resident_kilobytes() - settled[0], crowd.opened - settled[1]
+        grown, opened = server.kilobytes("VmRSS") - settled[0], crowd.opened - settled[1]
         crowd.close()
         said = canary.stop()
         # Each session that was opened leaves its end in its worker's report.
@@ -331,15 +286,10 @@ def fuzz(is_long):
         return f"{sent // 1024} kB of bad bytes, memory grew by {grown} kB with {opened} sessions; {said}"
 
 
-def reset(peer):
-    peer.setsockopt(socket.SOL_SOCKET, socket.SO_LINGER, struct.pack("ii", 1, 0))
-    peer.close()
-
-
 def bad_peers(is_long):
     """Slow, silent, half-closed and reset peers, and many that come and go, beside the canary."""
     storm = 10000 if is_long else 2000
-    with Server("--workers", "2") as server:
+    with serve("--workers", "2") as server:
         setup = Client(server)
         if setup.set(b"big", b"b" * 8000) != b"STORED":
             raise Trouble("a value of 8,000 bytes wasn't stored")
@@ -369,9 +319,7 @@ def bad_peers(is_long):
             peer.sendall(b"get big\r\n")
             peer.shutdown(socket.SHUT_WR)
         for peer in half_closed:
-            got = b""
-            while piece := peer.recv(65536):
-                got += piece
+            got = read_to_end(peer)
             if got != b"VALUE big 0 8000\r\n" + b"b" * 8000 + b"\r\nEND\r\n":
                 raise Trouble(f"a half-closed peer got {len(got)} bytes")
             peer.close()
@@ -384,7 +332,7 @@ def bad_peers(is_long):
 
 def many_sessions(_):
     """More sessions than a worker has room for: those beyond wait, and are served once others have gone."""
-    with Server("--workers", "1") as server:
+    with serve("--workers", "1") as server:
         clients = []
         for number in range(1024):
             clients.append(Client(server))
@@ -409,7 +357,7 @@ def many_sessions(_):
 
 def few_descriptors(_):
     """A limit on open files: those beyond aren't served, and the server serves again once there are some."""
-    with Server("--workers", "2", limits={resource.RLIMIT_NOFILE: 64}) as server:
+    with serve("--workers", "2", limits={resource.RLIMIT_NOFILE: 64}) as server:
         first = Client(server)
         crowd = []
         for _ in range(150):
@@ -489,34 +437,36 @@ def refused_memory(_):
     return f"{refusal - 1} requests for memory refused in turn: " + ", ".join(f"{count} with {way}" for way, count in sorted(ways.items()))
 
 
+def answers_to(server, session):
+    """What the session was given until it was closed or cut."""
+    got = b""
+    try:
+        with server.connect(30) as peer:
+            peer.sendall(b"".join(request for request, _ in session))
+            while piece := peer.recv(65536):
+                got += piece
+    except (ConnectionResetError, ConnectionRefusedError, BrokenPipeError):
+        pass
+    return got
+
+
 def one_refusal(environment):
     """What came of a run of two sessions."""
-    line = [PROGRAM, "serve", "--listen", "127.0.0.1:0", "--sessions", "2", "--workers", "1", "--segments", "8", "--segment-size", "4096"]
-    ran = subprocess.Popen(line, stdout=subprocess.PIPE, stderr=subprocess.PIPE, text=True, env=environment)
+    found = []
     try:
-        first = ran.stdout.readline()
-        found = []
-        for name in (b"a", b"b") if first else ():
-            session, got = refused_session(name), b""
-            try:
-                with socket.create_connection(("127.0.0.1", int(first.rpartition(":")[2])), 30) as peer:
-                    peer.sendall(b"".join(request for request, _ in session))
-                    while piece := peer.recv(65536):
-                        got += piece
-            except (ConnectionResetError, ConnectionRefusedError, BrokenPipeError):
-                pass
-            found.append(check_refused(session, got))
-        status, fault = ran.wait(30), ran.stderr.read()
-        if status == 1 and re.fullmatch(r"fault: (out of memory|cannot start a thread)\n", fault):
-            return "a fault at the start"
-        if status != 0 or fault or found[1:] == found[:1] != ["sessions whole"]:
-            raise Trouble(f"status {status}, standard error {fault!r}, {' and '.join(found)}")
-        return next((it for it in found if it != "sessions whole"), "sessions whole")
-    finally:
-        ran.kill()
-        ran.wait()
-        ran.stdout.close()
-        ran.stderr.close()
+        with serve("--sessions", "2", "--workers", "1", "--segments", "8", "--segment-size", "4096", environment=environment) as server:
+            for session in map(refused_session, (b"a", b"b")):
+                found.append(check_refused(session, answers_to(server, session)))
+            status, fault = server.wait(30), server.process.stderr.read()
+            # (it may have ended with a fault)
+            server.stop()
+    except NotServing as ended:
+        status, fault = ended.status, ended.fault
+    if status == 1 and re.fullmatch(r"fault: (out of memory|cannot start a thread)\n", fault):
+        return "a fault at the start"
+    if status != 0 or fault or found[1:] == found[:1] != ["sessions whole"]:
+        raise Trouble(f"status {status}, standard error {fault!r}, {' and '.join(found)}")
+    return next((it for it in found if it != "sessions whole"), "sessions whole")
 
 
 def together(server, seconds, task):
@@ -546,7 +496,7 @@ def large_use(is_long):
     """The segments filled and overwritten three times by eight clients: what is found is what was written."""
     segments, size = (1024, 20000) if is_long else (64, 4000)
     writes = 3 * segments * 1048576 // size // 8
-    with Server("--workers", "3", "--segment-size", "1048576", "--segments", str(segments)) as server:
+    with serve("--workers", "3", "--segment-size", "1048576", "--segments", str(segments)) as server:
         found = []
 
         def fill(part, client):
@@ -564,7 +514,7 @@ def large_use(is_long):
             found.append(hits)
 
         together(server, 60, fill)
-        resident = server.resident_kilobytes()
+        resident = server.kilobytes("VmRSS")
         # (a quarter of the segments for the index, a 32nd for the marks, and 64 MiB for the rest)
         most = segments * 1024 * 1.3 + 65536
         if resident > most:
@@ -576,7 +526,7 @@ def shared_counters(is_long):
     """Eight clients count, compare and swap, and add on shared keys: what was acknowledged is what is there."""
     # (so many rounds of at most 200 bytes that the segments forget nothing)
     seconds, most = (60, 60_000) if is_long else (10, 30_000)
-    with Server("--workers", "3", "--segment-size", "1048576", "--segments", "128") as server:
+    with serve("--workers", "3", "--segment-size", "1048576", "--segments", "128") as server:
         setup = Client(server)
         for key in (b"sum", b"swapped"):
             setup.set(key, b"0")
@@ -650,7 +600,7 @@ def pressed_session(server, number):
 def little_memory(is_long):
     """A limit on the process's memory (`ulimit -v`) that many sessions run into: no wrong answer, and all are served once they have gone."""
     chance, spare = random.Random(3), 8 << 20
-    with Server("--workers", "2") as server:
+    with serve("--workers", "2") as server:
         setup = Client(server)
         if setup.set(b"pressed", b"p" * 8000) != b"STORED":
             raise Trouble("a value of 8,000 bytes wasn't stored")
@@ -674,53 +624,11 @@ def little_memory(is_long):
         return f"{served} of {tried} sessions served beside 150 that held all memory, the others told so or closed; served again afterwards"
 
 
-# What crates/segment_store takes where it is given no seed, as in `segcached replay`.
-KNOWN_SEED = "0x9e3779b97f4a7c15"
-
-
-def flooding(_):
-    """Keys that fall together in the index for who knows its seed, beside keys by chance: what a look-up of each costs."""
-    # (the index of 16 segments of 1 MiB has 2^20 slots)
-    slots, count = 1 << 20, 60000
-    with tempfile.TemporaryDirectory() as folder:
-        tool = f"{folder}/flood_keys"
-        subprocess.run(["gcc", "-O2", "-o", tool, f"{TOP}/tools/flood_keys.c"], check=True)
-        words = [KNOWN_SEED, str(slots), "4096", str(count)]
-        flood = subprocess.run([tool, *words], check=True, capture_output=True).stdout.split()
-    plain = [b"plain-%010d" % number for number in range(count)]
-    cost = [microseconds_a_look_up(keys) for keys in (plain, flood)]
-    if cost[1] > FLOOD_FACTOR * cost[0] + 5:
-        raise Trouble(f"a look-up of a flooding key takes {cost[1]:.1f} us of the server's time, one of another {cost[0]:.1f} us")
-    return f"{count} keys chosen for a known seed: {cost[1]:.1f} us of the server's time for each, and {cost[0]:.1f} us for keys by chance"
-
-
-# How much more a flooding key may cost.
-FLOOD_FACTOR = 2
-
-
-def microseconds_a_look_up(keys):
-    """The server's processor time for a `get` of one of the keys in a pipeline, once all are there."""
-    with Server("--workers", "1", "--segment-size", "1048576", "--segments", "16") as server:
-        client = Client(server, 120)
-        for at in range(0, len(keys), 100):
-            client.send(b"".join(b"set %s 0 0 1\r\nx\r\n" % key for key in keys[at : at + 100]))
-            for _ in keys[at : at + 100]:
-                if client.line() != b"STORED":
-                    raise Trouble("a key wasn't stored")
-        before, asked = server.processor_seconds(), random.Random(1).sample(keys, 20000)
-        for at in range(0, len(asked), 100):
-            client.send(b"".join(b"get %s\r\n" % key for key in asked[at : at + 100]))
-            for key in asked[at : at + 100]:
-                if [client.line() for _ in range(3)] != [b"VALUE %s 0 1" % key, b"x", b"END"]:
-                    raise Trouble("a key isn't found")
-        return (server.processor_seconds() - before) * 1e6 / len(asked)
-
-
 def history(is_long):
     """What eight clients were answered on shared keys falls, for each key, into one order that a cache would have; tools/histories.py."""
     import histories
 
-    with Server("--workers", "3", "--segment-size", "1048576", "--segments", "64") as server:
+    with serve("--workers", "3", "--segment-size", "1048576", "--segments", "64") as server:
         operations = histories.record(server.port, 60 if is_long else 5)
     wrong, keys, count, at_once = histories.check(operations)
     if wrong:
@@ -740,7 +648,6 @@ PARTS = {
     "few_descriptors": few_descriptors,
     "history": history,
     "little_memory": little_memory,
-    "flooding": flooding,
     "refused_memory": refused_memory,
     "large_use": large_use,
     "fuzz": fuzz,

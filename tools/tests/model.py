@@ -1,18 +1,8 @@
-#!/usr/bin/env python3
-"""200,000 random requests, replayed by `segcached` and answered by a model of lists that forgets by the same rules.
+"""A model of the cache by lists, which gives back, merges and clears segments by the program's rules.
 
-    tools/try_model.py PROGRAM [RUNS [REQUESTS]]
-
-The model below is written from the rules of segments alone (docs/OPERATIONS.md tells them in a user's words): it has lists where the
-program has bytes, and walks where the program has tables. Small pools and many writes make it give back, merge and clear all
-the time; a tick between requests lets entries die. Each answer has to be the program's, byte for byte.
+It is written from the rules of segments alone (docs/OPERATIONS.md tells them in a user's words): it has lists where
+the program has bytes, and walks where the program has tables.
 """
-import os
-import random
-import subprocess
-import sys
-import tempfile
-
 LASTING = 1024  # the bucket of what has no deadline
 BUCKETS = 1025
 
@@ -52,7 +42,8 @@ class Segment:
 
 class Item:
     def __init__(self, key, value, flags, cas, segment=None):
-        self.key, self.value, self.flags, self.cas, self.reads, self.segment = key, value, flags, cas, 0, segment
+        self.key, self.value, self.flags, self.cas = key, value, flags, cas
+        self.reads, self.segment = 0, segment
         self.size = (24 + len(key) + len(value) + 7) // 8 * 8
 
 
@@ -73,7 +64,8 @@ class Cache:
 
     def append(self, item, bucket, now):
         tail = next((it for it in reversed(self.order) if it.bucket == bucket), None)
-        if tail is None or (tail.closes is not None and now >= tail.closes) or tail.used() + item.size > self.segment_size:
+        is_closed = tail is None or (tail.closes is not None and now >= tail.closes)
+        if is_closed or tail.used() + item.size > self.segment_size:
             if self.free == 0:
                 return False
             self.free -= 1
@@ -204,84 +196,26 @@ class Cache:
             self.pending = now + delay
         return b"OK\r\n"
 
-
-def random_request(chance, cache, now, keys, lives):
-    """One request's bytes, and what the model answers."""
-    cache.begin(now)
-    key = b"key%d" % min(chance.randrange(keys), chance.randrange(keys))
-    kind = chance.random()
-    if kind < 0.4:
-        asked = [key] + [b"key%d" % chance.randrange(keys) for _ in range(chance.randrange(3))]
-        with_cas = chance.random() < 0.3
-        line = (b"gets " if with_cas else b"get ") + b" ".join(asked) + b"\r\n"
-        return line, cache.get(asked, with_cas, now)
-    if kind < 0.9:
-        verb = chance.choice((b"set", b"set", b"set", b"set", b"add", b"replace", b"cas"))
-        value = b"%d" % chance.randrange(10**chance.randrange(1, 21)) if chance.random() < 0.2 else b"v" * chance.randrange(chance.choice((20, 200, 500)))
-        flags, exptime = chance.randrange(2**32), chance.choice(lives)
-        there = cache.find(key, now)
-        unique = there.cas if there and chance.random() < 0.7 else chance.randrange(1000)
+    def answer(self, request, now):
+        """A request's bytes, and what it is answered. A `cas` number of None is that of what is there, or 0."""
+        self.begin(now)
+        verb, *words = request
+        if verb in (b"get", b"gets"):
+            (keys,) = words
+            return b"%b %b\r\n" % (verb, b" ".join(keys)), self.get(keys, verb == b"gets", now)
+        if verb == b"delete":
+            (key,) = words
+            return b"delete %b\r\n" % key, self.delete(key, now)
+        if verb in (b"incr", b"decr"):
+            key, amount = words
+            return b"%b %b %d\r\n" % (verb, key, amount), self.change(key, amount, verb == b"incr", now)
+        if verb == b"flush_all":
+            (delay,) = words
+            return b"flush_all %d\r\n" % delay, self.flush(delay, now)
+        key, flags, exptime, value, unique = words
+        if unique is None:
+            there = self.find(key, now)
+            unique = there.cas if there else 0
         tail = b" %d" % unique if verb == b"cas" else b""
-        line = b"%s %s %d %d %d%s\r\n%s\r\n" % (verb, key, flags, exptime, len(value), tail, value)
-        return line, cache.put(verb, key, flags, exptime, value, unique, now)
-    if kind < 0.95:
-        return b"delete %s\r\n" % key, cache.delete(key, now)
-    if kind < 0.9995:
-        amount, adds = chance.randrange(2**chance.randrange(1, 65)), chance.random() < 0.5
-        return b"%s %s %d\r\n" % (b"incr" if adds else b"decr", key, amount), cache.change(key, amount, adds, now)
-    delay = chance.choice((0, 20))
-    return b"flush_all %d\r\n" % delay, cache.flush(delay, now)
-
-
-# segment size, segments, tick, how many keys, lives that are asked for
-RUNS = (
-    (4096, 8, 0, 600, (0,)),
-    (4096, 8, 1, 90, (0, 0, 5, 20, 60, 100, 300, -1)),
-    (4096, 9, 3, 90, (0, 16, 24, 40, 2047, 2048, 5000, 40000, 600000, 9000000)),
-    (8192, 8, 0, 900, (0, 0, 8, 30)),
-    (4096, 23, 1, 1500, (0, 0, 0, 50, 200, 400)),
-)
-
-
-def run(program, folder, number, requests):
-    segment_size, segments, tick, keys, lives = RUNS[number % len(RUNS)]
-    chance, cache = random.Random(number), Cache(segment_size, segments)
-    sent, wanted = [], []
-    for turn in range(requests):
-        line, answer = random_request(chance, cache, 1000 + tick * turn, keys, lives)
-        sent.append(line)
-        wanted.append(answer)
-    script = f"{folder}/script"
-    with open(script, "w", encoding="ascii") as file:
-        file.write("open 0 1\n")
-        for at in range(0, requests, 50):
-            file.write(f"send 0 1 {b''.join(sent[at : at + 50]).hex()}\n")
-    words = [program, "replay", script, "--segment-size", str(segment_size), "--segments", str(segments), "--tick", str(tick)]
-    ran = subprocess.run(words, stdout=subprocess.PIPE, text=True, check=True)
-    given = bytes.fromhex(ran.stdout.split()[2])
-    at = 0
-    for turn, answer in enumerate(wanted):
-        if given[at : at + len(answer)] != answer:
-            sys.exit(f"try_model: run {number}, request {turn}, {sent[turn][:60]!r}: {given[at : at + len(answer)][:200]!r}, and by the model {answer[:200]!r}")
-        at += len(answer)
-    if at != len(given):
-        sys.exit(f"try_model: run {number}: {len(given) - at} bytes more than the model's")
-    return cache
-
-
-def main():
-    program = os.path.abspath(sys.argv[1])
-    runs = int(sys.argv[2]) if len(sys.argv) > 2 else len(RUNS)
-    requests = int(sys.argv[3]) if len(sys.argv) > 3 else 40_000
-    merges = clearings = given_back = 0
-    with tempfile.TemporaryDirectory() as folder:
-        for number in range(runs):
-            cache = run(program, folder, number, requests)
-            merges, clearings, given_back = merges + cache.merges, clearings + cache.clearings, given_back + cache.given_back
-    if min(merges, clearings, given_back) < 100:
-        sys.exit(f"try_model: only {merges} merges, {clearings} clearings, {given_back} segments given back")
-    print(f"try_model: {runs * requests} requests answered as by the model, with {merges} merges, {clearings} clearings, {given_back} segments given back")
-
-
-if __name__ == "__main__":
-    main()
+        line = b"%b %b %d %d %d%b\r\n%b\r\n" % (verb, key, flags, exptime, len(value), tail, value)
+        return line, self.put(verb, key, flags, exptime, value, unique, now)

@@ -1,0 +1,14 @@
+/* Loaded before the C library by LD_PRELOAD: the random bytes that the program asks for are those of the number
+   KNOWN_RANDOM, its lowest byte first, again and again. */
+#include <stddef.h>
+#include <stdint.h>
+#include <stdlib.h>
+
+int getentropy(void *bytes, size_t count) {
+    const char *word = getenv("KNOWN_RANDOM");
+    uint64_t number = word ? strtoull(word, NULL, 0) : 0;
+    for (size_t at = 0; at < count; at++) {
+        ((unsigned char *)bytes)[at] = (unsigned char)(number >> (at % 8 * 8));
+    }
+    return 0;
+}

@@ -1,0 +1,158 @@
+"""Starts and stops a served program, and tells what it takes: for the tests, hostile use and the benchmark.
+
+    with Server(PROGRAM, "--workers", "1") as server, server.connect() as stream:
+        stream.sendall(b"get a\r\n")
+
+A server listens on a free port of 127.0.0.1 unless it is told another address, and is ended with the block.
+"""
+import os
+import re
+import resource
+import socket
+import struct
+import subprocess
+import time
+
+TOP = os.path.dirname(os.path.dirname(os.path.abspath(__file__)))
+PROGRAM = f"{TOP}/crates/segcached/out/segcached"
+
+
+class Trouble(Exception):
+    """What must not happen did."""
+
+
+class NotServing(Trouble):
+    """The program ended in place of serving: with this status, and these words on standard error."""
+
+    def __init__(self, status, fault):
+        super().__init__(f"the program ended with status {status}, and wrote {fault!r}")
+        self.status, self.fault = status, fault
+
+
+class Process:
+    """A process that is ended with the block that uses it."""
+
+    def __init__(self, words, environment=None, limits=None):
+        def limit():
+            for what, most in (limits or {}).items():
+                resource.setrlimit(what, (most, most))
+
+        pipe = subprocess.PIPE
+        self.process = subprocess.Popen(words, stdout=pipe, stderr=pipe, text=True, env=environment, preexec_fn=limit)
+        self.was_stopped = False
+
+    def stop(self):
+        self.was_stopped = True
+        self.process.kill()
+        self.process.wait()
+        self.process.stdout.close()
+        self.process.stderr.close()
+
+    def __enter__(self):
+        return self
+
+    def __exit__(self, *_):
+        self.stop()
+
+    def kilobytes(self, what):
+        """A line of the process's status: VmRSS is what is resident."""
+        with open(f"/proc/{self.process.pid}/status", encoding="ascii") as file:
+            return int(re.search(rf"{what}:\s+(\d+)", file.read())[1])
+
+    def processor_seconds(self):
+        """What all its threads have run (the kernel counts nanoseconds there, and ticks elsewhere)."""
+        spent, folder = 0, f"/proc/{self.process.pid}/task"
+        for task in os.listdir(folder):
+            with open(f"{folder}/{task}/schedstat", encoding="ascii") as file:
+                spent += int(file.read().split()[0])
+        return spent / 1e9
+
+
+class Server(Process):
+    """`segcached serve` with these words."""
+
+    def __init__(self, program, *words, listen="127.0.0.1:0", environment=None, limits=None):
+        super().__init__([program, "serve", "--listen", listen, *words], environment, limits)
+        self.first_line = self.process.stdout.readline()
+        found = re.fullmatch(r"listening on (.+):([1-9][0-9]*)\n", self.first_line)
+        if not found:
+            if self.first_line:
+                self.process.kill()
+            status, fault = self.process.wait(30), self.process.stderr.read()
+            self.stop()
+            raise NotServing(status, self.first_line + fault)
+        self.host, self.port = found[1].strip("[]"), int(found[2])
+
+    def connect(self, seconds=20, receive_buffer=None):
+        """A connection whose calls wait so long."""
+        stream = socket.socket(socket.AF_INET6 if ":" in self.host else socket.AF_INET)
+        if receive_buffer:
+            stream.setsockopt(socket.SOL_SOCKET, socket.SO_RCVBUF, receive_buffer)
+        stream.settimeout(seconds)
+        try:
+            stream.connect((self.host, self.port))
+        except OSError:
+            stream.close()
+            raise
+        return stream
+
+    def wait(self, seconds=20):
+        """The exit status of a server that ends by itself."""
+        return self.process.wait(seconds)
+
+    def must_run(self):
+        if self.process.poll() is not None:
+            raise Trouble(f"the server ended with status {self.process.returncode}: {self.process.stderr.read()}")
+
+    def __exit__(self, *_):
+        try:
+            # (one that was to accept so many sessions ends by itself)
+            if not self.was_stopped and self.process.poll() != 0:
+                self.must_run()
+        finally:
+            self.stop()
+
+
+class OnPort(Process):
+    """Another program, whose words say its port: it listens there when this returns."""
+
+    def __init__(self, port, words, environment=None):
+        super().__init__(words, environment)
+        self.port = port
+        until = time.monotonic() + 20
+        while time.monotonic() < until and self.process.poll() is None:
+            try:
+                socket.create_connection(("127.0.0.1", port), 1).close()
+                return
+            except OSError:
+                time.sleep(0.02)
+        self.stop()
+        raise Trouble(f"{words[0]} doesn't listen on port {port}")
+
+
+def free_port():
+    with socket.socket() as it:
+        it.bind(("127.0.0.1", 0))
+        return it.getsockname()[1]
+
+
+def read_exactly(stream, count):
+    """So many bytes, or those up to the end."""
+    parts = []
+    while count > 0:
+        part = stream.recv(min(count, 1 << 20))
+        if not part:
+            break
+        parts.append(part)
+        count -= len(part)
+    return b"".join(parts)
+
+
+def read_to_end(stream):
+    return read_exactly(stream, 1 << 60)
+
+
+def reset(stream):
+    """Closes at once, so that the peer is told of a reset."""
+    stream.setsockopt(socket.SOL_SOCKET, socket.SO_LINGER, struct.pack("ii", 1, 0))
+    stream.close()

@@ -1,0 +1,95 @@
+"""netcat and libmemcached's tools against a served program; with --all-clients all those of docs/CLIENTS.md."""
+import os
+import subprocess
+import sys
+
+import pytest
+import served
+
+CLIENTS = f"{served.TOP}/tools/clients"
+
+
+@pytest.fixture(scope="module")
+def server(program):
+    with served.Server(program) as it:
+        yield it
+
+
+@pytest.fixture
+def run(server, tmp_path):
+    """Runs a command in a folder of its own: its exit status and what it wrote."""
+
+    def run_command(*words, data=b""):
+        done = subprocess.run(words, input=data, stdout=subprocess.PIPE, timeout=20, cwd=tmp_path)
+        return done.returncode, done.stdout
+
+    return run_command
+
+
+# ---- netcat
+
+@pytest.mark.parametrize("requests, answers", [
+    (b"get a\r\n", b"END\r\n"),
+    (b"set a 0 0 1\r\nx\r\nget a\r\n", b"STORED\r\nVALUE a 0 1\r\nx\r\nEND\r\n"),
+], ids=["a miss", "a write and a hit"])
+def test_netcat_closes_its_half_at_once_and_still_prints_the_answers(server, run, requests, answers):
+    assert run("nc", "-N", "127.0.0.1", str(server.port), data=requests) == (0, answers)
+
+
+# ---- libmemcached's tools
+
+def test_libmemcached_copies_shows_finds_and_removes_a_file(server, run, tmp_path):
+    """A missing key is status 1."""
+    (tmp_path / "greeting").write_text("hello", encoding="ascii")
+    servers = f"--servers=127.0.0.1:{server.port}"
+    assert run("memccp", servers, "greeting") == (0, b"")
+    assert run("memccat", servers, "greeting") == (0, b"hello\n")
+    assert run("memcexist", servers, "greeting") == (0, b"")
+    assert run("memcrm", servers, "greeting") == (0, b"")
+    assert run("memcexist", servers, "greeting") == (1, b"")
+    assert run("memccat", servers, "greeting") == (1, b"")
+
+
+# (its other parts ask for `version` or for commands that are left out)
+@pytest.mark.parametrize("part", ["quit", "get", "gets", "mget", "flush", "delete", "incr", "decr"])
+def test_memccapable_passes(server, run, part):
+    label = f"ascii {part}"
+    printed = f"{label:<40}[pass]\nAll tests passed\n".encode()
+    words = ["-h", "127.0.0.1", "-p", str(server.port), "-a", "-t", "5", "-T", label]
+    assert run("memccapable", *words) == (0, printed)
+
+
+def test_memcflush_writes_a_space_behind_its_request_which_is_a_fault(server, run):
+    assert run("memcflush", f"--servers=127.0.0.1:{server.port}") == (1, b"")
+
+
+# ---- all that docs/CLIENTS.md names
+
+PACKAGES = """python3-memcache python3-binary-memcached php-cli php-memcached php-memcache libcache-memcached-perl
+    libcache-memcached-fast-perl libmemcached-libmemcached-perl ruby ruby-dalli nginx-light""".split()
+CALLS = [
+    *[(sys.executable, f"{name}_calls.py") for name in ("pylibmc", "python_memcached", "binary_memcached", "nginx")],
+    *[("php", f"{name}_calls.php") for name in ("php_memcached", "php_memcache")],
+    *[("perl", "perl_calls.pl", name) for name in
+      ("Cache::Memcached", "Cache::Memcached::Fast", "Memcached::libmemcached")],
+    ("ruby", "dalli_calls.rb"),
+]
+
+
+@pytest.fixture(scope="module")
+def all_clients(request):
+    if not request.config.getoption("--all-clients"):
+        pytest.skip("asked for by --all-clients alone")
+    if subprocess.run(["dpkg", "-s", *PACKAGES], capture_output=True).returncode:
+        install = ["apt-get", "install", "-y", "--no-install-recommends", *PACKAGES]
+        subprocess.run(install, check=True, stdout=subprocess.DEVNULL)
+
+
+def test_each_call_of_each_client_works_or_fails_as_expected(server, all_clients):
+    said, environment = [], {**os.environ, "PYTHONDONTWRITEBYTECODE": "1"}
+    for language, file, *words in CALLS:
+        line = [language, f"{CLIENTS}/{file}", *words, str(server.port)]
+        ran = subprocess.run(line, stdout=subprocess.PIPE, text=True, timeout=100, env=environment)
+        said += [it.rstrip() for it in ran.stdout.splitlines()]
+    with open(f"{CLIENTS}/expected", encoding="utf-8") as file:
+        assert said == file.read().splitlines()

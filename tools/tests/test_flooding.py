@@ -1,0 +1,84 @@
+"""Keys that fall together in the index for who knows the seed of its hash: what a look-up of them costs a server.
+
+One whose random bytes are known suffers from the keys that were chosen for them, so its seed is these bytes; one with
+the system's own random bytes doesn't.
+"""
+import os
+import random
+import subprocess
+
+import pytest
+from served import read_exactly
+
+# The index of 16 segments of 1 MiB has so many slots; the first slots of chosen keys are among the first SPAN.
+SLOTS = 1 << 20
+SPAN = 4096
+COUNT = 30_000
+KNOWN = 0x0123456789ABCDEF
+# What the store takes where it is given no seed, as in `segcached replay`.
+OF_REPLAY = 0x9E3779B97F4A7C15
+
+
+@pytest.fixture(scope="module")
+def chosen_for(compiled):
+    tool = compiled("flood_keys")
+
+    def keys(seed):
+        words = [tool, hex(seed), str(SLOTS), str(SPAN), str(COUNT)]
+        return subprocess.run(words, check=True, capture_output=True).stdout.split()
+
+    return keys
+
+
+def by_chance():
+    return [b"plain-%010d" % number for number in range(COUNT)]
+
+
+def ask_in_pieces(stream, keys, request, answer):
+    """The request of each key, a hundred at a time."""
+    for at in range(0, len(keys), 100):
+        piece = keys[at : at + 100]
+        stream.sendall(b"".join(request % key for key in piece))
+        wanted = b"".join(answer % key if b"%b" in answer else answer for key in piece)
+        assert read_exactly(stream, len(wanted)) == wanted
+
+
+def microseconds_a_look_up(server, keys):
+    """The server's processor time for a `get` of one of the keys in a pipeline, once all are there."""
+    with server.connect(120) as stream:
+        ask_in_pieces(stream, keys, b"set %b 0 0 1\r\nx\r\n", b"STORED\r\n")
+        before, asked = server.processor_seconds(), random.Random(1).sample(keys, COUNT // 3)
+        ask_in_pieces(stream, asked, b"get %b\r\n", b"VALUE %b 0 1\r\nx\r\nEND\r\n")
+        return (server.processor_seconds() - before) * 1e6 / len(asked)
+
+
+@pytest.fixture
+def cost_of(serve, say):
+    """What a look-up of these keys costs a server of their own."""
+
+    def cost(name, keys, environment=None):
+        server = serve("--workers", "1", "--segment-size", "1048576", "--segments", "16", environment=environment)
+        microseconds = microseconds_a_look_up(server, keys)
+        say(f"{microseconds:.1f} us for a look-up of keys {name}")
+        return microseconds
+
+    return cost
+
+
+def is_flooded(chosen, plain):
+    """Whether a look-up of chosen keys costs much more than one of others. (A busy machine adds a few microseconds.)"""
+    return chosen > 2 * plain + 5
+
+
+def test_the_seed_is_the_systems_random_bytes(compiled, chosen_for, cost_of):
+    shim = compiled("known_random", "-shared", "-fPIC")
+    environment = {**os.environ, "LD_PRELOAD": shim, "KNOWN_RANDOM": str(KNOWN)}
+    chosen = cost_of("that were chosen for the server's own random bytes", chosen_for(KNOWN), environment)
+    plain = cost_of("by chance", by_chance(), environment)
+    assert is_flooded(chosen, plain)
+
+
+@pytest.mark.parametrize("seed", [KNOWN, OF_REPLAY], ids=["another server's bytes", "the seed of replay"])
+def test_keys_chosen_for_another_seed_cost_no_more_than_others(chosen_for, cost_of, seed):
+    chosen = cost_of("that were chosen for another seed", chosen_for(seed))
+    assert not is_flooded(chosen, cost_of("by chance", by_chance()))

@@ -1,0 +1,144 @@
+"""Random requests, replayed by the program and answered by a model of lists that forgets by the same rules.
+
+Each answer is the same byte for byte. Long runs over small pools give back, merge and clear all the time, and a tick
+between requests lets entries die. Short ones are chosen by hypothesis, which shortens what fails.
+"""
+import concurrent.futures
+import random
+import subprocess
+import tempfile
+
+from hypothesis import given, settings
+from hypothesis import strategies as st
+from model import Cache
+
+FIRST_MOMENT = 1000
+
+
+def replay(program, sent, segment_size, segments, tick):
+    """What one session is given that sends these requests, fifty in a piece."""
+    with tempfile.NamedTemporaryFile("w", suffix=".script") as script:
+        script.write("open 0 1\n")
+        for at in range(0, len(sent), 50):
+            script.write(f"send 0 1 {b''.join(sent[at : at + 50]).hex()}\n")
+        script.flush()
+        words = [program, "replay", script.name, "--segment-size", str(segment_size), "--segments", str(segments)]
+        words += ["--tick", str(tick), "--now", str(FIRST_MOMENT)]
+        printed = subprocess.run(words, stdout=subprocess.PIPE, text=True, check=True, timeout=120).stdout
+    digits = printed.split()[2]
+    return b"" if digits == "-" else bytes.fromhex(digits)
+
+
+def must_be_answered_as(wanted, given_bytes, sent):
+    at = 0
+    for turn, answer in enumerate(wanted):
+        got = given_bytes[at : at + len(answer)]
+        assert got == answer, f"request {turn}, {sent[turn][:60]!r}"
+        at += len(answer)
+    assert given_bytes[at:] == b"", "more bytes than the model's"
+
+
+# ---- long runs
+
+def random_request(chance, keys, lives):
+    """A request over so many keys, some of them asked for more often than others."""
+    key = b"key%d" % min(chance.randrange(keys), chance.randrange(keys))
+    kind = chance.random()
+    if kind < 0.4:
+        asked = [key] + [b"key%d" % chance.randrange(keys) for _ in range(chance.randrange(3))]
+        return b"gets" if chance.random() < 0.3 else b"get", asked
+    if kind < 0.9:
+        verb = chance.choice((b"set", b"set", b"set", b"set", b"add", b"replace", b"cas"))
+        number, size = chance.randrange(10 ** chance.randrange(1, 21)), chance.randrange(chance.choice((20, 200, 500)))
+        value = b"%d" % number if chance.random() < 0.2 else b"v" * size
+        unique = None if chance.random() < 0.7 else chance.randrange(1000)
+        return verb, key, chance.randrange(2**32), chance.choice(lives), value, unique
+    if kind < 0.95:
+        return b"delete", key
+    if kind < 0.9995:
+        return chance.choice((b"incr", b"decr")), key, chance.randrange(2 ** chance.randrange(1, 65))
+    return b"flush_all", chance.choice((0, 20))
+
+
+# segment size, segments, tick, how many keys, lives that are asked for
+RUNS = (
+    (4096, 8, 0, 600, (0,)),
+    (4096, 8, 1, 90, (0, 0, 5, 20, 60, 100, 300, -1)),
+    (4096, 9, 3, 90, (0, 16, 24, 40, 2047, 2048, 5000, 40000, 600000, 9000000)),
+    (8192, 8, 0, 900, (0, 0, 8, 30)),
+    (4096, 23, 1, 1500, (0, 0, 0, 50, 200, 400)),
+)
+REQUESTS = 40_000
+
+
+def long_run(program, number):
+    """How often the model merged, cleared and gave back segments."""
+    segment_size, segments, tick, keys, lives = RUNS[number % len(RUNS)]
+    chance, cache = random.Random(number), Cache(segment_size, segments)
+    requests = (random_request(chance, keys, lives) for _ in range(REQUESTS))
+    spelled = [cache.answer(it, FIRST_MOMENT + tick * turn) for turn, it in enumerate(requests)]
+    sent, wanted = zip(*spelled)
+    must_be_answered_as(wanted, replay(program, sent, segment_size, segments, tick), sent)
+    return cache.merges, cache.clearings, cache.given_back
+
+
+def test_forty_thousand_requests_a_run_are_answered_as_by_the_model(program, request, say):
+    runs = range(request.config.getoption("--model-runs"))
+    with concurrent.futures.ProcessPoolExecutor() as processes:
+        counts = list(processes.map(long_run, [program] * len(runs), runs))
+    merges, clearings, given_back = map(sum, zip(*counts))
+    say(f"{len(runs) * REQUESTS} requests: {merges} merges, {clearings} clearings, {given_back} segments given back")
+    assert min(merges, clearings, given_back) >= 100
+
+
+# ---- short ones
+
+def key(number):
+    return b"key%d" % number
+
+
+def writes(first, count, size, exptime):
+    """Writes of so many keys in a row, which fill a small pool."""
+    return [(b"set", key(number), 0, exptime, b"v" * size, None) for number in range(first, first + count)]
+
+
+def reads(first, count):
+    """One `get` of so many keys in a row: what merges keep is what was read more often."""
+    return [(b"get", [key(number) for number in range(first, first + count)])]
+
+
+ALL_KEYS = 100
+KEYS = st.integers(0, 7).map(key)
+FIRSTS, COUNTS = st.integers(0, ALL_KEYS // 2), st.integers(1, ALL_KEYS // 2)
+EXPTIMES = st.sampled_from([0, 0, 0, 1, 5, 8, 16, 20, 60, 100, 300, 2047, 2048, 5000, 40000, 600000, 9000000, -1])
+EXPTIMES |= st.integers(-2, 2**31)
+NUMBERS = st.integers(0, 2**64 - 1)
+LONG_VALUES = st.integers(0, 490).map(lambda size: b"v" * size)
+VALUES = st.one_of(NUMBERS.map(lambda number: b"%d" % number), LONG_VALUES, st.binary(max_size=24))
+VERBS = st.sampled_from([b"set", b"set", b"add", b"replace", b"cas"])
+ONE_REQUEST = st.one_of(
+    st.tuples(st.sampled_from([b"get", b"gets"]), st.lists(KEYS, min_size=1, max_size=4)),
+    st.tuples(VERBS, KEYS, st.integers(0, 2**32 - 1), EXPTIMES, VALUES, st.none() | st.integers(0, 40)),
+    st.tuples(st.just(b"delete"), KEYS),
+    st.tuples(st.sampled_from([b"incr", b"decr"]), KEYS, NUMBERS),
+    st.tuples(st.just(b"flush_all"), st.sampled_from([0, 1, 20])),
+).map(lambda it: [it])
+PARTS = st.one_of(
+    ONE_REQUEST,
+    st.builds(reads, FIRSTS, COUNTS),
+    st.builds(writes, FIRSTS, COUNTS, st.integers(100, 480), st.sampled_from([0, 20, 300]) | EXPTIMES),
+)
+# (a list of at least so many, for many that are long, and shortened all the same where one fails)
+SCRIPTS = st.integers(0, 30).flatmap(lambda least: st.lists(PARTS, min_size=least, max_size=40))
+SIZES = st.sampled_from([(4096, 8), (4096, 9), (8192, 8), (4096, 23)])
+
+
+@settings(max_examples=100)
+@given(SIZES, st.sampled_from([0, 1, 3, 40]), SCRIPTS)
+def test_any_requests_are_answered_as_by_the_model(program, sizes, tick, parts):
+    cache = Cache(*sizes)
+    # (the last one shows all that is left)
+    requests = sum(parts, []) + reads(0, ALL_KEYS)
+    spelled = [cache.answer(it, FIRST_MOMENT + tick * turn) for turn, it in enumerate(requests)]
+    sent, wanted = zip(*spelled)
+    must_be_answered_as(wanted, replay(program, sent, *sizes, tick), sent)

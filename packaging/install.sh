@@ -22,6 +22,7 @@ each_file() {
     "$1" 644 docs/$page.md "$documents/$page.md"
   done
   "$1" 755 tools/script_of.py "$documents/examples/script_of.py"
+  "$1" 644 tools/refused_lines.py "$documents/examples/refused_lines.py"
 }
 
 put_file() {

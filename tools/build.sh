@@ -10,3 +10,5 @@ python3 tools/prove.py --below segcached
   tail -n 20 "$log"
   exit 1
 }
+# What was proved, for those who package the program.
+python3 tools/proved.py write

@@ -65,6 +65,7 @@ part "try_proxy" tools/try_proxy.py "$program"
 part "try_replay" tools/try_replay.py "$program"
 part "try_model" python3 tools/try_model.py "$program"
 part "try_script_of" python3 tools/try_script_of.py "$program"
+part "try_deb" tools/try_deb.sh "$work/log"
 part "hostile" python3 tools/hostile.py --program "$program" --late 10 \
   --only shared_counters,history,bad_peers,many_sessions,few_descriptors,refused_memory,little_memory,flooding,fuzz
 

@@ -22,6 +22,8 @@ import sys
 import tempfile
 import time
 
+from verdicts import keep_verdict, verdict_in
+
 TOP = os.path.dirname(os.path.dirname(os.path.abspath(__file__)))
 # Where the rooms are: among the files of git, where rt doesn't look for sources.
 ROOMS = f"{TOP}/.git/rooms" if os.path.isdir(f"{TOP}/.git") else f"{TOP}/out/rooms"
@@ -137,10 +139,13 @@ class Proof:
         if os.path.isdir(f"{self.room}/crates/{self.name}/out"):
             os.rename(f"{self.room}/crates/{self.name}/out", out)
         shutil.rmtree(self.room)
+        self.said.seek(0)
+        said = self.said.read()
         if self.ran.returncode:
-            self.said.seek(0)
-            print(self.said.read()[-SHOWN:])
+            print(said[-SHOWN:])
             print(f"{self.name} isn't proved")
+        else:
+            keep_verdict(f"{TOP}/crates/{self.name}", verdict_in(said))
         return self.ran.returncode
 
 

@@ -29,7 +29,9 @@ import socket
 import sys
 import threading
 
-from refused_lines import Refusals
+# (it may stand among the files of a package, beside which nothing is to be written)
+sys.dont_write_bytecode = True
+from refused_lines import Refusals  # noqa: E402
 
 MOST_BYTES = 16_777_216
 PIECE = 16_384

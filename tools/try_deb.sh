@@ -110,6 +110,7 @@ installs_and_uninstalls() {
   "$work/installed_here/opt/cache/bin/segcached" --version
   grep -q '^ExecStart=/opt/cache/bin/segcached ' "$work/installed_here/opt/cache/lib/systemd/system/segcached.service" || return 1
   man --warnings --local-file "$work/installed_here/opt/cache/share/man/man1/segcached.1" 2>&1 >/dev/null | grep . && return 1
+  printf 'stats\r\n' | "$work/installed_here/opt/cache/share/doc/segcached/examples/script_of.py" refused - | grep '1 refused of 1 lines' || return 1
   make uninstall PREFIX=/opt/cache DESTDIR="$work/installed_here" || return 1
   [ -z "$(find "$work/installed_here" -not -type d)" ]
 }

@@ -1,4 +1,4 @@
-.PHONY: help run serve test quick bench soak
+.PHONY: help run serve test quick bench soak install uninstall deb
 
 help: ## says what each target does
 	@awk -F ':.*## ' '/^[a-z]+:.*## /{printf "make %-8s %s\n", $$1, $$2}' Makefile
@@ -20,3 +20,13 @@ bench: ## compares a served segcached with memcached; writes the tables and the 
 
 soak: ## hostile use of a served segcached, long: about 40 minutes
 	@python3 tools/hostile.py --long
+
+install: ## puts the proved program and what goes with it below PREFIX (/usr/local); DESTDIR goes before
+	@python3 tools/proved.py check
+	@PREFIX="$(PREFIX)" DESTDIR="$(DESTDIR)" packaging/install.sh put
+
+uninstall: ## takes away what install put there
+	@PREFIX="$(PREFIX)" DESTDIR="$(DESTDIR)" packaging/install.sh remove
+
+deb: ## makes a Debian package of the proved program in out/
+	@tools/deb.sh

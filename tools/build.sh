@@ -3,3 +3,5 @@
 set -eu
 cd "$(dirname "$0")/.."
 python3 tools/prove.py --build segcached
+# What was proved, for those who package the program.
+python3 tools/proved.py write

@@ -70,6 +70,7 @@ for file in tools/tests/test_*.py; do
   part "$file" bash tools/tests.sh "$file"
 done
 program=crates/segcached/out/segcached
+part "try_deb" tools/try_deb.sh "$work/log"
 part "hostile" python3 tools/hostile.py --program "$program" --late 10 \
   --only shared_counters,history,bad_peers,many_sessions,few_descriptors,refused_memory,little_memory,fuzz
 

@@ -32,6 +32,7 @@ import time
 
 import gate_times
 import machine
+from verdicts import keep_verdict, verdict_in
 
 TOP = os.path.dirname(os.path.dirname(os.path.abspath(__file__)))
 # Where the rooms are: among the files of git, where rt doesn't look for sources.
@@ -250,12 +251,14 @@ class Proof:
         """Takes back what the proof left, with a record where it is proved, and gives the status."""
         take_back(self.name)
         kept = Kept(crates)
+        self.said.seek(0)
+        said = self.said.read()
         if self.ran.returncode:
-            self.said.seek(0)
-            print(self.said.read()[-SHOWN:])
+            print(said[-SHOWN:])
             print(f"{self.name} isn't proved")
         elif kept.sum_of_sources(self.name) == self.sources:
             kept.keep(self.name, self.built)
+            keep_verdict(f"{TOP}/crates/{self.name}", verdict_in(said))
         return self.ran.returncode
 
 

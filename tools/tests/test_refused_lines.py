@@ -1,0 +1,133 @@
+"""tools/script_of.py refused: what it says that segcached refuses is what segcached refuses, and memcached's stream is cut as memcached does."""
+import random
+import signal
+import socket
+import subprocess
+import sys
+
+import pytest
+from served import TOP, read_to_end
+
+sys.path.insert(0, f"{TOP}/tools")
+import refused_lines
+from refused_lines import BAD_BLOCK, BAD_FORM, BINARY, NO_RETURN, SPACES, TOO_LARGE, TOO_LONG, UNKNOWN
+
+TOOL = [sys.executable, f"{TOP}/tools/script_of.py"]
+MEBIBYTE = 1_048_576
+LONG_KEY = b"k" * 250
+# By docs/CLIENTS.md: what a client sends, and why segcached refuses it, if it does.
+CASES = [
+    (b"get a\r\n", None),
+    (b"gets a b noreply\r\n", None),
+    (b"get %b\r\n" % LONG_KEY, None),
+    (b"get %bk\r\n" % LONG_KEY, BAD_FORM),
+    (b"get\r\n", BAD_FORM),
+    (b"get a \r\n", SPACES),
+    (b"get  a\r\n", SPACES),
+    (b"get a\n", NO_RETURN),
+    (b"get a\x7f\r\n", BAD_FORM),
+    (b"get \xc3\xa4\r\n", None),
+    (b"get" + b" %b" % LONG_KEY * 8 + b" %b\r\n" % (b"k" * 34), None),
+    (b"get" + b" %b" % LONG_KEY * 8 + b" %b\r\n" % (b"k" * 36), TOO_LONG),
+    (b"set a 0 0 1\r\nx\r\n", None),
+    (b"set a 0 0 0\r\n\r\n", None),
+    (b"set a 4294967295 -1 1 noreply\r\nx\r\n", None),
+    (b"set a 4294967296 0 1\r\nx\r\n", BAD_FORM),
+    (b"set a 00 0 1\r\nx\r\n", BAD_FORM),
+    (b"set a 0 -0 1\r\nx\r\n", BAD_FORM),
+    (b"set a 0 0 1 \r\nx\r\n", SPACES),
+    (b"set a 0 0 3\r\nx\r\n\r\n", None),
+    (b"set a 0 0 1\r\nxyz", BAD_BLOCK),
+    (b"set a 0 0 131040\r\n%b\r\n" % bytes(131_040), None),
+    (b"set a 0 0 131048\r\n%b\r\n" % bytes(131_048), TOO_LARGE),
+    (b"add a 0 9999999999 1\r\nx\r\n", None),
+    (b"add a 0 10000000000 1\r\nx\r\n", BAD_FORM),
+    (b"replace a 0 0 1\r\nx\r\n", None),
+    (b"append a 0 0 5\r\nget  \r\n", UNKNOWN),
+    (b"cas a 0 0 1 18446744073709551615\r\nx\r\n", None),
+    (b"cas a 0 0 1 18446744073709551616\r\nx\r\n", BAD_FORM),
+    (b"delete a noreply\r\n", None),
+    (b"delete a 0\r\n", BAD_FORM),
+    (b"incr a 1\r\n", None),
+    (b"decr a 01\r\n", BAD_FORM),
+    (b"flush_all\r\n", None),
+    (b"flush_all 5 noreply\r\n", None),
+    (b"flush_all \r\n", SPACES),
+    (b"touch a 5\r\n", UNKNOWN),
+    (b"gat 5 a\r\n", UNKNOWN),
+    (b"stats\r\n", UNKNOWN),
+    (b"version\r\n", UNKNOWN),
+    (b"verbosity 1\r\n", UNKNOWN),
+    (b"GET a\r\n", UNKNOWN),
+    (b"ms a 2 T0\r\nhi\r\n", UNKNOWN),
+    (b"\r\n", UNKNOWN),
+]
+WORDS = [b"get", b"gets", b"set", b"add", b"cas", b"delete", b"incr", b"flush_all", b"noreply", b"a", b"\x7f", b"", b"0", b"00", b"7", b"-1", b"-0", b"1x"]
+
+
+def said_of(pieces):
+    refusals = refused_lines.Refusals(MEBIBYTE)
+    session = refusals.session()
+    for piece in pieces:
+        session.send(piece)
+    return refusals
+
+
+def reason_of(data):
+    reasons = [why for _, why in said_of([data]).counts]
+    assert len(reasons) < 2
+    return reasons[0] if reasons else None
+
+
+def refuses(program, streams, folder):
+    """Whether the program answers each stream, in a session of its own, with an error. A request behind it ends what lacks its end."""
+    lines = [f"open 0 {n}\nsend 0 {n} {(data + extra).hex()}\n" for n, (data, extra) in enumerate(streams, 1)]
+    (folder / "script").write_text("".join(lines))
+    words = [program, "replay", "--segment-size", str(MEBIBYTE), str(folder / "script")]
+    answers = subprocess.run(words, capture_output=True, check=True, timeout=60).stdout.decode().splitlines()
+    texts = [bytes.fromhex(line.split()[2].replace("-", "")) for line in answers]
+    return [any(line.startswith((b"ERROR", b"CLIENT_ERROR", b"SERVER_ERROR")) for line in text.splitlines()) for text in texts]
+
+
+@pytest.mark.parametrize(("sent", "why"), CASES)
+def test_a_line_is_refused_for_its_reason(sent, why):
+    assert reason_of(sent) == why
+
+
+def test_the_program_refuses_the_same_lines(program, tmp_path):
+    streams = [(sent, b"get z\r\n" if why == NO_RETURN else b"") for sent, why in CASES]
+    assert refuses(program, streams, tmp_path) == [why is not None for _, why in CASES]
+
+
+def test_the_program_refuses_the_same_of_random_lines(program, tmp_path):
+    chosen = random.Random(37)
+    lines = [b" ".join(chosen.choices(WORDS, k=chosen.randint(1, 7))) + b"\r\n" for _ in range(3_000)]
+    # With the block that a good storage line asks for; behind a bad one the session is closed.
+    streams = [(line, bytes(max(0, refused_lines.block_length(line) - 2)) + b"\r\n" if refused_lines.block_length(line) else b"") for line in lines]
+    found = [reason_of(line + extra) is not None for line, extra in streams]
+    assert found == refuses(program, streams, tmp_path)
+    assert 100 < sum(found) < 2_900
+
+
+def test_a_stream_is_cut_the_same_however_it_comes():
+    stream = b"".join(sent for sent, why in CASES if why not in (BAD_BLOCK, NO_RETURN))
+    at_once, by_bytes = said_of([stream]), said_of([stream[at : at + 1] for at in range(len(stream))])
+    assert at_once.lines == by_bytes.lines == sum(1 for _, why in CASES if why not in (BAD_BLOCK, NO_RETURN))
+    assert at_once.counts == by_bytes.counts
+
+
+def test_the_binary_protocol_is_named():
+    assert reason_of(b"\x80\x00\x00\x01" + bytes(20) + b"\r\n") == BINARY
+
+
+def test_the_proxy_counts_what_passes_through_it(serve):
+    words = [*TOOL, "refused", "--to", f"127.0.0.1:{serve('--workers', '1').port}"]
+    with subprocess.Popen(words, stdout=subprocess.PIPE, stderr=subprocess.PIPE) as proxy:
+        port = int(proxy.stderr.readline().rpartition(b":")[2])
+        for _ in range(2):
+            with socket.create_connection(("127.0.0.1", port), 30) as peer:
+                peer.sendall(b"set a 0 0 1\r\nx\r\nget a\r\nversion\r\nquit\r\n")
+                assert read_to_end(peer) == b"STORED\r\nVALUE a 0 1\r\nx\r\nEND\r\nERROR\r\n"
+        proxy.send_signal(signal.SIGINT)
+        said, _ = proxy.communicate(timeout=60)
+    assert said == b"2 refused of 8 lines\n         2  version    there is no such command; the first: version\\r\\n\n"

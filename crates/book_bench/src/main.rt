@@ -3,10 +3,19 @@
 #![tactic(auto)]
 
 use anyhow::{Result, bail};
+use bytes::Bytes;
 use proto::{Answered, Hits, Reply, Request};
-use session_book::{Book, Settled};
+use session_book::{Book, Received, Settled};
 use std::alloc::Global;
 use std::time::Instant;
+
+/// Sends a piece, which is to fit.
+fn send(book: &mut Book, session: u64, piece: Bytes) -> Result<()> {
+    if book.receive(session, piece) != Received::Fed {
+        bail!("a piece was not fed");
+    }
+    Ok(())
+}
 
 /// Settles a request with no hit, and gives the output: so many bytes.
 fn answer(alloc: Global, book: &mut Book, session: u64, asked: (Request, u64)) -> Result<usize> {
@@ -49,7 +58,7 @@ fn many_sessions(alloc: Global, sessions: u64) -> Result<usize> {
     }
     let mut given: usize = 0;
     for session in 0..sessions {
-        book.feed(session + 1, b"get a\r\n")?;
+        send(&mut book, session + 1, Bytes::from_static(b"get a\r\n"))?;
         given = given.saturating_add(finish(alloc, &mut book, session + 1)?);
         book.close(session + 1);
     }
@@ -65,7 +74,7 @@ fn many_requests(alloc: Global, sessions: u64, requests: u64) -> Result<usize> {
     let mut given: usize = 0;
     for request in 0..requests {
         let session = request % sessions.max(1) + 1;
-        book.feed(session, b"get a\r\n")?;
+        send(&mut book, session, Bytes::from_static(b"get a\r\n"))?;
         given = given.saturating_add(finish(alloc, &mut book, session)?);
     }
     Ok(given)
@@ -76,7 +85,7 @@ fn long_input(alloc: Global, piece: &[u8], pieces: u64) -> Result<usize> {
     let mut book = Book::new(alloc, 0);
     book.open(1)?;
     for _ in 0..pieces {
-        book.feed(1, piece)?;
+        send(&mut book, 1, Bytes::copy_from_slice(alloc, piece)?)?;
     }
     finish(alloc, &mut book, 1)
 }

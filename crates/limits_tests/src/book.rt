@@ -1,42 +1,41 @@
 //! Where a book stops, and one step before.
 
+use bytes::Bytes;
 use proto::{Answered, HitRef, HitWriter, Reply, Request, Room};
-use session_book::{Book, FeedFault, Settled};
+use session_book::{Book, Received, Settled};
 use std::alloc::Global;
 use std::process::Abort;
 use std::test::Fail;
 
 /// Pieces of these lengths go to a session that reads nothing, the last of them as is said.
-const PIECES: [(usize, usize, Result<(), FeedFault>); 6] = [
-    (0, 262_144, Ok(())),
-    (0, 262_145, Err(FeedFault::Full)),
-    (262_143, 1, Ok(())),
-    (262_143, 2, Err(FeedFault::Full)),
-    (262_144, 0, Ok(())),
-    (262_144, 1, Err(FeedFault::Full)),
+const PIECES: [(usize, usize, Received); 6] = [
+    (0, 262_144, Received::Fed),
+    (0, 262_145, Received::Held),
+    (262_143, 1, Received::Fed),
+    (262_143, 2, Received::Held),
+    (262_144, 0, Received::Fed),
+    (262_144, 1, Received::Held),
 ];
 
-/// Feeds so many bytes without a line end.
-fn feed_piece(
-    alloc: Global,
-    book: &mut Book,
-    length: usize,
-) -> Result<Result<(), FeedFault>, Fail> {
+/// Sends so many bytes without a line end.
+fn send_piece(alloc: Global, book: &mut Book, length: usize) -> Result<Received, Fail> {
     let piece = vec![in alloc; b'k'; length]?;
-    Ok(book.feed(1, piece.as_slice()))
+    let piece = Bytes::copy_from_slice(alloc, piece.as_slice())?;
+    Ok(book.receive(1, piece))
 }
 
 fn check_pieces(
     rt: &impl Abort,
     alloc: Global,
-    rows: &[(usize, usize, Result<(), FeedFault>)],
+    rows: &[(usize, usize, Received)],
 ) -> Result<(), Fail> {
     for (held, length, wanted) in rows {
         let mut book = Book::new(alloc, 0);
         book.open(1)?;
-        feed_piece(alloc, &mut book, *held)??;
-        let fed = feed_piece(alloc, &mut book, *length)?;
-        assert_eq!(rt; fed, *wanted, "{length} behind {held}");
+        let first = send_piece(alloc, &mut book, *held)?;
+        assert_eq!(rt; first, Received::Fed, "{held} bytes");
+        let second = send_piece(alloc, &mut book, *length)?;
+        assert_eq!(rt; second, *wanted, "{length} behind {held}");
     }
     Ok(())
 }
@@ -48,7 +47,7 @@ fn unread_bytes_end_at_their_limit(rt: HostRuntime) -> Result<(), Fail> {
 
 /// Sends a session's `get a`, and tells the number of the request that the book gives then.
 fn ask(book: &mut Book, session: u64) -> Result<Option<u64>, Fail> {
-    book.feed(session, b"get a\r\n")?;
+    let _ = book.receive(session, Bytes::from_static(b"get a\r\n"));
     match book.next_ask(session)? {
         Some((_, number)) => Ok(Some(number)),
         None => Ok(None),

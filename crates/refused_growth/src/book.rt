@@ -1,7 +1,8 @@
 //! Sessions are opened, fed, read and answered after a refusal.
 
+use bytes::Bytes;
 use proto::{Answered, Reply};
-use session_book::{Book, EndCause, FeedFault, OpenFault, Settled};
+use session_book::{Book, EndCause, OpenFault, Received, Settled};
 use std::alloc::Global;
 
 const INPUT: &[u8] = b"set key 0 0 5\r\nvalue\r\nfoo\r\ndelete key\r\nquit\r\nget key\r\n";
@@ -23,10 +24,13 @@ fn open(book: &mut Book) -> Option<()> {
 }
 
 fn feed(book: &mut Book) -> Option<()> {
-    match book.feed(1, INPUT) {
-        Ok(()) => Some(()),
-        Err(FeedFault::NoMemory) => book.feed(1, INPUT).ok(),
-        Err(_) => None,
+    match book.receive(1, Bytes::from_static(INPUT)) {
+        Received::Fed => Some(()),
+        Received::Refused => match book.receive(1, Bytes::from_static(INPUT)) {
+            Received::Fed => Some(()),
+            _ => None,
+        },
+        Received::Held | Received::Unknown => None,
     }
 }
 

@@ -18,7 +18,6 @@ use Rattle.proto.specs.declared.history.Answered.{Answered}
 use Rattle.proto.specs.declared.no_memory.NoMemory.{NoMemory}
 use Rattle.proto.specs.Reading.{asks}
 use Rattle.session_book.specs.declared.causes.Unsettled.{Unsettled}
-use Rattle.session_book.specs.declared.causes.FeedFault.{FeedFault}
 use Rattle.session_book.specs.declared.causes.Received.{Received}
 use Rattle.session_book.specs.declared.causes.Received.TheVariants as receptions
 use Rattle.session_book.specs.Session.{SessionState, new_session, begins_asked, left, with_reply, once_fed, IsInputFull, held_fed, TakesPiece, FeedsHeld}
@@ -100,20 +99,6 @@ stays_unsettled before after session s t is open_now only greatest unsettled fit
 pub same_queue : (s t : SessionState) → t.queue ≡ s.queue → begins_asked s.queue ≡ true
     → FitsBook t (length (asks s.queue))
 same_queue s t same asked = record { asked = rw same asked; queued = rw same refl }
-
--- feeding a piece leaves the queue as it is
-pub fed_queue : (s : SessionState) (piece : List ℕ) → (once_fed s piece).queue ≡ s.queue
-fed_queue s piece =
-    elim (cases_Bool (is_some s.ended)) [
-      | inl ended ↦ rw ended refl
-      | inr open_yet ↦ rw open_yet refl
-    ]
-
--- and so does a piece that was refused
-pub feed_queue : (r : Result (Unit {0}) FeedFault) (s t : SessionState) (piece : List ℕ) → OnOk r (t ≡ once_fed s piece)
-    → OnErr r (t ≡ s) → t.queue ≡ s.queue
-feed_queue (Ok u) s t piece ok err = ap (λ (x : SessionState). x.queue) ok ∙ fed_queue s piece
-feed_queue (Err e) s t piece ok err = ap (λ (x : SessionState). x.queue) err
 
 -- a new session fits at a number that wasn't in use
 pub opens_book : (before after : BookState) (session : ℕ) → IsBook before
@@ -384,14 +369,6 @@ pub unchanged : (before after now : BookState) → before ≡ now → after ≡ 
 unchanged before after now same rest back =
     rest ∙ ap (λ (es : List (ℕ × SessionState)). record before { sessions = es }) back ∙ same
 
--- a piece that was refused changes nothing
-pub unfed : (r : Result (Unit {0}) FeedFault) (before after now : BookState) → before ≡ now → (s t : SessionState)
-    → OnErr r (t ≡ s) → (t ≡ s → after.sessions ≡ before.sessions)
-    → after ≡ record before { sessions = after.sessions } → OnErr r (after ≡ now)
-unfed (Ok u) before after now same s t err back rest = tt
-unfed (Err e) before after now same s t err back rest =
-    rest ∙ ap (λ (es : List (ℕ × SessionState)). record before { sessions = es }) (back err) ∙ same
-
 -- a piece came of an open session
 pub received : (r : Received) (before after now : BookState) → before ≡ now
     → (session : ℕ) (piece : List ℕ) (s t u : SessionState)
@@ -417,7 +394,8 @@ pub fed_again : (r : Result Bool NoMemory) (before after now : BookState) → be
     → after ≡ record before { sessions = after.sessions }
     → FeedsHeld s r t → u ≡ t → (u ≡ s → after.sessions ≡ before.sessions) → FeedsHeldOf now session r after
 fed_again (Ok true) before after now same session s t u open_now only rest feeds u_is back =
-    changed before after now same session s t u (λ x y. y ≡ held_fed x) open_now only rest feeds u_is
+    changed before after now same session s t u (λ x y. ¬ (IsInputFull x x.held) × (y ≡ held_fed x)) open_now only rest
+    feeds u_is
 fed_again (Ok false) before after now same session s t u open_now only rest feeds u_is back = (
   λ x x_open.
       let x_is : Some s ≡ Some x = sym open_now ∙ ap (λ (b : BookState). session_of b session) same ∙ x_open in

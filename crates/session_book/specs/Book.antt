@@ -83,9 +83,11 @@ Receives before session piece received.Held after =
 Receives before session piece received.Refused after = IsSome (session_of before session) × (after ≡ before)
 Receives before session piece received.Unknown after = (session_of before session ≡ None) × (after ≡ before)
 
--- What becomes of the held piece: it is fed, or there is none, or it doesn't fit yet; want of memory changes nothing.
+-- What becomes of the held piece: it is fed where it fits, or there is none, or it doesn't fit yet; want of memory
+-- changes nothing.
 abbrev pub FeedsHeldOf : BookState → ℕ → Result Bool NoMemory → BookState → Type 0
-FeedsHeldOf before session (Ok true) after = ChangesOpen before after session (λ s t. t ≡ held_fed s)
+FeedsHeldOf before session (Ok true) after =
+    ChangesOpen before after session (λ s t. ¬ (IsInputFull s s.held) × (t ≡ held_fed s))
 FeedsHeldOf before session (Ok false) after =
     ((s : SessionState) → session_of before session ≡ Some s → (s.held ≡ []) ⊎ IsInputFull s s.held) × (after ≡ before)
 FeedsHeldOf before session (Err e) after = IsSome (session_of before session) × (after ≡ before)

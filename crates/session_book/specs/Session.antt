@@ -119,17 +119,18 @@ holding s piece = record s { held = piece }
 abbrev pub held_fed : SessionState → SessionState
 held_fed s = record (once_fed s s.held) { held = [] }
 
--- What becomes of a piece that came: it is fed, or held where it doesn't fit. None is fed or held over a held one; one
--- for which there is no memory, or that isn't the only one, changes nothing.
+-- What becomes of a piece that came: it is fed exactly where it fits, or held where it doesn't. None is fed or held over
+-- a held one; one for which there is no memory, or that isn't the only one, changes nothing.
 abbrev pub TakesPiece : SessionState → List ℕ → Received → SessionState → Type 0
-TakesPiece s piece received.Fed after = (s.held ≡ []) × (after ≡ once_fed s piece)
+TakesPiece s piece received.Fed after = (s.held ≡ []) × ¬ (IsInputFull s piece) × (after ≡ once_fed s piece)
 TakesPiece s piece received.Held after = (s.held ≡ []) × IsInputFull s piece × (after ≡ holding s piece)
 TakesPiece s piece received.Refused after = after ≡ s
 TakesPiece s piece received.Unknown after = ⊥
 
--- What becomes of the held piece: it is fed, or there is none, or it doesn't fit yet; want of memory changes nothing.
+-- What becomes of the held piece: it is fed where it fits, or there is none, or it doesn't fit yet; want of memory
+-- changes nothing.
 abbrev pub FeedsHeld : SessionState → Result Bool NoMemory → SessionState → Type 0
-FeedsHeld s (Ok true) after = after ≡ held_fed s
+FeedsHeld s (Ok true) after = ¬ (IsInputFull s s.held) × (after ≡ held_fed s)
 FeedsHeld s (Ok false) after = ((s.held ≡ []) ⊎ IsInputFull s s.held) × (after ≡ s)
 FeedsHeld s (Err e) after = after ≡ s
 

@@ -1,11 +1,11 @@
 //! The sessions of one worker: reading what they were fed, and answering in the order of their messages.
 
 ghost use Rattle.std.specs.Prelude.{◌≡◌, ◌⊎◌, ◌+◌, ◌≤◌, ◌<◌, ◌↔◌, [], length, is_some, option_map};
-ghost use Rattle.std.specs.Prelude.{IsSomeAnd, OnOk, OnErr};
-ghost use Rattle.session_book.specs.Session.{SessionState, new_session, IsInputFull, once_fed, gave, finished_by};
+ghost use Rattle.std.specs.Prelude.{OnOk, OnErr};
+ghost use Rattle.session_book.specs.Session.{SessionState, new_session, gave, finished_by};
 ghost use Rattle.std.specs.Option.{option_and_then};
 
-use crate::causes::{EndCause, FeedFault, OpenFault, Received, Settled, Unsettled};
+use crate::causes::{EndCause, OpenFault, Received, Settled, Unsettled};
 use crate::limits::{MAX_POSTS, MAX_SESSIONS, MAX_UNSETTLED};
 use crate::load::Load;
 use crate::open_session::OpenSession;
@@ -135,22 +135,8 @@ impl Book {
         Ok(())
     }
 
-    /// Puts a piece of input behind the unread bytes. A session that has read Quit or a fatal message drops it.
-    pub fn feed(&mut self, session: u64, piece: &[u8]) -> Result<(), FeedFault>
-        ensures unknown { (result ≡ Err FeedFault.Unknown) ↔ (session_of self.old session ≡ None) }
-        ensures full { (result ≡ Err FeedFault.Full) ↔ IsSomeAnd (session_of self.old session) (λ s. IsInputFull s piece.now) }
-        ensures ok { OnOk result (ChangesSession self.old self.new session (option_map (λ s. once_fed s piece.now) (session_of self.old session))) }
-        ensures err { OnErr result (self.new ≡ self.old) }
-    {
-        let Some(open) = self.sessions.get_mut(&session) else {
-            return Err(FeedFault::Unknown);
-        };
-        open.feed(piece)?;
-        open.ask_later(session, &mut self.ready);
-        Ok(())
-    }
-
-    /// Feeds a piece that came, or holds it until it fits.
+    /// Puts a piece of input behind the unread bytes, or holds it until it fits. A session that has read Quit or a fatal
+    /// message drops it.
     pub fn receive(&mut self, session: u64, piece: Bytes) -> Received
         ensures { Receives self.old session piece result self.new }
     {

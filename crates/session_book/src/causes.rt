@@ -12,15 +12,11 @@ pub enum OpenFault {
     NoMemory,
 }
 
-/// Why a piece of input isn't taken.
-#[derive(Clone, Copy, Debug, PartialEq, Eq, Error)]
+/// Why a piece of input isn't fed.
+#[derive(Clone, Copy)]
 pub enum FeedFault {
-    #[error("the session isn't open")]
-    Unknown,
-    /// The piece can be fed once more of the input was read.
-    #[error("too many unread bytes")]
+    /// It can be fed once more of the input was read.
     Full,
-    #[error("out of memory")]
     NoMemory,
 }
 

@@ -5,7 +5,7 @@
 mod book;
 mod buffer;
 mod causes;
-mod laws;
+pub mod laws;
 mod limits;
 mod load;
 mod open_session;
@@ -15,5 +15,5 @@ mod session;
 mod spares;
 
 pub use book::Book;
-pub use causes::{EndCause, FeedFault, OpenFault, Received, Settled};
+pub use causes::{EndCause, OpenFault, Received, Settled};
 pub use limits::{MAX_POSTS, MAX_UNSETTLED};

@@ -3,8 +3,7 @@
 ghost use Rattle.std.specs.Prelude.{◌≡◌, ◌≤◌, ◌<◌, ◌↔◌, length, not, ◌==◌, OnOk, OnErr};
 ghost use Rattle.proto.specs.Reading.{asks};
 
-use crate::causes::{EndCause, FeedFault, Received};
-use crate::limits::MAX_UNREAD;
+use crate::causes::{EndCause, Received};
 use crate::ready::Ready;
 use crate::session::Session;
 use crate::spares::Spares;
@@ -32,7 +31,7 @@ impl Model for OpenSession {
 }
 
 impl OpenSession {
-    ghost use Rattle.session_book.specs.Session.{new_session, once_fed, IsInputFull, TakesPiece, FeedsHeld, gave};
+    ghost use Rattle.session_book.specs.Session.{new_session, TakesPiece, FeedsHeld, gave};
     ghost use Rattle.session_book.specs.Session.{with_reply, finished_by, ReadsAsk};
 
     pub fn new(alloc: Global) -> Self
@@ -52,21 +51,6 @@ impl OpenSession {
             self.session = Some(Box::new(self.alloc, Session::new(self.alloc))?);
         }
         Ok(())
-    }
-
-    /// Puts a piece of input behind the unread bytes. A session that has read Quit or a fatal message drops it.
-    pub fn feed(&mut self, piece: &[u8]) -> Result<(), FeedFault>
-        ensures not_unknown { (result ≡ Err FeedFault.Unknown) → ⊥ }
-        ensures full { (result ≡ Err FeedFault.Full) ↔ IsInputFull self.old piece.now }
-        ensures ok { OnOk result (self.new ≡ once_fed self.old piece.now) }
-        ensures err { OnErr result (self.new ≡ self.old) }
-    {
-        let _ = self.take_memory();
-        match &mut self.session {
-            Some(session) => session.feed(piece),
-            None if piece.len() > MAX_UNREAD => Err(FeedFault::Full),
-            None => Err(FeedFault::NoMemory),
-        }
     }
 
     /// Feeds a piece, or holds it until it fits.

@@ -87,8 +87,8 @@ impl Session {
         }
     }
 
-    pub fn feed(&mut self, piece: &[u8]) -> Result<(), FeedFault>
-        ensures not_unknown { (result ≡ Err FeedFault.Unknown) → ⊥ }
+    /// Puts a piece of input behind the unread bytes. A session that has read Quit or a fatal message drops it.
+    fn feed(&mut self, piece: &[u8]) -> Result<(), FeedFault>
         ensures full { (result ≡ Err FeedFault.Full) ↔ IsInputFull self.old piece.now }
         ensures ok { OnOk result (self.new ≡ once_fed self.old piece.now) }
         ensures err { OnErr result (self.new ≡ self.old) }
@@ -119,7 +119,7 @@ impl Session {
                 self.held = Some(piece);
                 Received::Held
             }
-            Err(_) => Received::Refused,
+            Err(FeedFault::NoMemory) => Received::Refused,
         }
     }
 
@@ -137,7 +137,7 @@ impl Session {
         self.held = Some(piece);
         match fault {
             FeedFault::NoMemory => Err(NoMemory),
-            FeedFault::Full | FeedFault::Unknown => Ok(false),
+            FeedFault::Full => Ok(false),
         }
     }
 
@@ -227,12 +227,6 @@ impl Session {
         self.output.discard(n);
     }
 
-    pub fn awaits(&self) -> bool
-        ensures { result ≡ not (length self.now.queue == 0) }
-    {
-        !self.queue.is_empty()
-    }
-
     pub fn finished(&self) -> Option<EndCause>
         ensures { result ≡ finished_by self.now }
     {
@@ -301,7 +295,7 @@ impl Session {
     /// Whether the output is to be given now: little output waits for the answers that are outstanding, and for the
     /// input that is left to be read.
     pub fn is_worth_giving(&self, ready: &Ready) -> bool {
-        self.output.len() >= WORTH_GIVING || !(self.awaits() || ready.is_asking(&self.places))
+        self.output.len() >= WORTH_GIVING || (self.queue.is_empty() && !ready.is_asking(&self.places))
     }
 }
 

@@ -1,7 +1,8 @@
 //! A book at its limits, and answers out of order or to closed sessions.
 
 use crate::player::Player;
-use session_book::{Book, FeedFault, OpenFault, Settled};
+use bytes::Bytes;
+use session_book::{Book, OpenFault, Received, Settled};
 use std::process::Abort;
 use std::test::Fail;
 
@@ -34,15 +35,16 @@ fn check_output(rt: &impl Abort, player: &Player, session: u64, output: &str) {
     );
 }
 
-fn check_feed(
+fn check_received(
     rt: &impl Abort,
     book: &mut Book,
     session: u64,
-    piece: &[u8],
-    wanted: Result<(), FeedFault>,
+    piece: Bytes,
+    wanted: Received,
 ) {
-    let fed = book.feed(session, piece);
-    assert_eq!(rt; fed, wanted, "{} bytes for session {session}", piece.len());
+    let length = piece.len();
+    let received = book.receive(session, piece);
+    assert_eq!(rt; received, wanted, "{length} bytes for session {session}");
 }
 
 fn check_open(rt: &impl Abort, book: &mut Book, session: u64, wanted: Result<(), OpenFault>) {
@@ -71,10 +73,11 @@ fn holds_so_much_input(rt: HostRuntime) -> Result<(), Fail> {
     assert_eq!(rt; book.worker(), 3);
     check_open(&rt, &mut book, 1, Ok(()));
     for _ in 0..16 {
-        check_feed(&rt, &mut book, 1, piece.as_slice(), Ok(()));
+        let piece = Bytes::copy_from_slice(rt.alloc(), piece.as_slice())?;
+        check_received(&rt, &mut book, 1, piece, Received::Fed);
     }
-    check_feed(&rt, &mut book, 1, b"k", Err(FeedFault::Full));
-    check_feed(&rt, &mut book, 2, b"k", Err(FeedFault::Unknown));
+    check_received(&rt, &mut book, 1, Bytes::from_static(b"k"), Received::Held);
+    check_received(&rt, &mut book, 2, Bytes::from_static(b"k"), Received::Unknown);
     Ok(())
 }
 

@@ -1,8 +1,10 @@
 //! A book with the requests that it has given, and a store that knows one value.
 
+use bytes::Bytes;
 use proto::{Answered, HitRef, HitWriter, NoMemory, Posted, Reply, Request, Room};
-use session_book::{Book, EndCause, FeedFault, OpenFault, Settled};
+use session_book::{Book, EndCause, OpenFault, Received, Settled};
 use std::alloc::{AllocError, Global};
+use std::test::Fail;
 
 #[derive(Drop)]
 pub struct Player {
@@ -26,8 +28,13 @@ impl Player {
         self.book.open(session)
     }
 
-    pub fn feed(&mut self, session: u64, piece: &[u8]) -> Result<(), FeedFault> {
-        self.book.feed(session, piece)
+    /// Feeds a piece, which is to fit.
+    pub fn feed(&mut self, session: u64, piece: &[u8]) -> Result<(), Fail> {
+        let piece = Bytes::copy_from_slice(self.alloc, piece)?;
+        match self.book.receive(session, piece) {
+            Received::Fed => Ok(()),
+            _ => Err(Fail::new("a piece was not fed")),
+        }
     }
 
     /// The number of the session's next request, which is kept.

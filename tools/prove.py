@@ -43,8 +43,8 @@ PARTS = ("src", "specs", "proofs")
 LINES_A_MINUTE = 2500
 # Beside what the gate measured a check loads the proofs of the libraries below it, on one processor: so many minutes.
 MINUTES_ALONE = 1.0
-# So many jobs has a check beside others. More shorten it little and cost much, since each loads the libraries again: of `engine` one took 174
-# seconds of processor time, two 189, and four 308.
+# So many jobs has a check. More shorten it little and cost much, since each loads the libraries again: `engine` took 174 seconds of processor
+# time by one, 189 by two, and 308 by four.
 JOBS = 2
 # Crates from which the way to the top takes less than this share of the longest one yield to the others by so much (nice).
 SHARE_OF_LONGEST = 0.75
@@ -176,12 +176,8 @@ def to_start(crates, ways, proved, running, at_once):
     left = [name for name in ways if name not in proved and name not in running]
     ready = [name for name in left if all(it in proved or it not in ways for it in crates[name])]
     longest = max((ways[name] for name in left), default=0)
-    chosen = []
-    for name in sorted(ready, key=ways.get, reverse=True)[: at_once - len(running)]:
-        is_last = len(left) == len(chosen) + 1
-        goes_first = ways[name] >= SHARE_OF_LONGEST * longest
-        chosen.append((name, at_once if is_last else min(JOBS, at_once), 0 if goes_first else NICE_BESIDE))
-    return chosen
+    chosen = sorted(ready, key=ways.get, reverse=True)[: at_once - len(running)]
+    return [(name, min(JOBS, at_once), 0 if ways[name] >= SHARE_OF_LONGEST * longest else NICE_BESIDE) for name in chosen]
 
 
 def expected_ends(crates, minutes, at_once):

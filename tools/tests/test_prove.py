@@ -57,8 +57,8 @@ def test_no_more_are_proved_at_a_time_than_asked_for():
     assert started(["base"], at_once=1) == [("left", 1, 0)]
 
 
-def test_the_last_crate_gets_all_jobs():
-    assert started(["base", "left", "right", "top"]) == [("aside", 4, 0)]
+def test_the_last_crate_yields_to_none():
+    assert started(["base", "left", "right", "top"]) == [("aside", 2, 0)]
 
 
 def test_crates_that_are_kept_count_as_proved():

@@ -138,6 +138,7 @@ def run(*words, **streams):
 def faults_and_bad_words_have_their_statuses():
     equal(run("serve", "--listen", "nothing"), (1, b"fault: cannot listen on nothing\n"))
     equal(run("serve", "--listen", "localhost:0"), (1, b"fault: cannot listen on localhost:0\n"))
+    equal(run("serve", "--listen", "two\nlines"), (1, b"fault: cannot listen on two\\nlines\n"))
     equal(run("serve", "--listen", "127.0.0.1:0", "--segment-size", "5000"), (1, b"fault: bad geometry\n"))
     equal(run("serve", "--listen", "nothing", "--segment-size", "5000"), (1, b"fault: bad geometry\n"))
     with open("/dev/full", "wb") as full:
@@ -149,6 +150,21 @@ def faults_and_bad_words_have_their_statuses():
                   ["--listen", "127.0.0.1:0", "--workers", "0"], ["--listen", "127.0.0.1:0", "--sessions", "0"],
                   ["--listen", "127.0.0.1:0", "--segments", "7"]):
         equal(run("serve", *words)[0], 2)
+
+
+@test
+def too_few_descriptors_to_start():
+    """A listener, its poll, and for each of two workers a poll and a pair of sockets: where one can't be had, one line says so."""
+    refused = 0
+    for files in range(4, 64):
+        with subprocess.Popen([PROGRAM, "serve", "--listen", "127.0.0.1:0"], stdout=subprocess.PIPE, stderr=subprocess.PIPE,
+                              preexec_fn=lambda: resource.setrlimit(resource.RLIMIT_NOFILE, (files, files))) as process:
+            if process.stdout.readline():
+                process.kill()
+                break
+            equal((process.wait(timeout=20), process.stderr.read()), (1, b"fault: cannot listen on 127.0.0.1:0\n"))
+            refused += 1
+    equal(refused >= 7, True)
 
 
 # ---- many at once

@@ -63,14 +63,13 @@ def test_a_port_that_another_program_has_is_refused(program):
         assert ended(program, "--listen", address) == cannot_listen(address)
 
 
-# (three are the standard streams, one is the listening socket; what waits for it, and the workers' ends, need others)
-@pytest.mark.parametrize("descriptors", [4, 5])
+# (three are the standard streams; the listener has a socket and its poll, and each of two workers a poll and a pair of sockets)
+@pytest.mark.parametrize("descriptors", range(4, 11))
 def test_without_descriptors_for_all_that_listens_it_is_refused(program, descriptors):
     limit = lambda: resource.setrlimit(resource.RLIMIT_NOFILE, (descriptors, descriptors))
     assert ended(program, "--listen", "127.0.0.1:0", preexec_fn=limit) == cannot_listen("127.0.0.1:0")
 
 
-@pytest.mark.xfail(reason="the fault is printed on two lines", strict=False)
 def test_a_line_feed_in_the_address_is_shown_as_two_characters(program):
     assert ended(program, "--listen", "127.0.0.1\n:0") == cannot_listen("127.0.0.1\\n:0")
 

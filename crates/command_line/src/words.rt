@@ -8,6 +8,7 @@ ghost use Rattle.std.specs.declared.io.ErrorKind.TheVariants as io;
 ghost use Rattle.command_line.specs.declared.words.WordsFault.TheVariants as words;
 ghost use Rattle.command_line.specs.Words.{IsJob, IsReplayInRange, IsServeInRange};
 
+use crate::version::VERSION;
 use clap::error::ErrorKind;
 use clap::{Arg, ArgMatches, Command};
 use std::alloc::{AllocError, Global};
@@ -77,9 +78,6 @@ impl From<AllocError> for WordsFault {
     }
 }
 
-/// What `--version` shows behind the program's name.
-const VERSION: &str = "0.1.0";
-
 const OUT_OF_RANGE: &str = "error: a number is out of its range\n";
 
 const REPLAY_HELP: &str = "A script has a line for each event, with single spaces between its words:
@@ -97,67 +95,71 @@ const SERVE_HELP: &str =
 
 Exit status: 0 done, 1 a fault (one line on standard error), 2 bad words";
 
-fn segment_size<'a>(alloc: Global) -> Arg<'a> {
-    Arg::new(alloc, "segment-size")
-        .long("segment-size")
-        .value_name("BYTES")
-        .help("Bytes of a segment, a power of two from 4096 to 1048576")
-        .value_parser(clap::value_parser!(u64).range(4096..=1_048_576))
-        .default_value("65536")
+fn option<'a>(alloc: Global, name: &'a str, value: &'a str, help: &'a str) -> Arg<'a> {
+    Arg::new(alloc, name)
+        .long(name)
+        .value_name(value)
+        .help(help)
 }
 
-fn segments<'a>(alloc: Global) -> Arg<'a> {
-    Arg::new(alloc, "segments")
-        .long("segments")
-        .value_name("COUNT")
-        .help(
-            "Number of segments, 8 to 65536. What is set without a life is sure to stay while all that is written takes no more than 7/8 of all segments but one",
-        )
-        .value_parser(clap::value_parser!(u64).range(8..=65_536))
-        .default_value("64")
+/// An option with a number from `least` to `most`.
+fn ranged<'a>(
+    alloc: Global,
+    name: &'a str,
+    value: &'a str,
+    help: &'a str,
+    least: i64,
+    most: i64,
+) -> Arg<'a> {
+    option(alloc, name, value, help).value_parser(clap::value_parser!(u64).range(least..=most))
 }
 
-fn workers<'a>(alloc: Global, default: &'a str) -> Arg<'a> {
-    Arg::new(alloc, "workers")
-        .long("workers")
-        .value_name("COUNT")
-        .help("Number of worker threads, 1 to 8")
-        .value_parser(clap::value_parser!(u64).range(1..=8))
-        .default_value(default)
+/// An option with a number from 1 on.
+fn counted<'a>(alloc: Global, name: &'a str, value: &'a str, help: &'a str) -> Arg<'a> {
+    option(alloc, name, value, help).value_parser(clap::value_parser!(u64).range(1..))
 }
 
-fn accept<'a>(alloc: Global) -> Arg<'a> {
-    Arg::new(alloc, "accept")
-        .long("accept")
-        .value_name("BYTES")
-        .help("Each give accepts at most so many bytes, 1 to 65536")
-        .value_parser(clap::value_parser!(u64).range(1..=65_536))
+/// An option with a number of seconds.
+fn seconds<'a>(alloc: Global, name: &'a str, help: &'a str) -> Arg<'a> {
+    option(alloc, name, "SECONDS", help).value_parser(clap::value_parser!(u64))
 }
 
-fn fail_give<'a>(alloc: Global) -> Arg<'a> {
-    Arg::new(alloc, "fail-give")
-        .long("fail-give")
-        .value_name("N")
-        .help("At each worker the Nth give finds its peer gone")
-        .value_parser(clap::value_parser!(u64).range(1..))
+/// How many workers run; both jobs have them.
+fn with_workers<'a>(
+    alloc: Global,
+    command: Command<'a>,
+    default: &'a str,
+) -> Result<Command<'a>, AllocError> {
+    let help = "Number of worker threads, 1 to 8";
+    command.arg(ranged(alloc, "workers", "COUNT", help, 1, 8).default_value(default))
 }
 
-fn now<'a>(alloc: Global) -> Arg<'a> {
-    Arg::new(alloc, "now")
-        .long("now")
-        .value_name("SECONDS")
-        .help("The clock's first answer")
-        .value_parser(clap::value_parser!(u64))
-        .default_value("1000")
+/// The sizes of the segments; both jobs have them.
+fn with_segments<'a>(alloc: Global, command: Command<'a>) -> Result<Command<'a>, AllocError> {
+    let size = "Bytes of a segment, a power of two from 4096 to 1048576";
+    let count =
+        "Number of segments, 8 to 65536. What is set without a life is sure to stay while all that is written takes no more than 7/8 of all segments but one";
+    command
+        .arg(ranged(alloc, "segment-size", "BYTES", size, 4096, 1_048_576).default_value("65536"))?
+        .arg(ranged(alloc, "segments", "COUNT", count, 8, 65_536).default_value("64"))
 }
 
-fn tick<'a>(alloc: Global) -> Arg<'a> {
-    Arg::new(alloc, "tick")
-        .long("tick")
-        .value_name("SECONDS")
-        .help("How much more each further answer of the clock is")
-        .value_parser(clap::value_parser!(u64))
-        .default_value("0")
+/// The clock of a replay.
+fn with_clock<'a>(alloc: Global, command: Command<'a>) -> Result<Command<'a>, AllocError> {
+    let now = "The clock's first answer";
+    let tick = "How much more each further answer of the clock is";
+    command
+        .arg(seconds(alloc, "now", now).default_value("1000"))?
+        .arg(seconds(alloc, "tick", tick).default_value("0"))
+}
+
+/// The faults of a replay's ports.
+fn with_faults<'a>(alloc: Global, command: Command<'a>) -> Result<Command<'a>, AllocError> {
+    let accept = "Each give accepts at most so many bytes, 1 to 65536";
+    let fail_give = "At each worker the Nth give finds its peer gone";
+    command
+        .arg(ranged(alloc, "accept", "BYTES", accept, 1, 65_536))?
+        .arg(counted(alloc, "fail-give", "N", fail_give))
 }
 
 fn file<'a>(alloc: Global) -> Arg<'a> {
@@ -176,38 +178,30 @@ fn listen<'a>(alloc: Global) -> Arg<'a> {
 }
 
 fn sessions<'a>(alloc: Global) -> Arg<'a> {
-    Arg::new(alloc, "sessions")
-        .long("sessions")
-        .value_name("COUNT")
-        .help("Accept so many streams, and end when their sessions have ended")
-        .value_parser(clap::value_parser!(u64).range(1..))
+    let help = "Accept so many streams, and end when their sessions have ended";
+    counted(alloc, "sessions", "COUNT", help)
 }
 
 fn replay_command<'a>(alloc: Global) -> Result<Command<'a>, AllocError> {
-    Command::new(alloc, "replay")
+    let command = Command::new(alloc, "replay")
         .about("Runs a script and prints what each session was given")
         .override_usage("segcached replay [OPTIONS] <FILE>")
         .after_help(REPLAY_HELP)
-        .arg(file(alloc))?
-        .arg(workers(alloc, "1"))?
-        .arg(segment_size(alloc))?
-        .arg(segments(alloc))?
-        .arg(now(alloc))?
-        .arg(tick(alloc))?
-        .arg(accept(alloc))?
-        .arg(fail_give(alloc))
+        .arg(file(alloc))?;
+    let command = with_workers(alloc, command, "1")?;
+    let command = with_segments(alloc, command)?;
+    let command = with_clock(alloc, command)?;
+    with_faults(alloc, command)
 }
 
 fn serve_command<'a>(alloc: Global) -> Result<Command<'a>, AllocError> {
-    Command::new(alloc, "serve")
+    let command = Command::new(alloc, "serve")
         .about("Listens on an address and serves")
         .override_usage("segcached serve [OPTIONS] --listen <ADDR>")
         .after_help(SERVE_HELP)
-        .arg(listen(alloc))?
-        .arg(workers(alloc, "2"))?
-        .arg(sessions(alloc))?
-        .arg(segment_size(alloc))?
-        .arg(segments(alloc))
+        .arg(listen(alloc))?;
+    let command = with_workers(alloc, command, "2")?.arg(sessions(alloc))?;
+    with_segments(alloc, command)
 }
 
 fn command<'a>(alloc: Global) -> Result<Command<'a>, AllocError> {

@@ -1,22 +1,57 @@
 -- What a port over sockets tells of.
-use Rattle.std.specs.Prelude.{◌≡◌, ℕ, ◌+◌, ◌<◌, ◌≤◌, length}
+use Rattle.std.specs.Prelude.{◌≡◌, ℕ, ◌+◌, ◌<◌, ◌≤◌, Bool, true, false, [], length, is_some}
+use Rattle.std.specs.Prelude.{IsTrue, cond}
+use Rattle.std.specs.Map.{lookup}
+use Rattle.std.specs.Bool.{nat_eq}
 use Rattle.worker.specs.declared.port.PortEvent.{PortEvent}
 use Rattle.worker.specs.declared.port.PortEvent.TheVariants.{Opened, Data, Gone, Idle, Ended}
+use Rattle.net.specs.declared.streams.Streams.{Streams}
 use Rattle.net.specs.declared.streams.Reading.{Reading}
 use Rattle.net.specs.declared.streams.Reading.TheVariants as read
 
--- An event, between the number of the session that was opened last before it and after it. A session that is opened
--- has the next number, and a piece of input has some bytes, but no more than a worker takes at once.
-abbrev pub IsNextEvent : ℕ → ℕ → PortEvent → Type 0
-IsNextEvent before after (Opened s) = (s ≡ before + 1) × (after ≡ before + 1)
-IsNextEvent before after (Data s bytes) = (after ≡ before) × (0 < length bytes) × (length bytes ≤ 16384)
-IsNextEvent before after (Gone s) = after ≡ before
-IsNextEvent before after Idle = after ≡ before
-IsNextEvent before after Ended = after ≡ before
+-- whether the session of this number is open
+abbrev pub is_open : Streams → ℕ → Bool
+is_open streams session = is_some (lookup (nat_eq session) streams.open.entries)
 
--- what a read gives is such a piece
-abbrev pub IsPiece : Reading → Type 0
-IsPiece (read.Bytes bytes) = (0 < length bytes) × (length bytes ≤ 16384)
-IsPiece read.Nothing = Unit {0}
-IsPiece read.Ended = Unit {0}
-IsPiece read.Gone = Unit {0}
+-- no session is open
+abbrev pub NoneOpen : Streams → Type 0
+NoneOpen streams = streams.open.entries ≡ []
+
+-- no session was ever opened
+abbrev pub IsNew : Streams → Type 0
+IsNew streams = (streams.last ≡ 0) × NoneOpen streams
+
+-- no session is opened, and none ends
+pub record KeepsSessions (before after : Streams) : Type 0 where
+  pub last : after.last ≡ before.last
+  pub same : (other : ℕ) → is_open after other ≡ is_open before other
+
+-- the session of the next number is opened, and no other one
+pub record OpensSession (session : ℕ) (before after : Streams) : Type 0 where
+  pub number : session ≡ before.last + 1
+  pub last : after.last ≡ session
+  pub opened : (other : ℕ) → is_open after other ≡ cond (nat_eq session other) true (is_open before other)
+
+-- the session ends, if it was open, and no other one
+pub record EndsSession (session : ℕ) (before after : Streams) : Type 0 where
+  pub last : after.last ≡ before.last
+  pub ended : (other : ℕ) → is_open after other ≡ cond (nat_eq session other) false (is_open before other)
+
+-- An event, between the streams before it and after it. A session that is opened has the next number. Input and an end
+-- are told of a session that is open; a piece of input has some bytes, but no more than a worker takes at once. No
+-- session is open once the end is told.
+abbrev pub IsNextEvent : Streams → Streams → PortEvent → Type 0
+IsNextEvent before after (Opened s) = OpensSession s before after
+IsNextEvent before after (Data s bytes) =
+    KeepsSessions before after × (is_open before s ≡ true) × (0 < length bytes) × (length bytes ≤ 16384)
+IsNextEvent before after (Gone s) = EndsSession s before after × (is_open before s ≡ true)
+IsNextEvent before after Idle = KeepsSessions before after
+IsNextEvent before after Ended = KeepsSessions before after × NoneOpen after
+
+-- What a read of a session leaves: it is told of a session that was open. One that is gone has ended.
+abbrev pub Reads : ℕ → Streams → Reading → Streams → Type 0
+Reads session before (read.Bytes bytes) after =
+    KeepsSessions before after × (is_open before session ≡ true) × (0 < length bytes) × (length bytes ≤ 16384)
+Reads session before read.Nothing after = KeepsSessions before after
+Reads session before read.Ended after = KeepsSessions before after × (is_open before session ≡ true)
+Reads session before read.Gone after = EndsSession session before after × (is_open before session ≡ true)

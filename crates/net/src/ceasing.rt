@@ -1,6 +1,7 @@
 //! Sessions whose peers send no more, and may still read answers.
 
-ghost use Rattle.std.specs.Prelude.{◌≡◌};
+ghost use Rattle.std.specs.Prelude.{◌≡◌, true, IfSome};
+ghost use Rattle.net.specs.Events.{is_open, KeepsSessions};
 
 use crate::streams::Streams;
 use std::alloc::{AllocError, Global};
@@ -99,7 +100,8 @@ impl CeasingSessions {
         streams: &mut Streams,
         owes_none: bool,
     ) -> Option<u64>
-        ensures { streams.new.last ≡ streams.old.last }
+        ensures keeps { KeepsSessions streams.old streams.new }
+        ensures open { IfSome result (λ session. is_open streams.old session ≡ true) }
     {
         for _ in 0..self.sessions.len() {
             let session = self.next_due(rt, owes_none)?;

@@ -1,5 +1,7 @@
 //! Streams on their way from the listener to a worker.
 
+ghost use Rattle.std.specs.Prelude.{◌≡◌, ◌+◌, ◌↔◌, IfOk, IsTrue, OnErr, OnOk};
+
 use crate::fault::NetFault;
 use crossbeam_queue::ArrayQueue;
 use mio::net::{TcpStream, UnixStream};
@@ -26,15 +28,20 @@ pub struct Hand {
     pub(crate) has_ended: Arc<AtomicBool, Global>,
     /// For each stream the listener's end writes a byte, so that a port that waits for its sockets wakes.
     pub(crate) bell: UnixStream,
+    // So many more streams the listener's end takes.
+    pub(crate) left: u64,
 }
 
 impl Hand {
-    /// The listener's and the port's end of a queue of 64 streams.
+    /// The listener's and the port's end of a queue of 64 streams. So many streams go through it in all, at most as
+    /// many as the port's worker opens in a run.
     ///
     /// # Errors
     ///
     /// NoMemory; Poll where the system has no pair of sockets to wake the port by.
-    pub fn pair<N: Net>(net: &N, alloc: Global) -> Result<(Hand, Hand), NetFault> {
+    pub fn pair<N: Net>(net: &N, alloc: Global, most: u64) -> Result<(Hand, Hand), NetFault>
+        ensures { IfOk result (λ ends. ends.0.left ≡ most) }
+    {
         let streams = Arc::new(alloc, ArrayQueue::new(alloc, WAITING_STREAMS)?)?;
         let has_ended = Arc::new(alloc, AtomicBool::new(false))?;
         let Ok((near, far)) = UnixStream::pair(net) else {
@@ -44,20 +51,36 @@ impl Hand {
             streams: Arc::try_clone(&streams)?,
             has_ended: Arc::try_clone(&has_ended)?,
             bell: far,
+            left: 0,
         };
         let of_listener = Hand {
             streams,
             has_ended,
             bell: near,
+            left: most,
         };
         Ok((of_listener, of_port))
     }
 
-    // Offers a stream, which comes back where the queue is full.
-    pub(crate) fn offer<R: Wait>(&self, rt: &R, stream: TcpStream) -> Result<(), TcpStream> {
+    // Offers a stream, which comes back where the queue is full, or the hand is used up.
+    pub(crate) fn offer<R: Wait>(&mut self, rt: &R, stream: TcpStream) -> Result<(), TcpStream>
+        ensures taken { OnOk result (self.new.left + 1 ≡ self.old.left) }
+        ensures back { OnErr result (self.new.left ≡ self.old.left) }
+    {
+        let Some(left) = self.left.checked_sub(1) else {
+            return Err(stream);
+        };
         self.streams.push(rt, stream)?;
+        self.left = left;
         self.ring();
         Ok(())
+    }
+
+    // Whether the listener's end took all the streams that it may take.
+    pub(crate) fn is_used_up(&self) -> bool
+        ensures { IsTrue result ↔ (self.now.left ≡ 0) }
+    {
+        self.left == 0
     }
 
     pub(crate) fn take<R: Wait>(&self, rt: &R) -> Option<TcpStream> {

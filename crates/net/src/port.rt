@@ -1,14 +1,14 @@
 //! A worker's port over the streams that its hand is given. It doesn't tell: no clause says what a socket delivers.
 
-ghost use Rattle.std.specs.Prelude.{◌≡◌, ◌≤◌, length, IfOk, MatchOption};
-ghost use Rattle.net.specs.Events.{IsNextEvent};
+ghost use Rattle.std.specs.Prelude.{◌≡◌, ◌≤◌, length, IfOk, OnErr, OnOk, MatchOption};
+ghost use Rattle.net.specs.Events.{IsNew, IsNextEvent, KeepsSessions, EndsSession};
 
 use crate::ceasing::CeasingSessions;
 use crate::fault::NetFault;
 use crate::hand::{BELL, Hand};
 use crate::streams::{Reading, Streams};
-use mio::{Events, Poll};
 use exchange::SpinPolicy;
+use mio::{Events, Poll};
 use std::alloc::Global;
 use std::net::Net;
 use std::sync::Wait;
@@ -56,19 +56,16 @@ pub struct MioPort<R: Drop> {
     spin_policy: SpinPolicy,
 }
 
-impl<R: Wait + Clock + Drop> MioPort<R> {
+impl<R: Wait + Clock + Net + Drop> MioPort<R> {
     /// A port for the streams of the hand, which it numbers from 1.
     ///
     /// # Errors
     ///
     /// Poll, NoMemory.
-    pub fn new<N: Net>(
-        rt: R,
-        net: &N,
-        alloc: Global,
-        mut hand: Hand,
-    ) -> Result<MioPort<R>, NetFault> {
-        let Ok(poll) = Poll::new(net) else {
+    pub fn new(rt: R, alloc: Global, mut hand: Hand) -> Result<MioPort<R>, NetFault>
+        ensures { IfOk result (λ port. IsNew port.streams) }
+    {
+        let Ok(poll) = Poll::new(&rt) else {
             return Err(NetFault::Poll);
         };
         if hand.register(&poll).is_err() {
@@ -86,10 +83,12 @@ impl<R: Wait + Clock + Drop> MioPort<R> {
             spin_policy: SpinPolicy::new(),
         })
     }
+}
 
+impl<R: Wait + Clock + Drop> MioPort<R> {
     /// The next event. Sessions are numbered from 1, and no number is given twice.
     pub fn next_event(&mut self, may_wait: bool) -> PortEvent
-        ensures { IsNextEvent self.old.streams.last self.new.streams.last result }
+        ensures { IsNextEvent self.old.streams self.new.streams result }
     {
         if let Some(event) = self.known_event(may_wait) {
             return event;
@@ -120,7 +119,7 @@ impl<R: Wait + Clock + Drop> MioPort<R> {
 
     // An event came: the next idle call is the first of a row.
     fn end_row(&mut self)
-        ensures { self.new.streams.last ≡ self.old.streams.last }
+        ensures { self.new.streams ≡ self.old.streams }
     {
         if self.quiet == 0 {
             return;
@@ -150,8 +149,8 @@ impl<R: Wait + Clock + Drop> MioPort<R> {
 
     // An event that needs no poll: streams that wait in the hand come before what can be read.
     fn known_event(&mut self, may_wait: bool) -> Option<PortEvent>
-        ensures { MatchOption result (self.new.streams.last
-            ≡ self.old.streams.last) (λ event. IsNextEvent self.old.streams.last self.new.streams.last event) }
+        ensures { MatchOption result (KeepsSessions self.old.streams self.new.streams)
+            (λ event. IsNextEvent self.old.streams self.new.streams event) }
     {
         if let Some(event) = self.open_next() {
             return Some(event);
@@ -168,7 +167,7 @@ impl<R: Wait + Clock + Drop> MioPort<R> {
 
     // Looks which streams are ready, and waits so long for one.
     fn look(&mut self, millis: u64)
-        ensures { self.new.streams.last ≡ self.old.streams.last }
+        ensures { KeepsSessions self.old.streams self.new.streams }
     {
         let limit = Some(Duration::from_millis(millis));
         if self.poll.poll(&mut self.events, limit).is_ok() {
@@ -182,8 +181,8 @@ impl<R: Wait + Clock + Drop> MioPort<R> {
     }
 
     fn open_next(&mut self) -> Option<PortEvent>
-        ensures { MatchOption result (self.new.streams.last
-            ≡ self.old.streams.last) (λ event. IsNextEvent self.old.streams.last self.new.streams.last event) }
+        ensures { MatchOption result (KeepsSessions self.old.streams self.new.streams)
+            (λ event. IsNextEvent self.old.streams self.new.streams event) }
     {
         for _ in 0..EVENTS {
             if self.streams.is_full() {
@@ -198,8 +197,8 @@ impl<R: Wait + Clock + Drop> MioPort<R> {
     }
 
     fn read_ready(&mut self) -> Option<PortEvent>
-        ensures { MatchOption result (self.new.streams.last
-            ≡ self.old.streams.last) (λ event. IsNextEvent self.old.streams.last self.new.streams.last event) }
+        ensures { MatchOption result (KeepsSessions self.old.streams self.new.streams)
+            (λ event. IsNextEvent self.old.streams self.new.streams event) }
     {
         for _ in 0..EVENTS {
             let number = self.streams.next_ready()?;
@@ -229,7 +228,9 @@ impl<R: Wait + Clock + Drop> Port for MioPort<R> {
 
     ghost leads_transitive = { λ _ _ _ _ _. tt };
 
-    fn next(&mut self, may_wait: bool) -> PortEvent {
+    fn next(&mut self, may_wait: bool) -> PortEvent
+        ensures numbers { IsNextEvent self.old.streams self.new.streams result }
+    {
         let event = self.next_event(may_wait);
         match &event {
             PortEvent::Idle => self.quiet = self.quiet.saturating_add(1),
@@ -238,7 +239,11 @@ impl<R: Wait + Clock + Drop> Port for MioPort<R> {
         event
     }
 
-    fn give(&mut self, session: u64, bytes: &[u8]) -> Result<usize, Gone> {
+    fn give(&mut self, session: u64, bytes: &[u8]) -> Result<usize, Gone>
+        ensures within { IfOk result (λ n. n ≤ length bytes.now) }
+        ensures keeps { OnOk result (KeepsSessions self.old.streams self.new.streams) }
+        ensures ends { OnErr result (EndsSession session self.old.streams self.new.streams) }
+    {
         let accepted = self.streams.write(session, bytes)?;
         if accepted > 0 {
             self.quiet = 0;
@@ -247,15 +252,21 @@ impl<R: Wait + Clock + Drop> Port for MioPort<R> {
         Ok(accepted)
     }
 
-    fn pause(&mut self, session: u64) {
+    fn pause(&mut self, session: u64)
+        ensures keeps { KeepsSessions self.old.streams self.new.streams }
+    {
         self.streams.pause(session);
     }
 
-    fn resume(&mut self, session: u64) {
+    fn resume(&mut self, session: u64)
+        ensures keeps { KeepsSessions self.old.streams self.new.streams }
+    {
         self.streams.resume(session);
     }
 
-    fn shut(&mut self, session: u64) {
+    fn shut(&mut self, session: u64)
+        ensures ends { EndsSession session self.old.streams self.new.streams }
+    {
         self.streams.close(session);
     }
 }

@@ -1,7 +1,6 @@
 //! The open streams of a port, by their sessions' numbers.
 
-ghost use Rattle.std.specs.Prelude.{◌≡◌, ◌≤◌, ◌+◌, length, IfOk, MatchOption, vec_len};
-ghost use Rattle.net.specs.Events.{IsPiece};
+ghost use Rattle.std.specs.Prelude.{◌≡◌, ◌≤◌, ℕ, true, false, length, IfOk, IfSome, IsTrue, OnErr, OnOk, MatchOption, vec_len};
 
 use bytes::Bytes;
 use mio::net::TcpStream;
@@ -55,7 +54,11 @@ pub(crate) struct Streams {
 }
 
 impl Streams {
-    pub(crate) fn new(alloc: Global) -> Result<Streams, AllocError> {
+    ghost use Rattle.net.specs.Events.{is_open, IsNew, NoneOpen, KeepsSessions, OpensSession, EndsSession, Reads};
+
+    pub(crate) fn new(alloc: Global) -> Result<Streams, AllocError>
+        ensures { IfOk result IsNew }
+    {
         Ok(Streams {
             alloc,
             open: HashMap::with_capacity(alloc, OPEN_SESSIONS)?,
@@ -65,7 +68,9 @@ impl Streams {
         })
     }
 
-    pub(crate) fn is_empty(&self) -> bool {
+    pub(crate) fn is_empty(&self) -> bool
+        ensures { IsTrue result → NoneOpen self.now }
+    {
         self.open.is_empty()
     }
 
@@ -75,7 +80,7 @@ impl Streams {
 
     // The number of the new session. None where the stream can't be served; it is closed.
     pub(crate) fn open(&mut self, poll: &Poll, mut stream: TcpStream) -> Option<u64>
-        ensures { MatchOption result (self.new.last ≡ self.old.last) (λ n. (n ≡ self.old.last + 1) × (self.new.last ≡ n)) }
+        ensures { MatchOption result (KeepsSessions self.old self.new) (λ n. OpensSession n self.old self.new) }
     {
         let number = self.last.checked_add(1)?;
         stream.set_nodelay(true).ok()?;
@@ -100,14 +105,14 @@ impl Streams {
     }
 
     pub(crate) fn close(&mut self, session: u64)
-        ensures { self.new.last ≡ self.old.last }
+        ensures { EndsSession session self.old self.new }
     {
         let _ = self.open.remove(&session);
     }
 
     // Notes which streams have something to read or room to write. True where one has room that had none.
     pub(crate) fn mark(&mut self, events: &Events) -> bool
-        ensures { self.new.last ≡ self.old.last }
+        ensures { KeepsSessions self.old self.new }
     {
         let mut has_room = false;
         for event in events {
@@ -132,7 +137,7 @@ impl Streams {
 
     // A session that may have something to read. A paused one is queued again when it is resumed.
     pub(crate) fn next_ready(&mut self) -> Option<u64>
-        ensures { self.new.last ≡ self.old.last }
+        ensures { KeepsSessions self.old self.new }
     {
         for _ in 0..self.ready.len() {
             let number = self.ready.pop_front()?;
@@ -148,15 +153,17 @@ impl Streams {
 
     // Reads once. A full read, or one of a peer that has closed, is followed by another.
     pub(crate) fn read(&mut self, session: u64) -> Reading
-        ensures last { self.new.last ≡ self.old.last }
-        ensures piece { IsPiece result }
+        ensures { Reads session self.old result self.new }
     {
         let Some(open) = self.open.get_mut(&session) else {
             return Reading::Nothing;
         };
         match (&open.stream).read(self.scratch.as_mut_slice()) {
             Ok(0) if open.has_ended => Reading::Nothing,
-            Ok(0) if !open.has_input => self.lose(session),
+            Ok(0) if !open.has_input => {
+                self.close(session);
+                Reading::Gone
+            },
             Ok(0) => {
                 open.has_ended = true;
                 open.was_offered = false;
@@ -169,26 +176,25 @@ impl Streams {
                 }
                 match Bytes::copy_from_slice(self.alloc, &self.scratch[..count]) {
                     Ok(piece) => Reading::Bytes(piece),
-                    Err(_) => self.lose(session),
+                    Err(_) => {
+                        self.close(session);
+                        Reading::Gone
+                    },
                 }
             }
             Err(error) if error.kind() == ErrorKind::WouldBlock => Reading::Nothing,
-            Err(_) => self.lose(session),
+            Err(_) => {
+                self.close(session);
+                Reading::Gone
+            },
         }
-    }
-
-    fn lose(&mut self, session: u64) -> Reading
-        ensures last { self.new.last ≡ self.old.last }
-        ensures piece { IsPiece result }
-    {
-        self.close(session);
-        Reading::Gone
     }
 
     // Whether the session has answers still: its last write was short, or output was offered since this was last asked.
     // None where it isn't open any more.
     pub(crate) fn has_answers(&mut self, session: u64) -> Option<bool>
-        ensures { self.new.last ≡ self.old.last }
+        ensures keeps { KeepsSessions self.old self.new }
+        ensures open { IfSome result (λ _. is_open self.old session ≡ true) }
     {
         let open = self.open.get_mut(&session)?;
         let has_answers = open.was_offered || open.is_blocked;
@@ -198,7 +204,9 @@ impl Streams {
 
     // Writes once, unless the stream is known to have no room.
     pub(crate) fn write(&mut self, session: u64, bytes: &[u8]) -> Result<usize, Gone>
-        ensures { IfOk result (λ n. n ≤ length bytes.now) }
+        ensures within { IfOk result (λ n. n ≤ length bytes.now) }
+        ensures keeps { OnOk result (KeepsSessions self.old self.new) }
+        ensures ends { OnErr result (EndsSession session self.old self.new) }
     {
         let Some(open) = self.open.get_mut(&session) else {
             return Err(Gone);
@@ -223,14 +231,18 @@ impl Streams {
         }
     }
 
-    pub(crate) fn pause(&mut self, session: u64) {
+    pub(crate) fn pause(&mut self, session: u64)
+        ensures { KeepsSessions self.old self.new }
+    {
         if let Some(open) = self.open.get_mut(&session) {
             open.is_paused = true;
         }
     }
 
     // What came meanwhile may not be told again, so the session is read from.
-    pub(crate) fn resume(&mut self, session: u64) {
+    pub(crate) fn resume(&mut self, session: u64)
+        ensures { KeepsSessions self.old self.new }
+    {
         if let Some(open) = self.open.get_mut(&session) {
             open.is_paused = false;
             if !open.is_queued {

@@ -23,14 +23,18 @@ struct Parts<R: Drop> {
     ports: Vec<MioPort<R>>,
 }
 
-fn two_workers<R: Wait + Clock + Net + Abort + Copy + Drop>(rt: R, alloc: Global) -> Parts<R> {
+/// Parts for two workers that are given so many streams each at most.
+fn two_workers<R>(rt: R, alloc: Global, most: u64) -> Parts<R>
+where
+    R: Wait + Clock + Net + Abort + Copy + Drop,
+{
     let listener = Listener::bind(&rt, alloc, "127.0.0.1:0").expect(&rt, "a listener");
     let mut hands = Vec::new(alloc);
     let mut ports = Vec::new(alloc);
     for _ in 0..2 {
-        let (of_listener, of_port) = Hand::pair(&rt, alloc).expect(&rt, "a hand");
+        let (of_listener, of_port) = Hand::pair(&rt, alloc, most).expect(&rt, "a hand");
         hands.push(of_listener).expect(&rt, "memory");
-        let port = MioPort::new(rt, &rt, alloc, of_port).expect(&rt, "a port");
+        let port = MioPort::new(rt, alloc, of_port).expect(&rt, "a port");
         ports.push(port).expect(&rt, "memory");
     }
     Parts {
@@ -40,23 +44,25 @@ fn two_workers<R: Wait + Clock + Net + Abort + Copy + Drop>(rt: R, alloc: Global
     }
 }
 
-/// Serves two sessions, and returns what the listener and the workers report.
-fn serve_two<R>(
+/// Serves so many sessions, and returns what the listener and the workers report.
+fn serve_some<R>(
     rt: R,
     alloc: Global,
     parts: Parts<R>,
+    limit: Option<u64>,
 ) -> (ListenReport, Vec<GroupWorker<MioPort<R>>>)
 where
     R: Threads + Wait + Clock + Abort + Copy + Drop + Send + Sync + 'static,
 {
     let Parts {
         mut listener,
-        hands,
+        mut hands,
         ports,
     } = parts;
-    let listening = thread::spawn(&rt, move || listener.run(&rt, hands.as_slice(), Some(2))).expect(
-        &rt, "a thread",
-    );
+    let listening = thread::spawn(&rt, move || {
+        listener.run(&rt, hands.as_mut_slice(), limit)
+    })
+    .expect(&rt, "a thread");
     let geometry = Geometry::new(65_536, 64).expect(&rt, "a geometry");
     let config = Config { geometry };
     let clock = UnixClock::new(rt);
@@ -75,14 +81,31 @@ fn had_one_session<R: Drop>(workers: &[GroupWorker<MioPort<R>>], cause: EndCause
 #[test]
 fn each_of_two_workers_serves_a_client(rt: HostRuntime) {
     let alloc: Global = rt.alloc();
-    let parts = two_workers(rt, alloc);
+    let parts = two_workers(rt, alloc, 2);
     let port = parts.listener.port();
     let clients = thread::spawn(
         &rt,
         move || (ask(&rt, alloc, port, ROW_A), ask(&rt, alloc, port, ROW_B)),
     )
     .expect(&rt, "a thread");
-    let (listened, workers) = serve_two(rt, alloc, parts);
+    let (listened, workers) = serve_some(rt, alloc, parts, Some(2));
+    let (first, second) = clients.join(&rt);
+    assert!(rt; first.as_slice() == ANSWER_A && second.as_slice() == ANSWER_B);
+    assert!(rt; listened.accepted == 2 && listened.closed == 0 && listened.failed == 0);
+    assert!(rt; workers.len() == 2 && had_one_session(workers.as_slice(), EndCause::Quit));
+}
+
+#[test]
+fn a_group_ends_once_each_worker_was_given_all_its_streams(rt: HostRuntime) {
+    let alloc: Global = rt.alloc();
+    let parts = two_workers(rt, alloc, 1);
+    let port = parts.listener.port();
+    let clients = thread::spawn(
+        &rt,
+        move || (ask(&rt, alloc, port, ROW_A), ask(&rt, alloc, port, ROW_B)),
+    )
+    .expect(&rt, "a thread");
+    let (listened, workers) = serve_some(rt, alloc, parts, None);
     let (first, second) = clients.join(&rt);
     assert!(rt; first.as_slice() == ANSWER_A && second.as_slice() == ANSWER_B);
     assert!(rt; listened.accepted == 2 && listened.closed == 0 && listened.failed == 0);
@@ -100,12 +123,12 @@ fn leave_and_ask<R: Net<Stream = TcpStream> + Abort>(rt: &R, alloc: Global, port
 #[test]
 fn a_client_that_closes_without_reading_harms_nobody(rt: HostRuntime) {
     let alloc: Global = rt.alloc();
-    let parts = two_workers(rt, alloc);
+    let parts = two_workers(rt, alloc, 2);
     let port = parts.listener.port();
     let clients = thread::spawn(&rt, move || leave_and_ask(&rt, alloc, port)).expect(
         &rt, "a thread",
     );
-    let (listened, _workers) = serve_two(rt, alloc, parts);
+    let (listened, _workers) = serve_some(rt, alloc, parts, Some(2));
     let answer = clients.join(&rt);
     let missed = answer.as_slice() == b"END\r\n".as_slice();
     assert!(rt; missed || answer.as_slice() == b"VALUE a 0 1\r\nx\r\nEND\r\n".as_slice());

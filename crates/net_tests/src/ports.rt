@@ -51,10 +51,10 @@ where
             .push(connect(&rt, alloc, listener.port()))
             .expect(&rt, "memory");
     }
-    let (of_listener, of_port) = Hand::pair(&rt, alloc).expect(&rt, "a hand");
-    let report = listener.run(&rt, &[of_listener], Some(count));
+    let (of_listener, of_port) = Hand::pair(&rt, alloc, count).expect(&rt, "a hand");
+    let report = listener.run(&rt, &mut [of_listener], Some(count));
     assert!(rt; report.accepted == count && report.closed == 0);
-    let port = MioPort::new(rt, &rt, alloc, of_port).expect(&rt, "a port");
+    let port = MioPort::new(rt, alloc, of_port).expect(&rt, "a port");
     (port, clients)
 }
 

@@ -5,4 +5,4 @@ mod fault;
 mod replaying;
 
 pub use fault::Fault;
-pub use replaying::{cannot_read, geometry_of, replay};
+pub use replaying::{cannot_read, replay};

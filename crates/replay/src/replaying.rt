@@ -1,8 +1,6 @@
 //! `segcached replay`.
 
-ghost use Rattle.std.specs.Prelude.{◌≡◌, ℕ, List, IfOk, OnOk, IfSome, MatchResult, map, take};
-ghost use Rattle.proto.specs.Sizes.{IsGeometry, sizes_of};
-ghost use Rattle.replay.specs.declared.fault.Fault.TheVariants.{BadGeometry};
+ghost use Rattle.std.specs.Prelude.{◌≡◌, ℕ, List, IfOk, OnOk, IfSome, map, take};
 ghost use Rattle.replay.specs.Faults.{IsReadFault};
 ghost use Rattle.std.specs.String.{string_bytes};
 ghost use Rattle.std.specs.Io.KnownBytes.{Appends};
@@ -13,51 +11,20 @@ ghost use Rattle.replay.specs.Printed.{in_hexadecimal, printed_line, printed_lin
 ghost use Rattle.replay.specs.Printed.{IsPlayedAt, ArePlayed, IsPrinted};
 ghost use Rattle.replay.specs.Replayed.{IsReplayOf};
 
-use script::{MAX_SCRIPT, RecordingClock, ScriptClock, ScriptPort, WorkerScript, read_script};
-use command_line::Options;
 use crate::fault::Fault;
-use worker::OpenGate;
+use command_line::{Options, on_one_line};
 use group::{Config, GroupWorker, run_group};
 use proto::Geometry;
+use script::{MAX_SCRIPT, RecordingClock, ScriptClock, ScriptPort, WorkerScript, read_script};
 use segcache::Store;
 use std::alloc::{AllocError, Global};
 use std::io::{self, ErrorKind, Read, Write};
 use std::sync::Wait;
 use std::thread::Threads;
-use std::time;
+use worker::OpenGate;
 
 /// One byte more than a script may have.
 const TOO_MANY: u64 = MAX_SCRIPT as u64 + 1;
-
-/// The sizes that the options ask for.
-pub fn geometry_of(options: &Options) -> Result<Geometry, Fault>
-    ensures { let asked = sizes_of options.entry.now.segment_size options.entry.now.segments in
-        MatchResult result (λ g. IsGeometry asked × (g ≡ asked)) (λ fault. (fault ≡ BadGeometry) × (¬ (IsGeometry asked))) }
-{
-    let Ok(segment_size) = u32::try_from(options.segment_size) else {
-        return Err(Fault::BadGeometry);
-    };
-    let Ok(segments) = u32::try_from(options.segments) else {
-        return Err(Fault::BadGeometry);
-    };
-    match Geometry::new(segment_size, segments) {
-        Ok(geometry) => Ok(geometry),
-        Err(_) => Err(Fault::BadGeometry),
-    }
-}
-
-/// The path on one line: its line feeds and carriage returns are shown as in Rust's strings.
-fn on_one_line(alloc: Global, path: &str) -> Result<String, AllocError> {
-    let mut line = String::new(alloc);
-    for character in path.chars() {
-        match character {
-            '\n' => line.push_str("\\n")?,
-            '\r' => line.push_str("\\r")?,
-            _ => line.push(character)?,
-        }
-    }
-    Ok(line)
-}
 
 /// That the options' file can't be read, for this reason: want of memory, or else the file is named.
 pub fn cannot_read(alloc: Global, options: &Options, error: &io::Error) -> Fault
@@ -182,7 +149,10 @@ fn ports_of(
 
 /// Reads the script, runs a group of workers over it, and prints what each session was given: its worker, its number
 /// and the bytes, a line each, in order of worker and session. What was printed before a fault stays printed.
-pub fn replay<H: Threads + Wait + time::Clock + Sync, R: Read + Drop, W: Write>(
+///
+/// The clauses speak of the bytes that the reader has left, where it tells them. A file doesn't (std's `File` states no
+/// `remaining`), and so they say nothing of what the program prints for one.
+pub fn replay<H: Threads + Wait + Sync, R: Read + Drop, W: Write>(
     rt: &H,
     alloc: Global,
     options: &Options,

@@ -3,8 +3,7 @@
 ghost use Rattle.std.specs.Prelude.{◌<◌};
 
 use crate::common::{options, printed};
-use command_line::Options;
-use replay::geometry_of;
+use command_line::{Options, geometry_of};
 use script::{ScriptClock, read_script, replay_sequentially};
 use segcache::Store;
 use std::alloc::Global;
@@ -45,7 +44,8 @@ fn plain_lines(alloc: Global, options: &Options, script: &[u8]) -> Result<String
     let Some(events) = scripts.first() else {
         return Err("no worker".into());
     };
-    let store = Store::new(alloc, geometry_of(options)?)?;
+    let geometry = geometry_of(options.segment_size, options.segments).ok_or("geometry")?;
+    let store = Store::new(alloc, geometry)?;
     let clock = ScriptClock::new(options.now, options.tick);
     let outputs = replay_sequentially(alloc, store, clock, events.as_slice())?;
     let mut lines = String::new(alloc);

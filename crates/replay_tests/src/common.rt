@@ -1,7 +1,7 @@
 //! What the tests share.
 
-use command_line::{Job, Options, parse_words};
-use replay::{Fault, geometry_of, replay};
+use command_line::{Job, Options, geometry_of, parse_words};
+use replay::{Fault, replay};
 use std::alloc::Global;
 use std::sync::Wait;
 use std::test::Fail;
@@ -30,7 +30,8 @@ pub fn printed<H: Threads + Wait + time::Clock + Sync>(
     script: &[u8],
 ) -> Result<Vec<u8>, Fault> {
     let mut out = Vec::new(alloc);
-    replay(rt, alloc, options, geometry_of(options)?, script, &mut out)?;
+    let geometry = geometry_of(options.segment_size, options.segments).ok_or(Fault::BadGeometry)?;
+    replay(rt, alloc, options, geometry, script, &mut out)?;
     Ok(out)
 }
 

@@ -1,7 +1,8 @@
 //! Faults of files, and of the geometry.
 
 use crate::common::options;
-use replay::{cannot_read, geometry_of, replay};
+use command_line::geometry_of;
+use replay::{Fault, cannot_read, replay};
 use std::io::{self, ErrorKind, Read, Write};
 use std::test::Fail;
 
@@ -41,7 +42,7 @@ fn faults_of_files(rt: HostRuntime) -> Result<(), Fail> {
     let alloc = rt.alloc();
     let given = options(alloc, "")?;
     let mut out = Vec::new(alloc);
-    let geometry = geometry_of(&given)?;
+    let geometry = geometry_of(given.segment_size, given.segments).ok_or("geometry")?;
     let fault = replay(&rt, alloc, &given, geometry, Failing { left: 3 }, &mut out)
         .err()
         .ok_or("read")?;
@@ -69,7 +70,10 @@ fn faults_of_files(rt: HostRuntime) -> Result<(), Fail> {
         "fault: cannot read a\\nb"
     );
     let odd = options(alloc, "--segment-size 5000")?;
-    let fault = geometry_of(&odd).err().ok_or("geometry")?;
-    assert_eq!(rt; fault.to_string(alloc)?.as_str(), "fault: bad geometry");
+    assert!(rt; geometry_of(odd.segment_size, odd.segments).is_none());
+    assert_eq!(rt;
+        Fault::BadGeometry.to_string(alloc)?.as_str(),
+        "fault: bad geometry"
+    );
     Ok(())
 }

@@ -1,10 +1,15 @@
 //! `segcached`: serves, and replays scripts.
 #![tactic(auto)]
 
-use command_line::{Job, Options, ServeOptions, WordsFault, parse_words, unreadable_words};
+mod fault;
+
+use crate::fault::Fault;
+use command_line::{
+    Job, Options, ServeOptions, WordsFault, geometry_of, parse_words, unreadable_words,
+};
 use proto::Geometry;
-use replay::{cannot_read, geometry_of, replay};
-use serving::{seed_of, serve, serve_geometry};
+use replay::{cannot_read, replay};
+use serving::{seed_of, serve};
 use std::fs::File;
 use std::io::{self, BufWriter};
 use std::net::Net;
@@ -28,13 +33,15 @@ enum Fault {
 }
 
 /// Replays the script in the file that the options name, with these threads.
-fn replay_file<H: Threads + Wait + time::Clock + Sync>(
+fn replay_file<H: Threads + Wait + Sync>(
     rt: &HostRuntime,
     threads: &H,
     options: &Options,
 ) -> Result<(), Fault> {
     let alloc = rt.alloc();
-    let geometry: Geometry = geometry_of(options)?;
+    let geometry: Geometry = geometry_of(options.segment_size, options.segments).ok_or(
+        replay::Fault::BadGeometry,
+    )?;
     let script: File = match fs::open(rt, options.file.as_str()) {
         Ok(script) => script,
         Err(error) => return Err(cannot_read(alloc, options, &error).into()),
@@ -51,7 +58,9 @@ fn serve_at<H: Threads + Wait + Net + time::Clock + Copy + Drop + Send + Sync + 
     options: &ServeOptions,
 ) -> Result<(), Fault> {
     let alloc = rt.alloc();
-    let geometry = serve_geometry(options)?;
+    let geometry: Geometry = geometry_of(options.segment_size, options.segments).ok_or(
+        serving::Fault::BadGeometry,
+    )?;
     let mut out = BufWriter::new(alloc, io::writer(rt)).map_err(|_| Fault::NoMemory)?;
     serve(*threads, alloc, options, geometry, seed_of(rt), &mut out)?;
     Ok(())

@@ -7,4 +7,4 @@ mod service;
 
 pub use fault::Fault;
 pub use seed::seed_of;
-pub use service::{serve, serve_geometry};
+pub use service::serve;

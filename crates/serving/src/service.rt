@@ -1,51 +1,35 @@
 //! `segcached serve`.
 
-ghost use Rattle.std.specs.Prelude.{◌≡◌, ℕ, List, IfOk, OnOk, MatchResult};
+ghost use Rattle.std.specs.Prelude.{ℕ, List, IfOk, OnOk};
 ghost use Rattle.std.specs.String.{string_bytes};
 ghost use Rattle.std.specs.Io.KnownBytes.{Appends};
-ghost use Rattle.proto.specs.Sizes.{IsGeometry, sizes_of};
-ghost use Rattle.serving.specs.declared.fault.Fault.TheVariants.{BadGeometry};
 ghost use Rattle.serving.specs.Listening.{IsListeningLine};
 ghost use Rattle.serving.specs.NewStores.{IsNewStore};
 
-use storage_thread::UnixClock;
-use command_line::ServeOptions;
 use crate::fault::Fault;
-use worker::OpenGate;
+use command_line::{ServeOptions, on_one_line};
 use group::{Config, run_group};
-use net::{Hand, Listener, MioPort, NetFault};
+use net::{Hand, ListenReport, Listener, MioPort, NetFault};
 use proto::Geometry;
 use segcache::Store;
 use std::alloc::Global;
 use std::io::Write;
 use std::net::Net;
 use std::sync::Wait;
-use std::thread::{self, Threads};
+use std::thread::{self, JoinHandle, Threads};
 use std::time;
+use storage_thread::UnixClock;
+use worker::OpenGate;
 
-/// The sizes that the options ask for.
-pub fn serve_geometry(options: &ServeOptions) -> Result<Geometry, Fault>
-    ensures { let asked = sizes_of options.entry.now.segment_size options.entry.now.segments in
-        MatchResult result (λ g. IsGeometry asked × (g ≡ asked)) (λ fault. (fault ≡ BadGeometry) × (¬ (IsGeometry asked))) }
-{
-    let Ok(segment_size) = u32::try_from(options.segment_size) else {
-        return Err(Fault::BadGeometry);
-    };
-    let Ok(segments) = u32::try_from(options.segments) else {
-        return Err(Fault::BadGeometry);
-    };
-    match Geometry::new(segment_size, segments) {
-        Ok(geometry) => Ok(geometry),
-        Err(_) => Err(Fault::BadGeometry),
-    }
-}
+/// So many streams a worker is given at most, as many as it opens sessions in a run.
+const MOST_STREAMS: u64 = 16_777_216;
 
 /// That it can't listen, for this reason.
 fn cannot_listen(alloc: Global, options: &ServeOptions, fault: NetFault) -> Fault {
     match fault {
         NetFault::NoMemory => Fault::NoMemory,
         NetFault::BadAddress | NetFault::Bind | NetFault::Poll => {
-            match String::from_str(alloc, options.listen.as_str()) {
+            match on_one_line(alloc, options.listen.as_str()) {
                 Ok(addr) => Fault::CannotListen(addr),
                 Err(_) => Fault::NoMemory,
             }
@@ -53,7 +37,8 @@ fn cannot_listen(alloc: Global, options: &ServeOptions, fault: NetFault) -> Faul
     }
 }
 
-/// A port for each worker, and the listener's ends of their hands.
+/// A port for each worker, and the listener's ends of their hands, which take as many streams as a worker opens
+/// sessions in a run.
 fn make_ports<H>(
     rt: H,
     alloc: Global,
@@ -65,9 +50,9 @@ where
     let mut hands = Vec::with_capacity(alloc, workers)?;
     let mut ports = Vec::with_capacity(alloc, workers)?;
     for _ in 0..workers {
-        let (of_listener, of_port) = Hand::pair(&rt, alloc)?;
+        let (of_listener, of_port) = Hand::pair(&rt, alloc, MOST_STREAMS)?;
         hands.push(of_listener)?;
-        ports.push(MioPort::new(rt, &rt, alloc, of_port)?)?;
+        ports.push(MioPort::new(rt, alloc, of_port)?)?;
     }
     Ok((hands, ports))
 }
@@ -134,7 +119,25 @@ where
     })
 }
 
-/// Accepts streams in a thread of its own, up to the limit, and runs the group until it has ended.
+/// Accepts streams in a thread of its own, up to the limit. The address is free again once it has ended.
+fn start_listening<H>(
+    rt: H,
+    mut listener: Listener,
+    mut hands: Vec<Hand>,
+    limit: Option<u64>,
+) -> Result<JoinHandle<ListenReport>, Fault>
+where
+    H: Threads + Wait + time::Clock + Copy + Drop + Send + 'static,
+{
+    match thread::spawn(&rt, move || {
+        listener.run(&rt, hands.as_mut_slice(), limit)
+    }) {
+        Ok(listening) => Ok(listening),
+        Err(_) => Err(Fault::NoThread),
+    }
+}
+
+/// Accepts streams up to the limit, and runs the group until it has ended.
 fn run<H>(
     rt: H,
     alloc: Global,
@@ -143,19 +146,16 @@ fn run<H>(
     limit: Option<u64>,
 ) -> Result<(), Fault>
 where
-    H: Threads + Wait + Net + time::Clock + Copy + Drop + Send + Sync + 'static,
+    H: Threads + Wait + time::Clock + Copy + Drop + Send + Sync + 'static,
     requires { IsNewStore geometry opened.store }
 {
     let Opened {
-        mut listener,
+        listener,
         hands,
         ports,
         store,
     } = opened;
-    let Ok(listening) = thread::spawn(&rt, move || listener.run(&rt, hands.as_slice(), limit))
-    else {
-        return Err(Fault::NoThread);
-    };
+    let listening = start_listening(rt, listener, hands, limit)?;
     let config = Config { geometry };
     let clock = UnixClock::new(rt);
     let _ = run_group(&rt, alloc, ports, config, store, clock, &OpenGate)?;
@@ -164,8 +164,9 @@ where
 }
 
 /// Listens on the options' address, prints it, and serves: a thread accepts streams, a group of workers serves them,
-/// and moments are Unix seconds. Keys are hashed with the seed. With a number of sessions it accepts so many streams, and ends when their sessions
-/// have ended; else it goes on.
+/// and moments are Unix seconds. Keys are hashed with the seed. With a number of sessions it accepts so many streams,
+/// and ends when their sessions have ended; else it goes on until each worker was given as many streams as it opens in
+/// a run, and ends in the same way.
 pub fn serve<H, W: Write>(
     rt: H,
     alloc: Global,

@@ -1,9 +1,13 @@
 //! The system's clock.
 
+ghost use Rattle.std.specs.Prelude.{◌≡◌, ◌/◌};
+ghost use Rattle.std.specs.Time.{system_time_nanos};
+
 use crate::Clock;
 use std::time::{self, SystemTime, UNIX_EPOCH};
 
-/// Unix seconds, 0 before 1970 or where the clock can't be read. It doesn't tell its answers.
+/// Unix seconds, 0 before 1970 or where the clock can't be read. It doesn't tell its answers: std says of
+/// `SystemTime::now` only that what it reads is within the clock's range, so no clause can say that time goes on.
 #[derive(Drop)]
 pub struct UnixClock<R: Drop> {
     rt: R,
@@ -12,6 +16,16 @@ pub struct UnixClock<R: Drop> {
 impl<R: time::Clock + Drop> UnixClock<R> {
     pub fn new(rt: R) -> UnixClock<R> {
         UnixClock { rt }
+    }
+}
+
+/// The whole seconds from 1970 to a reading of the system's clock.
+fn unix_seconds(reading: SystemTime) -> u64
+    ensures { result ≡ system_time_nanos reading / 1000000000 }
+{
+    match reading.duration_since(UNIX_EPOCH) {
+        Ok(since) => since.as_secs(),
+        Err(_) => 0,
     }
 }
 
@@ -27,11 +41,8 @@ impl<R: time::Clock + Drop> Clock for UnixClock<R> {
     ghost leads_transitive = { λ _ _ _ _ _. tt };
 
     fn now(&mut self) -> u64 {
-        let Ok(now) = SystemTime::now(&self.rt) else {
-            return 0;
-        };
-        match now.duration_since(UNIX_EPOCH) {
-            Ok(since) => since.as_secs(),
+        match SystemTime::now(&self.rt) {
+            Ok(reading) => unix_seconds(reading),
             Err(_) => 0,
         }
     }

@@ -1,6 +1,6 @@
-use Rattle.std.proofs.Common.{◌≡◌}
 use Rattle.net.proofs.port.MioPort.open_next.Given as goal
+use Rattle.net.specs.Events.{KeepsSessions}
 
--- until an event is found, no session is opened
+-- until one is found, no session is opened, and none ends
 abbrev pub invariant-loop : goal.invariant-loop
-invariant-loop g l = l.self.streams.last ≡ l.fn.self.streams.last
+invariant-loop g l = KeepsSessions l.fn.self.streams l.self.streams

@@ -107,7 +107,7 @@ def reads(first, count):
     return [(b"get", [key(number) for number in range(first, first + count)])]
 
 
-ALL_KEYS = 100
+ALL_KEYS = 240
 KEYS = st.integers(0, 7).map(key)
 FIRSTS, COUNTS = st.integers(0, ALL_KEYS // 2), st.integers(1, ALL_KEYS // 2)
 EXPTIMES = st.sampled_from([0, 0, 0, 1, 5, 8, 16, 20, 60, 100, 300, 2047, 2048, 5000, 40000, 600000, 9000000, -1])
@@ -126,6 +126,8 @@ ONE_REQUEST = st.one_of(
 PARTS = st.one_of(
     ONE_REQUEST,
     st.builds(reads, FIRSTS, COUNTS),
+    # (a key counts 127 reads at most)
+    st.builds(lambda it, count: [(b"get", [it] * count)], KEYS, st.integers(1, 200)),
     st.builds(writes, FIRSTS, COUNTS, st.integers(100, 480), st.sampled_from([0, 20, 300]) | EXPTIMES),
 )
 # (a list of at least so many, for many that are long, and shortened all the same where one fails)

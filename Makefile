@@ -1,7 +1,7 @@
 .PHONY: help run serve test quick bench soak install uninstall deb
 
 help: ## says what each target does
-	@awk -F ':.*## ' '/^[a-z]+:.*## /{printf "make %-8s %s\n", $$1, $$2}' Makefile
+	@awk -F ':.*## ' '/^[a-z]+:.*## /{printf "make %-9s %s\n", $$1, $$2}' Makefile
 
 run: ## shows a first answer, proves and builds segcached, replays the first script, and talks to a served socket
 	@python3 tools/run.py

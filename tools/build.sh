@@ -4,4 +4,4 @@ set -eu
 cd "$(dirname "$0")/.."
 python3 tools/prove.py --build segcached
 # What was proved, for those who package the program.
-python3 tools/proved.py write
+python3 tools/proved.py write || echo "Without that record the program serves, and can't be packaged."

@@ -15,7 +15,7 @@ import subprocess
 import sys
 import tempfile
 
-from prove import TOP, read_crates, with_those_below
+from prove import TOP, is_kept, read_crates, with_those_below
 from verdicts import keep_verdict, kept_verdict, text_of, verdict_in
 
 PROGRAM = f"{TOP}/crates/segcached/out/segcached"
@@ -46,9 +46,10 @@ def sum_of_files():
         return output_of("git", "write-tree", **index)
 
 
-def commit():
+def commit_of(files):
+    """The commit whose files have this sum, or the one from which they differ."""
     at = output_of("git", "rev-parse", "HEAD")
-    return at if sum_of_files() == output_of("git", "rev-parse", "HEAD^{tree}") else f"{at} and changes that aren't committed"
+    return at if files == output_of("git", "rev-parse", "HEAD^{tree}") else f"{at} and changes that aren't committed"
 
 
 def verdicts_of_log(path):
@@ -69,6 +70,7 @@ def verdict_now(name):
     folder = f"{TOP}/crates/{name}"
     verdict = kept_verdict(folder)
     if not verdict:
+        print(f"nothing was kept of what the prover said of {name}: it says it again", flush=True)
         verdict = verdict_in(output_of("nice", "rt", "check", "--jobs", "1", folder=folder))
         keep_verdict(folder, verdict)
     return verdict
@@ -80,16 +82,19 @@ def write(log):
     names = [name for name in crates if name in below]
     if log:
         verdicts, gate = verdicts_of_log(log)
-    else:
+    elif is_kept(crates, "segcached"):
         verdicts, gate = {name: verdict_now(name) for name in names}, "not run over this build"
+    else:
+        raise Trouble("the program isn't built of the crates as they stand: run tools/build.sh")
     lacking = [name for name in names if not verdicts.get(name)]
     if lacking:
         raise Trouble(f"{lacking[0]} isn't proved")
+    files = sum_of_files()
     functions = sum(int(re.search(r" functions=(\d+)", verdicts[name])[1]) for name in names)
     record = [
         output_of(PROGRAM, "--version").splitlines()[0],
-        f"commit: {commit()}",
-        f"files: {sum_of_files()}",
+        f"commit: {commit_of(files)}",
+        f"files: {files}",
         f"kit: {output_of('rt', 'version')}",
         f"program: {sum_of_program(PROGRAM)}",
         f"rt ci: {gate}",

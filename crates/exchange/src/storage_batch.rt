@@ -98,7 +98,7 @@ impl StorageBatch {
     }
 
     /// Whether a request was taken that isn't answered yet.
-    pub fn is_open(&self) -> bool
+    pub(crate) fn is_open(&self) -> bool
         ensures { result ≡ is_some self.now.end.open_request }
     {
         self.open_now

@@ -37,7 +37,7 @@ impl WorkerEnd {
     ghost use Rattle.exchange.specs.declared.views.WorkerState.{WorkerState};
     ghost use Rattle.exchange.specs.Beginnings.{StartsWith, posted_of};
     ghost use Rattle.exchange.specs.Lanes.{first_worker_state};
-    ghost use Rattle.exchange.specs.Ends.{new_worker_view, max_posts, CanPost, TakesAnswer, TakesSeen};
+    ghost use Rattle.exchange.specs.Ends.{new_worker_view, max_posts, CanPost, TakesAnswer};
     ghost use Rattle.exchange.specs.Seats.{IsLane, worker_view};
 
     pub(crate) fn over(
@@ -130,17 +130,6 @@ impl WorkerEnd {
         ensures back { StartsWith (worker_share self.new.seen self.old.worker) self.new.back }
     {
         self.batch.take()
-    }
-
-    /// The next answer of this worker among those that were done at its last `take`. It doesn't look for further
-    /// ones. Waits for nobody and takes no memory.
-    pub fn take_seen(&mut self) -> Option<Answered>
-        ensures taken { TakesSeen self.old result self.new }
-        ensures own { IfSome result (λ a. (a.worker ≡ self.old.worker)
-            × (get_elem? self.old.sent (length self.old.back) ≡ some (posted_of a))) }
-        ensures in_order { IfSome result (λ a. a.number ≡ length self.old.back + 1) }
-    {
-        self.batch.take_seen()
     }
 
     /// Says that no request comes any more. Waits for nobody and takes no memory.

@@ -10,4 +10,4 @@ mod threads;
 
 pub use fault::GroupFault;
 pub use report::{Config, GroupReport, GroupWorker};
-pub use run::{MAX_WORKERS, run_group};
+pub use run::run_group;

@@ -21,7 +21,7 @@ use storage_thread::{Clock, StorageReport};
 use worker::{Gate, Port, WorkerReport};
 
 /// The most workers of a group.
-pub const MAX_WORKERS: usize = 8;
+const MAX_WORKERS: usize = 8;
 
 /// Parts the reports: what the group says of each worker, and the ends. The lists have room for them.
 fn part<P: Port>(

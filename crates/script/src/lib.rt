@@ -22,9 +22,10 @@ mod worker_script;
 
 pub use clock::ScriptClock;
 pub use event::ScriptEvent;
-pub use fault::ScriptFault;
+pub use fault::{LineFault, ScriptFault};
 pub use port::ScriptPort;
 pub use reader::{MAX_SCRIPT, read_script};
 pub use recording_clock::RecordingClock;
-pub use sequential_replay::replay_sequentially;
+pub use sequential_replay::{SessionOutput, replay_sequentially};
+pub use sessions::ScriptSession;
 pub use worker_script::WorkerScript;

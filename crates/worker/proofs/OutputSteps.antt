@@ -7,7 +7,7 @@ use Rattle.proto.specs.declared.history.Posted.{Posted}
 use Rattle.exchange.specs.Ends.{WorkerView}
 use Rattle.session_book.specs.declared.causes.EndCause.{EndCause}
 use Rattle.session_book.specs.declared.causes.EndCause.TheVariants as causes
-use Rattle.session_book.specs.Session.{SessionState, once_fed, held_fed, gave}
+use Rattle.session_book.specs.Session.{SessionState, IsInputFull, once_fed, held_fed, gave}
 use Rattle.proto.proofs.Options.{some_is}
 use Rattle.session_book.specs.Book.{BookState, session_of, out_of, held_of, OnlyAt, ChangesOpen}
 use Rattle.worker.specs.declared.port.PortRecord.{PortRecord}
@@ -229,10 +229,11 @@ offered_is o out (inr is) some = some_out o out is (λ none. true≢false (sym (
 -- the held piece of a session was fed, which is resumed
 pub refed_goes_on : {P : Type 0} (told : P → Option PortStory) (old new : Worker P) (t : ℕ) → LeavesWorker old new
     → told new.port ≡ option_map (with_pause t false) (told old.port) → IsWorkerServing told old
-    → ChangesOpen old.book new.book t (λ (s u : SessionState). u ≡ held_fed s) → WorkerGoesOn told old new
+    → ChangesOpen old.book new.book t (λ (s u : SessionState). ¬ (IsInputFull s s.held) × (u ≡ held_fed s))
+    → WorkerGoesOn told old new
 refed_goes_on told old new t rest port h k =
     let only : OnlyAt old.book new.book t (Some (held_fed k.s)) =
-    subst (λ (x : SessionState). OnlyAt old.book new.book t (Some x)) k.changes k.only.only_at in
+    subst (λ (x : SessionState). OnlyAt old.book new.book t (Some x)) k.changes.1 k.only.only_at in
     let pieces = pieces_at old.book new.book t (Some (held_fed k.s)) only in
     within_goes_on told old new (with_pause t false) rest port
     (ap (λ (b : BookState). b.posted) k.only.rest) (ap (λ (b : BookState). b.unsettled) k.only.rest) h

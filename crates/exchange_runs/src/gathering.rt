@@ -4,9 +4,9 @@ ghost use Rattle.std.specs.Prelude.{◌≡◌, IfOk};
 ghost use Rattle.proto.specs.Sizes.{Sizes};
 ghost use Rattle.proto.specs.Cache.{empty_cache};
 ghost use Rattle.queue_exchange.specs.Queues.{AreQueuesMade, IsEndOf};
-ghost use Rattle.queue_tests.specs.Ends.{IsSameEnd};
+ghost use Rattle.exchange_runs.specs.Ends.{IsSameEnd};
 
-use exchange_runs::{Served, serve_next};
+use crate::serving::{Served, serve_next};
 use engine::PlainStore;
 use proto::{Geometry, Posted, Request};
 use queue_exchange::{Gathered, MakeFault, StorageEnd, WorkerEnd, gather, make};

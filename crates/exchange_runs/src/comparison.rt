@@ -1,11 +1,12 @@
 //! The same requests through the lanes and through the queues.
 
-use exchange_runs::{CallingWorker, Workload, run_lanes, run_queues};
+use crate::caller::{CallingWorker, Workload};
+use crate::runs::{run_lanes, run_queues};
 use std::process::Abort;
 use std::test::Fail;
 
-/// The requests of each run, of all workers together: 80,000 in all, each way.
-const REQUESTS: u64 = 10_000;
+/// The requests of each run, of all workers together: 16,000 in all, each way.
+const REQUESTS: u64 = 2_000;
 
 /// Through both a worker was given an answer to each of its requests, and the same ones.
 fn check_worker(

@@ -1,3 +1,4 @@
+pub mod Homes
 pub mod Words
 pub mod InLayout
 pub mod Rows

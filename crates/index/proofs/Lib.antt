@@ -7,6 +7,7 @@ pub mod Finding
 pub mod Mapping
 pub mod Placing
 pub mod Emptying
+pub mod Settled
 pub mod Agreeing
 pub mod PoolKeys
 pub mod PoolPlaces

@@ -10,6 +10,7 @@ mod keys;
 mod laws;
 mod layout;
 mod search;
+mod settling;
 mod sizing;
 mod slot;
 mod slots;

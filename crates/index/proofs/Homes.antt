@@ -137,8 +137,12 @@ home_grown n h some =
           let next = is.next in
           let full : n + 1 ≡ 2 * r = omega (arith, y, next) in
           let twice : round (n + 1) ≡ 2 * r = round_once (n + 1) (round (n + 1)) (2 * r) more
-          record { exponent = suc is.exponent; power = doubled r is.exponent is.power; within = y.1;
-            next = omega (arith, full); } in
+          record {
+            exponent = suc is.exponent;
+            power = doubled r is.exponent is.power;
+            within = y.1;
+            next = omega (arith, full);
+          } in
           let half = halved h (2 * r) (omega (arith, full)) in
           let a = home_cases n h in
           let b = subst (λ (s : ℕ). ((h % (2 * s) < n + 1) × (home_of (n + 1) h ≡ h % (2 * s)))

@@ -8,6 +8,7 @@ pub mod Mapping
 pub mod Placing
 pub mod Emptying
 pub mod Settled
+pub mod Grown
 pub mod Agreeing
 pub mod PoolKeys
 pub mod PoolPlaces

@@ -1,9 +1,9 @@
 -- Keys that are put where their searches find them, one after the other along a run.
-use Rattle.std.proofs.Common.{◌≡◌, ◌≢◌, ℕ, zero, suc, ◌+◌, ◌-◌, ◌*◌, ◌<◌, ◌≤◌, true, false, cond, List, [], ◌∷◌, length, refl, sym, ap, ◌∙◌, inl, inr, ◌⊎◌, arith, Some, subst}
+use Rattle.std.proofs.Common.{◌≡◌, ◌≢◌, ℕ, zero, suc, ◌+◌, ◌*◌, ◌<◌, true, false, cond, List, [], ◌∷◌, length, refl, sym, ap, ◌∙◌, inl, inr, ◌⊎◌, arith, Some, subst}
 use Rattle.std.proofs.Common.{get_or-set_same, get_or-set_other, length-set}
 use Rattle.std.specs.Prelude.{slice_set, if◌then◌else◌}
 use Rattle.std.specs.Option.{option_map_or}
-use Rattle.std.proofs.lemmas.Nat.{mul-add-lt, mul-le}
+use Rattle.std.proofs.lemmas.Nat.{mul-add-lt}
 use Rattle.std.proofs.lemmas.Bool.{cases_Bool}
 use Rattle.std.proofs.lemmas.Bool.Decides.{leb_tells, eqb_tells}
 use Rattle.std.proofs.lemmas.List.Sums.{sum_by-cons, sum_by-set}
@@ -318,9 +318,9 @@ module _ (h : Hashing) (keys : KeysOf) (old new : List Slot) (at gap : ℕ) (m :
               up_to = elim f.1.up_to [
                 | inl y ↦ elim
                     (keeps_way old new (h.home f.0) at i len (in_row f.0) m.at_in in_old other keeps y) [
-                  | inl z ↦ inl z
-                  | inr z ↦ inr (passes_on old new at i len m.at_in in_old other keeps z)
-                ]
+                      | inl z ↦ inl z
+                      | inr z ↦ inr (passes_on old new at i len m.at_in in_old other keeps z)
+                    ]
                 | inr y ↦ inr (passes_on old new at i len m.at_in in_old other keeps y)
               ];
             },

@@ -4,6 +4,7 @@
 
 mod closing;
 mod follow;
+mod growing;
 mod hash;
 mod index;
 mod keys;
@@ -14,9 +15,7 @@ mod settling;
 mod sizing;
 mod slot;
 mod slots;
-mod writing;
 
 pub use index::Index;
 pub use layout::layout_for;
 pub use sizing::slots_for;
-pub use writing::write;

@@ -25,6 +25,7 @@ pub fn settle(slots: &mut Slots, from: usize, count: usize, hasher: FoldHasher, 
     ensures places { places_in (key_at pool.now) slots.new.slots ≡ places_in (key_at pool.now) slots.old.slots }
     ensures used { used_in slots.new.slots ≡ used_in slots.old.slots }
     ensures layout { slots.new.layout ≡ slots.old.layout }
+    ensures room { slots.new.room ≡ slots.old.room }
     ensures count { length slots.new.slots ≡ length slots.old.slots }
 {
     let mut at = from;

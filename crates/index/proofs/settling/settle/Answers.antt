@@ -1,9 +1,9 @@
-use Rattle.std.proofs.Common.{◌≡◌, ◌≢◌, ℕ, ◌+◌, ◌*◌, ◌<◌, ◌≤◌, true, false, List, length, Some, sym, ap, ◌∙◌, arith, subst}
+use Rattle.std.proofs.Common.{◌≡◌, ℕ, ◌+◌, ◌*◌, ◌<◌, true, false, List, length, sym, ap, ◌∙◌, arith, subst}
 use Rattle.std.specs.Prelude.{slice_set}
 use Rattle.index.specs.declared.slot.Slot.{Slot}
 use Rattle.index.specs.Layouts.{Row}
-use Rattle.index.specs.Keys.{key_at, KeysOf, home_of, hash_of}
-use Rattle.index.specs.Slots.{is_used, slot_at, place_of, distance, behind, empty_slot, used_in, AreUsedUpTo}
+use Rattle.index.specs.Keys.{key_at, KeysOf}
+use Rattle.index.specs.Slots.{is_used, slot_at, distance, behind, empty_slot, used_in, AreUsedUpTo}
 use Rattle.index.specs.Settling.{IsFirstStop}
 use Rattle.index.specs.Table.{hashing, Hashing}
 use Rattle.index.proofs.Emptying.{homes_in_row}
@@ -56,13 +56,21 @@ step c =
           (step_stays h keys slots at f.0 inv.near r used less f.1.of_key up)
     ]
 
--- the layout stays
-kept : (c : goal.After-behind-at) → c.if-gap-at.slots.layout ≡ c.args.slots.now.layout
+-- the layout and the room stay
+kept : (c : goal.After-behind-at)
+    → (c.if-gap-at.slots.layout ≡ c.args.slots.now.layout) × (c.if-gap-at.slots.room ≡ c.args.slots.now.room)
 kept c =
     elim c.if-gap-at.branch [
-      | then-gap-at w ↦ ap (λ (r : Row). r.layout) (w.slots-is ∙ w.empty.ensures)
-          ∙ ap (λ (r : Row). r.layout) w.copy.ensures ∙ c.run.invariant.layout
-      | else-gap-at w ↦ ap (λ (r : Row). r.layout) w.slots-is ∙ c.run.invariant.layout
+      | then-gap-at w ↦ (
+        ap (λ (r : Row). r.layout) (w.slots-is ∙ w.empty.ensures) ∙ ap (λ (r : Row). r.layout) w.copy.ensures
+            ∙ c.run.invariant.layout,
+        ap (λ (r : Row). r.room) (w.slots-is ∙ w.empty.ensures) ∙ ap (λ (r : Row). r.room) w.copy.ensures
+            ∙ c.run.invariant.room,
+      )
+      | else-gap-at w ↦ (
+        ap (λ (r : Row). r.layout) w.slots-is ∙ c.run.invariant.layout,
+        ap (λ (r : Row). r.room) w.slots-is ∙ c.run.invariant.room,
+      )
     ]
 
 pub run-smaller : goal.run-smaller
@@ -73,9 +81,9 @@ run-smaller c =
     let next : c.behind-at.result ≡ behind n c.run.at =
     c.behind-at.ensures.value ∙ ap (λ (m : ℕ). behind m c.run.at) (c.len.ensures ∙ s.len ∙ len) in
     let falls = subst (λ (m : ℕ). spread (hashing_of c) (key_at c.args.pool.now) m 0 c.if-gap-at.slots.slots * m
-        + distance m (behind m c.run.at) (gap_index c.if-gap-at.slots.slots)
-        < spread (hashing_of c) (key_at c.args.pool.now) m 0 c.run.slots.slots * m
-        + distance m c.run.at (gap_index c.run.slots.slots)) len s.falls in
+    + distance m (behind m c.run.at) (gap_index c.if-gap-at.slots.slots)
+    < spread (hashing_of c) (key_at c.args.pool.now) m 0 c.run.slots.slots * m
+    + distance m c.run.at (gap_index c.run.slots.slots)) len s.falls in
     rw next falls
 
 pub run-preserved : goal.run-preserved
@@ -93,7 +101,8 @@ run-preserved c =
       near = rw next s.near;
       places = s.places ∙ inv.places;
       used = s.used ∙ inv.used;
-      layout = kept c;
+      layout = (kept c).0;
+      room = (kept c).1;
       len = s.len ∙ inv.len;
     }
 

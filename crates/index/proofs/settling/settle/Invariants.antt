@@ -13,6 +13,7 @@ invariant-run l = record {
   places : places_in (key_at l.pool) l.slots.slots ≡ places_in (key_at l.pool) l.initial.slots.slots;
   used : used_in l.slots.slots ≡ used_in l.initial.slots.slots;
   layout : l.slots.layout ≡ l.initial.slots.layout;
+  room : l.slots.room ≡ l.initial.slots.room;
   len : length l.slots.slots ≡ length l.initial.slots.slots;
 }
 

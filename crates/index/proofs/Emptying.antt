@@ -7,9 +7,9 @@ use Rattle.std.proofs.lemmas.List.Sums.{sum_by-set}
 use Rattle.index.specs.declared.slot.Slot.{Slot}
 use Rattle.index.specs.declared.layout.Layout.{Layout}
 use Rattle.segments.specs.declared.place.Place.{Place}
-use Rattle.std.proofs.lemmas.Nat.{and_le_r}
 use Rattle.std.specs.declared.hash.FoldHasher.{FoldHasher}
-use Rattle.index.specs.Keys.{KeysOf, hash_of, home_of}
+use Rattle.index.specs.Keys.{KeysOf, hash_of}
+use Rattle.index.proofs.Homes.{home_below}
 use Rattle.index.specs.Slots.{is_used, place_of, slot_at, used_in, empty_slot, distance, behind, AreUsedUpTo}
 use Rattle.index.specs.Table.{hashing, Hashing, AreIndexed}
 use Rattle.index.specs.Closing.{IsWithout}
@@ -533,5 +533,4 @@ module _ (h : Hashing) (keys : KeysOf) (old : List Slot) (in_row : (k : List ℕ
 -- the home of each key is one of the slots
 pub homes_in_row : (count : ℕ) (layout : Layout) (hasher : FoldHasher) → 1 ≤ count → (k : List ℕ)
     → (hashing count layout hasher).home k < count
-unfolding home_of
-homes_in_row count layout hasher some k = (let b = and_le_r (hash_of hasher k) (count - 1) in omega (arith, b))
+homes_in_row count layout hasher some k = home_below count (hash_of hasher k) some

@@ -1,5 +1,5 @@
 -- Searches from a slot on.
-use Rattle.std.proofs.Common.{◌≡◌, ℕ, suc, ◌+◌, ◌-◌, ◌<◌, Bool, true, false, cond, List, [], ◌∷◌, length, sym, ap, ◌∙◌, inl, inr, arith, subst}
+use Rattle.std.proofs.Common.{◌≡◌, ◌≢◌, ℕ, suc, ◌+◌, ◌-◌, ◌<◌, ◌≤◌, Bool, true, false, cond, List, [], ◌∷◌, length, sym, ap, ◌∙◌, inl, inr, arith, subst}
 use Rattle.std.specs.Prelude.{bytes_eq, ◌&&◌, Option, Some, eqb}
 use Rattle.std.proofs.lemmas.Slice.Eq.{bytes_eq-Decides}
 use Rattle.segments.specs.declared.place.Place.{Place}
@@ -102,6 +102,15 @@ way_keeps P slots from at f less way used passed here x i upto =
     elim (distance_upto n from at x gap.0 f way.at_range i gap.1.in_range ahead upto) [
       | inl y ↦ passed x i y
       | inr y ↦ subst P (sym y) here
+    ]
+
+-- a search that hasn't come to a slot is at most as far as it behind its next step, too
+pub nears : (n from at end : ℕ) → from < n → at < n → end < n → distance n from at ≤ distance n from end → at ≢ end
+    → distance n from (behind n at) ≤ distance n from end
+nears n from at end f a e le differ =
+    elim (leb_tells (distance n from end) (distance n from at)) [
+      | inl y ↦ absurd (differ (distance_once n from at end f a e (omega (arith, le, y))))
+      | inr y ↦ (let step = distance_behind n from at end f a e y.1 in omega (arith, step, y))
     ]
 
 -- no slot is nearer to a search's first one than that one itself, so anything holds of those that are

@@ -1,3 +1,4 @@
+pub mod Homes
 pub mod Words
 pub mod InLayout
 pub mod Rows
@@ -6,6 +7,8 @@ pub mod Finding
 pub mod Mapping
 pub mod Placing
 pub mod Emptying
+pub mod Settled
+pub mod Grown
 pub mod Agreeing
 pub mod PoolKeys
 pub mod PoolPlaces

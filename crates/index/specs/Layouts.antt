@@ -55,13 +55,15 @@ pub record IsLayoutOf (sizes : Sizes) (l : Layout) : Type 0 where
   pub offsets : sizes.segment_size ≤ 8 * 2 ^ l.offset_bits
   pub places : sizes.segments * 2 ^ l.offset_bits ≤ 2 ^ l.place_bits
 
--- slots, and how they are kept
+-- slots, how they are kept, and how many of them there is room for
 pub record Row : Type 0 where
   pub slots : List Slot
   pub layout : Layout
+  pub room : ℕ
 
-abbrev pub slots_in_row : Layout → List ℕ → List ℕ → Row
-slots_in_row l narrow wide = record {
+abbrev pub slots_in_row : Layout → List ℕ → List ℕ → ℕ → ℕ → Row
+slots_in_row l narrow wide narrow_room wide_room = record {
   slots = map (slot_of l) (if nat_le l.place_bits 32 then narrow else wide);
   layout = l;
+  room = if nat_le l.place_bits 32 then narrow_room else wide_room;
 }

@@ -4,6 +4,7 @@ pub mod Keys
 pub mod Table
 pub mod Searches
 pub mod Closing
+pub mod Settling
 pub mod Laws
 pub mod Sizing
 pub mod Following

@@ -1,17 +1,18 @@
 //! The index.
 
 ghost use Rattle.std.specs.Prelude.{◌≡◌, ◌≢◌, ◌+◌, ◌*◌, ◌<◌, ◌≤◌, List, ℕ, length, IfOk, Some, None, IsTrue, ◌↔◌};
-ghost use Rattle.std.specs.Prelude.{IfSome, IsSome, replicate};
+ghost use Rattle.std.specs.Prelude.{◌⊎◌, ◌∷◌, [], IfSome, IsSome};
 ghost use Rattle.std.specs.FinMap as map;
 ghost use Rattle.segments.specs.declared.place.Place.{Place as Spot};
 ghost use Rattle.segments.specs.Pools.{item_in};
-ghost use Rattle.index.specs.Keys.{KeysOf, key_at};
+ghost use Rattle.index.specs.Keys.{KeysOf, key_at, seeded};
 ghost use Rattle.index.specs.Slots.{used_in, empty_slot};
 ghost use Rattle.index.specs.Layouts.{IsLayout, IsInLayout};
 ghost use Rattle.index.specs.Following.{IsFollowed, forget_place};
 ghost use Rattle.index.specs.Table.{IsIndex, IsMap, IsSameSize, IsTable, places, place_at, HasPlace};
 
 use crate::closing;
+use crate::growing::grow_for;
 use crate::hash::{hash_of, home_of, seeded};
 use crate::layout::Layout;
 use crate::search::{find_key, find_place, first_gap};
@@ -23,7 +24,8 @@ use std::alloc::Global;
 use std::hash::FoldHasher;
 use std::marker::Model;
 
-/// The places of items by their keys, in a table that was made once and is never more than half full.
+/// The places of items by their keys, in a table whose memory was taken once. Its used part grows with the keys, and is
+/// never more than half full.
 #[derive(Drop)]
 pub struct Index {
     slots: Slots,
@@ -37,22 +39,30 @@ impl Model for Index {
 
     ghost Value = { Table };
 
-    ghost view = { λ a. record { slots = a.slots.slots; hasher = a.hasher; layout = a.slots.layout } };
+    ghost view = { λ a. record {
+      slots = a.slots.slots;
+      hasher = a.hasher;
+      layout = a.slots.layout;
+      room = a.slots.room;
+    } };
 
     ghost invariant = { λ a. AreSlotsCounted (record {
       slots = a.slots.slots;
       hasher = a.hasher;
       layout = a.slots.layout;
+      room = a.slots.room;
     }) a.used };
 }
 
 impl Index {
-    /// A table of so many empty slots. The seed is hashed before each key, so that who doesn't know it can't choose keys
-    /// that meet in few slots.
+    /// A table without a key, with room for so many slots. The seed is hashed before each key, so that who doesn't know it
+    /// can't choose keys that meet in few slots.
     pub fn new(alloc: Global, count: usize, layout: Layout, seed: u64) -> Result<Index, NoMemory>
         requires some { 1 ≤ count }
         requires layout { IsLayout layout }
-        ensures slots { IfOk result (λ index. index.slots ≡ replicate count empty_slot) }
+        ensures room { IfOk result (λ index. index.room ≡ count) }
+        ensures slots { IfOk result (λ index. index.slots ≡ empty_slot ∷ []) }
+        ensures seed { IfOk result (λ index. index.hasher ≡ seeded seed) }
         ensures map { IfOk result (λ index. (keys : KeysOf) → IsMap keys index map.empty) }
         ensures layout { IfOk result (λ index. index.layout ≡ layout) }
     {
@@ -88,11 +98,11 @@ impl Index {
         self.used
     }
 
-    /// Whether one more key may have a place.
+    /// Whether one more key may have a place: half of all slots that there is room for may.
     pub fn has_room(&self) -> bool
-        ensures { IsTrue result ↔ (2 * (used_in self.now.slots + 1) ≤ length self.now.slots) }
+        ensures { IsTrue result ↔ (2 * (used_in self.now.slots + 1) ≤ self.now.room) }
     {
-        self.used < self.slots.len() / 2
+        self.used < self.slots.room() / 2
     }
 
     /// The place of the key.
@@ -111,15 +121,17 @@ impl Index {
         }
     }
 
-    /// Gives the key this place in place of the one that it had, by one search.
+    /// Gives the key this place in place of the one that it had, by one search. Where it had none, the used part of the
+    /// table grows first, up to three slots for each key.
     pub fn put(&mut self, pool: &Pool, key: &[u8], place: Place) -> Option<Place>
         requires index { IsIndex (key_at pool.now) self.old }
         requires key { key_at pool.now place ≡ Some key.now }
         requires place { IsInLayout self.old.layout place }
-        requires room { 2 * (used_in self.old.slots + 1) ≤ length self.old.slots }
+        requires room { 2 * (used_in self.old.slots + 1) ≤ self.old.room }
         ensures had { result ≡ place_at (key_at pool.now) self.old key.now }
         ensures map { IsMap (key_at pool.now) self.new (map.insert (places (key_at pool.now) self.old) key.now place) }
         ensures size { IsSameSize self.old self.new }
+        ensures few { (length self.new.slots ≡ length self.old.slots) ⊎ (length self.new.slots ≤ 3 * used_in self.new.slots) }
     {
         let hash = hash_of(self.hasher, key);
         let home = home_of(self.slots.len(), hash);
@@ -130,30 +142,15 @@ impl Index {
                 self.slots.set(at, Slot::new(tag, place));
                 Some(source)
             }
-            Err(gap) => {
+            Err(_) => {
+                grow_for(&mut self.slots, self.used + 1, self.hasher, pool);
+                let new_home = home_of(self.slots.len(), hash);
+                let gap = first_gap(&self.slots, new_home);
                 self.slots.set(gap, Slot::new(tag, place));
                 self.used += 1;
                 None
             }
         }
-    }
-
-    /// Adds the place of a key that has none.
-    pub fn insert(&mut self, key: &[u8], place: Place)
-        requires room { 2 * (used_in self.old.slots + 1) ≤ length self.old.slots }
-        requires place { IsInLayout self.old.layout place }
-        ensures map { (keys : KeysOf) → IsIndex keys self.old → keys place ≡ Some key.now
-            → place_at keys self.old key.now ≡ None
-            → IsMap keys self.new (map.insert (places keys self.old) key.now place) }
-        ensures size { IsSameSize self.old self.new }
-        ensures count { used_in self.new.slots ≡ used_in self.old.slots + 1 }
-    {
-        let hash = hash_of(self.hasher, key);
-        let home = home_of(self.slots.len(), hash);
-        let at = first_gap(&self.slots, home);
-        let tag = self.slots.layout().tag_of(hash);
-        self.slots.set(at, Slot::new(tag, place));
-        self.used += 1;
     }
 
     /// Gives the key another place.
@@ -203,11 +200,12 @@ impl Index {
         }
     }
 
-    /// Takes all keys out.
+    /// Takes all keys out, and leaves one slot in use.
     pub fn clear(&mut self)
         ensures map { (keys : KeysOf) → IsMap keys self.new map.empty }
         ensures size { IsSameSize self.old self.new }
         ensures count { used_in self.new.slots ≡ 0 }
+        ensures slots { self.new.slots ≡ empty_slot ∷ [] }
     {
         self.slots.clear();
         self.used = 0;

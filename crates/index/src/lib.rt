@@ -4,18 +4,18 @@
 
 mod closing;
 mod follow;
+mod growing;
 mod hash;
 mod index;
 mod keys;
 mod laws;
 mod layout;
 mod search;
+mod settling;
 mod sizing;
 mod slot;
 mod slots;
-mod writing;
 
 pub use index::Index;
 pub use layout::layout_for;
 pub use sizing::slots_for;
-pub use writing::write;

@@ -1,6 +1,6 @@
 //! The slots of a table, each kept in one number.
 
-ghost use Rattle.std.specs.Prelude.{◌≡◌, ◌<◌, IfOk, length, replicate, slice_set};
+ghost use Rattle.std.specs.Prelude.{◌≡◌, ◌<◌, ◌≤◌, ◌∷◌, [], ◌++◌, IfOk, length, slice_set};
 ghost use Rattle.index.specs.Slots.{empty_slot, slot_at};
 ghost use Rattle.index.specs.Layouts.{IsLayout, CanHold, slot_of, word_limit};
 
@@ -10,7 +10,8 @@ use proto::NoMemory;
 use std::alloc::Global;
 use std::marker::Model;
 
-/// Slots in a row. Only one of the two lists is used, so that a slot has four bytes where its layout lets it.
+/// Slots in a row, which never take more memory than they were made with. Only one of the two lists is used, so that a
+/// slot has four bytes where its layout lets it.
 #[derive(Drop)]
 pub struct Slots {
     layout: Layout,
@@ -19,28 +20,33 @@ pub struct Slots {
 }
 
 impl Model for Slots {
+    ghost use Rattle.std.specs.Prelude.{vec_capacity};
     ghost use Rattle.index.specs.Layouts.{Row, slots_in_row, IsLayout};
 
     ghost Value = { Row };
 
-    ghost view = { λ a. slots_in_row a.layout a.narrow.items a.wide.items };
+    ghost view = { λ a. slots_in_row a.layout a.narrow.items a.wide.items (vec_capacity a.narrow) (vec_capacity a.wide) };
 
     ghost invariant = { λ a. IsLayout a.layout };
 }
 
 impl Slots {
-    /// So many empty slots.
+    /// One empty slot, with room for so many.
     pub fn new(alloc: Global, count: usize, layout: Layout) -> Result<Slots, NoMemory>
-        requires { IsLayout layout }
-        ensures slots { IfOk result (λ s. s.slots ≡ replicate count empty_slot) }
+        requires some { 1 ≤ count }
+        requires layout { IsLayout layout }
+        ensures slots { IfOk result (λ s. s.slots ≡ empty_slot ∷ []) }
+        ensures room { IfOk result (λ s. s.room ≡ count) }
         ensures layout { IfOk result (λ s. s.layout ≡ layout) }
     {
         let narrow_count = if layout.is_narrow() { count } else { 0 };
-        Ok(Slots {
+        let mut slots = Slots {
             layout,
-            narrow: vec![in alloc; 0; narrow_count]?,
-            wide: vec![in alloc; 0; count - narrow_count]?,
-        })
+            narrow: Vec::with_capacity(alloc, narrow_count)?,
+            wide: Vec::with_capacity(alloc, count - narrow_count)?,
+        };
+        slots.push();
+        Ok(slots)
     }
 
     pub fn layout(&self) -> Layout
@@ -57,6 +63,17 @@ impl Slots {
             self.narrow.len()
         } else {
             self.wide.len()
+        }
+    }
+
+    /// How many slots memory was taken for.
+    pub fn room(&self) -> usize
+        ensures { result ≡ self.now.room }
+    {
+        if self.layout.is_narrow() {
+            self.narrow.capacity()
+        } else {
+            self.wide.capacity()
         }
     }
 
@@ -128,11 +145,25 @@ impl Slots {
         self.set_word(target, word);
     }
 
-    /// Empties all slots.
-    pub fn clear(&mut self)
-        ensures { self.new ≡ record self.old { slots = replicate (length self.old.slots) empty_slot } }
+    /// Adds an empty slot behind the others.
+    pub fn push(&mut self)
+        requires { length self.old.slots < self.old.room }
+        ensures { self.new ≡ record self.old { slots = self.old.slots ++ empty_slot ∷ [] } }
     {
-        self.narrow.fill(0);
-        self.wide.fill(0);
+        if self.layout.is_narrow() {
+            self.narrow.push_reserved(0);
+        } else {
+            self.wide.push_reserved(0);
+        }
+    }
+
+    /// Leaves one slot, which is empty.
+    pub fn clear(&mut self)
+        requires { 1 ≤ self.old.room }
+        ensures { self.new ≡ record self.old { slots = empty_slot ∷ [] } }
+    {
+        self.narrow.clear();
+        self.wide.clear();
+        self.push();
     }
 }

@@ -1,16 +1,32 @@
-//! How long look-ups, misses, and deleting and writing take in an index of 262,144 slots over a pool of 64 segments of
-//! 64 KiB. `index_bench N` does N of each, and writes the times to the standard error.
+//! How long writes, look-ups, misses, deletes and emptying take in an index: that of 64 segments of 64 KiB, nearly full, and
+//! that of 512 segments of 1 MiB, nearly empty. `index_bench N` does N look-ups of each kind, and writes the times to the
+//! standard error.
 #![tactic(auto)]
 
 use anyhow::Result;
 use index_tests::shelf::Shelf;
 use proto::Geometry;
 use std::alloc::Global;
-use std::collections::HashMap;
 use std::env;
 use std::io::{Eprint, Print};
 use std::rt::Env;
 use std::time::{Clock, Duration, Instant};
+
+/// So many items with values of so many bytes, in segments of this size.
+#[derive(Clone, Copy)]
+struct Load {
+    count: u64,
+    value_length: usize,
+    segment_size: u32,
+    segments: u32,
+}
+
+/// How many of the items each call did, and how long they took.
+#[derive(Clone, Copy)]
+struct Timed {
+    done: u64,
+    time: Duration,
+}
 
 fn number<R: Env + AllocGlobal>(rt: &R) -> Option<u64> {
     env::args(rt).ok()?.nth(1)?.as_str().parse::<u64>().ok()
@@ -33,6 +49,7 @@ fn below(state: u64, count: u64) -> u64 {
     (state >> 32) % count.max(1)
 }
 
+/// Puts so many keys.
 fn fill(shelf: &mut Shelf, value: &[u8], count: u64) -> u64 {
     let mut put: u64 = 0;
     for n in 0..count {
@@ -70,88 +87,158 @@ fn delete(shelf: &mut Shelf, count: u64) -> u64 {
     deleted
 }
 
-fn fill_map(alloc: Global, map: &mut HashMap<Vec<u8>, u64>, count: u64) -> Result<()> {
-    for n in 0..count {
-        map.insert(Vec::from_slice(alloc, &key_of(n))?, n)?;
-    }
-    Ok(())
+fn time_fill<R: Clock>(rt: &R, shelf: &mut Shelf, value: &[u8], count: u64) -> Result<Timed> {
+    let start = Instant::now(rt)?;
+    let done = fill(shelf, value, count);
+    Ok(Timed {
+        done,
+        time: start.elapsed(rt)?,
+    })
 }
 
-fn look_up_map(map: &HashMap<Vec<u8>, u64>, count: u64, rounds: u64) -> u64 {
-    let mut state = 88_172_645_463_325_252;
-    let mut found: u64 = 0;
-    for _ in 0..rounds {
-        state = next(state);
-        if map.get(key_of(below(state, count)).as_slice()).is_some() {
-            found = found.wrapping_add(1);
-        }
+/// The longest of so many writes.
+fn longest_put<R: Clock>(
+    rt: &R,
+    shelf: &mut Shelf,
+    value: &[u8],
+    count: u64,
+) -> Result<Duration> {
+    let mut longest = Duration::from_nanos(0);
+    for n in 0..count {
+        let start = Instant::now(rt)?;
+        shelf.put(&key_of(n), value, n);
+        longest = longest.max(start.elapsed(rt)?);
     }
-    found
+    Ok(longest)
+}
+
+fn time_look_up<R: Clock>(
+    rt: &R,
+    shelf: &Shelf,
+    from: u64,
+    count: u64,
+    rounds: u64,
+) -> Result<Timed> {
+    let start = Instant::now(rt)?;
+    let done = look_up(shelf, from, count, rounds);
+    Ok(Timed {
+        done,
+        time: start.elapsed(rt)?,
+    })
+}
+
+fn time_delete<R: Clock>(rt: &R, shelf: &mut Shelf, count: u64) -> Result<Timed> {
+    let start = Instant::now(rt)?;
+    let done = delete(shelf, count);
+    Ok(Timed {
+        done,
+        time: start.elapsed(rt)?,
+    })
+}
+
+fn time_clear<R: Clock>(rt: &R, shelf: &mut Shelf) -> Result<Duration> {
+    let start = Instant::now(rt)?;
+    shelf.clear();
+    Ok(start.elapsed(rt)?)
+}
+
+fn shelf_of(alloc: Global, load: Load) -> Result<Shelf> {
+    let geometry = Geometry::new(load.segment_size, load.segments)?;
+    Ok(Shelf::new(alloc, geometry, 88_172_645_463_325_252)?)
+}
+
+fn value_of(alloc: Global, length: usize) -> Result<Vec<u8>> {
+    Ok(vec![in alloc; b'v'; length]?)
 }
 
 fn nanos_each(time: Duration, count: u64) -> u128 {
     time.as_nanos() * 10 / count.max(1) as u128
 }
 
-fn run<R: Print + Eprint + Clock>(
+/// Times look-ups and deletes of the keys that are there.
+fn find<R: Print + Eprint + Clock>(
     rt: &R,
-    alloc: Global,
+    shelf: &mut Shelf,
     count: u64,
-    value_length: usize,
     rounds: u64,
 ) -> Result<()> {
-    let mut value = Vec::with_capacity(alloc, value_length)?;
-    value.resize(value_length, b'v')?;
-    let mut shelf = Shelf::new(alloc, Geometry::new(65_536, 64)?, 88_172_645_463_325_252)?;
-    let start = Instant::now(rt)?;
-    let put = fill(&mut shelf, &value, count);
-    let filling = start.elapsed(rt)?;
-    let start = Instant::now(rt)?;
-    let hits = look_up(&shelf, 0, count, rounds);
-    let hitting = start.elapsed(rt)?;
-    let start = Instant::now(rt)?;
-    let strangers = look_up(&shelf, count, count, rounds);
-    let missing = start.elapsed(rt)?;
-    let start = Instant::now(rt)?;
-    let deleted = delete(&mut shelf, count);
-    let deleting = start.elapsed(rt)?;
+    let hits = time_look_up(rt, shelf, 0, count, rounds)?;
+    let strangers = time_look_up(rt, shelf, count, count, rounds)?;
+    let deletes = time_delete(rt, shelf, count)?;
     println!(rt;
-        "{count} keys: put {put}, found {hits}, strangers {strangers}, deleted {deleted}"
+        "found {}, strangers {}, deleted {}", hits.done, strangers.done, deletes.done
     )?;
     eprintln!(rt;
-        "{count} keys, tenths of ns: append and insert {}, hit {}, miss {}, look up and remove {}",
-        nanos_each(filling, count),
-        nanos_each(hitting, rounds),
-        nanos_each(missing, rounds),
-        nanos_each(deleting, count),
+        "tenths of ns: hit {}, miss {}, look up and remove {}",
+        nanos_each(hits.time, rounds),
+        nanos_each(strangers.time, rounds),
+        nanos_each(deletes.time, count),
     )?;
     Ok(())
 }
 
-fn run_map<R: Print + Eprint + Clock>(
+/// Times writes into an empty shelf, and what is done with what was written.
+fn write_and_find<R: Print + Eprint + Clock>(
     rt: &R,
-    alloc: Global,
+    shelf: &mut Shelf,
+    value: &[u8],
     count: u64,
     rounds: u64,
 ) -> Result<()> {
-    let mut map: HashMap<Vec<u8>, u64> = HashMap::new(alloc);
-    fill_map(alloc, &mut map, count)?;
-    let start = Instant::now(rt)?;
-    let found = look_up_map(&map, count, rounds);
-    let hitting = start.elapsed(rt)?;
-    println!(rt; "map of {count} keys: found {found}")?;
+    let puts = time_fill(rt, shelf, value, count)?;
+    println!(rt; "{count} keys: put {}", puts.done)?;
     eprintln!(rt;
-        "map of {count} keys, tenths of ns: hit {}",
-        nanos_each(hitting, rounds)
+        "{count} keys, tenths of ns: append and insert {}",
+        nanos_each(puts.time, count)
+    )?;
+    find(rt, shelf, count, rounds)
+}
+
+/// Times each write into an empty shelf by itself, and emptying what was written.
+fn longest<R: Eprint + Clock>(rt: &R, shelf: &mut Shelf, value: &[u8], count: u64) -> Result<()> {
+    let put = longest_put(rt, shelf, value, count)?;
+    let clear = time_clear(rt, shelf)?;
+    eprintln!(rt;
+        "{count} keys, ns: longest write {}, clear {}", put.as_nanos(), clear.as_nanos()
     )?;
     Ok(())
+}
+
+fn run<R: Print + Eprint + Clock>(rt: &R, alloc: Global, load: Load, rounds: u64) -> Result<()> {
+    let value = value_of(alloc, load.value_length)?;
+    let mut shelf = shelf_of(alloc, load)?;
+    write_and_find(rt, &mut shelf, &value, load.count, rounds)
+}
+
+fn run_longest<R: Eprint + Clock>(rt: &R, alloc: Global, load: Load) -> Result<()> {
+    let value = value_of(alloc, load.value_length)?;
+    let mut shelf = shelf_of(alloc, load)?;
+    longest(rt, &mut shelf, &value, load.count)
+}
+
+fn load(count: u64, value_length: usize, segment_size: u32, segments: u32) -> Load {
+    Load {
+        count,
+        value_length,
+        segment_size,
+        segments,
+    }
+}
+
+/// Items that nearly fill their segments, and far fewer than go into them.
+fn loads() -> [Load; 3] {
+    [
+        load(31_000, 96, 65_536, 64),
+        load(131_000, 0, 65_536, 64),
+        load(100_000, 96, 1_048_576, 512),
+    ]
 }
 
 fn main(rt: HostRuntime) -> Result<()> {
     let rounds = number(&rt).unwrap_or(1000);
-    for (count, value_length) in [(31_000, 96), (131_000, 0)] {
-        run(&rt, rt.alloc(), count, value_length, rounds)?;
-        run_map(&rt, rt.alloc(), count, rounds)?;
+    for load in loads() {
+        run(&rt, rt.alloc(), load, rounds)?;
+        run_longest(&rt, rt.alloc(), load)?;
     }
     Ok(())
 }

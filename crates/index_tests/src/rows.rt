@@ -20,6 +20,7 @@ fn small_table(rt: HostRuntime) -> Result<(), Fail> {
     let mut shelf = Small::new(
         rt.alloc(),
         Geometry::new(65_536, 8)?,
+        64,
         88_172_645_463_325_252,
     )?;
     let mut map: BTreeMap<u64, u64> = BTreeMap::new(rt.alloc());
@@ -50,10 +51,123 @@ fn small_table(rt: HostRuntime) -> Result<(), Fail> {
     Ok(())
 }
 
+/// Whether each of so many keys is found as the map has it.
+fn agree(shelf: &Small, map: &BTreeMap<u64, u64>, keys: u64) -> bool {
+    for number in 0..keys {
+        if shelf.cas_of(&number.to_le_bytes()) != map.get(&number).copied() {
+            return false;
+        }
+    }
+    true
+}
+
+/// One write or delete of a key by chance: whether the shelf did the same as the map.
+fn step(
+    shelf: &mut Small,
+    map: &mut BTreeMap<u64, u64>,
+    state: u64,
+    cas: u64,
+) -> Result<bool, Fail> {
+    let number = (state >> 40) % 1_500;
+    if (state >> 20) % 4 != 0 {
+        map.insert(number, cas)?;
+        Ok(shelf.put(&number.to_le_bytes(), cas))
+    } else {
+        let was_there = map.remove(&number).is_some();
+        Ok(shelf.delete(&number.to_le_bytes()) == was_there)
+    }
+}
+
+/// So many writes and deletes by chance of 1,500 keys, all of which are compared with a map at each 64th.
+fn chance(
+    shelf: &mut Small,
+    map: &mut BTreeMap<u64, u64>,
+    seed: u64,
+    steps: u64,
+) -> Result<bool, Fail> {
+    let mut state = seed;
+    for cas in 0..steps {
+        state = next(state);
+        if !step(shelf, map, state, cas)? {
+            return Ok(false);
+        }
+        if cas % 64 == 0 && !agree(shelf, map, 1_500) {
+            return Ok(false);
+        }
+    }
+    Ok(agree(shelf, map, 1_500) && shelf.len() == map.len())
+}
+
+/// A table with room for 4,096 slots goes from one slot through twelve doublings, is emptied, and does it again.
+#[test]
+fn through_doublings(rt: HostRuntime) -> Result<(), Fail> {
+    let mut shelf = Small::new(rt.alloc(), Geometry::new(65_536, 32)?, 4_096, 5)?;
+    let mut map: BTreeMap<u64, u64> = BTreeMap::new(rt.alloc());
+    assert!(rt; chance(&mut shelf, &mut map, 3, 6_000)?);
+    shelf.clear();
+    map.clear();
+    assert!(rt; agree(&shelf, &map, 1_500));
+    assert!(rt; chance(&mut shelf, &mut map, 4, 6_000)?);
+    Ok(())
+}
+
+/// Writes the keys below a count whose hash leaves this home of 1,024, and behind each five others. Answers how many have
+/// that home.
+fn crowd(shelf: &mut Small, map: &mut BTreeMap<u64, u64>, home: u64) -> Result<u64, Fail> {
+    let mut crowded: u64 = 0;
+    for number in 0..100_000u64 {
+        if shelf.hash_of(&number.to_le_bytes()) % 1_024 == home {
+            for key in 0..6 {
+                let key = number.wrapping_add(key * 1_000_000);
+                map.insert(key, number)?;
+                shelf.put(&key.to_le_bytes(), number);
+            }
+            crowded = crowded.wrapping_add(1);
+        }
+    }
+    Ok(crowded)
+}
+
+/// Whether each key of the map is found, and how many slots are used.
+fn all_found(shelf: &Small, map: &BTreeMap<u64, u64>) -> bool {
+    for (key, cas) in map {
+        if shelf.cas_of(&key.to_le_bytes()) != Some(*cas) {
+            return false;
+        }
+    }
+    shelf.len() == map.len()
+}
+
+/// Deletes each key below a count, of which every other one is in the map and then isn't.
+fn thin(shelf: &mut Small, map: &mut BTreeMap<u64, u64>) {
+    for number in 0..50_000u64 {
+        let key = number.wrapping_mul(2);
+        if map.remove(&key).is_some() {
+            shelf.delete(&key.to_le_bytes());
+        }
+    }
+}
+
+/// About a hundred keys have one home while there are up to 1,024 slots, then two, while the table grows under them: the
+/// first slots of their homes, and the last ones, from which their searches go over the end.
+#[test]
+fn at_one_home(rt: HostRuntime) -> Result<(), Fail> {
+    for home in [0u64, 1_023] {
+        let mut shelf = Small::new(rt.alloc(), Geometry::new(65_536, 32)?, 2_048, 11)?;
+        let mut map: BTreeMap<u64, u64> = BTreeMap::new(rt.alloc());
+        let crowded = crowd(&mut shelf, &mut map, home)?;
+        assert!(rt; (70..130).contains(&crowded));
+        assert!(rt; all_found(&shelf, &map));
+        thin(&mut shelf, &mut map);
+        assert!(rt; all_found(&shelf, &map));
+    }
+    Ok(())
+}
+
 /// An item begins with its cas number, and behind the only one nothing stands.
 #[test]
 fn a_key_is_read_ahead(rt: HostRuntime) -> Result<(), Fail> {
-    let mut shelf = Small::new(rt.alloc(), Geometry::new(65_536, 8)?, 77)?;
+    let mut shelf = Small::new(rt.alloc(), Geometry::new(65_536, 8)?, 64, 77)?;
     assert_eq!(rt; shelf.read_ahead(b"alpha"), 0);
     assert!(rt; shelf.put(b"alpha", 9));
     assert_eq!(rt; shelf.read_ahead(b"alpha"), 9);

@@ -1,6 +1,6 @@
 //! A pool and an index of the size that goes with it, as a map from keys to values.
 
-use index::{Index, layout_for, slots_for, write};
+use index::{Index, layout_for, slots_for};
 use proto::{Geometry, NoMemory};
 use segments::{ItemRef, LASTING, Pool, size_of};
 use std::alloc::Global;
@@ -15,7 +15,7 @@ pub struct Shelf {
 }
 
 impl Model for Shelf {
-    ghost use Rattle.std.specs.Prelude.{◌≡◌, ◌≤◌, ◌*◌, length};
+    ghost use Rattle.std.specs.Prelude.{◌≡◌, ◌≤◌, ◌*◌};
     ghost use Rattle.index.specs.Sizing.{most_items};
     ghost use Rattle.index_tests.specs.Pairs.{Pairs};
     ghost use Rattle.index.specs.Keys.{key_at};
@@ -27,7 +27,7 @@ impl Model for Shelf {
     ghost view = { λ a. record { pool = a.pool; index = a.index } };
 
     ghost invariant = { λ a. IsIndex (key_at a.pool) a.index × (a.pool.sizes ≡ a.geometry)
-        × (2 * most_items a.geometry ≤ length a.index.slots) × IsLayoutOf a.geometry a.index.layout };
+        × (2 * most_items a.geometry ≤ a.index.room) × IsLayoutOf a.geometry a.index.layout };
 }
 
 impl Shelf {
@@ -61,7 +61,12 @@ impl Shelf {
         if size_of(item) > self.geometry.item_limit() {
             return false;
         }
-        write(&mut self.index, &mut self.pool, LASTING, 0, item).is_ok()
+        let _ = self.pool.geometry();
+        let Ok(place) = self.pool.append(LASTING, 0, item) else {
+            return false;
+        };
+        self.index.put(&self.pool, key, place);
+        true
     }
 
     /// The cas number of the key's item.
@@ -84,6 +89,11 @@ impl Shelf {
         if segment < self.geometry.segments() {
             self.index.forget(&self.pool, segment);
         }
+    }
+
+    /// Takes all keys out.
+    pub fn clear(&mut self) {
+        self.index.clear();
     }
 
     pub fn len(&self) -> usize {

@@ -1,4 +1,4 @@
-//! A pool and an index with few slots.
+//! A pool and an index with as many slots as a test wants.
 
 use index::{Index, layout_for};
 use proto::{Geometry, NoMemory};
@@ -31,12 +31,17 @@ impl Model for Small {
 }
 
 impl Small {
-    /// No key, in a table of 64 slots.
-    pub fn new(alloc: Global, geometry: Geometry, seed: u64) -> Result<Small, NoMemory> {
+    /// No key, in a table with room for so many slots.
+    pub fn new(
+        alloc: Global,
+        geometry: Geometry,
+        slots: usize,
+        seed: u64,
+    ) -> Result<Small, NoMemory> {
         Ok(Small {
             geometry,
             pool: Pool::new(alloc, geometry)?,
-            index: Index::new(alloc, 64, layout_for(geometry), seed)?,
+            index: Index::new(alloc, slots.max(1), layout_for(geometry), seed)?,
         })
     }
 
@@ -64,7 +69,9 @@ impl Small {
             return false;
         };
         match held {
-            None => self.index.insert(key, place),
+            None => {
+                self.index.put(&self.pool, key, place);
+            }
             Some(source) => self.index.replace(key, source, place),
         }
         true
@@ -76,11 +83,16 @@ impl Small {
         Some(self.pool.item(place).cas)
     }
 
-    /// What the index reads ahead for the key.
-    pub fn read_ahead(&self, key: &[u8]) -> u64 {
+    /// The hash by which the index finds the key.
+    pub fn hash_of(&self, key: &[u8]) -> u64 {
         let mut hasher = self.index.hasher();
         hasher.write(key);
-        self.index.prefetch(&self.pool, hasher.finish())
+        hasher.finish()
+    }
+
+    /// What the index reads ahead for the key.
+    pub fn read_ahead(&self, key: &[u8]) -> u64 {
+        self.index.prefetch(&self.pool, self.hash_of(key))
     }
 
     /// Takes the key out.

@@ -47,7 +47,7 @@ appended_current p after bucket t i place index indexed a =
 -- behind an append the index has a slot to spare: with one place more at most half of its slots are used
 pub appended_room : (p after : PoolState) (bucket t : ℕ) (i : Item) (place : Place) (index : Table) (marks : Marks)
     → IsTied p index marks → IsPool after → IsAppended p bucket t i after place
-    → 2 * (used_in index.slots + 1) ≤ length index.slots
+    → 2 * (used_in index.slots + 1) ≤ index.room
 appended_room p after bucket t i place index marks tied pool a =
     slot_to_spare after index place i pool (appended_current p after bucket t i place index tied.indexed a).index
     (appended_here p after bucket t i place a)
@@ -55,7 +55,7 @@ appended_room p after bucket t i place index marks tied pool a =
     (x.0, appended_other p after bucket t i x.0 place r a x.1))
     (λ h. let k = held_place (key_at p) index place tied.indexed h in let x = current_item p index k.0 place k.1 in
     none-some x.0 (sym a.fresh ∙ x.1))
-    (subst (λ (s : Sizes). 2 * (s.segments * (s.segment_size / 32)) ≤ length index.slots) (sym a.sizes) tied.roomy)
+    (subst (λ (s : Sizes). 2 * (s.segments * (s.segment_size / 32)) ≤ index.room) (sym a.sizes) tied.roomy)
 
 -- what `put` says of the index, at the pool behind the append
 pub appended_index : (p after : PoolState) (bucket t : ℕ) (i : Item) (place : Place) (index : Table) (found : Table)

@@ -283,7 +283,7 @@ tied_merged p plan after index found marks w =
                 other_current p plan after index found marks w r i e was.0 was.1
           ]);
       roomy = subst (λ (n : ℕ). 2 * (after.sizes.segments * (after.sizes.segment_size / 32)) ≤ n) (sym w.size.count)
-          (subst (λ (s : Sizes). 2 * (s.segments * (s.segment_size / 32)) ≤ length index.slots)
+          (subst (λ (s : Sizes). 2 * (s.segments * (s.segment_size / 32)) ≤ index.room)
           (sym w.out.sizes) w.tied.roomy);
       layout = subst (IsLayoutOf after.sizes) (sym w.size.layout)
           (subst (λ (s : Sizes). IsLayoutOf s index.layout) (sym w.out.sizes) w.tied.layout);

@@ -78,8 +78,8 @@ at_same all i j a b same lt e f = sym f ∙ ap (λ (k : ℕ). get_or all k a) sa
 pub slot_to_spare : (p : PoolState) (index : Table) (place : Place) (i : Item) → IsPool p → IsIndex (key_at p) index
     → item_in p place ≡ Some i
     → ((r : Place) → HasPlace index r → (j : Item) × (item_in p r ≡ Some j)) → (HasPlace index place → ⊥)
-    → 2 * (p.sizes.segments * (p.sizes.segment_size / 32)) ≤ length index.slots
-    → 2 * (used_in index.slots + 1) ≤ length index.slots
+    → 2 * (p.sizes.segments * (p.sizes.segment_size / 32)) ≤ index.room
+    → 2 * (used_in index.slots + 1) ≤ index.room
 slot_to_spare p index place i pool indexed here held fresh roomy =
     let all = places_below p p.sizes.segments in
     let few = few_places p p.sizes.segments pool in

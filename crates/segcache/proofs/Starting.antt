@@ -30,7 +30,7 @@ no_mark s p t n k is = ap (λ (u : Marks). mark_at u n k) is ∙ rows s.segments
 -- an index without a key, with slots enough, and a marks without a mark are tied to a pool of their sizes
 pub tied_start : (p : PoolState) (index : Table) (t : Marks) → IsPool p → t ≡ no_marks p.sizes
     → IsMap (key_at p) index finite.empty
-    → 2 * (p.sizes.segments * (p.sizes.segment_size / 32)) ≤ length index.slots → IsLayoutOf p.sizes index.layout
+    → 2 * (p.sizes.segments * (p.sizes.segment_size / 32)) ≤ index.room → IsLayoutOf p.sizes index.layout
     → IsTied p index t
 tied_start p index t pool is m roomy layout =
     record {

@@ -218,7 +218,7 @@ tied_same p after index t tied known sizes same =
             (let x = keyed_item p r i.key (sym (same r h) ∙ item_key after r i e) in
             ap (λ (n : Places). finite.get n i.key) m.places_are ∙ ap (finite.get (current p index)) (sym x.2)
             ∙ tied.marked r x.0 x.1 h);
-        roomy = subst (λ (s : Sizes). 2 * (s.segments * (s.segment_size / 32)) ≤ length index.slots)
+        roomy = subst (λ (s : Sizes). 2 * (s.segments * (s.segment_size / 32)) ≤ index.room)
             (sym sizes) tied.roomy;
         layout = subst (λ (s : Sizes). IsLayoutOf s index.layout) (sym sizes) tied.layout;
       },
@@ -338,7 +338,7 @@ tied_appended p after bucket moment i place index found t tied pool a absent m s
                 (λ same. none-some r (sym absent ∙ ap (finite.get (current p index)) (sym same) ∙ old)) old
           ];
       roomy = subst (λ (n : ℕ). 2 * (after.sizes.segments * (after.sizes.segment_size / 32)) ≤ n) (sym size.count)
-          (subst (λ (s : Sizes). 2 * (s.segments * (s.segment_size / 32)) ≤ length index.slots)
+          (subst (λ (s : Sizes). 2 * (s.segments * (s.segment_size / 32)) ≤ index.room)
           (sym a.sizes) tied.roomy);
       layout = subst (IsLayoutOf after.sizes) (sym size.layout)
           (subst (λ (s : Sizes). IsLayoutOf s index.layout) (sym a.sizes) tied.layout);
@@ -397,7 +397,7 @@ tied_replaced p after bucket moment i place index found t source tied pool a the
                 (λ same. left.1 (one_place (sym there ∙ ap (finite.get (current p index)) (sym same) ∙ old))) old
           ];
       roomy = subst (λ (n : ℕ). 2 * (after.sizes.segments * (after.sizes.segment_size / 32)) ≤ n) (sym size.count)
-          (subst (λ (s : Sizes). 2 * (s.segments * (s.segment_size / 32)) ≤ length index.slots)
+          (subst (λ (s : Sizes). 2 * (s.segments * (s.segment_size / 32)) ≤ index.room)
           (sym a.sizes) tied.roomy);
       layout = subst (IsLayoutOf after.sizes) (sym size.layout)
           (subst (λ (s : Sizes). IsLayoutOf s index.layout) (sym a.sizes) tied.layout);

@@ -20,7 +20,7 @@ pub record IsTied (p : PoolState) (index : Table) (marks : Marks) : Type 0 where
       → is_marked marks place ≡ true
   pub marked : (place : Place) (i : Item) → item_in p place ≡ Some i → is_marked marks place ≡ true
       → finite.get (current p index) i.key ≡ Some place
-  pub roomy : 2 * (p.sizes.segments * (p.sizes.segment_size / 32)) ≤ length index.slots
+  pub roomy : 2 * (p.sizes.segments * (p.sizes.segment_size / 32)) ≤ index.room
   pub layout : IsLayoutOf p.sizes index.layout
 
 -- no segment was opened after the moment t, which is within its limit, and those of chains stand in the order of their

@@ -1,15 +1,16 @@
 use Rattle.std.proofs.Common.{sym, ◌∙◌}
+use Rattle.std.specs.Prelude.{vec_capacity}
 use Rattle.index.proofs.Rows.{narrow_set, wide_set}
 use Rattle.index.proofs.slots.Slots.set_word.Goals as goal
 
 pub returns-then-is_narrow : goal.returns-then-is_narrow
 returns-then-is_narrow c =
-    rw (← c.self.view_is) (narrow_set c.self.inside.layout c.self.inside.narrow.items c.self.inside.wide.items c.args.at
-    c.args.word
+    rw (← c.self.view_is) (narrow_set c.self.inside.layout c.self.inside.narrow.items c.self.inside.wide.items
+    (vec_capacity c.self.inside.narrow) (vec_capacity c.self.inside.wide) c.args.at c.args.word
     (sym c.is_narrow.ensures ∙ c.if-is_narrow.true))
 
 pub returns-else-is_narrow : goal.returns-else-is_narrow
 returns-else-is_narrow c =
-    rw (← c.self.view_is) (wide_set c.self.inside.layout c.self.inside.narrow.items c.self.inside.wide.items c.args.at
-    c.args.word
+    rw (← c.self.view_is) (wide_set c.self.inside.layout c.self.inside.narrow.items c.self.inside.wide.items
+    (vec_capacity c.self.inside.narrow) (vec_capacity c.self.inside.wide) c.args.at c.args.word
     (sym c.is_narrow.ensures ∙ c.if-is_narrow.false))

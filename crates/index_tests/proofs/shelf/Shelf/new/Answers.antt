@@ -1,9 +1,7 @@
-use Rattle.std.proofs.Common.{◌≡◌, ◌≤◌, ◌*◌, length, ap, ◌∙◌, arith}
-use Rattle.std.proofs.lemmas.List.{length-replicate}
+use Rattle.std.proofs.Common.{◌≡◌, ◌≤◌, ◌*◌, ap, arith}
 use Rattle.segments.specs.Pools.{PoolState}
 use Rattle.segments.specs.Changes.{new_pool}
 use Rattle.index.specs.Keys.{key_at}
-use Rattle.index.specs.Slots.{empty_slot}
 use Rattle.index.specs.Sizing.{most_items}
 use Rattle.index_tests.proofs.shelf.Shelf.new.Goals as goal
 
@@ -11,12 +9,11 @@ pub invariant_of-result : goal.invariant_of-result
 unfolding new_pool
 invariant_of-result c =
     let index = c.in_ok-new-2.field-0 in
-    let long : length index.slots ≡ c.max.result =
-    ap length c.in_ok-new-2.ensures.slots ∙ length-replicate c.max.result empty_slot in
+    let room : index.room ≡ c.max.result = c.in_ok-new-2.ensures.room in
     let enough : 2 * most_items c.args.geometry ≤ c.slots_for.result = c.slots_for.ensures.1 in
     let most = c.max.ensures in (
       (c.in_ok-new-2.ensures.map (key_at c.in_ok-new.field-0)).index,
       ap (λ (p : PoolState). p.sizes) c.in_ok-new.ensures.empty,
-      omega (arith, long, enough, most),
+      omega (arith, room, enough, most),
       rw c.in_ok-new-2.ensures.layout c.layout_for.ensures.sizes,
     )

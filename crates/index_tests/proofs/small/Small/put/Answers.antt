@@ -29,12 +29,10 @@ invariant_of-self-in-None c =
     let added : IsKeyAdded pool c.append.new.self place key =
     key_added pool c.append.new.self _ _ _ place c.geometry.ensures.pool c.in-Ok.ensures.appended in
     let same : IsMap after t (places before t) = keys_agree before after t c.self.invariant.0
-    (λ p h. added.kept p (held_key before t c.self.invariant.0 p h)) in
-    let none : place_at after t key ≡ None =
-    ap (λ m. map.get m key) same.places_are ∙ sym c.look_up-held.ensures.place ∙ c.in-None.is in (
-      (c.insert.ensures.map after same.index added.new none).index,
+    (λ p h. added.kept p (held_key before t c.self.invariant.0 p h)) in (
+      c.put.ensures.map.index,
       stands.sizes ∙ c.self.invariant.1,
-      rw c.insert.ensures.size.layout c.self.invariant.2,
+      rw c.put.ensures.size.layout c.self.invariant.2,
     )
 
 pub invariant_of-self-in-Some : goal.invariant_of-self-in-Some
@@ -53,13 +51,29 @@ invariant_of-self-in-Some c =
       rw c.replace.ensures.size.layout c.self.invariant.2,
     )
 
-pub insert-requires-clause-place : goal.insert-requires-clause-place
-insert-requires-clause-place c =
+pub put-requires-clause-place : goal.put-requires-clause-place
+put-requires-clause-place c =
     let pool = c.self.inside.pool in
     let place = c.in-Ok.place in
     let stands = appended pool _ _ _ c.append.new.self place c.geometry.ensures.pool c.in-Ok.ensures.appended in
     appended_in_layout pool c.append.new.self _ _ _ place c.self.inside.index.layout c.append.ensures.pool stands
     (rw c.self.invariant.1 c.self.invariant.2)
+
+pub put-requires-clause-index : goal.put-requires-clause-index
+put-requires-clause-index c =
+    let pool = c.self.inside.pool in
+    let before : KeysOf = key_at pool in
+    let after : KeysOf = key_at c.append.new.self in
+    let t : Table = c.self.inside.index in
+    let added : IsKeyAdded pool c.append.new.self c.in-Ok.place c.args.key.now =
+    key_added pool c.append.new.self _ _ _ c.in-Ok.place c.geometry.ensures.pool c.in-Ok.ensures.appended in
+    (keys_agree before after t c.self.invariant.0
+    (λ p h. added.kept p (held_key before t c.self.invariant.0 p h))).index
+
+pub put-requires-clause-key : goal.put-requires-clause-key
+put-requires-clause-key c =
+    let pool = c.self.inside.pool in
+    (key_added pool c.append.new.self _ _ _ c.in-Ok.place c.geometry.ensures.pool c.in-Ok.ensures.appended).new
 
 pub replace-requires-clause-target : goal.replace-requires-clause-target
 replace-requires-clause-target c =

@@ -19,15 +19,14 @@ unfolding new_pool
 invariant_of-result c =
     let p = c.in_ok-new.field-0 in
     let sizes : p.sizes ≡ c.args.geometry = ap (λ (q : PoolState). q.sizes) c.in_ok-new.ensures.empty in
-    let len : length c.in_ok-new-2.field-0.slots ≡ c.slots_for.result = ap length c.in_ok-new-2.ensures.slots
-    ∙ length-replicate c.slots_for.result empty_slot in
+    let room : c.in_ok-new-2.field-0.room ≡ c.slots_for.result = c.in_ok-new-2.ensures.room in
     let many = c.slots_for.ensures.1 in
     let marks : c.in_ok-new-3.field-0 ≡ no_marks p.sizes = c.in_ok-new-3.ensures ∙ ap no_marks (sym sizes) in
     record {
       tied = tied_start p c.in_ok-new-2.field-0 c.in_ok-new-3.field-0 c.in_ok-new.ensures.pool marks
           (c.in_ok-new-2.ensures.map (key_at p))
-          (subst (λ (s : Sizes). 2 * (s.segments * (s.segment_size / 32)) ≤ length c.in_ok-new-2.field-0.slots)
-          (sym sizes) (omega (arith, len, many)))
+          (subst (λ (s : Sizes). 2 * (s.segments * (s.segment_size / 32)) ≤ c.in_ok-new-2.field-0.room)
+          (sym sizes) (omega (arith, room, many)))
           (rw (sizes, c.in_ok-new-2.ensures.layout) c.layout_for.ensures.sizes);
       past = past_start p c.args.geometry c.in_ok-new.ensures.empty;
     }

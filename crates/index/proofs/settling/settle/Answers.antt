@@ -1,0 +1,117 @@
+use Rattle.std.proofs.Common.{◌≡◌, ℕ, ◌+◌, ◌*◌, ◌<◌, true, false, List, length, sym, ap, ◌∙◌, arith, subst}
+use Rattle.std.specs.Prelude.{slice_set}
+use Rattle.index.specs.declared.slot.Slot.{Slot}
+use Rattle.index.specs.Layouts.{Row}
+use Rattle.index.specs.Keys.{key_at, KeysOf}
+use Rattle.index.specs.Slots.{is_used, slot_at, distance, behind, empty_slot, used_in, AreUsedUpTo}
+use Rattle.index.specs.Settling.{IsFirstStop}
+use Rattle.index.specs.Table.{hashing, Hashing}
+use Rattle.index.proofs.Emptying.{homes_in_row}
+use Rattle.index.proofs.Settled.{IsStep, step_stays, step_moves, run_ends, spread, gap_index}
+use Rattle.index.proofs.settling.settle.Goals as goal
+use Rattle.index.proofs.settling.settle.Goals.{then-gap-at, else-gap-at}
+
+-- how the keys are hashed
+abbrev hashing_of : goal.After-behind-at → Hashing
+hashing_of c = hashing c.args.count c.args.slots.now.layout c.args.hasher
+
+-- what an iteration does
+step : (c : goal.After-behind-at)
+    → IsStep (hashing_of c) (key_at c.args.pool.now) c.run.slots.slots c.if-gap-at.slots.slots c.run.at
+step c =
+    let h : Hashing = hashing_of c in
+    let keys : KeysOf = key_at c.args.pool.now in
+    let slots : List Slot = c.run.slots.slots in
+    let at = c.run.at in
+    let inv = c.run.invariant in
+    let len = inv.len in
+    let range = inv.at_range in
+    let r : at < length slots = omega (arith, range, len) in
+    let same = inv.used in
+    let gap_left = c.requires.gap in
+    let less : used_in slots < length slots = omega (arith, same, len, gap_left) in
+    let used : is_used (slot_at slots at) ≡ true =
+    ap is_used (sym c.get.ensures) ∙ sym c.is_used.ensures ∙ c.run-test.true in
+    let f = inv.near.each at r used in
+    let home_is : c.home_at-home.result ≡ h.home f.0 =
+    rw f.1.of_key at (rw c.get-in-run.ensures at c.home_at-home.ensures.value) in
+    let stop : IsFirstStop slots (h.home f.0) at c.first_gap_before-gap.result =
+    rw home_is at c.first_gap_before-gap.ensures in
+    elim c.if-gap-at.branch [
+      | then-gap-at w ↦
+          let count = c.requires.count in
+          let in_row : (k : List ℕ) → h.home k < length slots =
+          λ k. (let b = homes_in_row c.args.count c.args.slots.now.layout c.args.hasher c.requires.some k in
+          omega (arith, b, count, len)) in
+          let slots_are : c.if-gap-at.slots.slots
+          ≡ slice_set (slice_set slots c.first_gap_before-gap.result (slot_at slots at)) at empty_slot =
+          ap (λ (r : Row). r.slots) (w.slots-is ∙ w.empty.ensures)
+          ∙ ap (λ (r : Row). slice_set r.slots at empty_slot) w.copy.ensures in
+          step_moves h keys slots c.if-gap-at.slots.slots at c.first_gap_before-gap.result f.0 inv.near r used less in_row
+          f.1.of_key stop w.if-gap-at.true slots_are
+      | else-gap-at w ↦
+          let up : AreUsedUpTo slots (h.home f.0) at =
+          subst (λ (x : ℕ). AreUsedUpTo slots (h.home f.0) x) w.if-gap-at.false stop.up_to in
+          subst (λ (l : Row). IsStep h keys slots l.slots at) (sym w.slots-is)
+          (step_stays h keys slots at f.0 inv.near r used less f.1.of_key up)
+    ]
+
+-- the layout and the room stay
+kept : (c : goal.After-behind-at)
+    → (c.if-gap-at.slots.layout ≡ c.args.slots.now.layout) × (c.if-gap-at.slots.room ≡ c.args.slots.now.room)
+kept c =
+    elim c.if-gap-at.branch [
+      | then-gap-at w ↦ (
+        ap (λ (r : Row). r.layout) (w.slots-is ∙ w.empty.ensures) ∙ ap (λ (r : Row). r.layout) w.copy.ensures
+            ∙ c.run.invariant.layout,
+        ap (λ (r : Row). r.room) (w.slots-is ∙ w.empty.ensures) ∙ ap (λ (r : Row). r.room) w.copy.ensures
+            ∙ c.run.invariant.room,
+      )
+      | else-gap-at w ↦ (
+        ap (λ (r : Row). r.layout) w.slots-is ∙ c.run.invariant.layout,
+        ap (λ (r : Row). r.room) w.slots-is ∙ c.run.invariant.room,
+      )
+    ]
+
+pub run-smaller : goal.run-smaller
+run-smaller c =
+    let s = step c in
+    let n = length c.args.slots.now.slots in
+    let len = c.run.invariant.len in
+    let next : c.behind-at.result ≡ behind n c.run.at =
+    c.behind-at.ensures.value ∙ ap (λ (m : ℕ). behind m c.run.at) (c.len.ensures ∙ s.len ∙ len) in
+    let falls = subst (λ (m : ℕ). spread (hashing_of c) (key_at c.args.pool.now) m 0 c.if-gap-at.slots.slots * m
+    + distance m (behind m c.run.at) (gap_index c.if-gap-at.slots.slots)
+    < spread (hashing_of c) (key_at c.args.pool.now) m 0 c.run.slots.slots * m
+    + distance m c.run.at (gap_index c.run.slots.slots)) len s.falls in
+    rw next falls
+
+pub run-preserved : goal.run-preserved
+run-preserved c =
+    let s = step c in
+    let inv = c.run.invariant in
+    let next : c.behind-at.result ≡ behind (length c.run.slots.slots) c.run.at =
+    c.behind-at.ensures.value ∙ ap (λ (m : ℕ). behind m c.run.at) (c.len.ensures ∙ s.len) in
+    let range = c.behind-at.ensures.in_range in
+    let long = c.len.ensures in
+    let len = s.len in
+    let was = inv.len in
+    record {
+      at_range = omega (arith, range, long, len, was);
+      near = rw next s.near;
+      places = s.places ∙ inv.places;
+      used = s.used ∙ inv.used;
+      layout = (kept c).0;
+      room = (kept c).1;
+      len = s.len ∙ inv.len;
+    }
+
+pub returns-clause-indexed : goal.returns-clause-indexed
+returns-clause-indexed c =
+    let inv = c.run.invariant in
+    let len = inv.len in
+    let range = inv.at_range in
+    let ended : is_used (slot_at c.run.slots.slots c.run.at) ≡ false =
+    ap is_used (sym c.get.ensures) ∙ sym c.is_used.ensures ∙ c.run-test.false in
+    run_ends (hashing c.args.count c.args.slots.now.layout c.args.hasher) (key_at c.args.pool.now) c.run.slots.slots c.run.at
+    inv.near (omega (arith, range, len)) ended

@@ -1,0 +1,61 @@
+//! Rows that get longer, a slot at a time.
+
+ghost use Rattle.std.specs.Prelude.{◌≡◌, ◌⊎◌, ◌+◌, ◌*◌, ◌<◌, ◌≤◌, length};
+ghost use Rattle.index.specs.Keys.{key_at};
+ghost use Rattle.index.specs.Slots.{used_in};
+ghost use Rattle.index.specs.Table.{hashing, AreIndexed, places_in};
+
+use crate::hash::split_home;
+use crate::settling::settle;
+use crate::slots::Slots;
+use segments::Pool;
+use std::hash::FoldHasher;
+
+/// How many slots a row gets at most where a key is added: more than two, so that it is always at most half full.
+const MOST_AT_ONCE: usize = 3;
+
+/// Up to how many slots for each key a row grows.
+const SLOTS_FOR_EACH: usize = 3;
+
+/// Gives a row one slot more. The keys move that had gone over the end, and those of one home that have another one now.
+fn grow(slots: &mut Slots, hasher: FoldHasher, pool: &Pool)
+    requires room { length slots.old.slots < slots.old.room }
+    requires gap { used_in slots.old.slots < length slots.old.slots }
+    requires indexed { AreIndexed (hashing (length slots.old.slots) slots.old.layout hasher) (key_at pool.now) slots.old.slots }
+    ensures indexed { AreIndexed (hashing (length slots.new.slots) slots.old.layout hasher) (key_at pool.now) slots.new.slots }
+    ensures places { places_in (key_at pool.now) slots.new.slots ≡ places_in (key_at pool.now) slots.old.slots }
+    ensures used { used_in slots.new.slots ≡ used_in slots.old.slots }
+    ensures layout { slots.new.layout ≡ slots.old.layout }
+    ensures room { slots.new.room ≡ slots.old.room }
+    ensures count { length slots.new.slots ≡ length slots.old.slots + 1 }
+{
+    let count = slots.len();
+    slots.push();
+    settle(slots, 0, count, hasher, pool);
+    let more = slots.len();
+    settle(slots, split_home(count), more, hasher, pool);
+}
+
+/// Makes a row longer for so many keys, while it has fewer slots than they ask for and than there is room for.
+pub fn grow_for(slots: &mut Slots, keys: usize, hasher: FoldHasher, pool: &Pool)
+    requires room { 2 * keys ≤ slots.old.room }
+    requires half { 2 * keys ≤ length slots.old.slots + 2 }
+    requires within { length slots.old.slots ≤ slots.old.room }
+    requires keys { used_in slots.old.slots + 1 ≡ keys }
+    requires indexed { AreIndexed (hashing (length slots.old.slots) slots.old.layout hasher) (key_at pool.now) slots.old.slots }
+    requires gap { used_in slots.old.slots < length slots.old.slots }
+    ensures half { 2 * keys ≤ length slots.new.slots }
+    ensures within { length slots.new.slots ≤ slots.new.room }
+    ensures few { (length slots.new.slots ≡ length slots.old.slots) ⊎ (length slots.new.slots ≤ 3 * keys) }
+    ensures indexed { AreIndexed (hashing (length slots.new.slots) slots.old.layout hasher) (key_at pool.now) slots.new.slots }
+    ensures places { places_in (key_at pool.now) slots.new.slots ≡ places_in (key_at pool.now) slots.old.slots }
+    ensures used { used_in slots.new.slots ≡ used_in slots.old.slots }
+    ensures layout { slots.new.layout ≡ slots.old.layout }
+    ensures room { slots.new.room ≡ slots.old.room }
+{
+    let mut left = MOST_AT_ONCE;
+    while left > 0 && slots.len() < slots.room() && slots.len() / SLOTS_FOR_EACH < keys {
+        grow(slots, hasher, pool);
+        left -= 1;
+    }
+}

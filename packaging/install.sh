@@ -1,6 +1,7 @@
 #!/usr/bin/env bash
-# Puts the program, its man page, completion, unit and documents below PREFIX (/usr/local), or takes them away again; DESTDIR goes
-# before each place. `make install`, `make uninstall` and the Debian package call it. Usage: install.sh put|remove.
+# Puts the program, its man page, completion, unit and documents below PREFIX (/usr/local), or takes them away again;
+# DESTDIR goes before each place. `make install`, `make uninstall` and the Debian package call it. Usage: install.sh
+# put|remove.
 set -eu
 cd "$(dirname "$0")/.."
 prefix=${PREFIX:-/usr/local}

@@ -1,11 +1,12 @@
 #!/usr/bin/env python3
-"""Writes and checks the record of what the built segcached was proved from: crates/segcached/out/PROVED, beside the program.
+"""Writes and checks the record of what the built segcached was proved from: crates/segcached/out/PROVED.
 
-    tools/proved.py write [--log FILE]   after a proved build; --log takes what was said of each crate from the output of `rt ci`
+    tools/proved.py write [--log FILE]   after a proved build, or after `rt ci`, whose output FILE is
     tools/proved.py check [PROGRAM]      ends with a line and status 1 where the program can't be packaged
 
-The record holds for one program, by its sha256, and for one state of the repository's files, by the sum that git gives them. Without
-a log, what the prover said of a crate is what was kept beside its proof; where nothing is kept, `rt check` says it again.
+The record holds for one program, by its sha256, and for one state of the repository's files, by the sum that git gives
+them. Without a log, what the prover said of a crate is what was kept beside its proof; where nothing is kept,
+`rt check` says it again.
 """
 import argparse
 import hashlib
@@ -26,7 +27,8 @@ class Trouble(Exception):
 
 
 def output_of(*words, folder=TOP, **variables):
-    ran = subprocess.run(words, cwd=folder, env={**os.environ, **variables}, capture_output=True, text=True, check=False)
+    variables = {**os.environ, **variables}
+    ran = subprocess.run(words, cwd=folder, env=variables, capture_output=True, text=True, check=False)
     if ran.returncode:
         raise Trouble(f"{' '.join(words)} failed: {(ran.stderr or ran.stdout).strip()[-300:]}")
     return ran.stdout.strip()
@@ -107,7 +109,8 @@ def write(log):
 
 
 def check(program):
-    record = dict(line.split(": ", 1) for line in text_of(f"{os.path.dirname(program)}/PROVED").splitlines() if ": " in line)
+    lines = text_of(f"{os.path.dirname(program)}/PROVED").splitlines()
+    record = dict(line.split(": ", 1) for line in lines if ": " in line)
     if not record or not os.path.exists(program):
         raise Trouble("no program was built with proofs: run tools/build.sh")
     if record["program"] != sum_of_program(program):

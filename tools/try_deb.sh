@@ -1,8 +1,9 @@
 #!/usr/bin/env bash
-# The package, tried: it is made of the proved program alone, lintian finds no error in it, it needs the C library alone, and the unit is
-# tight. A clean root, made by Debian's tools, takes it; its user serves from there; and nothing is left once it has gone. Then
-# `make install` and `make uninstall`, and the completion. Usage: try_deb.sh [LOG], where LOG is what `rt ci` said of the program's
-# crates, of which the record of the proofs is then written. The last line is 'N passed, M failed'.
+# The package, tried: it is made of the proved program alone, lintian finds no error in it, it needs the C library
+# alone, and the unit is tight. A clean root, made by Debian's tools, takes it; its user serves from there; and nothing
+# is left once it has gone. Then `make install` and `make uninstall`, and the completion. Usage: try_deb.sh [LOG], where
+# LOG is what `rt ci` said of the program's crates, of which the record of the proofs is then written. The last line is
+# 'N passed, M failed'.
 set -u
 cd "$(dirname "$0")/.."
 program=crates/segcached/out/segcached
@@ -35,15 +36,19 @@ part() {
   fi
 }
 
-# A program with another byte, and one that no record stands beside, are refused, each with one line.
+is_refused_with_a_line() {
+  ! python3 tools/proved.py check "$1" 2>"$work/lines" && [ "$(wc -l <"$work/lines")" -eq 1 ]
+}
+
+# A program that no record stands beside, and one with another byte.
 refuses_other_programs() {
   mkdir "$work/other"
   cp $program "$work/other"
-  ! python3 tools/proved.py check "$work/other/segcached" 2>"$work/lines" && [ "$(wc -l <"$work/lines")" -eq 1 ] || return 1
+  is_refused_with_a_line "$work/other/segcached" || return 1
   cp crates/segcached/out/PROVED "$work/other"
   python3 tools/proved.py check "$work/other/segcached" || return 1
   echo >>"$work/other/segcached"
-  ! python3 tools/proved.py check "$work/other/segcached" 2>"$work/lines" && [ "$(wc -l <"$work/lines")" -eq 1 ]
+  is_refused_with_a_line "$work/other/segcached"
 }
 
 makes_package() {
@@ -61,13 +66,14 @@ has_tight_unit() {
 }
 
 makes_clean_root() {
-  mmdebstrap --variant=essential --include=passwd --dpkgopt=force-unsafe-io --dpkgopt='path-exclude=/usr/share/locale/*' \
-    "$(. /etc/os-release && echo "$VERSION_CODENAME")" "$root"
+  mmdebstrap --variant=essential --include=passwd --dpkgopt=force-unsafe-io \
+    --dpkgopt='path-exclude=/usr/share/locale/*' "$(. /etc/os-release && echo "$VERSION_CODENAME")" "$root"
 }
 
 # All files of the root but what dpkg and useradd keep for themselves: a database, a log, and the former lists of users.
 list_files() {
-  find "$root" -xdev \( -path "$root/var/lib/dpkg" -o -path "$root/var/log" -o -path "$root/etc/*-" \) -prune -o -printf '%P %M %u %s\n' | sort
+  find "$root" -xdev \( -path "$root/var/lib/dpkg" -o -path "$root/var/log" -o -path "$root/etc/*-" \) -prune \
+    -o -printf '%P %M %u %s\n' | sort
 }
 
 installs() {
@@ -75,15 +81,19 @@ installs() {
   cp "$work/segcached.deb" "$root/"
   chroot "$root" dpkg --install /segcached.deb
   rm "$root/segcached.deb"
-  grep -qx "installed: $(sha256sum <"$root/usr/bin/segcached" | cut -d ' ' -f 1) .*" "$root/usr/share/doc/segcached/PROVED"
+  grep -q "^installed: $(sha256sum <"$root/usr/bin/segcached" | cut -d ' ' -f 1) " \
+    "$root/usr/share/doc/segcached/PROVED"
 }
 
-# The program as installed, as its user and with the service's options, but on any free port. The signal that systemd sends ends it at once.
+# The program as installed, as its user and with the service's options, but on any free port. The signal that systemd
+# sends ends it within a second.
 serves_as_its_user() {
-  local options status=0 began
-  printf '#!/bin/sh\nexec chroot --userspec=segcached:segcached "%s" /usr/bin/segcached "$@"\n' "$root" >"$work/installed"
+  local options status=0 began took
+  printf '#!/bin/sh\nexec chroot --userspec=segcached:segcached "%s" /usr/bin/segcached "$@"\n' "$root" \
+    >"$work/installed"
   chmod +x "$work/installed"
   options=$(sed -n 's/^OPTIONS=--listen 127.0.0.1:11211 //p' "$root/etc/default/segcached")
+  # shellcheck disable=SC2086  # (they are words)
   [ -n "$options" ] && serve_on_free_port "$work/installed" $options || return 1
   [ "$(stat -c %u "/proc/$server")" = "$(chroot "$root" id --user segcached)" ] || return 1
   exec 3<>"/dev/tcp/127.0.0.1/$port"
@@ -93,8 +103,9 @@ serves_as_its_user() {
   began=$(date +%s%N)
   kill -TERM "$server"
   wait "$server" || status=$?
-  echo "ended with status $status after $((($(date +%s%N) - began) / 1000000)) ms"
-  [ $(($(date +%s%N) - began)) -lt 1000000000 ] && { [ $status -eq 0 ] || [ $status -eq $((128 + 15)) ]; }
+  took=$((($(date +%s%N) - began) / 1000000))
+  echo "ended with status $status after $took ms"
+  [ $took -lt 1000 ] && { [ $status -eq 0 ] || [ $status -eq $((128 + 15)) ]; }
 }
 
 # After a removal its options and its user stay, as Debian wants it; after a purge nothing does.
@@ -106,13 +117,14 @@ leaves_nothing() {
 }
 
 installs_and_uninstalls() {
-  make install PREFIX=/opt/cache DESTDIR="$work/installed_here" || return 1
-  "$work/installed_here/opt/cache/bin/segcached" --version
-  grep -q '^ExecStart=/opt/cache/bin/segcached ' "$work/installed_here/opt/cache/lib/systemd/system/segcached.service" || return 1
-  man --warnings --local-file "$work/installed_here/opt/cache/share/man/man1/segcached.1" 2>&1 >/dev/null | grep . && return 1
-  printf 'stats\r\n' | "$work/installed_here/opt/cache/share/doc/segcached/examples/script_of.py" refused - | grep '1 refused of 1 lines' || return 1
-  make uninstall PREFIX=/opt/cache DESTDIR="$work/installed_here" || return 1
-  [ -z "$(find "$work/installed_here" -not -type d)" ]
+  local to=$work/to here=$work/to/opt/cache
+  make install PREFIX=/opt/cache DESTDIR="$to" || return 1
+  "$here/bin/segcached" --version
+  grep -q '^ExecStart=/opt/cache/bin/segcached ' "$here/lib/systemd/system/segcached.service" || return 1
+  man --warnings --local-file "$here/share/man/man1/segcached.1" 2>&1 >/dev/null | grep . && return 1
+  printf 'stats\r\n' | "$here/share/doc/segcached/examples/script_of.py" refused - | grep '1 refused of 1' || return 1
+  make uninstall PREFIX=/opt/cache DESTDIR="$to" || return 1
+  [ -z "$(find "$to" -not -type d)" ]
 }
 
 # Runs the completion as bash does, over words of which the last is to be completed.

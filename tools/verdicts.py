@@ -1,6 +1,7 @@
-"""What rt said of a crate when it was proved, `logic=proved functions=..`, kept beside the proof as crates/NAME/out/verdict.
+"""What rt said of a crate when it was proved, `logic=proved functions=..`, kept as crates/NAME/out/verdict.
 
-rt says it only when it proves, so it is kept with the sum by which rt knows that proof again; another sum, another proof.
+rt says it only when it proves, so it is kept with the sum by which rt knows that proof again; another sum, another
+proof.
 """
 import os
 

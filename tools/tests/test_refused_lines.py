@@ -1,4 +1,4 @@
-"""tools/script_of.py refused: what it says that segcached refuses is what segcached refuses, and memcached's stream is cut as memcached does."""
+"""tools/script_of.py refused: what it says that segcached refuses is what segcached refuses."""
 import random
 import signal
 import socket
@@ -6,11 +6,9 @@ import subprocess
 import sys
 
 import pytest
-from served import TOP, read_to_end
-
-sys.path.insert(0, f"{TOP}/tools")
 import refused_lines
 from refused_lines import BAD_BLOCK, BAD_FORM, BINARY, NO_RETURN, SPACES, TOO_LARGE, TOO_LONG, UNKNOWN
+from served import TOP, read_to_end
 
 TOOL = [sys.executable, f"{TOP}/tools/script_of.py"]
 MEBIBYTE = 1_048_576
@@ -62,7 +60,8 @@ CASES = [
     (b"ms a 2 T0\r\nhi\r\n", UNKNOWN),
     (b"\r\n", UNKNOWN),
 ]
-WORDS = [b"get", b"gets", b"set", b"add", b"cas", b"delete", b"incr", b"flush_all", b"noreply", b"a", b"\x7f", b"", b"0", b"00", b"7", b"-1", b"-0", b"1x"]
+COMMANDS = [b"get", b"gets", b"set", b"add", b"cas", b"delete", b"incr", b"flush_all"]
+WORDS = [*COMMANDS, b"noreply", b"a", b"\x7f", b"", b"0", b"00", b"7", b"-1", b"-0", b"1x"]
 
 
 def said_of(pieces):
@@ -80,13 +79,19 @@ def reason_of(data):
 
 
 def refuses(program, streams, folder):
-    """Whether the program answers each stream, in a session of its own, with an error. A request behind it ends what lacks its end."""
+    """Whether the program answers each stream, and what ends it, in a session of its own with an error."""
     lines = [f"open 0 {n}\nsend 0 {n} {(data + extra).hex()}\n" for n, (data, extra) in enumerate(streams, 1)]
     (folder / "script").write_text("".join(lines))
     words = [program, "replay", "--segment-size", str(MEBIBYTE), str(folder / "script")]
     answers = subprocess.run(words, capture_output=True, check=True, timeout=60).stdout.decode().splitlines()
     texts = [bytes.fromhex(line.split()[2].replace("-", "")) for line in answers]
-    return [any(line.startswith((b"ERROR", b"CLIENT_ERROR", b"SERVER_ERROR")) for line in text.splitlines()) for text in texts]
+    errors = (b"ERROR", b"CLIENT_ERROR", b"SERVER_ERROR")
+    return [any(line.startswith(errors) for line in text.splitlines()) for text in texts]
+
+
+def block_for(line):
+    length = refused_lines.block_length(line)
+    return bytes(length - 2) + b"\r\n" if length else b""
 
 
 @pytest.mark.parametrize(("sent", "why"), CASES)
@@ -103,7 +108,7 @@ def test_the_program_refuses_the_same_of_random_lines(program, tmp_path):
     chosen = random.Random(37)
     lines = [b" ".join(chosen.choices(WORDS, k=chosen.randint(1, 7))) + b"\r\n" for _ in range(3_000)]
     # With the block that a good storage line asks for; behind a bad one the session is closed.
-    streams = [(line, bytes(max(0, refused_lines.block_length(line) - 2)) + b"\r\n" if refused_lines.block_length(line) else b"") for line in lines]
+    streams = [(line, block_for(line)) for line in lines]
     found = [reason_of(line + extra) is not None for line, extra in streams]
     assert found == refuses(program, streams, tmp_path)
     assert 100 < sum(found) < 2_900

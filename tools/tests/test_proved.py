@@ -1,4 +1,7 @@
 """tools/proved.py and tools/verdicts.py: what the record of the proofs takes from the gate's log, and from what was kept."""
+import subprocess
+
+import machine
 import proved
 import verdicts
 
@@ -35,3 +38,9 @@ def test_what_was_kept_holds_for_that_proof_alone(tmp_path):
     assert verdicts.kept_verdict(tmp_path) == "logic=proved functions=7"
     stamp.write_text("b" * 64)
     assert verdicts.kept_verdict(tmp_path) == ""
+
+
+def test_the_program_names_its_version_and_the_kit_that_it_is_proved_with(program):
+    lines = subprocess.run([program, "--version"], capture_output=True, text=True, check=True).stdout.splitlines()
+    assert lines[0].startswith("segcached ")
+    assert lines[1] == f"proved with {machine.kit()}"

@@ -138,7 +138,7 @@ fn with_workers<'a>(
 fn with_segments<'a>(alloc: Global, command: Command<'a>) -> Result<Command<'a>, AllocError> {
     let size = "Bytes of a segment, a power of two from 4096 to 1048576";
     let count =
-        "Number of segments, 8 to 65536. What is set without a life is sure to stay while all that is written takes no more than 7/8 of all segments but one";
+        "Number of segments, 8 to 65536. Where no request sets a life, all is sure to stay while what was written takes no more than 7/8 of all segments but one";
     command
         .arg(ranged(alloc, "segment-size", "BYTES", size, 4096, 1_048_576).default_value("65536"))?
         .arg(ranged(alloc, "segments", "COUNT", count, 8, 65_536).default_value("64"))

@@ -1,5 +1,6 @@
 -- Keys that are put where their searches find them, one after the other along a run.
-use Rattle.std.proofs.Common.{◌≡◌, ◌≢◌, ℕ, zero, suc, ◌+◌, ◌*◌, ◌<◌, true, false, cond, List, [], ◌∷◌, length, refl, sym, ap, ◌∙◌, inl, inr, ◌⊎◌, arith, Some, subst}
+use Rattle.std.proofs.Common.{◌≡◌, ◌≢◌, ℕ, zero, suc, ◌+◌, ◌*◌, ◌<◌, true, false, cond, List, [], ◌∷◌}
+use Rattle.std.proofs.Common.{length, refl, sym, ap, ◌∙◌, inl, inr, ◌⊎◌, arith, Some, subst}
 use Rattle.std.proofs.Common.{get_or-set_same, get_or-set_other, length-set}
 use Rattle.std.specs.Prelude.{slice_set, if◌then◌else◌}
 use Rattle.std.specs.Option.{option_map_or}
@@ -13,7 +14,8 @@ use Rattle.index.specs.Keys.{KeysOf}
 use Rattle.index.specs.Slots.{is_used, place_of, slot_at, used_in, empty_slot, distance, behind, AreUsedUpTo}
 use Rattle.index.specs.Settling.{IsNear, AreNear, IsFirstStop}
 use Rattle.index.specs.Table.{Hashing, AreIndexed, places_in}
-use Rattle.index.proofs.Rounds.{distance_once, distance_itself, distance_below, behind_below, distance_add, distance_sum, distance_next, distance_last, distance_apart}
+use Rattle.index.proofs.Rounds.{distance_once, distance_itself, distance_below, behind_below, distance_add}
+use Rattle.index.proofs.Rounds.{distance_sum, distance_next, distance_last, distance_apart}
 use Rattle.index.proofs.Finding.{IsGap}
 use Rattle.index.proofs.Mapping.{Stands, same_places, stands_from_get, get_from_stands}
 

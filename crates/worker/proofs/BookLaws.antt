@@ -1,5 +1,6 @@
 -- The book's laws that its proofs don't name.
-use Rattle.std.proofs.Common.{◌≡◌, ℕ, true≢false, cond, List, [], ◌++◌, take, drop, refl, sym, ap, ◌∙◌, append_assoc, append-nil, take-append-drop, Option}
+use Rattle.std.proofs.Common.{◌≡◌, ℕ, true≢false, cond, List, [], ◌++◌, take, drop, refl, sym, ap, ◌∙◌}
+use Rattle.std.proofs.Common.{append_assoc, append-nil, take-append-drop, Option}
 use Rattle.std.proofs.Common.{Some, None, is_some}
 use Rattle.std.specs.List.{concat}
 use Rattle.proto.specs.declared.message.Reply.{Reply}

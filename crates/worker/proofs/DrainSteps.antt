@@ -1,5 +1,6 @@
 -- How it is found that a worker has drained.
-use Rattle.std.proofs.Common.{◌≡◌, ◌≢◌, ℕ, ◌+◌, ◌<◌, List, [], length, drop, map, refl, sym, ap, ◌∙◌, append-nil, arith, Option, Some, None, get_or, ◌⊎◌, inl}
+use Rattle.std.proofs.Common.{◌≡◌, ◌≢◌, ℕ, ◌+◌, ◌<◌, List, [], length, drop, map, refl, sym, ap, ◌∙◌}
+use Rattle.std.proofs.Common.{append-nil, arith, Option, Some, None, get_or, ◌⊎◌, inl}
 use Rattle.std.proofs.Common.{inr, ⊎_elim}
 use Rattle.std.proofs.Math.ListN.{drop_of_length-le}
 use Rattle.proto.specs.declared.history.Posted.{Posted}

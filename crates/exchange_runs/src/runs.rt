@@ -7,8 +7,8 @@ ghost use Rattle.exchange_runs.specs.Serving.{HasTakenNothing};
 
 use crate::caller::{Caller, CallingWorker, Workload};
 use crate::serving::serve_queues;
-use exchange::{ParkingWord, StorageSignals};
 use engine::PlainStore;
+use exchange::{ParkingWord, StorageSignals};
 use proto::Geometry;
 use queue_exchange::StorageEnd;
 use std::alloc::{AllocError, Global};
@@ -101,7 +101,13 @@ pub fn run_lanes<R: Threads + Wait + time::Clock + Sync>(
     let (ends, storage) = exchange::make(alloc, workers, geometry).ok()?;
     let players = players(alloc, ends, load).ok()?;
     let signals = StorageSignals::new(alloc, FoldHasher::default(), workers).ok()?;
-    Some(play_lanes(rt, PlainStore::new(alloc, geometry), &signals, players, storage))
+    Some(play_lanes(
+        rt,
+        PlainStore::new(alloc, geometry),
+        &signals,
+        players,
+        storage,
+    ))
 }
 
 fn batched(
@@ -127,7 +133,13 @@ pub fn run_batches<R: Threads + Wait + time::Clock + Sync>(
     let ends = batched(alloc, ends).ok()?;
     let players = players(alloc, ends, load).ok()?;
     let signals = StorageSignals::new(alloc, FoldHasher::default(), workers).ok()?;
-    Some(play_lanes(rt, PlainStore::new(alloc, geometry), &signals, players, storage))
+    Some(play_lanes(
+        rt,
+        PlainStore::new(alloc, geometry),
+        &signals,
+        players,
+        storage,
+    ))
 }
 
 // The players, each in a thread, beside the storage loop of the queues.

@@ -132,7 +132,10 @@ pub fn start_storage<
         clock: Snapshot::of(&clock),
         end: Snapshot::of(&end),
     };
-    match scope.spawn_with(promise, move || serve(rt, start, store, clock, end, signals)) {
+    match scope.spawn_with(
+        promise,
+        move || serve(rt, start, store, clock, end, signals),
+    ) {
         Ok(handle) => Ok(handle),
         Err(_) => Err(GroupFault::NoThread),
     }

@@ -295,7 +295,8 @@ impl Session {
     /// Whether the output is to be given now: little output waits for the answers that are outstanding, and for the
     /// input that is left to be read.
     pub fn is_worth_giving(&self, ready: &Ready) -> bool {
-        self.output.len() >= WORTH_GIVING || (self.queue.is_empty() && !ready.is_asking(&self.places))
+        self.output.len() >= WORTH_GIVING
+            || (self.queue.is_empty() && !ready.is_asking(&self.places))
     }
 }
 

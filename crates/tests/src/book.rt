@@ -35,13 +35,7 @@ fn check_output(rt: &impl Abort, player: &Player, session: u64, output: &str) {
     );
 }
 
-fn check_received(
-    rt: &impl Abort,
-    book: &mut Book,
-    session: u64,
-    piece: Bytes,
-    wanted: Received,
-) {
+fn check_received(rt: &impl Abort, book: &mut Book, session: u64, piece: Bytes, wanted: Received) {
     let length = piece.len();
     let received = book.receive(session, piece);
     assert_eq!(rt; received, wanted, "{length} bytes for session {session}");
@@ -77,7 +71,13 @@ fn holds_so_much_input(rt: HostRuntime) -> Result<(), Fail> {
         check_received(&rt, &mut book, 1, piece, Received::Fed);
     }
     check_received(&rt, &mut book, 1, Bytes::from_static(b"k"), Received::Held);
-    check_received(&rt, &mut book, 2, Bytes::from_static(b"k"), Received::Unknown);
+    check_received(
+        &rt,
+        &mut book,
+        2,
+        Bytes::from_static(b"k"),
+        Received::Unknown,
+    );
     Ok(())
 }
 

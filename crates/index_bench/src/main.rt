@@ -97,12 +97,7 @@ fn time_fill<R: Clock>(rt: &R, shelf: &mut Shelf, value: &[u8], count: u64) -> R
 }
 
 /// The longest of so many writes.
-fn longest_put<R: Clock>(
-    rt: &R,
-    shelf: &mut Shelf,
-    value: &[u8],
-    count: u64,
-) -> Result<Duration> {
+fn longest_put<R: Clock>(rt: &R, shelf: &mut Shelf, value: &[u8], count: u64) -> Result<Duration> {
     let mut longest = Duration::from_nanos(0);
     for n in 0..count {
         let start = Instant::now(rt)?;
@@ -166,7 +161,8 @@ fn find<R: Print + Eprint + Clock>(
     let strangers = time_look_up(rt, shelf, count, count, rounds)?;
     let deletes = time_delete(rt, shelf, count)?;
     println!(rt;
-        "found {}, strangers {}, deleted {}", hits.done, strangers.done, deletes.done
+        "found {}, strangers {}, deleted {}",
+        hits.done, strangers.done, deletes.done
     )?;
     eprintln!(rt;
         "tenths of ns: hit {}, miss {}, look up and remove {}",
@@ -199,7 +195,9 @@ fn longest<R: Eprint + Clock>(rt: &R, shelf: &mut Shelf, value: &[u8], count: u6
     let put = longest_put(rt, shelf, value, count)?;
     let clear = time_clear(rt, shelf)?;
     eprintln!(rt;
-        "{count} keys, ns: longest write {}, clear {}", put.as_nanos(), clear.as_nanos()
+        "{count} keys, ns: longest write {}, clear {}",
+        put.as_nanos(),
+        clear.as_nanos()
     )?;
     Ok(())
 }
@@ -216,7 +214,7 @@ fn run_longest<R: Eprint + Clock>(rt: &R, alloc: Global, load: Load) -> Result<(
     longest(rt, &mut shelf, &value, load.count)
 }
 
-fn load(count: u64, value_length: usize, segment_size: u32, segments: u32) -> Load {
+fn load_of(count: u64, value_length: usize, segment_size: u32, segments: u32) -> Load {
     Load {
         count,
         value_length,
@@ -228,9 +226,9 @@ fn load(count: u64, value_length: usize, segment_size: u32, segments: u32) -> Lo
 /// Items that nearly fill their segments, and far fewer than go into them.
 fn loads() -> [Load; 3] {
     [
-        load(31_000, 96, 65_536, 64),
-        load(131_000, 0, 65_536, 64),
-        load(100_000, 96, 1_048_576, 512),
+        load_of(31_000, 96, 65_536, 64),
+        load_of(131_000, 0, 65_536, 64),
+        load_of(100_000, 96, 1_048_576, 512),
     ]
 }
 

@@ -1,8 +1,8 @@
 //! A storage thread for which nothing comes.
 
+use engine::PlainStore;
 use exchange::{StorageSignals, make};
 use exchange_runs::Stopped;
-use engine::PlainStore;
 use proto::Geometry;
 use std::alloc::Global;
 use std::hash::FoldHasher;

@@ -17,20 +17,6 @@ use std::process::ExitCode;
 use std::sync::Wait;
 use std::thread::Threads;
 use std::{env, fs, time};
-use thiserror::Error;
-
-/// Why the program failed; its text is the line that is printed.
-#[derive(Debug, Drop, Error)]
-enum Fault {
-    #[error(transparent)]
-    Replay(#[from] replay::Fault),
-    #[error(transparent)]
-    Serve(#[from] serving::Fault),
-    #[error("fault: cannot write")]
-    CannotWrite,
-    #[error("fault: out of memory")]
-    NoMemory,
-}
 
 /// Replays the script in the file that the options name, with these threads.
 fn replay_file<H: Threads + Wait + Sync>(

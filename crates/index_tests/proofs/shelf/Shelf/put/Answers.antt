@@ -1,4 +1,4 @@
-use Rattle.std.proofs.Common.{◌≡◌, ◌+◌, ◌*◌, ◌≤◌, sym, ap, subst, ◌∙◌, arith}
+use Rattle.std.proofs.Common.{◌≡◌, ◌+◌, ◌≤◌, sym, ap, subst, arith}
 use Rattle.segments.specs.Pools.{PoolState}
 use Rattle.segments.proofs.Places.{appended}
 use Rattle.index.specs.Keys.{key_at, KeysOf, IsKeyAdded}

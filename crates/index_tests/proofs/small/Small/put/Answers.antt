@@ -1,9 +1,8 @@
-use Rattle.std.proofs.Common.{◌≡◌, None, sym, ap, subst, ◌∙◌}
-use Rattle.std.specs.FinMap as map
+use Rattle.std.proofs.Common.{◌≡◌, sym, subst, ◌∙◌}
 use Rattle.segments.specs.Pools.{PoolState}
 use Rattle.segments.proofs.Places.{appended}
 use Rattle.index.specs.Keys.{key_at, KeysOf, IsKeyAdded}
-use Rattle.index.specs.Table.{Table, IsMap, IsIndex, places, place_at}
+use Rattle.index.specs.Table.{Table, IsMap, IsIndex, places}
 use Rattle.index.proofs.Agreeing.{keys_agree, held_key}
 use Rattle.index.proofs.PoolKeys.{key_added}
 use Rattle.index.proofs.InLayout.{appended_in_layout}

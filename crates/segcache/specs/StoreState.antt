@@ -2,6 +2,7 @@
 use Rattle.proto.specs.Sizes.{Sizes}
 use Rattle.proto.specs.Cache.{Cache}
 use Rattle.std.specs.Prelude.{ℕ, List}
+use Rattle.std.specs.declared.hash.FoldHasher.{FoldHasher}
 use Rattle.engine.specs.declared.commands.Engine.{Engine}
 use Rattle.engine.specs.Engines.{cache_in}
 use Rattle.segcache.specs.declared.segment_map.SegmentMap.{SegmentMap}
@@ -12,6 +13,13 @@ use Rattle.segcache.specs.Keeping.{KeepsStored}
 -- the sizes that it was made for
 abbrev pub sizes_in : Engine SegmentMap → Sizes
 sizes_in engine = engine.map.pool.sizes
+
+-- how many slots of the index memory was taken for, and what is hashed before each key
+abbrev pub slots_in : Engine SegmentMap → ℕ
+slots_in engine = engine.map.index.room
+
+abbrev pub hasher_in : Engine SegmentMap → FoldHasher
+hasher_in engine = engine.map.index.hasher
 
 -- the entries that were live at the last moment, the last cas number and the pending flush
 abbrev pub segmented_cache : Engine SegmentMap → Cache

@@ -1,6 +1,9 @@
 //! The map of live entries that stand in segments.
 
-ghost use Rattle.std.specs.Prelude.{◌≡◌, ◌≤◌, ◌<◌, [], false, IfOk, IsSome};
+ghost use Rattle.std.specs.Prelude.{◌≡◌, ◌≤◌, ◌<◌, ◌*◌, [], false, IfOk, IsSome};
+ghost use Rattle.std.specs.Int.{IsNextPowerOfTwo};
+ghost use Rattle.index.specs.Keys.{seeded};
+ghost use Rattle.index.specs.Sizing.{most_items};
 ghost use Rattle.proto.specs.Cache.{no_entries};
 ghost use Rattle.proto.specs.Buckets.{time_to_live};
 ghost use Rattle.segments.specs.Pools.{item_in, place_deadline};
@@ -73,6 +76,8 @@ impl SegmentMap {
         ensures entries { IfOk result (λ m. shown_entries m.pool m.index m.moment ≡ no_entries) }
         ensures moment { IfOk result (λ m. m.moment ≡ 0) }
         ensures keeps { IfOk result (λ m. KeepsStored m []) }
+        ensures slots { IfOk result (λ m. IsNextPowerOfTwo (2 * most_items geometry) m.index.room) }
+        ensures seed { IfOk result (λ m. m.index.hasher ≡ seeded seed) }
     {
         Ok(SegmentMap {
             pool: Pool::new(alloc, geometry)?,

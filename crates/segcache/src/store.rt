@@ -1,12 +1,15 @@
 //! The cache over segments.
 
-ghost use Rattle.std.specs.Prelude.{◌≡◌, ◌≢◌, ◌≤◌, [], IfOk, false};
+ghost use Rattle.std.specs.Prelude.{◌≡◌, ◌≢◌, ◌≤◌, ◌*◌, [], IfOk, false};
+ghost use Rattle.std.specs.Int.{IsNextPowerOfTwo};
+ghost use Rattle.index.specs.Keys.{seeded};
+ghost use Rattle.index.specs.Sizing.{most_items};
 ghost use Rattle.proto.specs.Cache.{empty_cache, found_at};
 ghost use Rattle.proto.specs.Steps.{Step};
 ghost use Rattle.proto.specs.History.{max_moment};
 ghost use Rattle.engine.specs.Outcomes.{outcome_at, needs_memory};
 ghost use Rattle.engine.specs.Keeping.{KeepsAll};
-ghost use Rattle.segcache.specs.StoreState.{sizes_in, segmented_cache, last_moment, keeps_stored};
+ghost use Rattle.segcache.specs.StoreState.{sizes_in, segmented_cache, last_moment, keeps_stored, slots_in, hasher_in};
 ghost use Rattle.segcache.specs.Handling.{HandlesSegments};
 ghost use Rattle.segcache.specs.StayingFilled.{StaysFilled};
 
@@ -32,6 +35,7 @@ impl Store {
         ensures cache { IfOk result (λ s. segmented_cache s.engine ≡ empty_cache 0) }
         ensures moment { IfOk result (λ s. last_moment s.engine ≡ 0) }
         ensures keeps { IfOk result (λ s. keeps_stored s.engine []) }
+        ensures slots { IfOk result (λ s. IsNextPowerOfTwo (2 * most_items geometry) (slots_in s.engine)) }
     {
         Store::starting(alloc, geometry, 0)
     }
@@ -42,6 +46,7 @@ impl Store {
         ensures cache { IfOk result (λ s. segmented_cache s.engine ≡ empty_cache last_cas) }
         ensures moment { IfOk result (λ s. last_moment s.engine ≡ 0) }
         ensures keeps { IfOk result (λ s. keeps_stored s.engine []) }
+        ensures slots { IfOk result (λ s. IsNextPowerOfTwo (2 * most_items geometry) (slots_in s.engine)) }
     {
         Store::seeded(alloc, geometry, last_cas, SEED)
     }
@@ -57,6 +62,8 @@ impl Store {
         ensures cache { IfOk result (λ s. segmented_cache s.engine ≡ empty_cache last_cas) }
         ensures moment { IfOk result (λ s. last_moment s.engine ≡ 0) }
         ensures keeps { IfOk result (λ s. keeps_stored s.engine []) }
+        ensures slots { IfOk result (λ s. IsNextPowerOfTwo (2 * most_items geometry) (slots_in s.engine)) }
+        ensures seed { IfOk result (λ s. hasher_in s.engine ≡ seeded seed) }
     {
         let map = SegmentMap::new(alloc, geometry, seed)?;
         Ok(Store {
@@ -80,7 +87,7 @@ impl Store {
 }
 
 impl StorageEngine for Store {
-    ghost use Rattle.segcache.specs.StoreState.{sizes_in, segmented_cache, last_moment, keeps_stored};
+    ghost use Rattle.segcache.specs.StoreState.{sizes_in, segmented_cache, last_moment, keeps_stored, slots_in, hasher_in};
 
     ghost sizes = { λ s. sizes_in s.engine };
 

@@ -1,10 +1,8 @@
-use Rattle.std.proofs.Common.{◌≡◌, ◌≤◌, ◌*◌, ◌/◌, length, sym, ap, subst, ◌∙◌, arith}
+use Rattle.std.proofs.Common.{◌≡◌, ◌≤◌, ◌*◌, ◌/◌, sym, ap, subst, ◌∙◌, arith}
 use Rattle.proto.specs.Sizes.{Sizes}
 use Rattle.segments.specs.Changes.{new_pool}
 use Rattle.segments.specs.Pools.{PoolState}
 use Rattle.segments.specs.Marks.{no_marks}
-use Rattle.std.proofs.lemmas.List.{length-replicate}
-use Rattle.index.specs.Slots.{empty_slot}
 use Rattle.index.specs.Keys.{key_at}
 use Rattle.index.specs.Table.{Places}
 use Rattle.segcache.specs.Shown.{live_entries}

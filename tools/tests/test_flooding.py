@@ -1,7 +1,7 @@
-"""Keys that fall together in the index for who knows the seed of its hash: what a look-up of them costs a server.
+"""Keys that fall together in the index for who knows the seed of its hash: what it costs a server to write and read them.
 
 One whose random bytes are known suffers from the keys that were chosen for them, so its seed is these bytes; one with
-the system's own random bytes doesn't.
+the system's own random bytes doesn't. Writes suffer most, since the index grows along the run that such keys make.
 """
 import os
 import random
@@ -10,10 +10,10 @@ import subprocess
 import pytest
 from served import read_exactly
 
-# The index of 16 segments of 1 MiB has so many slots; the first slots of chosen keys are among the first SPAN.
+# Of so many slots, and so of fewer, the first slots of chosen keys are among the first SPAN.
 SLOTS = 1 << 20
-SPAN = 4096
-COUNT = 30_000
+SPAN = 64
+COUNT = 1_000
 KNOWN = 0x0123456789ABCDEF
 # What the store takes where it is given no seed, as in `segcached replay`.
 OF_REPLAY = 0x9E3779B97F4A7C15
@@ -43,31 +43,31 @@ def ask_in_pieces(stream, keys, request, answer):
         assert read_exactly(stream, len(wanted)) == wanted
 
 
-def microseconds_a_look_up(server, keys):
-    """The server's processor time for a `get` of one of the keys in a pipeline, once all are there."""
+def microseconds_a_key(server, keys):
+    """The server's processor time for a `set` and a `get` of each key in pipelines."""
     with server.connect(120) as stream:
+        before = server.processor_seconds()
         ask_in_pieces(stream, keys, b"set %b 0 0 1\r\nx\r\n", b"STORED\r\n")
-        before, asked = server.processor_seconds(), random.Random(1).sample(keys, COUNT // 3)
-        ask_in_pieces(stream, asked, b"get %b\r\n", b"VALUE %b 0 1\r\nx\r\nEND\r\n")
-        return (server.processor_seconds() - before) * 1e6 / len(asked)
+        ask_in_pieces(stream, random.Random(1).sample(keys, len(keys)), b"get %b\r\n", b"VALUE %b 0 1\r\nx\r\nEND\r\n")
+        return (server.processor_seconds() - before) * 1e6 / len(keys)
 
 
 @pytest.fixture
 def cost_of(serve, say):
-    """What a look-up of these keys costs a server of their own."""
+    """What these keys cost a server of their own."""
 
     def cost(name, keys, environment=None):
         server = serve("--workers", "1", "--segment-size", "1048576", "--segments", "16", environment=environment)
-        microseconds = microseconds_a_look_up(server, keys)
-        say(f"{microseconds:.1f} us for a look-up of keys {name}")
+        microseconds = microseconds_a_key(server, keys)
+        say(f"{microseconds:.1f} us for a set and a get of keys {name}")
         return microseconds
 
     return cost
 
 
 def is_flooded(chosen, plain):
-    """Whether a look-up of chosen keys costs much more than one of others. (A busy machine adds a few microseconds.)"""
-    return chosen > 2 * plain + 5
+    """Whether chosen keys cost much more than others. (A busy machine adds a few microseconds.)"""
+    return chosen > 5 * plain + 20
 
 
 def test_the_seed_is_the_systems_random_bytes(compiled, chosen_for, cost_of):

@@ -19,6 +19,5 @@ pub use commands::Engine;
 pub use deadline::has_arrived;
 pub use entry_ref::EntryRef;
 pub use live_map::LiveMap;
-pub use plain_map::PlainMap;
 pub use plain_store::PlainStore;
 pub use storage_engine::{MAX_MOMENT, StorageEngine};

@@ -9,5 +9,4 @@ mod room;
 mod segment_map;
 mod store;
 
-pub use segment_map::SegmentMap;
 pub use store::Store;

@@ -11,9 +11,13 @@ ghost use Rattle.command_line.specs.Words.{IsJob, IsReplayInRange, IsServeInRang
 use crate::version::VERSION;
 use clap::error::ErrorKind;
 use clap::{Arg, ArgMatches, Command};
+use proto::{MAX_SEGMENT_SIZE, MAX_SEGMENTS, MAX_WORKERS, MIN_SEGMENT_SIZE, MIN_SEGMENTS};
 use std::alloc::{AllocError, Global};
 use std::io;
 use thiserror::Error;
+
+/// The most bytes that a port of a replay may be told to accept at once.
+const MAX_ACCEPTED: u64 = 65_536;
 
 /// What `segcached replay` is told.
 #[derive(Debug, Drop, PartialEq, Eq)]
@@ -131,7 +135,7 @@ fn with_workers<'a>(
     default: &'a str,
 ) -> Result<Command<'a>, AllocError> {
     let help = "Number of worker threads, 1 to 8";
-    command.arg(ranged(alloc, "workers", "COUNT", help, 1, 8).default_value(default))
+    command.arg(ranged(alloc, "workers", "COUNT", help, 1, MAX_WORKERS as i64).default_value(default))
 }
 
 /// The sizes of the segments; both jobs have them.
@@ -140,8 +144,8 @@ fn with_segments<'a>(alloc: Global, command: Command<'a>) -> Result<Command<'a>,
     let count =
         "Number of segments, 8 to 65536. Where no request sets a life, all is sure to stay while what was written takes no more than 7/8 of all segments but one";
     command
-        .arg(ranged(alloc, "segment-size", "BYTES", size, 4096, 1_048_576).default_value("65536"))?
-        .arg(ranged(alloc, "segments", "COUNT", count, 8, 65_536).default_value("64"))
+        .arg(ranged(alloc, "segment-size", "BYTES", size, MIN_SEGMENT_SIZE as i64, MAX_SEGMENT_SIZE as i64).default_value("65536"))?
+        .arg(ranged(alloc, "segments", "COUNT", count, MIN_SEGMENTS as i64, MAX_SEGMENTS as i64).default_value("64"))
 }
 
 /// The clock of a replay.
@@ -158,7 +162,7 @@ fn with_faults<'a>(alloc: Global, command: Command<'a>) -> Result<Command<'a>, A
     let accept = "Each give accepts at most so many bytes, 1 to 65536";
     let fail_give = "At each worker the Nth give finds its peer gone";
     command
-        .arg(ranged(alloc, "accept", "BYTES", accept, 1, 65_536))?
+        .arg(ranged(alloc, "accept", "BYTES", accept, 1, MAX_ACCEPTED as i64))?
         .arg(counted(alloc, "fail-give", "N", fail_give))
 }
 
@@ -240,12 +244,12 @@ fn replay_options(alloc: Global, matches: &ArgMatches<'_>) -> Result<Options, Wo
     ensures { IfOk result IsReplayInRange }
 {
     Ok(Options {
-        workers: number_in(alloc, matches, "workers", 1, 8)?,
-        segment_size: number_in(alloc, matches, "segment-size", 4096, 1_048_576)?,
-        segments: number_in(alloc, matches, "segments", 8, 65_536)?,
+        workers: number_in(alloc, matches, "workers", 1, MAX_WORKERS as u64)?,
+        segment_size: number_in(alloc, matches, "segment-size", MIN_SEGMENT_SIZE as u64, MAX_SEGMENT_SIZE as u64)?,
+        segments: number_in(alloc, matches, "segments", MIN_SEGMENTS as u64, MAX_SEGMENTS as u64)?,
         now: number(matches, "now"),
         tick: number(matches, "tick"),
-        accept: number_in(alloc, matches, "accept", 0, 65_536)?,
+        accept: number_in(alloc, matches, "accept", 0, MAX_ACCEPTED)?,
         fail_give: number(matches, "fail-give"),
         file: String::from_str(alloc, matches.get_str("file").unwrap_or(""))?,
     })
@@ -255,10 +259,10 @@ fn serve_options(alloc: Global, matches: &ArgMatches<'_>) -> Result<ServeOptions
     ensures { IfOk result IsServeInRange }
 {
     Ok(ServeOptions {
-        workers: number_in(alloc, matches, "workers", 1, 8)?,
+        workers: number_in(alloc, matches, "workers", 1, MAX_WORKERS as u64)?,
         sessions: matches.get_one::<u64>("sessions"),
-        segment_size: number_in(alloc, matches, "segment-size", 4096, 1_048_576)?,
-        segments: number_in(alloc, matches, "segments", 8, 65_536)?,
+        segment_size: number_in(alloc, matches, "segment-size", MIN_SEGMENT_SIZE as u64, MAX_SEGMENT_SIZE as u64)?,
+        segments: number_in(alloc, matches, "segments", MIN_SEGMENTS as u64, MAX_SEGMENTS as u64)?,
         listen: String::from_str(alloc, matches.get_str("listen").unwrap_or(""))?,
     })
 }

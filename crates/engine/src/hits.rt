@@ -143,7 +143,7 @@ pub fn hits_of<M: LiveMap>(map: &mut M, keys: &mut Keys) -> Result<HitWriter, No
     ensures err { OnErr result (0 < length (hits_of (M.entries map.old) keys.old)) }
     ensures refused { OnErr result (map.new ≡ map.old) }
 {
-    let hits = HitWriter::in_room(keys.take_room());
+    let hits = HitWriter::in_buffer(keys.take_buffer());
     match keys.only() {
         Some(only) => hit_of_only(map, only, hits),
         None => hits_of_keys(map, keys, hits),

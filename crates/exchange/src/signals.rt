@@ -1,15 +1,13 @@
 //! What workers leave for the storage thread beside their lanes.
 
 use crate::ParkingWord;
+use proto::{MAX_WORKERS, WINDOW};
 use std::alloc::{AllocError, Global};
 use std::hash::{FoldHasher, Hasher};
 use std::sync::atomic::{AtomicU64, Ordering};
 
-/// Each of so many workers
-const WORKERS: usize = 8;
-
-/// has a hint for each of so many requests, which may be on their way at a time.
-const REQUESTS: usize = 64;
+/// The hints of a worker: one for each request that may be on its way.
+const HINTS: usize = WINDOW as usize;
 
 /// The word that the storage thread parks on, and a row of hints: the hashes of the keys that the requests on their way
 /// begin with. By these storage reads ahead what it will look up. No answer rests on a hint: one that is missing, or of
@@ -29,7 +27,7 @@ impl StorageSignals {
         hasher: FoldHasher,
         workers: usize,
     ) -> Result<StorageSignals, AllocError> {
-        let count = if workers > 1 { WORKERS * REQUESTS } else { 0 };
+        let count = if workers > 1 { MAX_WORKERS * HINTS } else { 0 };
         let mut hints = Vec::with_capacity(alloc, count)?;
         for _ in 0..count {
             hints.push(AtomicU64::new(0))?;
@@ -71,5 +69,5 @@ impl StorageSignals {
 }
 
 fn place_of(worker: usize, number: u64) -> usize {
-    worker % WORKERS * REQUESTS + number as usize % REQUESTS
+    worker % MAX_WORKERS * HINTS + number as usize % HINTS
 }

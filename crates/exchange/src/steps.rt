@@ -20,6 +20,13 @@ use crate::rule::{
 use crate::slots::{put_in_answer, put_message, take_out_answer, take_out_message};
 use proto::{Answered, Posted};
 
+/// A lane has two words that its two threads store, posted first and done behind it, each with so many words of eight bytes
+/// to itself that no two share a line of a processor's cache.
+const DONE: usize = 8;
+
+/// The words of a lane.
+pub(crate) const LANE: usize = 2 * DONE;
+
 /// Puts a request into its slot. It loads the worker's own word alone, which no other thread writes.
 pub(crate) fn put_request(
     lane_table: &LaneTable,
@@ -34,9 +41,9 @@ pub(crate) fn put_request(
     ensures table { SameSeat seat.old seat.new }
     ensures put { seat.new.me ≡ (Worker (put_on (worker_at seat.old.me) posted), []) }
 {
-    lane_table.shared.load::<Begins>(seat, 16 * worker);
+    lane_table.shared.load::<Begins>(seat, LANE * worker);
     put_message(lane_table, seat, worker, number, LaneMessage::Ask(posted));
-    lane_table.shared.load::<PutsRequest>(seat, 16 * worker);
+    lane_table.shared.load::<PutsRequest>(seat, LANE * worker);
 }
 
 /// Stores posted for all requests that were put.
@@ -46,7 +53,7 @@ pub(crate) fn send_put(lane_table: &LaneTable, seat: &mut LaneSeat, worker: usiz
     ensures table { SameSeat seat.old seat.new }
     ensures sent { seat.new.me ≡ (Worker (all_sent (worker_at seat.old.me)), []) }
 {
-    lane_table.shared.store::<Posts>(seat, 16 * worker, number);
+    lane_table.shared.store::<Posts>(seat, LANE * worker, number);
 }
 
 /// Puts the Bye into its slot, and stores posted.
@@ -58,11 +65,11 @@ pub(crate) fn put_bye(lane_table: &LaneTable, seat: &mut LaneSeat, worker: usize
     ensures table { SameSeat seat.old seat.new }
     ensures sent { seat.new.me ≡ (Worker (with_bye (worker_at seat.old.me)), []) }
 {
-    lane_table.shared.load::<Begins>(seat, 16 * worker);
+    lane_table.shared.load::<Begins>(seat, LANE * worker);
     put_message(lane_table, seat, worker, number, LaneMessage::Bye);
     lane_table
         .shared
-        .store::<PostsBye>(seat, 16 * worker, number + 1);
+        .store::<PostsBye>(seat, LANE * worker, number + 1);
 }
 
 /// Loads done, and takes the next answer out of its slot, if there is one. The number is the word.
@@ -79,12 +86,12 @@ pub(crate) fn take_answer(
     ensures seat { seat.new.me ≡ (Worker (worker_at seat.new.me), []) }
     ensures taken { StateTakes (worker_at seat.old.me) result.0 result.1 (worker_at seat.new.me) }
 {
-    let done = lane_table.shared.load::<LoadsDone>(seat, 16 * worker + 8);
+    let done = lane_table.shared.load::<LoadsDone>(seat, LANE * worker + DONE);
     if done <= back || sent <= back {
         return (done, None);
     }
     let answered = take_out_answer(lane_table, seat, worker, back);
-    lane_table.shared.load::<ReturnsSlot>(seat, 16 * worker);
+    lane_table.shared.load::<ReturnsSlot>(seat, LANE * worker);
     (done, Some(answered))
 }
 
@@ -103,9 +110,9 @@ pub(crate) fn take_seen_answer(
         (length (worker_at seat.old.me).back) ≡ some result }
     ensures taken { seat.new.me ≡ (Worker (holding_slot (took_seen (worker_at seat.old.me) result) 0), []) }
 {
-    lane_table.shared.load::<TakesSeen>(seat, 16 * worker);
+    lane_table.shared.load::<TakesSeen>(seat, LANE * worker);
     let answered = take_out_answer(lane_table, seat, worker, back);
-    lane_table.shared.load::<ReturnsSlot>(seat, 16 * worker);
+    lane_table.shared.load::<ReturnsSlot>(seat, LANE * worker);
     answered
 }
 
@@ -122,7 +129,7 @@ pub(crate) fn take_message(
     ensures table { SameSeat seat.old seat.new }
     ensures looked { Looks (storage_at seat.old.me) lane result.0 result.1 seat.new.me }
 {
-    let posted = lane_table.shared.load::<LoadsPosted>(seat, 16 * lane);
+    let posted = lane_table.shared.load::<LoadsPosted>(seat, LANE * lane);
     if posted <= count {
         return (posted, None);
     }
@@ -148,7 +155,7 @@ pub(crate) fn take_seen_message(
       (lane_slot lane (settled (storage_at seat.old.me) lane), None) ∷ [],
     ) }
 {
-    lane_table.shared.load::<OpensSeen>(seat, 16 * lane + 8);
+    lane_table.shared.load::<OpensSeen>(seat, LANE * lane + DONE);
     take_out_message(lane_table, seat, lane, count)
 }
 
@@ -168,7 +175,7 @@ pub(crate) fn put_answer(
 {
     let lane = answered.worker;
     put_in_answer(lane_table, seat, lane, count, answered);
-    lane_table.shared.load::<Answers>(seat, 16 * lane + 8);
+    lane_table.shared.load::<Answers>(seat, LANE * lane + DONE);
 }
 
 /// Stores done for all answers of the lane.
@@ -181,7 +188,7 @@ pub(crate) fn tell_answers(lane_table: &LaneTable, seat: &mut LaneSeat, lane: us
 {
     lane_table
         .shared
-        .store::<TellsDone>(seat, 16 * lane + 8, count);
+        .store::<TellsDone>(seat, LANE * lane + DONE, count);
 }
 
 /// Gives the slot of a Bye back, and stores done.
@@ -194,5 +201,5 @@ pub(crate) fn settle_bye(lane_table: &LaneTable, seat: &mut LaneSeat, lane: usiz
 {
     lane_table
         .shared
-        .store::<SettlesBye>(seat, 16 * lane + 8, count + 1);
+        .store::<SettlesBye>(seat, LANE * lane + DONE, count + 1);
 }

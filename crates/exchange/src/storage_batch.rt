@@ -5,7 +5,7 @@ use crate::rule::{Compares, JoinsWorker, LaneSeat, LaneTable};
 use crate::steps::{put_answer, settle_bye, take_message, take_seen_message, tell_answers};
 use crate::storage::StorageEnd;
 use crate::worker::WorkerEnd;
-use proto::Answered;
+use proto::{Answered, MAX_WORKERS};
 use std::alloc::Global;
 use std::marker::Model;
 use std::sync::Arc;
@@ -20,7 +20,7 @@ pub struct StorageBatch {
     /// The lane that the last message was taken from.
     last: usize,
     /// How many messages of each lane were settled.
-    counts: [u64; 8],
+    counts: [u64; MAX_WORKERS],
     open_now: bool,
     /// Whether there are answers that weren't told of.
     waiting: bool,
@@ -80,7 +80,7 @@ impl StorageBatch {
             seat,
             workers,
             last: workers - 1,
-            counts: [0; 8],
+            counts: [0; MAX_WORKERS],
             open_now: false,
             waiting: false,
             waiting_lane: 0,

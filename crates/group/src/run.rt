@@ -9,19 +9,17 @@ ghost use Rattle.group.specs.Headline.{IsRun};
 
 use crate::fault::GroupFault;
 use crate::report::{Config, GroupReport, GroupWorker};
-use crate::start::tell;
+use crate::start::announce_start;
 use crate::threads::{join_storage, join_workers, start_storage, start_workers};
 use engine::StorageEngine;
 use exchange::{StorageSignals, WorkerEnd, gather, make};
+use proto::MAX_WORKERS;
 use std::alloc::Global;
 use std::sync::{OnceLock, Wait};
 use std::thread;
 use std::thread::{Scope, Threads};
 use storage_thread::{Clock, StorageReport};
 use worker::{Gate, Port, WorkerReport};
-
-/// The most workers of a group.
-const MAX_WORKERS: usize = 8;
 
 /// Parts the reports: what the group says of each worker, and the ends. The lists have room for them.
 fn part<P: Port>(
@@ -121,7 +119,7 @@ fn run_in<
     let storage = start_storage(rt, scope, start, store, clock, storage_end, signals)?;
     match start_workers(rt, alloc, scope, start, ports, ends, gate, signals, handles) {
         Ok(handles) => {
-            let told = tell(rt, start, true);
+            let told = announce_start(rt, start, true);
             if !*start.value(&told) {
                 return Err(GroupFault::NoThread);
             }
@@ -130,7 +128,7 @@ fn run_in<
             Ok(finish::<P, E, C>(reports, storage, workers, ends_left))
         }
         Err(fault) => {
-            tell(rt, start, false);
+            announce_start(rt, start, false);
             Err(fault)
         }
     }

@@ -11,7 +11,7 @@ pub struct Finished<'a, T> {
 }
 
 /// Waits until it is said whether to begin.
-pub fn hear<'a, R: Wait>(rt: &R, start: &'a OnceLock<bool>) -> OnceToken<'a, bool>
+pub fn wait_for_start<'a, R: Wait>(rt: &R, start: &'a OnceLock<bool>) -> OnceToken<'a, bool>
     ensures { result.of ≡ start.now.id }
 {
     for _ in rt.forever() {
@@ -24,11 +24,11 @@ pub fn hear<'a, R: Wait>(rt: &R, start: &'a OnceLock<bool>) -> OnceToken<'a, boo
 }
 
 /// Says to all threads whether to begin, and gives what they were told.
-pub fn tell<'a, R: Wait>(rt: &R, start: &'a OnceLock<bool>, begin: bool) -> OnceToken<'a, bool>
+pub fn announce_start<'a, R: Wait>(rt: &R, start: &'a OnceLock<bool>, begin: bool) -> OnceToken<'a, bool>
     ensures { result.of ≡ start.now.id }
 {
     match start.set(rt, begin) {
         Ok(told) => told,
-        Err(_) => hear(rt, start),
+        Err(_) => wait_for_start(rt, start),
     }
 }

@@ -8,7 +8,7 @@ ghost use Rattle.group.specs.declared.fault.GroupFault.TheVariants.{NoThread};
 ghost use Rattle.group.specs.Threads.{IsFinished, HasSentNothing, IsSilent, KeepsWorker, KeepsStorage, AreEach};
 
 use crate::fault::GroupFault;
-use crate::start::{Finished, hear};
+use crate::start::{Finished, wait_for_start};
 use engine::StorageEngine;
 use exchange::{StorageEnd, StorageSignals, WorkerEnd};
 use std::alloc::Global;
@@ -70,7 +70,7 @@ fn work<'a, P: Port, G: Gate, R: Wait>(
     requires fresh { HasSentNothing end }
     ensures { IsFinished start.now.id (KeepsWorker P.told P.leads_to port end) result }
 {
-    let told = hear(rt, start);
+    let told = wait_for_start(rt, start);
     let ran = if *start.value(&told) {
         Some(run_worker(rt, alloc, port, end, gate, signals))
     } else {
@@ -93,7 +93,7 @@ fn serve<'a, E: StorageEngine + Drop, C: Clock, R: Wait>(
     requires unused { IsUnused end }
     ensures { IsFinished start.now.id (KeepsStorage C.told C.leads_to (E.keeps store []) clock end) result }
 {
-    let told = hear(rt, start);
+    let told = wait_for_start(rt, start);
     let ran = if *start.value(&told) {
         Some(run_storage(rt, store, clock, end, signals))
     } else {

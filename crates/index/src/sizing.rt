@@ -4,12 +4,12 @@ ghost use Rattle.std.specs.Prelude.{◌*◌};
 ghost use Rattle.std.specs.Int.{IsNextPowerOfTwo};
 ghost use Rattle.index.specs.Sizing.{most_items};
 
-use proto::Geometry;
+use proto::{Geometry, MIN_ITEM_SIZE};
 
 /// How many slots the index of a pool of these sizes has, of which the items of a full pool use half at most.
 pub fn slots_for(geometry: Geometry) -> usize
     ensures { IsNextPowerOfTwo (2 * most_items geometry) result }
 {
-    let items = geometry.segments() as usize * (geometry.segment_size() / 32) as usize;
+    let items = geometry.segments() as usize * (geometry.segment_size() / MIN_ITEM_SIZE) as usize;
     (2 * items).next_power_of_two()
 }

@@ -1,7 +1,7 @@
 //! Where a book stops, and one step before.
 
 use bytes::Bytes;
-use proto::{Answered, HitRef, HitWriter, Reply, Request, Room};
+use proto::{Answered, HitRef, HitWriter, Reply, Request, SpareBuffer};
 use session_book::{Book, Received, Settled};
 use std::alloc::Global;
 use std::process::Abort;
@@ -75,7 +75,7 @@ fn value_of(alloc: Global, length: usize) -> Result<Reply, Fail> {
         value: value.as_slice(),
         cas: 1,
     };
-    let mut hits = HitWriter::in_room(Room::new(alloc));
+    let mut hits = HitWriter::in_buffer(SpareBuffer::new(alloc));
     if let Some(room) = hit.room() {
         hits.reserve(room)?;
         hits.push(hit);

@@ -5,7 +5,7 @@ ghost use Rattle.net.specs.Events.{IsNew, IsNextEvent, KeepsSessions, EndsSessio
 
 use crate::ceasing::CeasingSessions;
 use crate::fault::NetFault;
-use crate::hand::{BELL, Hand};
+use crate::hand::{WAKER, Hand};
 use crate::streams::{Reading, Streams};
 use exchange::SpinPolicy;
 use mio::{Events, Poll};
@@ -22,16 +22,17 @@ const EVENTS: usize = 256;
 /// time; and else so many.
 const LONG_ROW: u32 = 64;
 
-const SHORT_ROW: u32 = 2;
+const SHORT_ROW: u32 = 1;
 
-/// While the worker may not wait, the sockets are looked at only at each so many idle calls.
+/// While the worker may not wait, the sockets are looked at only at each so many idle calls: a lone request is mostly
+/// answered before the first of these looks.
 const CALLS_EACH_POLL: u32 = 4;
 
 /// So many idle calls in a row are taken not to end: the worker has output for peers that take none. From then on each
 /// waits a little.
 const STALLED_CALLS: u32 = 8192;
 
-/// How long a port waits, in milliseconds: the bell rings for a new stream.
+/// How long a port waits, in milliseconds: a new stream wakes it.
 const WAIT_MILLIS: u64 = 100;
 
 /// How long it waits while a session's answers are about to cease.
@@ -93,7 +94,7 @@ impl<R: Wait + Clock + Drop> MioPort<R> {
         if let Some(event) = self.known_event(may_wait) {
             return event;
         }
-        if !may_wait && self.quiet % CALLS_EACH_POLL != 0 {
+        if !may_wait && self.quiet % CALLS_EACH_POLL < CALLS_EACH_POLL - 1 {
             return PortEvent::Idle;
         }
         let millis = self.wait_millis(may_wait);
@@ -171,8 +172,8 @@ impl<R: Wait + Clock + Drop> MioPort<R> {
     {
         let limit = Some(Duration::from_millis(millis));
         if self.poll.poll(&mut self.events, limit).is_ok() {
-            if self.events.iter().any(|event| event.token() == BELL) {
-                self.hand.hear();
+            if self.events.iter().any(|event| event.token() == WAKER) {
+                self.hand.clear_wakes();
             }
             if self.streams.mark(&self.events) {
                 self.quiet = 0;

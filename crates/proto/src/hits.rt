@@ -7,7 +7,7 @@ ghost use Rattle.proto.specs.Hits.{packed_hit, packed_size, first_hit};
 ghost use Rattle.proto.specs.SeenHits.{seen_hit};
 
 use crate::no_memory::NoMemory;
-use crate::room::Room;
+use crate::spare_buffer::SpareBuffer;
 use std::alloc::Global;
 use std::marker::Model;
 
@@ -76,8 +76,8 @@ impl Hits {
     }
 
     /// The memory of the hits, which are gone.
-    pub fn into_room(self) -> Room {
-        Room::emptied(self.bytes)
+    pub fn into_buffer(self) -> SpareBuffer {
+        SpareBuffer::emptied(self.bytes)
     }
 }
 
@@ -133,12 +133,12 @@ impl Model for HitWriter {
 }
 
 impl HitWriter {
-    /// Puts hits into this room, once it is reserved.
-    pub fn in_room(room: Room) -> HitWriter
+    /// Puts hits into this buffer, once room is reserved.
+    pub fn in_buffer(buffer: SpareBuffer) -> HitWriter
         ensures { result ≡ record { hits = []; room = 0 } }
     {
         HitWriter {
-            bytes: room.into_bytes(),
+            bytes: buffer.into_bytes(),
             room: 0,
         }
     }

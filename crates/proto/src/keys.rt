@@ -6,20 +6,20 @@ ghost use Rattle.proto.specs.Words.{is_space, IsWord};
 ghost use Rattle.std.specs.List.{count_by};
 
 use crate::no_memory::NoMemory;
-use crate::room::Room;
+use crate::spare_buffer::SpareBuffer;
 use crate::words::Words;
 use std::alloc::Global;
 use std::marker::Model;
 use std::mem;
 
-/// Keys in the order asked, in one piece of memory: a space stands before each. Beside them they have the room that they
+/// Keys in the order asked, in one piece of memory: a space stands before each. Beside them they have the buffer that they
 /// were lent for their hits, of which no clause speaks.
 #[derive(Debug, Drop)]
 pub struct Keys {
     bytes: Vec<u8>,
     /// How many keys there are.
     count: usize,
-    room: Room,
+    buffer: SpareBuffer,
 }
 
 impl Model for Keys {
@@ -40,7 +40,7 @@ impl Keys {
         Keys {
             bytes: Vec::new(alloc),
             count: 0,
-            room: Room::new(alloc),
+            buffer: SpareBuffer::new(alloc),
         }
     }
 
@@ -53,7 +53,7 @@ impl Keys {
             Some(rest) => Ok(Keys {
                 bytes: spaced(alloc, rest)?,
                 count: spaces(rest) + 1,
-                room: Room::new(alloc),
+                buffer: SpareBuffer::new(alloc),
             }),
         }
     }
@@ -110,19 +110,19 @@ impl Keys {
         *self.bytes.allocator()
     }
 
-    /// Lends the room for the hits, in place of one that was lent before.
-    pub fn lend_room(&mut self, room: Room)
+    /// Lends the buffer for the hits, in place of one that was lent before.
+    pub fn lend_buffer(&mut self, buffer: SpareBuffer)
         ensures { self.new ≡ self.old }
     {
-        self.room = room;
+        self.buffer = buffer;
     }
 
-    /// The room that was lent; one without memory is left.
-    pub fn take_room(&mut self) -> Room
+    /// The buffer that was lent; one without memory is left.
+    pub fn take_buffer(&mut self) -> SpareBuffer
         ensures { self.new ≡ self.old }
     {
-        let none = Room::new(self.allocator());
-        mem::replace(&mut self.room, none)
+        let none = SpareBuffer::new(self.allocator());
+        mem::replace(&mut self.buffer, none)
     }
 }
 

@@ -19,25 +19,29 @@ mod message_view;
 mod next;
 mod no_memory;
 mod parse;
-mod room;
 mod showing;
+mod spare_buffer;
 mod storage;
 mod view;
 mod words;
 
 pub use byte_string::ByteString;
-pub use geometry::{BadSize, Geometry};
+pub use geometry::{
+    BadSize, Geometry, MAX_SEGMENT_SIZE, MAX_SEGMENTS, MIN_SEGMENT_SIZE, MIN_SEGMENTS,
+};
 pub use head::{Command, Head};
 pub use history::{Answered, Posted};
 pub use hits::{HitIter, HitRef, HitWriter, Hits};
 pub use keys::Keys;
-pub use limits::{MAX_POSTS, WINDOW};
+pub use limits::{
+    MAX_BLOCK, MAX_KEY, MAX_LINE, MAX_POSTS, MAX_SESSIONS, MAX_WORKERS, MIN_ITEM_SIZE, WINDOW,
+};
 pub use message::{FatalKind, Message, Next, Put, Reply, Request, WrongKind};
 pub use message_view::{MessageView, RequestView};
 pub use next::{next_message, to_message};
 pub use no_memory::NoMemory;
 pub use parse::number;
-pub use room::Room;
+pub use spare_buffer::SpareBuffer;
 pub use showing::{show, show_reply, shows_cas};
 pub use view::{NextView, next_view};
 pub use words::Words;

@@ -1,7 +1,26 @@
-//! The limits that both sides of a lane keep.
+//! Limits that more than one layer keeps. Definitions say them in digits, and the contracts of the calls that cite a constant tie
+//! the two.
+
+/// The longest key in bytes, after memcached's protocol.txt.
+pub const MAX_KEY: usize = 250;
+
+/// The longest line in bytes, with its end. memcached too closes a connection whose line goes on beyond 2,048.
+pub const MAX_LINE: usize = 2048;
+
+/// The longest data block in bytes: an item takes an eighth of a segment at most, and a segment has 1,048,576 at most.
+pub const MAX_BLOCK: u64 = 131_072;
+
+/// The size in bytes of the smallest item: 24 bytes before a key of one byte and no value, rounded up to a multiple of 8.
+pub const MIN_ITEM_SIZE: u32 = 32;
+
+/// The most workers of a group.
+pub const MAX_WORKERS: usize = 8;
 
 /// Requests of a worker that may be on their way at a time: its lane has so many slots.
 pub const WINDOW: u64 = 64;
 
 /// Requests of a worker in one run: 2^62.
 pub const MAX_POSTS: u64 = 4_611_686_018_427_387_904;
+
+/// Sessions that a worker opens in one run: 2^24.
+pub const MAX_SESSIONS: u64 = 16_777_216;

@@ -7,6 +7,7 @@ ghost use Rattle.proto.specs.PlainReader.{meaning, meaning_of};
 
 use crate::command_word::{CommandWord, command_of};
 use crate::head::Head;
+use crate::limits::MAX_BLOCK;
 use crate::line::{LineView, line_view};
 use crate::message::{FatalKind, WrongKind};
 use crate::message_view::MessageView;
@@ -26,7 +27,7 @@ fn storage_meaning<'a>(head: Option<Head<'a>>) -> Meaning<'a>
 {
     match head {
         Some(head) => {
-            if head.size <= 131_072 {
+            if head.size <= MAX_BLOCK {
                 Meaning::Block(head)
             } else {
                 Meaning::Message(MessageView::Fatal(FatalKind::TooLarge))

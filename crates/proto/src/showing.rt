@@ -6,7 +6,7 @@ ghost use Rattle.std.specs.Prelude.{option_copied, flat_map, sum_by, vec_len, ve
 ghost use Rattle.std.specs.Prelude.{OnErr};
 ghost use Rattle.proto.specs.Answers.{text_line, hit_bytes, reply_bytes, answer, is_ask, is_silent, shows_cas};
 ghost use Rattle.proto.specs.SeenHits.{seen_hit};
-ghost use Rattle.proto.specs.Rooms.{hit_room, reply_room, answer_room};
+ghost use Rattle.proto.specs.Reserves.{hit_reserve, reply_reserve, answer_reserve};
 
 use crate::hits::{HitIter, HitRef};
 use crate::message::{FatalKind, Message, Reply, Request, WrongKind};
@@ -87,9 +87,9 @@ fn push_cas(out: &mut Vec<u8>, with_cas: bool, cas: u64)
 
 /// Appends a hit: its line, its data and the line end.
 fn push_hit(out: &mut Vec<u8>, with_cas: bool, hit: HitRef)
-    requires { vec_len out.old + hit_room (seen_hit hit) ≤ vec_capacity out.old }
+    requires { vec_len out.old + hit_reserve (seen_hit hit) ≤ vec_capacity out.old }
     ensures items { out.new.items ≡ out.old.items ++ hit_bytes with_cas (seen_hit hit.entry) }
-    ensures len { vec_len out.new ≤ vec_len out.old + hit_room (seen_hit hit.entry) }
+    ensures len { vec_len out.new ≤ vec_len out.old + hit_reserve (seen_hit hit.entry) }
     ensures room { vec_capacity out.old ≤ vec_capacity out.new }
 {
     push_named(out, hit.key);
@@ -102,9 +102,9 @@ fn push_hit(out: &mut Vec<u8>, with_cas: bool, hit: HitRef)
 
 /// Appends the hits.
 fn push_hits(out: &mut Vec<u8>, with_cas: bool, mut hits: HitIter)
-    requires { vec_len out.old + sum_by hit_room hits ≤ vec_capacity out.old }
+    requires { vec_len out.old + sum_by hit_reserve hits ≤ vec_capacity out.old }
     ensures items { out.new.items ≡ out.old.items ++ flat_map (hit_bytes with_cas) hits.entry }
-    ensures len { vec_len out.new ≤ vec_len out.old + sum_by hit_room hits.entry }
+    ensures len { vec_len out.new ≤ vec_len out.old + sum_by hit_reserve hits.entry }
     ensures room { vec_capacity out.old ≤ vec_capacity out.new }
 {
     while let Some(hit) = hits.next() {
@@ -113,7 +113,7 @@ fn push_hits(out: &mut Vec<u8>, with_cas: bool, mut hits: HitIter)
 }
 
 fn push_reply(out: &mut Vec<u8>, with_cas: bool, reply: &Reply)
-    requires { vec_len out.old + reply_room reply.now ≤ vec_capacity out.old }
+    requires { vec_len out.old + reply_reserve reply.now ≤ vec_capacity out.old }
     ensures { out.new.items ≡ out.old.items ++ reply_bytes with_cas reply.now }
 {
     match reply {
@@ -152,7 +152,7 @@ pub fn shows_cas(request: &Request) -> bool
 }
 
 fn push_answer(out: &mut Vec<u8>, message: &Message, reply: Option<&Reply>)
-    requires { vec_len out.old + answer_room (option_copied reply) ≤ vec_capacity out.old }
+    requires { vec_len out.old + answer_reserve (option_copied reply) ≤ vec_capacity out.old }
     ensures { out.new.items ≡ out.old.items ++ answer message.now (option_copied reply.entry) }
 {
     match message {
@@ -175,8 +175,8 @@ fn push_answer(out: &mut Vec<u8>, message: &Message, reply: Option<&Reply>)
 }
 
 /// The room of the hits; None where it is more than memory can have.
-fn hits_room(mut hits: HitIter) -> Option<usize>
-    ensures { IfSome result (λ n. n ≡ sum_by hit_room hits.entry) }
+fn hits_reserve(mut hits: HitIter) -> Option<usize>
+    ensures { IfSome result (λ n. n ≡ sum_by hit_reserve hits.entry) }
 {
     let mut room: usize = 0;
     while let Some(hit) = hits.next() {
@@ -190,10 +190,10 @@ fn hits_room(mut hits: HitIter) -> Option<usize>
 
 /// The room of the answer; None where it is more than memory can have.
 fn room_of(reply: Option<&Reply>) -> Option<usize>
-    ensures { IfSome result (λ n. n ≡ answer_room (option_copied reply.entry)) }
+    ensures { IfSome result (λ n. n ≡ answer_reserve (option_copied reply.entry)) }
 {
     match reply {
-        Some(Reply::Values(hits)) => hits_room(hits.iter())?.checked_add(TEXT_ROOM),
+        Some(Reply::Values(hits)) => hits_reserve(hits.iter())?.checked_add(TEXT_ROOM),
         _ => Some(TEXT_ROOM),
     }
 }

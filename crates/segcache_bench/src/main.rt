@@ -12,7 +12,7 @@ use crate::requests::{SMALL, gets, sets};
 use crate::steady::run_steady;
 use anyhow::Result;
 use engine::{PlainStore, StorageEngine};
-use proto::{Geometry, Reply, Request, Room};
+use proto::{Geometry, Reply, Request, SpareBuffer};
 use segcache::Store;
 use std::alloc::Global;
 use std::env;
@@ -50,7 +50,7 @@ fn did_something(reply: &Reply) -> bool {
 /// goes round, as between a worker and the storage thread.
 fn send<E: StorageEngine>(store: &mut E, requests: &mut [Request], rounds: u64) -> u64 {
     let mut done: u64 = 0;
-    let mut room: Option<Room> = None;
+    let mut room: Option<SpareBuffer> = None;
     let count = (requests.len() as u64).max(1);
     for sent in 0..rounds {
         let Some(request) = requests.get_mut((sent % count) as usize) else {
@@ -60,13 +60,13 @@ fn send<E: StorageEngine>(store: &mut E, requests: &mut [Request], rounds: u64) 
             return done;
         }
         if let Some(lent) = room.take() {
-            let _ = request.lend_room(lent);
+            let _ = request.lend_buffer(lent);
         }
         let reply = store.handle(0, request);
         if did_something(&reply) {
             done = done.wrapping_add(1);
         }
-        room = reply.into_room();
+        room = reply.into_buffer();
     }
     done
 }

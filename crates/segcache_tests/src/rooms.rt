@@ -1,7 +1,7 @@
 //! The memory of hits goes round: of that no clause speaks.
 
 use engine::StorageEngine;
-use proto::{Geometry, Message, Next, Request, Room, next_message};
+use proto::{Geometry, Message, Next, Request, SpareBuffer, next_message};
 use segcache::Store;
 use std::alloc::Global;
 use std::process::Abort;
@@ -26,7 +26,7 @@ fn read(alloc: Global, text: &str) -> Result<Request, Fail> {
     }
 }
 
-fn capacity_of(room: Option<Room>) -> Option<usize> {
+fn capacity_of(room: Option<SpareBuffer>) -> Option<usize> {
     match room {
         Some(room) => Some(room.capacity()),
         None => None,
@@ -40,14 +40,14 @@ fn rooms_back(
     text: &str,
 ) -> Result<(Option<usize>, Option<usize>), Fail> {
     let mut request = read(alloc, text)?;
-    let room = Room::emptied(Vec::with_capacity(alloc, LENT)?);
-    let handed_back = capacity_of(request.lend_room(room));
+    let room = SpareBuffer::emptied(Vec::with_capacity(alloc, LENT)?);
+    let handed_back = capacity_of(request.lend_buffer(room));
     if store.last_moment() > 1 {
         return Err(Fail::from("the moment 1 is over"));
     }
     let reply = store.handle(1, &mut request);
     drop(request);
-    Ok((handed_back, capacity_of(reply.into_room())))
+    Ok((handed_back, capacity_of(reply.into_buffer())))
 }
 
 fn check_rooms(rt: &impl Abort, alloc: Global, rows: &[(&str, Option<usize>)]) -> Result<(), Fail> {

@@ -5,7 +5,7 @@ ghost use Rattle.segments.specs.Marks.{no_marks, is_marked, marked, row_of, with
 
 use crate::mark_row::Row;
 use crate::{ItemRef, Live, Move, Place};
-use proto::{Geometry, NoMemory};
+use proto::{Geometry, MIN_ITEM_SIZE, NoMemory};
 use std::alloc::Global;
 use std::marker::Model;
 
@@ -46,7 +46,7 @@ impl LiveMarks {
     {
         Ok(LiveMarks {
             geometry,
-            rows: empty_rows(alloc, geometry.segments(), geometry.segment_size() / 32)?,
+            rows: empty_rows(alloc, geometry.segments(), geometry.segment_size() / MIN_ITEM_SIZE)?,
         })
     }
 
@@ -55,7 +55,7 @@ impl LiveMarks {
         ensures { result ≡ is_marked self.now place }
     {
         match self.rows.get(place.segment as usize) {
-            Some(row) => row.is_marked(place.offset / 32),
+            Some(row) => row.is_marked(place.offset / MIN_ITEM_SIZE),
             None => false,
         }
     }
@@ -75,7 +75,7 @@ impl LiveMarks {
         requires { IsWithin self.old.sizes place }
         ensures { self.new ≡ with_mark true self.old place }
     {
-        self.rows[place.segment as usize].mark(place.offset / 32);
+        self.rows[place.segment as usize].mark(place.offset / MIN_ITEM_SIZE);
     }
 
     /// Takes the mark of a place away.
@@ -83,7 +83,7 @@ impl LiveMarks {
         requires { IsWithin self.old.sizes place }
         ensures { self.new ≡ with_mark false self.old place }
     {
-        self.rows[place.segment as usize].unmark(place.offset / 32);
+        self.rows[place.segment as usize].unmark(place.offset / MIN_ITEM_SIZE);
     }
 
     /// The marks are where moves put what they start at.

@@ -10,7 +10,7 @@ use crate::fault::Fault;
 use command_line::{ServeOptions, on_one_line};
 use group::{Config, run_group};
 use net::{Hand, ListenReport, Listener, MioPort, NetFault};
-use proto::Geometry;
+use proto::{Geometry, MAX_SESSIONS};
 use segcache::Store;
 use std::alloc::Global;
 use std::io::Write;
@@ -20,9 +20,6 @@ use std::thread::{self, JoinHandle, Threads};
 use std::time;
 use storage_thread::UnixClock;
 use worker::OpenGate;
-
-/// So many streams a worker is given at most, as many as it opens sessions in a run.
-const MOST_STREAMS: u64 = 16_777_216;
 
 /// That it can't listen, for this reason.
 fn cannot_listen(alloc: Global, options: &ServeOptions, fault: NetFault) -> Fault {
@@ -50,7 +47,7 @@ where
     let mut hands = Vec::with_capacity(alloc, workers)?;
     let mut ports = Vec::with_capacity(alloc, workers)?;
     for _ in 0..workers {
-        let (of_listener, of_port) = Hand::pair(&rt, alloc, MOST_STREAMS)?;
+        let (of_listener, of_port) = Hand::pair(&rt, alloc, MAX_SESSIONS)?;
         hands.push(of_listener)?;
         ports.push(MioPort::new(rt, alloc, of_port)?)?;
     }

@@ -19,7 +19,7 @@ pub const MAX_KEYS: usize = 1024;
 pub const MAX_OUTPUT: usize = 67_108_864;
 
 /// Sessions that a worker opens in a run.
-pub const MAX_SESSIONS: u64 = 16_777_216;
+pub const MAX_SESSIONS: u64 = proto::MAX_SESSIONS;
 
 /// Requests that a worker numbers in a run.
 pub const MAX_POSTS: u64 = proto::MAX_POSTS;

@@ -4,7 +4,7 @@ ghost use Rattle.std.specs.Prelude.{◌≡◌, is_some};
 ghost use Rattle.proto.specs.Answers.{is_ask};
 
 use proto::{
-    HitRef, HitWriter, Hits, Keys, Message, Next, NextView, NoMemory, Reply, Request, Room,
+    HitRef, HitWriter, Hits, Keys, Message, Next, NextView, NoMemory, Reply, Request, SpareBuffer,
     next_message, next_view, show,
 };
 use std::alloc::{AllocError, Global};
@@ -136,7 +136,7 @@ fn hit(alloc: Global) -> Result<Hits, NoMemory> {
         cas: u64::MAX,
     };
     let room = hit.room().ok_or(NoMemory)?;
-    let mut hits = HitWriter::in_room(Room::new(alloc));
+    let mut hits = HitWriter::in_buffer(SpareBuffer::new(alloc));
     hits.reserve(room)?;
     hits.push(hit);
     Ok(hits.finish())

@@ -1,7 +1,7 @@
 //! A book with the requests that it has given, and a store that knows one value.
 
 use bytes::Bytes;
-use proto::{Answered, HitRef, HitWriter, NoMemory, Posted, Reply, Request, Room};
+use proto::{Answered, HitRef, HitWriter, NoMemory, Posted, Reply, Request, SpareBuffer};
 use session_book::{Book, EndCause, OpenFault, Received, Settled};
 use std::alloc::{AllocError, Global};
 use std::test::Fail;
@@ -102,7 +102,7 @@ fn reply_to(alloc: Global, request: &Request, found: Option<&str>) -> Result<Rep
     if !matches!(request, Request::Get { .. }) {
         return Ok(Reply::Stored);
     }
-    let mut hits = HitWriter::in_room(Room::new(alloc));
+    let mut hits = HitWriter::in_buffer(SpareBuffer::new(alloc));
     if let Some(value) = found {
         let hit = HitRef {
             key: b"a",

@@ -2,7 +2,7 @@
 
 ghost use Rattle.std.specs.Prelude.{◌≡◌};
 
-use proto::{Answered, Request, Room};
+use proto::{Answered, Request, SpareBuffer};
 use std::alloc::Global;
 
 /// So many rooms are kept at most, of so many bytes each.
@@ -13,7 +13,7 @@ const MAX_ROOM: usize = 65_536;
 /// Rooms that no request has: the one that was kept last is lent first.
 #[derive(Drop)]
 pub(crate) struct Rooms {
-    rooms: Vec<Room>,
+    rooms: Vec<SpareBuffer>,
 }
 
 impl Rooms {
@@ -31,13 +31,13 @@ impl Rooms {
             return;
         }
         if let Some(room) = self.rooms.pop() {
-            let _ = request.lend_room(room);
+            let _ = request.lend_buffer(room);
         }
     }
 
     // Keeps the room of an answer that is settled.
     pub(crate) fn keep(&mut self, settled: Answered) {
-        let Some(room) = settled.reply.into_room() else {
+        let Some(room) = settled.reply.into_buffer() else {
             return;
         };
         if room.capacity() <= MAX_ROOM && self.rooms.len() < MAX_ROOMS {

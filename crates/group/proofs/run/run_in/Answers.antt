@@ -10,7 +10,7 @@ start_workers-requires-clause-ends g c κs within =
 
 pub join_workers-reports-requires-clause-began : goal.join_workers-reports-requires-clause-began
 join_workers-reports-requires-clause-began g c =
-    (λ k d low. c.tell-told.ensures ∙ sym (c.in-Ok.ensures.start k d low), search rules)
+    (λ k d low. c.announce_start-told.ensures ∙ sym (c.in-Ok.ensures.start k d low), search rules)
 
 pub finish-requires-clause-together : goal.finish-requires-clause-together
 finish-requires-clause-together g c =

@@ -8,11 +8,11 @@ use std::marker::Model;
 /// An empty buffer, which may have memory. It travels with the keys of a `get`, and comes back with the hits: so memory
 /// is used again where it would be freed by one thread and taken by another.
 #[derive(Debug, Drop)]
-pub struct Room {
+pub struct SpareBuffer {
     bytes: Vec<u8>,
 }
 
-impl Model for Room {
+impl Model for SpareBuffer {
     ghost use Rattle.std.specs.Prelude.{◌≡◌, ℕ, [], vec_capacity};
 
     ghost Value = { ℕ };
@@ -22,23 +22,23 @@ impl Model for Room {
     ghost invariant = { λ a. a.bytes.items ≡ [] };
 }
 
-impl Room {
-    /// A room without memory.
-    pub fn new(alloc: Global) -> Room
+impl SpareBuffer {
+    /// A buffer without memory.
+    pub fn new(alloc: Global) -> SpareBuffer
         ensures { result ≡ 0 }
     {
-        Room {
+        SpareBuffer {
             bytes: Vec::new(alloc),
         }
     }
 
     /// The memory of these bytes, which are gone.
-    pub fn emptied(bytes: Vec<u8>) -> Room
+    pub fn emptied(bytes: Vec<u8>) -> SpareBuffer
         ensures { result ≡ vec_capacity bytes }
     {
         let mut bytes = bytes;
         bytes.clear();
-        Room { bytes }
+        SpareBuffer { bytes }
     }
 
     /// How many bytes its memory has.

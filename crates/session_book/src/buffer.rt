@@ -4,7 +4,7 @@ ghost use Rattle.std.specs.Prelude.{◌≡◌, ◌++◌, [], length, drop, ◌�
 ghost use Rattle.proto.specs.Answers.{answer, is_ask, reply_bytes};
 ghost use Rattle.std.specs.Prelude.{is_some, option_copied};
 
-use proto::{Message, NoMemory, Reply, Room, show, show_reply};
+use proto::{Message, NoMemory, Reply, SpareBuffer, show, show_reply};
 use std::alloc::Global;
 use std::marker::Model;
 use std::mem;
@@ -95,7 +95,7 @@ impl Buffer {
     }
 
     /// An empty buffer has the memory of the room from now on, in place of its own.
-    pub fn borrow_room(&mut self, room: Room)
+    pub fn borrow_room(&mut self, room: SpareBuffer)
         ensures { self.new ≡ self.old }
     {
         if self.bytes.is_empty() {
@@ -105,13 +105,13 @@ impl Buffer {
     }
 
     /// The memory of an empty buffer, which has none from now on.
-    pub fn hand_out_room(&mut self, alloc: Global) -> Option<Room>
+    pub fn hand_out_room(&mut self, alloc: Global) -> Option<SpareBuffer>
         ensures { self.new ≡ self.old }
     {
         if !self.bytes.is_empty() || !self.has_memory() {
             return None;
         }
         self.start = 0;
-        Some(Room::emptied(mem::replace(&mut self.bytes, Vec::new(alloc))))
+        Some(SpareBuffer::emptied(mem::replace(&mut self.bytes, Vec::new(alloc))))
     }
 }

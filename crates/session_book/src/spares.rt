@@ -3,7 +3,7 @@
 ghost use Rattle.std.specs.Prelude.{◌≡◌};
 
 use crate::buffer::Buffer;
-use proto::Room;
+use proto::SpareBuffer;
 use std::alloc::Global;
 
 /// So many rooms are kept at most, and so many bytes of them in all.
@@ -17,7 +17,7 @@ const MAX_SPARE_BYTES: usize = 4_194_304;
 #[derive(Drop)]
 pub(crate) struct Spares {
     alloc: Global,
-    rooms: Vec<Room>,
+    rooms: Vec<SpareBuffer>,
     bytes: usize,
 }
 

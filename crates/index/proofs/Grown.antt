@@ -1,5 +1,5 @@
 -- Rows with one slot more.
-use Rattle.std.proofs.Common.{◌≡◌, ℕ, ◌+◌, ◌<◌, ◌≤◌, true, false, cond, List, [], ◌∷◌, ◌++◌, length, sym, ap, ◌∙◌, inl, inr, arith, subst}
+use Rattle.std.proofs.Common.{◌≡◌, ℕ, ◌+◌, ◌-◌, ◌<◌, ◌≤◌, true, false, cond, List, [], ◌∷◌, ◌++◌, length, sym, ap, ◌∙◌, inl, inr, ◌⊎◌, arith, subst}
 use Rattle.std.specs.Prelude.{filter_map}
 use Rattle.std.specs.FinMap as map
 use Rattle.std.specs.Ordering.{nat_cmp}
@@ -57,13 +57,15 @@ within slots i r used =
     ]
 
 -- the slots of the row stay
-same_slot : (slots : List Slot) (i : ℕ) → i < length slots → slot_at (longer slots) i ≡ slot_at slots i
+pub same_slot : (slots : List Slot) (i : ℕ) → i < length slots → slot_at (longer slots) i ≡ slot_at slots i
 same_slot slots i r = get_or-append slots (empty_slot ∷ []) empty_slot i r
 
--- In the longer row each key is found from its home, or its search had gone over the end, and it is found from the front.
-pub near_front : (h : Hashing) (keys : KeysOf) (slots : List Slot) → ((k : List ℕ) → h.home k < length slots)
-    → AreIndexed h keys slots → AreNear h keys (longer slots) 0
-near_front h keys slots in_row indexed =
+-- In the longer row each key is found from its home; or its search had gone over the end, which was used, and it is found
+-- from the front.
+pub near_front : (h : Hashing) (keys : KeysOf) (slots : List Slot) (from : ℕ) → ((k : List ℕ) → h.home k < length slots)
+    → AreIndexed h keys slots → (from ≡ 0) ⊎ (is_used (slot_at slots (length slots - 1)) ≡ false)
+    → AreNear h keys (longer slots) from
+near_front h keys slots from in_row indexed begins =
     record {
       each = λ i r used.
           let i_in = within slots i r used in
@@ -79,11 +81,17 @@ near_front h keys slots in_row indexed =
                     let x_below : x < length slots = omega (arith, between, i_in) in
                     ap is_used (same_slot slots x x_below)
                     ∙ f.1.up_to x x_below (ahead (length slots) (h.home f.0) i x y.1 between.0 between.1))
-                | inr y ↦ inr (λ x x_in lt.
-                    let between = on_way (length (longer slots)) 0 i x r (omega arith) lt in
-                    let x_below : x < length slots = omega (arith, between, i_in) in
-                    ap is_used (same_slot slots x x_below)
-                    ∙ f.1.up_to x x_below (over (length slots) (h.home f.0) i x (in_row f.0) y.1 between.1))
+                | inr y ↦ elim begins [
+                  | inl front ↦ inr (subst (λ (o : ℕ). AreUsedUpTo (longer slots) o i) (sym front) (λ x x_in lt.
+                      let between = on_way (length (longer slots)) 0 i x r (omega arith) lt in
+                      let x_below : x < length slots = omega (arith, between, i_in) in
+                      ap is_used (same_slot slots x x_below)
+                      ∙ f.1.up_to x x_below (over (length slots) (h.home f.0) i x (in_row f.0) y.1 between.1)))
+                  | inr empty ↦
+                      let last_in : length slots - 1 < length slots = omega (arith, i_in) in
+                      let last = last_nearer (length slots) (h.home f.0) i (in_row f.0) y.1 in
+                      absurd (true_false (sym (f.1.up_to (length slots - 1) last_in last) ∙ empty))
+                ]
               ];
             },
           );
@@ -119,6 +127,14 @@ near_front h keys slots in_row indexed =
         elim (distance_cases n from i) [
           | inl p ↦ absurd (omega (arith, p, le))
           | inr p ↦ elim (distance_cases n from x) [ inl q ↦ absurd (omega (arith, q, le, lt)) | inr q ↦ omega (arith, p, q, lt, r, le) ]
+        ]
+
+    -- the last slot is nearer than one over the end
+    last_nearer : (n from i : ℕ) → from < n → i < from → distance n from (n - 1) < distance n from i
+    last_nearer n from i f lt =
+        elim (distance_cases n from i) [
+          | inl p ↦ absurd (omega (arith, p, lt))
+          | inr p ↦ elim (distance_cases n from (n - 1)) [ inl q ↦ omega (arith, p, q, f) | inr q ↦ absurd (omega (arith, q, f)) ]
         ]
 
 -- by the homes of one slot more each key is found from its home, or from the home that was split

@@ -1,5 +1,5 @@
 -- Keys that are put where their searches find them, one after the other along a run.
-use Rattle.std.proofs.Common.{◌≡◌, ◌≢◌, ℕ, zero, suc, ◌+◌, ◌*◌, ◌<◌, true, false, cond, List, [], ◌∷◌}
+use Rattle.std.proofs.Common.{◌≡◌, ◌≢◌, ℕ, zero, suc, ◌+◌, ◌*◌, ◌<◌, ◌≤◌, true, false, cond, List, [], ◌∷◌}
 use Rattle.std.proofs.Common.{length, refl, sym, ap, ◌∙◌, inl, inr, ◌⊎◌, arith, Some, subst}
 use Rattle.std.proofs.Common.{get_or-set_same, get_or-set_other, length-set}
 use Rattle.std.specs.Prelude.{slice_set, if◌then◌else◌}
@@ -12,7 +12,7 @@ use Rattle.index.specs.declared.slot.Slot.{Slot}
 use Rattle.segments.specs.declared.place.Place.{Place}
 use Rattle.index.specs.Keys.{KeysOf}
 use Rattle.index.specs.Slots.{is_used, place_of, slot_at, used_in, empty_slot, distance, behind, AreUsedUpTo}
-use Rattle.index.specs.Settling.{IsNear, AreNear, IsFirstStop}
+use Rattle.index.specs.Settling.{IsNear, AreNear, IsFirstStop, IsStretch}
 use Rattle.index.specs.Table.{Hashing, AreIndexed, places_in}
 use Rattle.index.proofs.Rounds.{distance_once, distance_itself, distance_below, behind_below, distance_add}
 use Rattle.index.proofs.Rounds.{distance_sum, distance_next, distance_last, distance_apart}
@@ -88,6 +88,27 @@ passes_on old new at x len a i differ keeps up y y_in lt =
     let q = distance_next n at x a i differ in
     keeps y in_old apart (up y in_old (omega (arith, p, q, less)))
 
+-- a stretch without a slot
+pub stretch_begins : (slots : List Slot) (from : ℕ) → from < length slots
+    → IsStretch slots (record { first = from; end = from })
+stretch_begins slots from f = record {
+  first = f;
+  end = f;
+  used = λ x x_in lt. (let z = distance_itself (length slots) from in absurd (omega (arith, z, lt)));
+}
+
+-- what is used up to a slot, or to one before it, still is where no slot but that one gets empty
+pub stretch_stays : (old new : List Slot) (at first end : ℕ) → length new ≡ length old
+    → ((y : ℕ) → y < length old → y ≢ at → is_used (slot_at old y) ≡ true → is_used (slot_at new y) ≡ true)
+    → AreUsedUpTo old first end → distance (length old) first end ≤ distance (length old) first at
+    → AreUsedUpTo new first end
+stretch_stays old new at first end len keeps up far y y_in lt =
+    let n = length old in
+    let in_old : y < n = omega (arith, len, y_in) in
+    let less : distance n first y < distance n first end = rw len at lt in
+    let apart : y ≢ at = λ same. (let e = ap (distance n first) same in omega (arith, e, less, far)) in
+    keeps y in_old apart (up y in_old less)
+
 -- what is used from another slot on still is, or it is used from this one on
 keeps_way : (old new : List Slot) (from at x : ℕ) → length new ≡ length old → from < length old → at < length old
     → x < length old → x ≢ at
@@ -96,17 +117,41 @@ keeps_way : (old new : List Slot) (from at x : ℕ) → length new ≡ length ol
 keeps_way old new from at x len f a i differ keeps up =
     let n = length old in
     elim (leb_tells (distance n from x) (distance n from at)) [
-      | inl far ↦ inl (λ y y_in lt.
-          let in_old : y < n = omega (arith, len, y_in) in
-          let less : distance n from y < distance n from x = rw len at lt in
-          let apart : y ≢ at = λ same. (let e = ap (distance n from) same in omega (arith, e, less, far)) in
-          keeps y in_old apart (up y in_old less))
+      | inl far ↦ inl (stretch_stays old new at from x len keeps up far.1)
       | inr on ↦ inr (λ y y_in lt.
           let whole = distance_add n from at x f a i (omega (arith, on)) in
           let below = distance_below n from x f i in
           let sum = distance_sum n from at y f a y_in (omega (arith, whole, lt, below)) in
           up y y_in (omega (arith, whole, sum, lt)))
     ]
+
+-- a search that begins in a stretch goes on from its end
+pub stop_further : (slots : List Slot) (first end home at stop : ℕ) → first < length slots → end < length slots
+    → home < length slots → at < length slots → AreUsedUpTo slots first end
+    → distance (length slots) first home ≤ distance (length slots) first end
+    → distance (length slots) first end ≤ distance (length slots) first at
+    → IsFirstStop slots end at stop → IsFirstStop slots home at stop
+stop_further slots first end home at stop f e h a used begins before s =
+    let n = length slots in
+    let to_end = distance_add n first home end f h e begins in
+    let to_at = distance_add n first home at f h a (omega (arith, begins, before)) in
+    let on = distance_add n home end at h e a (omega (arith, to_end, to_at, before)) in
+    let near = s.near in
+    let below = distance_below n home at h a in
+    let whole = distance_sum n home end stop h e s.in_range (omega (arith, on, near, below)) in
+    record {
+      in_range = s.in_range;
+      up_to = λ x x_in lt.
+          elim (leb_tells (distance n home end) (distance n home x)) [
+            | inl y ↦ (let z = distance_add n home end x h e x_in y.1 in s.up_to x x_in (omega (arith, z, whole, lt)))
+            | inr y ↦
+                let short = distance_below n first end f e in
+                let z = distance_sum n first home x f h x_in (omega (arith, y, to_end, short)) in
+                used x x_in (omega (arith, z, y, to_end))
+          ];
+      near = omega (arith, whole, on, near);
+      stops = s.stops;
+    }
 
 -- ---- the steps
 
@@ -414,6 +459,7 @@ pub record IsStep (h : Hashing) (keys : KeysOf) (slots new : List Slot) (at : �
   pub places : places_in keys new ≡ places_in keys slots
   pub used : used_in new ≡ used_in slots
   pub len : length new ≡ length slots
+  pub keeps : (y : ℕ) → y < length slots → y ≢ at → is_used (slot_at slots y) ≡ true → is_used (slot_at new y) ≡ true
   pub falls : spread h keys (length slots) 0 new * length slots
       + distance (length slots) (behind (length slots) at) (gap_index new)
       < spread h keys (length slots) 0 slots * length slots + distance (length slots) at (gap_index slots)
@@ -430,6 +476,7 @@ step_stays h keys slots at key near r used less is up =
       places = refl;
       used = refl;
       len = refl;
+      keeps = λ y y_in apart is_still. is_still;
       falls = omega (arith, nears);
     }
 
@@ -446,6 +493,7 @@ step_moves h keys slots new at gap key near r used less in_row is stop apart new
       places = moved_places h keys slots moved at gap m near in_row;
       used = used_same;
       len = m.len;
+      keeps = keeps h keys slots moved at gap m;
       falls = first_falls (spread h keys n 0 moved) (spread h keys n 0 slots) n
           (distance n (behind n at) (gap_index moved)) (distance n at (gap_index slots))
           (moved_spread h keys n slots at gap key r stop.in_range apart used empty is nearer) short;

@@ -1,6 +1,7 @@
 -- Rows in which some keys aren't found from their homes.
 use Rattle.std.specs.Prelude.{◌≡◌, ◌⊎◌, ℕ, ◌<◌, ◌≤◌, true, false, List, length, Some}
 use Rattle.index.specs.declared.slot.Slot.{Slot}
+use Rattle.index.specs.declared.settling.Stretch.{Stretch}
 use Rattle.index.specs.Keys.{KeysOf}
 use Rattle.index.specs.Slots.{is_used, place_of, slot_at, distance, AreUsedUpTo}
 use Rattle.index.specs.Table.{Hashing}
@@ -24,3 +25,9 @@ pub record IsFirstStop (slots : List Slot) (from end stop : ℕ) : Type 0 where
   pub up_to : AreUsedUpTo slots from stop
   pub near : distance (length slots) from stop ≤ distance (length slots) from end
   pub stops : (stop ≡ end) ⊎ (is_used (slot_at slots stop) ≡ false)
+
+-- all slots of the stretch are used
+pub record IsStretch (slots : List Slot) (s : Stretch) : Type 0 where
+  pub first : s.first < length slots
+  pub end : s.end < length slots
+  pub used : AreUsedUpTo slots s.first s.end

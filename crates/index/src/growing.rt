@@ -17,7 +17,8 @@ const MOST_AT_ONCE: usize = 3;
 /// Up to how many slots for each key a row grows.
 const SLOTS_FOR_EACH: usize = 3;
 
-/// Gives a row one slot more. The keys move that had gone over the end, and those of one home that have another one now.
+/// Gives a row one slot more. The keys move that had gone over the end, which was used then, and those of one home that
+/// have another one now.
 fn grow(slots: &mut Slots, hasher: FoldHasher, pool: &Pool)
     requires room { length slots.old.slots < slots.old.room }
     requires gap { used_in slots.old.slots < length slots.old.slots }
@@ -31,7 +32,12 @@ fn grow(slots: &mut Slots, hasher: FoldHasher, pool: &Pool)
 {
     let count = slots.len();
     slots.push();
-    settle(slots, 0, count, hasher, pool);
+    let front = if slots.get(count - 1).is_used() {
+        0
+    } else {
+        count
+    };
+    settle(slots, front, count, hasher, pool);
     let more = slots.len();
     settle(slots, split_home(count), more, hasher, pool);
 }

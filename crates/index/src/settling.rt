@@ -3,15 +3,47 @@
 ghost use Rattle.std.specs.Prelude.{◌≡◌, ◌<◌, ◌≤◌, length};
 ghost use Rattle.index.specs.Keys.{key_at};
 ghost use Rattle.index.specs.Slots.{used_in};
-ghost use Rattle.index.specs.Settling.{AreNear};
+ghost use Rattle.index.specs.Settling.{AreNear, IsFirstStop, IsStretch};
 ghost use Rattle.index.specs.Table.{hashing, AreIndexed, places_in};
 
 use crate::closing::home_at;
 use crate::search::first_gap_before;
-use crate::slot::behind;
+use crate::slot::{behind, distance};
 use crate::slots::Slots;
 use segments::Pool;
 use std::hash::FoldHasher;
+
+/// Slots that are known to be used: from the first one on, up to the end, which itself may be empty.
+#[derive(Clone, Copy, Debug)]
+struct Stretch {
+    first: usize,
+    end: usize,
+}
+
+/// The first empty slot of the search from a home, or another slot that comes before it, as the end of a stretch. Where
+/// the home is in a stretch that is known, and that doesn't go past the other slot, the search goes on from its end.
+fn search(slots: &Slots, known: Stretch, home: usize, at: usize) -> Stretch
+    requires known { IsStretch slots.now.slots known }
+    requires home { home < length slots.now.slots }
+    requires at { at < length slots.now.slots }
+    requires gap { used_in slots.now.slots < length slots.now.slots }
+    ensures first { result.first < length slots.now.slots }
+    ensures used { IsFirstStop slots.now.slots result.first at result.end }
+    ensures stop { IsFirstStop slots.now.slots home at result.end }
+{
+    let count = slots.len();
+    let reach = distance(count, known.first, known.end);
+    if distance(count, known.first, home) <= reach && reach <= distance(count, known.first, at) {
+        return Stretch {
+            first: known.first,
+            end: first_gap_before(slots, known.end, at),
+        };
+    }
+    Stretch {
+        first: home,
+        end: first_gap_before(slots, home, at),
+    }
+}
 
 /// Goes along the used slots from one on, up to the first empty one. A key that isn't found there from its home of
 /// `count` slots goes to the first empty slot of its search.
@@ -29,9 +61,14 @@ pub fn settle(slots: &mut Slots, from: usize, count: usize, hasher: FoldHasher, 
     ensures count { length slots.new.slots ≡ length slots.old.slots }
 {
     let mut at = from;
+    let mut known = Stretch {
+        first: from,
+        end: from,
+    };
     'run: while slots.get(at).is_used() {
         let home = home_at(slots.get(at), count, hasher, pool);
-        let gap = first_gap_before(slots, home, at);
+        known = search(slots, known, home, at);
+        let gap = known.end;
         if gap != at {
             slots.copy(at, gap);
             slots.empty(at);

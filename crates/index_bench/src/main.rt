@@ -1,6 +1,6 @@
 //! How long writes, look-ups, misses, deletes and emptying take in an index: that of 64 segments of 64 KiB, nearly full, and
-//! that of 512 segments of 1 MiB, nearly empty. `index_bench N` does N look-ups of each kind, and writes the times to the
-//! standard error.
+//! that of 512 segments of 1 MiB, nearly empty; and writes and look-ups of keys that meet in few slots. `index_bench N`
+//! does N look-ups of each kind, and writes the times to the standard error.
 #![tactic(auto)]
 
 use anyhow::Result;
@@ -8,9 +8,13 @@ use index_tests::shelf::Shelf;
 use proto::Geometry;
 use std::alloc::Global;
 use std::env;
+use std::hash::{FoldHasher, Hasher};
 use std::io::{Eprint, Print};
 use std::rt::Env;
 use std::time::{Clock, Duration, Instant};
+
+/// What each index hashes before a key.
+const SEED: u64 = 88_172_645_463_325_252;
 
 /// So many items with values of so many bytes, in segments of this size.
 #[derive(Clone, Copy)]
@@ -137,9 +141,53 @@ fn time_clear<R: Clock>(rt: &R, shelf: &mut Shelf) -> Result<Duration> {
     Ok(start.elapsed(rt)?)
 }
 
+/// The hash by which an index finds a key.
+fn hash_of(key: &[u8]) -> u64 {
+    let mut hasher = FoldHasher::default();
+    hasher.write(&SEED.to_le_bytes());
+    hasher.write(key);
+    hasher.finish()
+}
+
+/// So many numbers whose keys have their homes among the first 64 of 65,536 slots, and so of fewer.
+fn neighbours(alloc: Global, count: usize) -> Result<Vec<u64>> {
+    let mut numbers = Vec::new(alloc);
+    for n in 0..u64::MAX {
+        if numbers.len() == count {
+            break;
+        }
+        if hash_of(&key_of(n)) % 65_536 < 64 {
+            numbers.push(n)?;
+        }
+    }
+    Ok(numbers)
+}
+
+/// Puts the keys of these numbers.
+fn fill_with(shelf: &mut Shelf, numbers: &[u64]) -> u64 {
+    let mut put: u64 = 0;
+    for n in numbers {
+        if shelf.put(&key_of(*n), b"v", *n) {
+            put = put.wrapping_add(1);
+        }
+    }
+    put
+}
+
+/// How many of the keys of these numbers are found.
+fn found_of(shelf: &Shelf, numbers: &[u64]) -> u64 {
+    let mut found: u64 = 0;
+    for n in numbers {
+        if shelf.cas_of(&key_of(*n)).is_some() {
+            found = found.wrapping_add(1);
+        }
+    }
+    found
+}
+
 fn shelf_of(alloc: Global, load: Load) -> Result<Shelf> {
     let geometry = Geometry::new(load.segment_size, load.segments)?;
-    Ok(Shelf::new(alloc, geometry, 88_172_645_463_325_252)?)
+    Ok(Shelf::new(alloc, geometry, SEED)?)
 }
 
 fn value_of(alloc: Global, length: usize) -> Result<Vec<u8>> {
@@ -214,6 +262,25 @@ fn run_longest<R: Eprint + Clock>(rt: &R, alloc: Global, load: Load) -> Result<(
     longest(rt, &mut shelf, &value, load.count)
 }
 
+/// Times writes and look-ups of so many keys that meet in few slots.
+fn run_neighbours<R: Print + Eprint + Clock>(rt: &R, alloc: Global, count: usize) -> Result<()> {
+    let numbers = neighbours(alloc, count)?;
+    let mut shelf = shelf_of(alloc, load_of(0, 0, 1_048_576, 16))?;
+    let start = Instant::now(rt)?;
+    let put = fill_with(&mut shelf, &numbers);
+    let put_time = start.elapsed(rt)?;
+    let start = Instant::now(rt)?;
+    let found = found_of(&shelf, &numbers);
+    let find_time = start.elapsed(rt)?;
+    println!(rt; "{count} keys of neighbouring homes: put {put}, found {found}")?;
+    eprintln!(rt;
+        "{count} keys of neighbouring homes, tenths of ns: append and insert {}, hit {}",
+        nanos_each(put_time, put),
+        nanos_each(find_time, found),
+    )?;
+    Ok(())
+}
+
 fn load_of(count: u64, value_length: usize, segment_size: u32, segments: u32) -> Load {
     Load {
         count,
@@ -238,5 +305,5 @@ fn main(rt: HostRuntime) -> Result<()> {
         run(&rt, rt.alloc(), load, rounds)?;
         run_longest(&rt, rt.alloc(), load)?;
     }
-    Ok(())
+    run_neighbours(&rt, rt.alloc(), 1_000)
 }

@@ -1,13 +1,14 @@
-use Rattle.std.proofs.Common.{◌≡◌, ◌+◌, List, length, sym, ap, ◌∙◌, arith}
+use Rattle.std.proofs.Common.{◌≡◌, ◌⊎◌, ◌+◌, ◌-◌, ◌<◌, false, List, length, inl, inr, sym, ap, ◌∙◌, arith}
 use Rattle.index.specs.declared.slot.Slot.{Slot}
 use Rattle.index.specs.Keys.{key_at, KeysOf}
 use Rattle.index.specs.Layouts.{Row}
 use Rattle.index.specs.Settling.{AreNear}
-use Rattle.index.specs.Slots.{used_in}
+use Rattle.index.specs.Slots.{used_in, is_used, slot_at}
 use Rattle.index.specs.Table.{hashing, places_in}
 use Rattle.index.proofs.Emptying.{homes_in_row}
-use Rattle.index.proofs.Grown.{longer, longer_length, longer_used, longer_places, near_front, near_split}
+use Rattle.index.proofs.Grown.{longer, longer_length, longer_used, longer_places, same_slot, near_front, near_split}
 use Rattle.index.proofs.growing.grow.Goals as goal
+use Rattle.index.proofs.growing.grow.Goals.{then-is_used, else-is_used}
 
 pub settle-requires : goal.settle-requires
 settle-requires c =
@@ -20,9 +21,18 @@ settle-requires c =
     let layout_is : c.push.new.self.layout ≡ l = ap (λ (r : Row). r.layout) c.push.ensures in
     let long : length c.push.new.self.slots ≡ length slots + 1 = ap length slots_are ∙ longer_length slots in
     let used : used_in c.push.new.self.slots ≡ used_in slots = ap used_in slots_are ∙ longer_used slots in
-    let near : AreNear (hashing (length slots) l c.args.hasher) keys (longer slots) 0 =
-    near_front (hashing (length slots) l c.args.hasher) keys slots
-    (homes_in_row (length slots) l c.args.hasher (omega (arith, gap))) c.requires.indexed in
+    let end_in : length slots - 1 < length slots = omega (arith, gap) in
+    let end_is : c.get.result ≡ slot_at slots (length slots - 1) =
+    c.get.ensures ∙ ap (λ (m : List Slot). slot_at m (c.len-count.result - 1)) slots_are
+    ∙ ap (λ m. slot_at (longer slots) (m - 1)) n ∙ same_slot slots (length slots - 1) end_in in
+    let begins : (c.if-is_used.front ≡ 0) ⊎ (is_used (slot_at slots (length slots - 1)) ≡ false) =
+    elim c.if-is_used.branch [
+      | then-is_used w ↦ inl w.front-is
+      | else-is_used w ↦ inr (ap is_used (sym end_is) ∙ sym c.is_used.ensures ∙ w.if-is_used.false)
+    ] in
+    let near : AreNear (hashing (length slots) l c.args.hasher) keys (longer slots) c.if-is_used.front =
+    near_front (hashing (length slots) l c.args.hasher) keys slots c.if-is_used.front
+    (homes_in_row (length slots) l c.args.hasher (omega (arith, gap))) c.requires.indexed begins in
     record {
       from = omega (arith, long);
       some = omega (arith, n, gap);

@@ -1,4 +1,4 @@
-use Rattle.std.proofs.Common.{◌≡◌, ℕ, ◌+◌, ◌*◌, ◌<◌, true, false, List, length, sym, ap, ◌∙◌, arith, subst}
+use Rattle.std.proofs.Common.{◌≡◌, ℕ, ◌+◌, ◌*◌, ◌<◌, true, false, List, length, refl, sym, ap, ◌∙◌, arith, subst}
 use Rattle.std.specs.Prelude.{slice_set}
 use Rattle.index.specs.declared.slot.Slot.{Slot}
 use Rattle.index.specs.Layouts.{Row}
@@ -7,7 +7,7 @@ use Rattle.index.specs.Slots.{is_used, slot_at, distance, behind, empty_slot, us
 use Rattle.index.specs.Settling.{IsFirstStop}
 use Rattle.index.specs.Table.{hashing, Hashing}
 use Rattle.index.proofs.Emptying.{homes_in_row}
-use Rattle.index.proofs.Settled.{IsStep, step_stays, step_moves, run_ends, spread, gap_index}
+use Rattle.index.proofs.Settled.{IsStep, step_stays, step_moves, stretch_begins, stretch_stays, run_ends, spread, gap_index}
 use Rattle.index.proofs.settling.settle.Goals as goal
 use Rattle.index.proofs.settling.settle.Goals.{then-gap-at, else-gap-at}
 
@@ -35,8 +35,8 @@ step c =
     let f = inv.near.each at r used in
     let home_is : c.home_at-home.result ≡ h.home f.0 =
     rw f.1.of_key at (rw c.get-in-run.ensures at c.home_at-home.ensures.value) in
-    let stop : IsFirstStop slots (h.home f.0) at c.first_gap_before-gap.result =
-    rw home_is at c.first_gap_before-gap.ensures in
+    let stop : IsFirstStop slots (h.home f.0) at c.search-known.result.end =
+    rw home_is at c.search-known.ensures.stop in
     elim c.if-gap-at.branch [
       | then-gap-at w ↦
           let count = c.requires.count in
@@ -44,10 +44,10 @@ step c =
           λ k. (let b = homes_in_row c.args.count c.args.slots.now.layout c.args.hasher c.requires.some k in
           omega (arith, b, count, len)) in
           let slots_are : c.if-gap-at.slots.slots
-          ≡ slice_set (slice_set slots c.first_gap_before-gap.result (slot_at slots at)) at empty_slot =
+          ≡ slice_set (slice_set slots c.search-known.result.end (slot_at slots at)) at empty_slot =
           ap (λ (r : Row). r.slots) (w.slots-is ∙ w.empty.ensures)
           ∙ ap (λ (r : Row). slice_set r.slots at empty_slot) w.copy.ensures in
-          step_moves h keys slots c.if-gap-at.slots.slots at c.first_gap_before-gap.result f.0 inv.near r used less in_row
+          step_moves h keys slots c.if-gap-at.slots.slots at c.search-known.result.end f.0 inv.near r used less in_row
           f.1.of_key stop w.if-gap-at.true slots_are
       | else-gap-at w ↦
           let up : AreUsedUpTo slots (h.home f.0) at =
@@ -72,6 +72,18 @@ kept c =
         ap (λ (r : Row). r.room) w.slots-is ∙ c.run.invariant.room,
       )
     ]
+
+pub run-init : goal.run-init
+run-init c = record {
+  at_range = c.requires.from;
+  near = c.requires.near;
+  known = stretch_begins c.args.slots.now.slots c.args.from c.requires.from;
+  places = refl;
+  used = refl;
+  layout = refl;
+  room = refl;
+  len = refl;
+}
 
 pub run-smaller : goal.run-smaller
 run-smaller c =
@@ -99,6 +111,12 @@ run-preserved c =
     record {
       at_range = omega (arith, range, long, len, was);
       near = rw next s.near;
+      known = record {
+        first = (let r = c.search-known.ensures.first in let l = s.len in omega (arith, r, l));
+        end = (let r = c.search-known.ensures.used.in_range in let l = s.len in omega (arith, r, l));
+        used = stretch_stays c.run.slots.slots c.if-gap-at.slots.slots c.run.at c.search-known.result.first c.search-known.result.end
+            s.len s.keeps c.search-known.ensures.used.up_to c.search-known.ensures.used.near;
+      };
       places = s.places ∙ inv.places;
       used = s.used ∙ inv.used;
       layout = (kept c).0;

@@ -1,7 +1,7 @@
 use Rattle.std.proofs.Common.{◌≡◌, ◌+◌, ◌*◌, ◌<◌, length}
 use Rattle.index.specs.Keys.{key_at}
 use Rattle.index.specs.Slots.{used_in, distance}
-use Rattle.index.specs.Settling.{AreNear}
+use Rattle.index.specs.Settling.{AreNear, IsStretch}
 use Rattle.index.specs.Table.{hashing, places_in}
 use Rattle.index.proofs.Settled.{spread, gap_index}
 use Rattle.index.proofs.settling.settle.Given as goal
@@ -10,6 +10,7 @@ abbrev pub invariant-run : goal.invariant-run
 invariant-run l = record {
   at_range : l.at < length l.initial.slots.slots;
   near : AreNear (hashing l.count l.initial.slots.layout l.hasher) (key_at l.pool) l.slots.slots l.at;
+  known : IsStretch l.slots.slots l.known;
   places : places_in (key_at l.pool) l.slots.slots ≡ places_in (key_at l.pool) l.initial.slots.slots;
   used : used_in l.slots.slots ≡ used_in l.initial.slots.slots;
   layout : l.slots.layout ≡ l.initial.slots.layout;

@@ -2,7 +2,7 @@
 use Rattle.std.proofs.Common.{◌≡◌, ℕ, ◌+◌, ◌<◌, ◌≤◌, Bool, true, false, cond, List, [], ◌∷◌, ◌++◌, length, drop, Option, Some, None, Result, Ok, Err, is_some}
 use Rattle.std.proofs.Common.{refl, sym, ap, subst, ◌∙◌, arith, inl, inr, add-zero, zero-add, length-append}
 use Rattle.std.proofs.lemmas.List.{append-nil}
-use Rattle.session_book.proofs.Steps.{reads_nothing}
+use Rattle.session_book.proofs.Steps.{reads_nothing, reads_new}
 use Rattle.std.specs.Prelude.{◌==◌, ◌⊎◌, slice_get}
 use Rattle.std.proofs.lemmas.Bool.{cases_Bool, cases_eq, cases_lt, eq-eqb, ne_eqb}
 use Rattle.std.specs.Prelude.{IsSome}
@@ -21,9 +21,11 @@ use Rattle.session_book.specs.declared.causes.Unsettled.{Unsettled}
 use Rattle.session_book.specs.declared.causes.Received.{Received}
 use Rattle.session_book.specs.declared.causes.Received.TheVariants as receptions
 use Rattle.session_book.specs.Session.{SessionState, new_session, begins_asked, left, with_reply, once_fed, IsInputFull, held_fed, TakesPiece, FeedsHeld}
-use Rattle.session_book.specs.Session.{ReadsOn, ReadsAsk, given_request}
+use Rattle.session_book.specs.Session.{ReadsOn, ReadsAsk, Stops, given_request, gave}
 use Rattle.session_book.specs.Book.{BookState, session_of, unsettled_in, OnlyAt, ChangesOpen, Receives, FeedsHeldOf, IsBook, GivesNone, NextAsk, given_in}
-use Rattle.session_book.specs.Book.{IsOldest, SettlesReply}
+use Rattle.session_book.specs.Book.{IsOldest, SettlesReply, ChangesSession, stops}
+use Rattle.std.specs.Option.{option_map}
+use Rattle.std.proofs.Math.Seq.{drop-nil}
 use Rattle.session_book.proofs.Answering.{asks-left, begins_asked_by}
 use Rattle.proto.proofs.AskLemmas.{asks-append}
 
@@ -421,3 +423,45 @@ refused_ask before after now session s result e same failed is sessions unsettle
     ∙ ap (λ (us : List Unsettled). record before { unsettled = us }) unsettled ∙ same in
     idle_ask now session s result after (ap given_in failed) unchanged
     (subst (λ (b : BookState). IsBook b) same is) open_now (λ none. absurd cc)
+
+-- ---- a session of which nothing came
+
+-- has no unsettled request
+pub silent_unasked : (before : BookState) (session number : ℕ) (s : SessionState) → IsBook before
+    → session_of before session ≡ Some s
+    → slice_get before.unsettled 0 ≡ Some (record { number = number; session = session }) → s ≡ new_session → ⊥
+silent_unasked before session number s is open_now oldest silent =
+    let none : 0 < 0 = subst (λ (x : SessionState). 0 < length (asks x.queue)) silent
+    (first_asked before session number s is open_now oldest) in
+    omega (arith, none)
+
+-- gives no request
+pub silent_ask : (before after now : BookState) → before ≡ now → (session : ℕ) (s : SessionState) → IsBook before
+    → session_of before session ≡ Some new_session → after ≡ record before { sessions = after.sessions }
+    → after.sessions ≡ before.sessions → session_of now session ≡ Some s → NextAsk now session s (Ok None) after
+silent_ask before after now same session s is open_now rest back s_open =
+    let there : session_of now session ≡ Some new_session =
+    subst (λ (b : BookState). session_of b session ≡ Some new_session) same open_now in
+    let both : Some new_session ≡ Some s = sym there ∙ s_open in
+    let s_is : new_session ≡ s = cc in
+    idle_ask now session s (Ok None) after refl (unchanged before after now same rest back)
+    (subst (λ (b : BookState). IsBook b) same is) s_open
+    (λ e. stops (subst (λ (x : SessionState). Stops x) s_is ((reads_new 0).none refl)))
+
+-- has no output
+pub silent_gave : (before after now : BookState) → before ≡ now → (session n : ℕ)
+    → session_of before session ≡ Some new_session → after ≡ record before { sessions = after.sessions }
+    → after.sessions ≡ before.sessions
+    → ChangesSession now after session (option_map (λ s. gave s n) (session_of now session))
+silent_gave before after now same session n open_now rest back =
+    let kept : after ≡ now = unchanged before after now same rest back in
+    let there : session_of now session ≡ Some new_session =
+    subst (λ (b : BookState). session_of b session ≡ Some new_session) same open_now in
+    let gives : option_map (λ (s : SessionState). gave s n) (session_of now session) ≡ Some new_session =
+    ap (λ (o : Option SessionState). option_map (λ (s : SessionState). gave s n) o) there
+    ∙ ap (λ (x : List ℕ). Some (record new_session { out = x })) (drop-nil n) in
+    record {
+      only_at = subst (λ (o : Option SessionState). OnlyAt now after session o) (sym gives)
+          (rw kept (nothing_only now.sessions session new_session there));
+      rest = rw kept refl;
+    }

@@ -14,7 +14,7 @@ use Rattle.session_book.specs.declared.causes.Received.TheVariants as received
 use Rattle.session_book.specs.declared.causes.Settled.{Settled}
 use Rattle.session_book.specs.declared.causes.Settled.TheVariants as outcomes
 use Rattle.session_book.specs.declared.limits.TheConstants.{MAX_UNSETTLED, MAX_SESSIONS, MAX_POSTS}
-use Rattle.session_book.specs.Session.{SessionState, begins_asked, TakesPiece, IsInputFull, held_fed, ReadsUpTo, Stops, with_reply}
+use Rattle.session_book.specs.Session.{SessionState, new_session, begins_asked, TakesPiece, IsInputFull, held_fed, ReadsUpTo, Stops, with_reply}
 
 -- A worker's book: the worker's number; the open sessions by their numbers; how many requests got a number;
 -- the unsettled requests in the order of their numbers; the greatest number of a session opened, and how many
@@ -44,6 +44,10 @@ pub record IsBook (book : BookState) : Type 0 where
       → length (asks s.queue) ≡ unsettled_in book.unsettled session
   pub open_below : (session : ℕ) → book.greatest < session → session_of book session ≡ None
   pub unsettled_below : (session : ℕ) → book.greatest < session → unsettled_in book.unsettled session ≡ 0
+
+-- it isn't open, or nothing came of it
+abbrev pub IsSilent : Option SessionState → Type 0
+IsSilent s = (s ≡ None) ⊎ (s ≡ Some new_session)
 
 -- the output that wasn't given yet, none of a session that isn't open
 abbrev pub out_of : Option SessionState → List ℕ

@@ -1,7 +1,7 @@
 //! The sessions of one worker: reading what they were fed, and answering in the order of their messages.
 
 ghost use Rattle.std.specs.Prelude.{◌≡◌, ◌⊎◌, ◌+◌, ◌≤◌, ◌<◌, ◌↔◌, [], length, is_some, option_map};
-ghost use Rattle.std.specs.Prelude.{OnOk, OnErr};
+ghost use Rattle.std.specs.Prelude.{OnOk, OnErr, MatchOption};
 ghost use Rattle.session_book.specs.Session.{SessionState, new_session, gave, finished_by};
 ghost use Rattle.std.specs.Option.{option_and_then};
 
@@ -10,6 +10,7 @@ use crate::limits::{MAX_POSTS, MAX_SESSIONS, MAX_UNSETTLED};
 use crate::load::Load;
 use crate::open_session::OpenSession;
 use crate::ready::Ready;
+use crate::session::Session;
 use crate::spares::Spares;
 use bytes::Bytes;
 use proto::{Answered, NoMemory, Request};
@@ -75,7 +76,7 @@ impl Model for Book {
 
 impl Book {
     ghost use Rattle.session_book.specs.Book.{session_of, out_of, held_of, ChangesSession, Receives, FeedsHeldOf};
-    ghost use Rattle.session_book.specs.Book.{OnlyAt, IsKnown, NextAsk, Settles};
+    ghost use Rattle.session_book.specs.Book.{IsSilent, OnlyAt, IsKnown, NextAsk, Settles};
 
     /// No session is open yet. The worker's number is kept for its owner.
     pub fn new(alloc: Global, worker: usize) -> Self
@@ -126,7 +127,7 @@ impl Book {
         if self.ready.take_room(self.sessions.len() + 1).is_err() {
             return Err(OpenFault::NoMemory);
         }
-        match self.sessions.insert(session, OpenSession::new(self.alloc)) {
+        match self.sessions.insert(session, OpenSession::new()) {
             Ok(_) => {}
             Err(_) => return Err(OpenFault::NoMemory),
         }
@@ -143,9 +144,15 @@ impl Book {
         let Some(open) = self.sessions.get_mut(&session) else {
             return Received::Unknown;
         };
-        let received = open.receive(piece, &mut self.inputs);
+        if open.take_memory(self.alloc).is_err() {
+            return Received::Refused;
+        }
+        let Some(state) = &mut open.state else {
+            return Received::Refused;
+        };
+        let received = state.receive(piece, &mut self.inputs);
         if received == Received::Fed {
-            open.ask_later(session, &mut self.ready);
+            state.ask_later(session, &mut self.ready);
         }
         received
     }
@@ -157,19 +164,36 @@ impl Book {
         let Some(open) = self.sessions.get_mut(&session) else {
             return Ok(false);
         };
-        let fed = open.feed_held()?;
+        let Some(state) = &mut open.state else {
+            return Ok(false);
+        };
+        let fed = state.feed_held()?;
         if fed {
-            open.ask_later(session, &mut self.ready);
+            state.ask_later(session, &mut self.ready);
         }
         Ok(fed)
+    }
+
+    /// The state of a session that is open and has had input.
+    fn state(&self, session: u64) -> Option<&Session>
+        ensures { MatchOption result (IsSilent (session_of self.now session))
+            (λ state. session_of self.now session ≡ Some state.now) }
+    {
+        let Some(open) = self.sessions.get(&session) else {
+            return None;
+        };
+        match &open.state {
+            Some(state) => Some(state),
+            None => None,
+        }
     }
 
     /// The piece that is held of a session.
     pub fn held(&self, session: u64) -> &[u8]
         ensures { result.now ≡ held_of (session_of self.now session) }
     {
-        match self.sessions.get(&session) {
-            Some(open) => open.held(),
+        match self.state(session) {
+            Some(state) => state.held(),
             None => &[],
         }
     }
@@ -187,11 +211,15 @@ impl Book {
         let Some(open) = self.sessions.get_mut(&session) else {
             return Ok(None);
         };
+        let Some(state) = &mut open.state else {
+            self.reads_on = false;
+            return Ok(None);
+        };
         self.unsettled.reserve(1)?;
-        let before = open.out().len();
-        let read = open.next_ask(&mut self.looks);
-        self.load.output_changed(before, open.out().len());
-        self.reads_on = open.was_asked(session, &mut self.ready, &mut self.inputs);
+        let before = state.out().len();
+        let read = state.next_ask(&mut self.looks);
+        self.load.output_changed(before, state.out().len());
+        self.reads_on = state.was_asked(session, &mut self.ready, &mut self.inputs);
         let Some(request) = read? else {
             return Ok(None);
         };
@@ -219,11 +247,14 @@ impl Book {
         let Some(open) = self.sessions.get_mut(&answered.session) else {
             return Settled::Dropped;
         };
-        let before = open.out().len();
-        match open.settle(&answered.reply, &mut self.outputs) {
+        let Some(state) = &mut open.state else {
+            unreachable!()
+        };
+        let before = state.out().len();
+        match state.settle(&answered.reply, &mut self.outputs) {
             Ok(()) => {
-                self.load.output_changed(before, open.out().len());
-                open.give_later(answered.session, &mut self.ready);
+                self.load.output_changed(before, state.out().len());
+                state.give_later(answered.session, &mut self.ready);
                 Settled::Kept
             }
             Err(NoMemory) => {
@@ -244,8 +275,8 @@ impl Book {
     pub fn out(&self, session: u64) -> &[u8]
         ensures { result.now ≡ out_of (session_of self.now session) }
     {
-        match self.sessions.get(&session) {
-            Some(open) => open.out(),
+        match self.state(session) {
+            Some(state) => state.out(),
             None => &[],
         }
     }
@@ -255,20 +286,20 @@ impl Book {
         ensures out { (result.out.now ≡ []) ⊎ (result.out.now ≡ out_of (session_of self.now session)) }
         ensures finished { result.finished ≡ option_and_then finished_by (session_of self.now session) }
     {
-        let Some(open) = self.sessions.get(&session) else {
+        let Some(state) = self.state(session) else {
             return Offer {
                 out: &[],
                 finished: None,
             };
         };
-        let out = if open.is_worth_giving(&self.ready) {
-            open.out()
+        let out = if state.is_worth_giving(&self.ready) {
+            state.out()
         } else {
             &[]
         };
         Offer {
             out,
-            finished: open.finished(),
+            finished: state.finished(),
         }
     }
 
@@ -281,34 +312,40 @@ impl Book {
         let Some(open) = self.sessions.get_mut(&session) else {
             return None;
         };
-        open.gave(n);
-        open.was_given(session, n, &mut self.ready, &mut self.outputs);
+        let Some(state) = &mut open.state else {
+            return None;
+        };
+        state.gave(n);
+        state.was_given(session, n, &mut self.ready, &mut self.outputs);
         self.load.output_changed(n, 0);
-        open.finished()
+        state.finished()
     }
 
     /// Quit or Fatal, once all before it was answered and given.
     pub fn finished(&self, session: u64) -> Option<EndCause>
         ensures { result ≡ option_and_then finished_by (session_of self.now session) }
     {
-        self.sessions.get(&session)?.finished()
+        self.state(session)?.finished()
     }
 
     /// Drops a session with its input and output. The answers to its unsettled requests are dropped when they come.
     pub fn close(&mut self, session: u64)
         ensures { ChangesSession self.old self.new session None }
     {
-        if let Some(open) = self.sessions.remove(&session) {
-            self.load.output_changed(open.out().len(), 0);
-        }
+        let waiting = self.out(session).len();
+        self.load.output_changed(waiting, 0);
+        self.sessions.remove(&session);
     }
 
     /// The session is asked again.
     pub fn ask_later(&mut self, session: u64)
         ensures { self.new ≡ self.old }
     {
-        if let Some(open) = self.sessions.get_mut(&session) {
-            open.ask_later(session, &mut self.ready);
+        let Some(open) = self.sessions.get_mut(&session) else {
+            return;
+        };
+        if let Some(state) = &mut open.state {
+            state.ask_later(session, &mut self.ready);
         }
     }
 

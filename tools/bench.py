@@ -93,6 +93,8 @@ class Bench:
         if ran.returncode:
             raise Trouble(f"{server.kind}: {' '.join(map(str, words))}: {ran.stderr.strip()}")
         figures = {name: float(figure) for name, _, figure in (it.partition("=") for it in ran.stdout.split())}
+        if figures["refused"]:
+            raise Trouble(f"{server.kind}: {' '.join(map(str, words))}: {figures['refused']:.0f} sets refused")
         figures["processor"] = (server.processor_seconds() - before) * 1e6 / max(figures["requests"], 1)
         return figures
 
@@ -185,16 +187,16 @@ def idle_percent(server, seconds=3):
 
 
 def miss_parts(load, quick, write):
-    """Misses at equal memory: a table without lives and one with them, or a single row."""
+    """Misses at equal memory: tables of the curve, of fewer and more keys and of keys with lives, or a single row."""
     runs = misses.Misses(load, PROGRAM, lambda text: print(text, file=sys.stderr, flush=True))
-    plain, lives = ([misses.Point(32, 1000, 0.99)], []) if quick else misses.curve()
-    results = runs.each(runs.both, plain + lives)
-    parts = [misses.table(plain, results)]
-    if lives:
-        parts += [misses.table(lives, results), [f"With lives each server kept at least {misses.held(results):.1%} of the rate."]]
+    if quick:
+        point = misses.Point(32, 1000, 0.99)
+        return [misses.table([point], runs.each(runs.both, [point]))]
+    kinds = misses.curve()
+    results = runs.each(runs.both, [point for points in kinds for point in points])
     if write:
         misses.draw(results, f"{TOP}/docs/misses.svg")
-    return parts
+    return [*(misses.table(points, results) for points in kinds), [misses.conditions(results)]]
 
 
 def segment_part(load):

@@ -45,6 +45,9 @@ static struct options options = {
 
 enum { MOST_LATENCIES = 1 << 20, LETTERS = 26, TAILS = 10, KEY_LENGTH = 11, LONGEST_KEY = 32 };
 
+// What memcached answers to a set now and then, where all the items that it could let go are in use: it is counted.
+#define REFUSED "SERVER_ERROR out of memory storing object\r\n"
+
 // What is asked, and how its answer is read.
 struct request {
     bool is_set;
@@ -67,7 +70,7 @@ struct connection {
 struct worker {
     pthread_t thread;
     int first, count;               // its connections
-    uint64_t seed, requests, hits, keys_asked;
+    uint64_t seed, requests, hits, keys_asked, refused;
     uint32_t *latencies;            // in microseconds
     uint64_t latencies_seen;
     bool failed;
@@ -213,6 +216,11 @@ static long value_length(const struct request *r, const char *in, size_t length,
 // The length of the answer that the bytes begin with, 0 where it isn't whole yet, or -1 where it is none.
 static long answer_length(struct worker *w, struct connection *c, const struct request *r, const char *in, size_t length) {
     if (r->is_set) {
+        if (can_be(in, length, REFUSED, sizeof REFUSED - 1)) {
+            if (length < sizeof REFUSED - 1) return 0;
+            w->refused++;
+            return sizeof REFUSED - 1;
+        }
         if (!can_be(in, length, "STORED\r\n", 8)) return -1;
         return length < 8 ? 0 : 8;
     }
@@ -247,7 +255,10 @@ static bool read_answers(struct worker *w, struct connection *c) {
     double read_at = now();
     while (c->answered < c->waiting) {
         long length = answer_length(w, c, &c->asked[c->answered], c->in + at, c->in_length - at);
-        if (length < 0) return false;
+        if (length < 0) {
+            fprintf(stderr, "load: answered %.*s\n", (int)(c->in_length - at < 80 ? c->in_length - at : 80), c->in + at);
+            return false;
+        }
         if (length == 0) break;
         at += length;
         c->answered++;
@@ -416,11 +427,11 @@ static void read_words(int count, char **words) {
 
 // The figures of all threads in one line.
 static void report(struct worker *workers, double seconds) {
-    uint64_t requests = 0, hits = 0, keys = 0, kept = 0;
+    uint64_t requests = 0, hits = 0, keys = 0, kept = 0, refused = 0;
     uint32_t *all = malloc((size_t)options.threads * MOST_LATENCIES * sizeof *all);
     for (int i = 0; i < options.threads; i++) {
         struct worker *w = &workers[i];
-        requests += w->requests, hits += w->hits, keys += w->keys_asked;
+        requests += w->requests, hits += w->hits, keys += w->keys_asked, refused += w->refused;
         uint64_t n = w->latencies_seen < MOST_LATENCIES ? w->latencies_seen : MOST_LATENCIES;
         memcpy(all + kept, w->latencies, n * sizeof *all);
         kept += n;
@@ -430,9 +441,10 @@ static void report(struct worker *workers, double seconds) {
     struct rusage used;
     getrusage(RUSAGE_SELF, &used);
     double ran = used.ru_utime.tv_sec + used.ru_stime.tv_sec + (used.ru_utime.tv_usec + used.ru_stime.tv_usec) / 1e6;
-    printf("requests=%lu seconds=%.3f rate=%.0f hits=%lu misses=%lu p50=%u p99=%u p999=%u most=%u busy=%.2f\n",
-           (unsigned long)requests, seconds, requests / seconds, (unsigned long)hits, (unsigned long)(keys - hits), PERCENTILE(0.5),
-           PERCENTILE(0.99), PERCENTILE(0.999), PERCENTILE(1.0), ran / seconds / options.threads);
+    printf("requests=%lu seconds=%.3f rate=%.0f hits=%lu misses=%lu refused=%lu p50=%u p99=%u p999=%u most=%u busy=%.2f\n",
+           (unsigned long)requests, seconds, requests / seconds, (unsigned long)hits, (unsigned long)(keys - hits),
+           (unsigned long)refused, PERCENTILE(0.5), PERCENTILE(0.99), PERCENTILE(0.999), PERCENTILE(1.0),
+           ran / seconds / options.threads);
 }
 
 int main(int count, char **words) {

@@ -1,7 +1,7 @@
 """Misses of segcached and memcached at equal resident memory: for tools/bench.py, which says the words.
 
-A client reads keys by Zipf's law and writes each that it missed. All keys together have SHARE times as many bytes as the memory,
-so no server keeps them all. memcached (of Debian, with its own defaults) gets an -m with which so much is resident as the point
+A client reads keys by Zipf's law and writes each that it missed. All keys with their values have some times as many bytes as the
+memory, so no server keeps them all. memcached (of Debian, with its own defaults) gets an -m with which so much is resident as the point
 says; segcached gets the most segments with which it has no more resident than memcached, once each server was filled with all
 keys. Then both are warmed by a number of reads, and a further number is counted: of reads, not of seconds, so a slow machine
 counts the same misses. Where keys have lives the clock counts too, and both servers are read at one fixed rate.
@@ -16,14 +16,15 @@ import tempfile
 from served import OnPort, Server, Trouble, free_port
 
 MIB = 1 << 20
-SHARE = 2.5
 KEY_BYTES, HEAD_BYTES = 11, 24
 # What is read for warming and what is counted: so many times the keys, and no fewer than so many.
 WARMED, COUNTED, LEAST = 4, 2, 1_000_000
 # Where keys have lives: reads a second, and the seconds of warming and of counting.
-RATE, WARM_SECONDS, COUNT_SECONDS = 80_000, 140, 60
-SEGMENT_SIZE = 256 << 10
+RATE, WARM_SECONDS, COUNT_SECONDS = 60_000, 100, 40
+SEGMENT_SIZE = 64 << 10
 MEMORIES, VALUES, EXPONENTS = (32, 64, 128), (100, 300, 1000), (0.8, 0.99)
+# How many times the memory the keys with their values have: in the curve, and in a table of its own.
+TIMES, OTHER_TIMES = 2.5, (1.5, 1.8, 4.0)
 SEGMENT_SIZES = (64 << 10, 256 << 10, 1 << 20)
 # Neither server asks for huge pages: with them what is resident is rounded up to 2 MiB in several places.
 PLAIN = {name: value for name, value in os.environ.items() if name != "GLIBC_TUNABLES"}
@@ -36,18 +37,19 @@ class Point:
     memory: int
     value: int
     zipf: float
+    times: float = TIMES
     lives: bool = False
     sets: int = 0
     segment_size: int = SEGMENT_SIZE
 
     @property
     def keys(self):
-        return min(int(SHARE * self.memory * MIB / (KEY_BYTES + self.value)), 9_999_999)
+        return min(int(self.times * self.memory * MIB / (KEY_BYTES + self.value)), 9_999_999)
 
     @property
     def store(self):
         """What the servers' sizes depend on."""
-        return Point(self.memory, self.value, 0, segment_size=self.segment_size)
+        return Point(self.memory, self.value, 0, max(self.times, TIMES), segment_size=self.segment_size)
 
     def words(self):
         """The load's words."""
@@ -73,15 +75,16 @@ class Side:
 
 
 def curve():
-    """The points of the picture, and those with lives."""
+    """The points of the picture, those with fewer and with more keys, and those with lives."""
     plain = [Point(memory, value, zipf) for zipf in EXPONENTS for value in VALUES for memory in MEMORIES]
-    return plain, [Point(64, value, 0.99, lives=True) for value in (100, 1000)]
+    others = [Point(32, value, 0.99, times) for value in VALUES for times in OTHER_TIMES]
+    return plain, others, [Point(64, value, 0.99, lives=True, segment_size=MIB) for value in (100, 1000)]
 
 
 def segment_points():
     """The points that tell which size of a segment misses least."""
-    kinds = ({"zipf": 0.99}, {"zipf": 0.8}, {"zipf": 0.99, "sets": 30}, {"zipf": 0.99, "lives": True})
-    return [Point(64, value, **kind, segment_size=size) for kind in kinds for value in (100, 1000) for size in SEGMENT_SIZES]
+    kinds = ({"memory": 32}, {"memory": 32, "sets": 30}, {"memory": 64, "lives": True})
+    return [Point(value=value, zipf=0.99, **kind, segment_size=size) for kind in kinds for value in (100, 1000) for size in SEGMENT_SIZES]
 
 
 class Misses:
@@ -103,8 +106,11 @@ class Misses:
         """One run of the load: the figures of its last line."""
         ran = subprocess.run([self.load, "127.0.0.1", str(server.port), *map(str, words)], capture_output=True, text=True, check=False)
         if ran.returncode:
-            raise Trouble(f"{' '.join(map(str, words))}: {ran.stderr.strip()}")
-        return {name: float(figure) for name, _, figure in (it.partition("=") for it in ran.stdout.split())}
+            raise Trouble(f"{' '.join(map(str, words))}: ended with {ran.returncode}, {ran.stderr.strip()}")
+        figures = {name: float(figure) for name, _, figure in (it.partition("=") for it in ran.stdout.split())}
+        if figures["refused"]:
+            self.say(f"{server.process.args[0]}: {figures['refused']:,.0f} of {figures['requests']:,.0f} requests refused")
+        return figures
 
     def filled(self, server, point):
         """What a server has resident once all keys were written, in MiB."""
@@ -180,21 +186,27 @@ def ratio(sides):
 def table(points, results):
     """A row for each point: both servers' memory and misses."""
     rows = [
-        "| Memory (MiB) | values (bytes) | Zipf's exponent | keys | -m of memcached, segments | resident (MiB): memcached, segcached "
+        "| Memory (MiB) | values (bytes) | Zipf's exponent | keys (their bytes, times the memory) | -m of memcached, segments | resident (MiB): memcached, segcached "
         "| missed of 100 reads: memcached, segcached | ratio |",
         "|---|---|---|---|---|---|---|---|",
     ]
     for point in points:
         sides = results[point]
-        cells = [str(point.memory), f"{point.value:,}", f"{point.zipf:g}" + (", with lives" if point.lives else ""), f"{point.keys:,}"]
+        cells = [str(point.memory), f"{point.value:,}", f"{point.zipf:g}" + (", with lives" if point.lives else ""), f"{point.keys:,} ({point.times:g})"]
         cells += [pair(sides, lambda it: it.size), pair(sides, lambda it: f"{it.resident:.1f}"), pair(sides, lambda it: f"{it.missed:.2f}")]
         rows.append("| " + " | ".join([*cells, f"{ratio(sides):.2f}"]) + " |")
     return rows
 
 
-def held(results):
-    """The least share of the fixed rate that a server kept."""
-    return min(side.rate / RATE for point, sides in results.items() if point.lives for side in sides)
+def least_held(sides):
+    """The least share of the fixed rate that one of these kept."""
+    return f"With lives each server kept at least {min(it.rate for it in sides) / RATE:.1%} of the rate of {RATE:,} reads a second."
+
+
+def conditions(results):
+    """What the tables don't say of the runs."""
+    held = least_held([side for point, sides in results.items() if point.lives for side in sides])
+    return f"segcached has segments of {SEGMENT_SIZE >> 10} KiB, and of 1 MiB with lives. {held}"
 
 
 def segment_table(points, results):
@@ -203,11 +215,11 @@ def segment_table(points, results):
     rows = [f"| Missed of 100 reads, segments of | {sizes} |", "|---|" + "---|" * len(SEGMENT_SIZES)]
     for at in range(0, len(points), len(SEGMENT_SIZES)):
         row = points[at : at + len(SEGMENT_SIZES)]
-        name = f"{row[0].value:,} bytes, Zipf {row[0].zipf:g}" + (f", {row[0].sets} of 100 are writes" if row[0].sets else "")
+        name = f"{row[0].memory} MiB, {row[0].value:,} bytes" + (f", {row[0].sets} of 100 are writes" if row[0].sets else "")
         name += ", with lives" if row[0].lives else ""
         cells = [f"{results[it].missed:.2f} ({results[it].size} segments, {results[it].resident:.1f} MiB)" for it in row]
         rows.append(f"| {name} | " + " | ".join(cells) + " |")
-    return rows
+    return [*rows, "", least_held([results[it] for it in points if it.lives])]
 
 
 def panel(zipf, results, folder):

@@ -1,13 +1,15 @@
 #!/usr/bin/env python3
 """Compares segcached with memcached on the same machine in the same run, and prints tables with ratios.
 
-    tools/bench.py [--quick] [--write] [--only WORD,..] [--rounds N] [--seconds S] [--program FILE]
+    tools/bench.py [--quick] [--write] [--only WORD,..] [--misses] [--segments] [--rounds N] [--seconds S] [--program FILE]
 
 memcached (of Debian) with 1, 2 and 4 threads stands beside `segcached serve` with 1, 2 and 3 workers: a storage thread comes on
 top of the workers. Each load is run some rounds, the servers in turn, and the medians count. The load is made by tools/load.c,
-which checks each answer. --write puts the tables between the marks in docs/PERFORMANCE.md, and a picture of the ratios into
-docs/performance.svg. --quick runs each load once and briefly, with 2 threads and 2 workers. --only takes loads whose names have a WORD.
---program names another build, to compare a change with what was before.
+which checks each answer. Then tools/misses.py measures misses at equal memory. --write puts the tables between the marks in
+docs/PERFORMANCE.md, and pictures of the ratios into docs/performance.svg and docs/misses.svg. --quick runs each load once and
+briefly, with 2 threads and 2 workers. --only takes loads whose names have a WORD. --misses takes the misses alone, --segments
+those of segcached by the size of its segments, which is in no other run. --program names another build, to compare a change with
+what was before.
 """
 import argparse
 import datetime
@@ -20,9 +22,9 @@ import sys
 import tempfile
 import time
 
+import misses
 from served import PROGRAM, TOP, OnPort, Server, Trouble, free_port
 
-BEGIN, END = "<!-- bench: begin -->", "<!-- bench: end -->"
 MIB = 1 << 20
 # memcached's threads, and the workers that stand beside them
 SIZES = ((1, 1), (2, 2), (4, 3))
@@ -40,7 +42,7 @@ LOADS = {
         "one connection": ["--connections", "1"],
         "one connection, pipeline 16": ["--pipeline", "16", "--connections", "1"],
         "get of 16 keys": ["--many", "16"],
-        "keys by Zipf's law, pipeline 16": ["--pipeline", "16", "--zipf"],
+        "keys by Zipf's law, pipeline 16": ["--pipeline", "16", "--zipf", "0.99"],
         "one set in ten, pipeline 16": ["--pipeline", "16", "--sets", "10"],
         "sets, pipeline 16": ["--pipeline", "16", "--sets", "100"],
     },
@@ -55,8 +57,6 @@ RATES = {
     "80,000 a second": ["--rate", "80000"],
 }
 IDLE = "idle, 50 connections"
-# At equal memory: the bytes of a value, the keys, and memcached's -m. segcached has 64 segments of 1 MiB.
-MEMORIES = ((100, 1500000, 79), (1000, 300000, 79))
 
 
 def started(kind, size, megabytes):
@@ -93,6 +93,8 @@ class Bench:
         if ran.returncode:
             raise Trouble(f"{server.kind}: {' '.join(map(str, words))}: {ran.stderr.strip()}")
         figures = {name: float(figure) for name, _, figure in (it.partition("=") for it in ran.stdout.split())}
+        if figures["refused"]:
+            raise Trouble(f"{server.kind}: {' '.join(map(str, words))}: {figures['refused']:.0f} sets refused")
         figures["processor"] = (server.processor_seconds() - before) * 1e6 / max(figures["requests"], 1)
         return figures
 
@@ -184,26 +186,23 @@ def idle_percent(server, seconds=3):
     return 100 * spent / seconds
 
 
-def memory_table(bench, memories):
-    """Both at equal memory: a client that writes what it missed, with keys by Zipf's law."""
-    rows = ["| Reads by Zipf's law, misses written | resident (MiB): memcached, segcached | hits (of 100) | ratio of misses |", "|---|---|---|---|"]
-    for value, keys, megabytes in memories:
-        servers = both((2, 2), megabytes, 64)
-        try:
-            cells, misses = [], []
-            for server in servers:
-                words = ["--through", "--zipf", "--pipeline", 16, "--value", value, "--keys", keys]
-                bench.run(server, *words, "--requests", 2 * keys)
-                ran = bench.run(server, *words, "--requests", keys, "--seed", 2)
-                hits = 100 * ran["hits"] / (ran["hits"] + ran["misses"])
-                cells.append((f"{server.kilobytes('VmRSS') / 1024:.0f}", f"{hits:.1f}"))
-                misses.append(100 - hits)
-        finally:
-            for server in servers:
-                server.stop()
-        pairs = " | ".join(", ".join(it[at] for it in cells) for at in (0, 1))
-        rows.append(f"| {keys:,} keys, {value:,}-byte values | {pairs} | {misses[1] / max(misses[0], 1e-9):.2f} |")
-    return rows
+def miss_parts(load, quick, write):
+    """Misses at equal memory: tables of the curve, of fewer and more keys and of keys with lives, or a single row."""
+    runs = misses.Misses(load, PROGRAM, lambda text: print(text, file=sys.stderr, flush=True))
+    if quick:
+        point = misses.Point(32, 1000, 0.99)
+        return [misses.table([point], runs.each(runs.both, [point]))]
+    kinds = misses.curve()
+    results = runs.each(runs.both, [point for points in kinds for point in points])
+    if write:
+        misses.draw(results, f"{TOP}/docs/misses.svg")
+    return [*(misses.table(points, results) for points in kinds), [misses.conditions(results)]]
+
+
+def segment_part(load):
+    runs = misses.Misses(load, PROGRAM, lambda text: print(text, file=sys.stderr, flush=True))
+    points = misses.segment_points()
+    return misses.segment_table(points, runs.each(runs.alone, points))
 
 
 def draw(results, sizes, picture):
@@ -259,21 +258,22 @@ def stolen_since(before):
     return (stolen - before[1]) / max(1, total - before[0])
 
 
-def write(text):
-    path = f"{TOP}/docs/PERFORMANCE.md"
+def write(mark, text):
+    """Puts the text between the marks of this name in docs/PERFORMANCE.md."""
+    path, begin, end = f"{TOP}/docs/PERFORMANCE.md", f"<!-- {mark}: begin -->", f"<!-- {mark}: end -->"
     with open(path, encoding="utf-8") as file:
-        before, found_begin, rest = file.read().partition(BEGIN)
-        _, found_end, after = rest.partition(END)
+        before, found_begin, rest = file.read().partition(begin)
+        _, found_end, after = rest.partition(end)
     if not (found_begin and found_end):
-        raise Trouble(f"{path} lacks the marks {BEGIN} and {END}")
+        raise Trouble(f"{path} lacks the marks {begin} and {end}")
     with open(path, "w", encoding="utf-8") as file:
-        file.write(f"{before}{BEGIN}\n{text}\n{END}{after}")
+        file.write(f"{before}{begin}\n{text}\n{end}{after}")
 
 
 def read_words():
     parser = argparse.ArgumentParser(description="Compares segcached with memcached.")
-    parser.add_argument("--quick", action="store_true")
-    parser.add_argument("--write", action="store_true")
+    for word in ("--quick", "--write", "--misses", "--segments"):
+        parser.add_argument(word, action="store_true")
     parser.add_argument("--only", default="")
     parser.add_argument("--rounds", type=int)
     parser.add_argument("--seconds", type=float)
@@ -281,32 +281,52 @@ def read_words():
     words = parser.parse_args()
     words.rounds = words.rounds or (1 if words.quick else 5)
     words.seconds = words.seconds or (0.5 if words.quick else 0.8)
-    if words.write and (words.quick or words.only or words.program != PROGRAM):
+    if words.write and (words.quick or words.only or words.segments or words.program != PROGRAM):
         parser.error("--write is for a whole run of the program that stands in crates/segcached/out")
     globals().update(PROGRAM=words.program)
     return words
 
 
-def run(words):
+def speed_parts(bench, words):
+    """The tables of speed; a whole run's picture with --write."""
     wanted = lambda name: any(it in name for it in words.only.split(","))
     sizes = SIZES[1:2] if words.quick else SIZES
+    results = speeds(bench, sizes, wanted)
+    parts = [speed_table(results, sizes)] if results else []
+    if any(map(wanted, [*RATES, IDLE])):
+        parts.append(rate_table(bench, wanted))
+    if words.write:
+        draw(results, sizes, f"{TOP}/docs/performance.svg")
+    return parts
+
+
+def taken(measure):
+    """What was measured, below when and on what, and above what other machines took meanwhile."""
     head, before = machine(), processor_ticks()
+    parts = [[f"Taken {head}"], *measure()]
+    parts.append([f"Of all processors' time in that run {stolen_since(before):.0%} went to other machines of the host."])
+    return "\n\n".join("\n".join(it) for it in parts)
+
+
+def measures(load, words):
+    """By the marks' name, what these words ask for."""
+    if words.segments:
+        return {"segments": lambda: [segment_part(load)]}
+    chosen = {} if words.misses else {"bench": lambda: speed_parts(Bench(load, words.rounds, words.seconds), words)}
+    if words.misses or not words.only:
+        chosen["misses"] = lambda: miss_parts(load, words.quick, words.write)
+    return chosen
+
+
+def run(words):
     with tempfile.TemporaryDirectory() as folder:
         load = f"{folder}/load"
         subprocess.run(["gcc", "-O2", "-pthread", "-o", load, f"{TOP}/tools/load.c", "-lm"], check=True)
-        bench = Bench(load, words.rounds, words.seconds)
-        results = speeds(bench, sizes, wanted)
-        parts = [[f"Taken {head}"], speed_table(results, sizes)] if results else []
-        if any(map(wanted, [*RATES, IDLE])):
-            parts.append(rate_table(bench, wanted))
-        if wanted("memory"):
-            parts.append(memory_table(bench, MEMORIES[1:] if words.quick else MEMORIES))
-    parts.append([f"Of all processors' time in that run {stolen_since(before):.0%} went to other machines of the host."])
-    text = "\n\n".join("\n".join(it) for it in parts)
-    print(text)
-    if words.write:
-        write(text)
-        draw(results, sizes, f"{TOP}/docs/performance.svg")
+        for mark, measure in measures(load, words).items():
+            text = taken(measure)
+            print(text, flush=True)
+            if words.write:
+                write(mark, text)
 
 
 def main():

@@ -1,5 +1,5 @@
 #!/usr/bin/env bash
-# Builds segcached and compares it with memcached of Debian. Words go to tools/bench.py: --quick for a look in half a minute.
+# Builds segcached and compares it with memcached of Debian. Words go to tools/bench.py: --quick for a look in a minute.
 set -eu
 cd "$(dirname "$0")/.."
 for package in memcached gcc libc6-dev gnuplot-nox; do

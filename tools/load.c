@@ -1,15 +1,17 @@
 // A load for servers of the memcached text protocol, which measures requests a second and latencies.
 //
-//   load HOST PORT [--connections N] [--threads N] [--pipeline N] [--seconds S] [--requests N] [--keys N] [--value BYTES]
-//                  [--sets PERCENT] [--many KEYS] [--zipf] [--rate R] [--fill] [--through] [--seed N]
+//   load HOST PORT [--connections N] [--threads N] [--pipeline N] [--seconds S] [--reads N] [--keys N] [--value BYTES]
+//                  [--sets PERCENT] [--many KEYS] [--zipf EXPONENT] [--rate R] [--fill] [--through] [--lives] [--seed N]
 //
 // Each connection keeps a pipeline of requests on its way: it sends so many in one piece, reads all their answers, and sends
 // the next. A latency is the time from that send to the last byte of the request's answer. Each answer is checked: its keys are
 // those that were asked, in order, and each value is the one that its key has to hold. --fill writes each key once and measures
 // nothing. --many asks so many keys in one get. --rate sends so many requests a second in all, evenly, in place of as many as
-// can be. --through writes each key that was missed, as a client of a cache does. --requests ends after so many requests
-// in place of after some seconds. The last line is of words NAME=FIGURE; `busy` is the share of the time that the threads ran:
-// near 1 the load itself is what limits.
+// can be. --through writes each key that was missed, as a client of a cache does: at the front of the next pipeline, beyond its
+// number of requests and their rate. --lives writes half of the keys with a life of 60 seconds, three tenths with 600. --reads
+// ends after so many keys were asked, in place of after some seconds; one connection asks the same keys in the same order each
+// time. The last line is of words NAME=FIGURE; `busy` is the share of the time that the threads ran: near 1 the load itself is
+// what limits.
 #define _GNU_SOURCE
 #include <arpa/inet.h>
 #include <errno.h>
@@ -32,16 +34,19 @@
 struct options {
     const char *host;
     int port, connections, threads, pipeline, many, sets, keys, value, seed;
-    double seconds, rate;
-    long requests;
-    bool zipf, fill, through;
+    double seconds, rate, zipf;
+    long reads;
+    bool fill, through, lives;
 };
 
 static struct options options = {
     .connections = 50, .threads = 2, .pipeline = 1, .many = 1, .sets = 0, .keys = 100000, .value = 100, .seed = 1, .seconds = 3,
 };
 
-enum { MOST_LATENCIES = 1 << 20, LETTERS = 26, KEY_LENGTH = 11, LONGEST_KEY = 32 };
+enum { MOST_LATENCIES = 1 << 20, LETTERS = 26, TAILS = 10, KEY_LENGTH = 11, LONGEST_KEY = 32 };
+
+// What memcached answers to a set now and then, where all the items that it could let go are in use: it is counted.
+#define REFUSED "SERVER_ERROR out of memory storing object\r\n"
 
 // What is asked, and how its answer is read.
 struct request {
@@ -65,7 +70,7 @@ struct connection {
 struct worker {
     pthread_t thread;
     int first, count;               // its connections
-    uint64_t seed, requests, hits, keys_asked;
+    uint64_t seed, requests, hits, keys_asked, refused;
     uint32_t *latencies;            // in microseconds
     uint64_t latencies_seen;
     bool failed;
@@ -74,6 +79,7 @@ struct worker {
 static struct connection *connections;
 static double *zipf_sums;
 static char *values;                // for each letter the value that is full of it, with its line's end
+static char tails[TAILS][32];       // by a key's last digit what stands behind the key in its set: flags, life and length
 static volatile bool is_over;
 
 static double now(void) {
@@ -94,10 +100,10 @@ static uint64_t next_random(uint64_t *seed) {
     return z ^ (z >> 31);
 }
 
-// A key by Zipf's law of exponent 0.99, or any with the same chance.
+// A key by Zipf's law, or any with the same chance.
 static int pick_key(uint64_t *seed) {
     uint64_t random = next_random(seed);
-    if (!options.zipf) return random % options.keys;
+    if (options.zipf == 0) return random % options.keys;
     double at = (random >> 11) * 0x1p-53 * zipf_sums[options.keys - 1];
     int low = 0, high = options.keys - 1;
     while (low < high) {
@@ -120,6 +126,11 @@ static void make_values(void) {
     }
 }
 
+static void make_tails(void) {
+    static const int lives[TAILS] = {60, 600, 60, 0, 60, 600, 60, 0, 60, 600};
+    for (int i = 0; i < TAILS; i++) sprintf(tails[i], " 0 %d %d\r\n", options.lives ? lives[i] : 0, options.value);
+}
+
 // The key's name: "key-" and seven digits.
 static void write_key(char *out, int key) {
     memcpy(out, "key-", 4);
@@ -137,12 +148,9 @@ static void add_key(struct connection *c, int key) {
 }
 
 static void add_set(struct connection *c, int key) {
-    static __thread char tail[32];
-    static __thread int tail_length;
-    if (!tail_length) tail_length = sprintf(tail, " 0 0 %d\r\n", options.value);
     add(c, "set ", 4);
     add_key(c, key);
-    add(c, tail, tail_length);
+    add(c, tails[key % TAILS], strlen(tails[key % TAILS]));
     add(c, value_of(key), options.value + 2);
 }
 
@@ -155,29 +163,29 @@ static void add_get(struct connection *c, int key) {
     add(c, "\r\n", 2);
 }
 
-// The next request of a connection: what was missed first. False where nothing is left.
+// The next request of a connection. False where nothing is left.
 static bool next_request(struct worker *w, struct connection *c, struct request *r) {
     if (options.fill) {
         if (c->next_fill >= c->end_fill) return false;
         *r = (struct request){true, c->next_fill++};
-    } else if (c->missed_count > 0) {
-        *r = (struct request){true, c->missed[--c->missed_count]};
     } else {
         *r = (struct request){(int)(next_random(&w->seed) % 100) < options.sets, pick_key(&w->seed)};
     }
     return true;
 }
 
-// Writes the next pipeline into the buffer. False where there is nothing left to ask.
+static void ask(struct connection *c, struct request r) {
+    if (r.is_set) add_set(c, r.first_key); else add_get(c, r.first_key);
+    c->asked[c->waiting++] = r;
+}
+
+// Writes the next pipeline into the buffer, behind what was missed in the last one. False where there is nothing left to ask.
 static bool make_pipeline(struct worker *w, struct connection *c) {
+    struct request next;
     c->out_length = c->out_sent = 0;
     c->waiting = c->answered = 0;
-    while (c->waiting < options.pipeline) {
-        struct request *r = &c->asked[c->waiting];
-        if (!next_request(w, c, r)) break;
-        if (r->is_set) add_set(c, r->first_key); else add_get(c, r->first_key);
-        c->waiting++;
-    }
+    for (; c->missed_count > 0; c->missed_count--) ask(c, (struct request){true, c->missed[c->missed_count - 1]});
+    for (int i = 0; i < options.pipeline && next_request(w, c, &next); i++) ask(c, next);
     return c->waiting > 0;
 }
 
@@ -208,6 +216,11 @@ static long value_length(const struct request *r, const char *in, size_t length,
 // The length of the answer that the bytes begin with, 0 where it isn't whole yet, or -1 where it is none.
 static long answer_length(struct worker *w, struct connection *c, const struct request *r, const char *in, size_t length) {
     if (r->is_set) {
+        if (can_be(in, length, REFUSED, sizeof REFUSED - 1)) {
+            if (length < sizeof REFUSED - 1) return 0;
+            w->refused++;
+            return sizeof REFUSED - 1;
+        }
         if (!can_be(in, length, "STORED\r\n", 8)) return -1;
         return length < 8 ? 0 : 8;
     }
@@ -242,7 +255,10 @@ static bool read_answers(struct worker *w, struct connection *c) {
     double read_at = now();
     while (c->answered < c->waiting) {
         long length = answer_length(w, c, &c->asked[c->answered], c->in + at, c->in_length - at);
-        if (length < 0) return false;
+        if (length < 0) {
+            fprintf(stderr, "load: answered %.*s\n", (int)(c->in_length - at < 80 ? c->in_length - at : 80), c->in + at);
+            return false;
+        }
         if (length == 0) break;
         at += length;
         c->answered++;
@@ -287,7 +303,7 @@ static double send_due(struct worker *w, double each) {
 
 static bool is_done(const struct worker *w, int left) {
     if (is_over || w->failed || left == 0) return true;
-    return options.requests && w->requests >= (uint64_t)(options.requests / options.threads);
+    return options.reads && w->keys_asked >= (uint64_t)(options.reads / options.threads);
 }
 
 static void *run_worker(void *given) {
@@ -338,9 +354,10 @@ static void open_connections(void) {
     for (int i = 0; i < options.connections; i++) {
         struct connection *c = &connections[i];
         c->fd = connect_to();
-        c->asked = calloc(options.pipeline, sizeof *c->asked);
+        // (a pipeline, and all that was missed in the one before)
+        c->asked = calloc(2 * options.pipeline, sizeof *c->asked);
         c->missed = calloc(options.pipeline, sizeof *c->missed);
-        c->out = malloc(request * options.pipeline);
+        c->out = malloc(2 * request * options.pipeline);
         c->in_room = answer * options.pipeline + 65536;
         c->in = malloc(c->in_room);
         c->next_fill = i * each;
@@ -351,7 +368,7 @@ static void open_connections(void) {
 static void make_zipf(void) {
     zipf_sums = malloc(options.keys * sizeof *zipf_sums);
     double sum = 0;
-    for (int i = 0; i < options.keys; i++) zipf_sums[i] = sum += pow(i + 1, -0.99);
+    for (int i = 0; i < options.keys; i++) zipf_sums[i] = sum += pow(i + 1, -options.zipf);
 }
 
 static int by_size(const void *a, const void *b) {
@@ -369,10 +386,10 @@ static int number(const char *word, const char *text, int least, int most) {
     return n;
 }
 
-static double seconds(const char *text) {
+static double fraction(const char *word, const char *text, double most) {
     double n = text ? atof(text) : 0;
-    if (n >= 0.01 && n <= 86400) return n;
-    fprintf(stderr, "load: --seconds takes a number from 0.01 to 86400\n");
+    if (n >= 0.01 && n <= most) return n;
+    fprintf(stderr, "load: %s takes a number from 0.01 to %.0f\n", word, most);
     exit(2);
 }
 
@@ -385,14 +402,15 @@ static void read_words(int count, char **words) {
     options.port = number("PORT", words[2], 1, 65535);
     for (int i = 3; i < count; i++) {
         const char *word = words[i], *next = words[i + 1];
-        if (!strcmp(word, "--zipf")) options.zipf = true;
-        else if (!strcmp(word, "--fill")) options.fill = true;
+        if (!strcmp(word, "--fill")) options.fill = true;
         else if (!strcmp(word, "--through")) options.through = true;
+        else if (!strcmp(word, "--lives")) options.lives = true;
+        else if (!strcmp(word, "--zipf")) options.zipf = fraction(word, next, 10), i++;
         else if (!strcmp(word, "--connections")) options.connections = number(word, next, 1, 20000), i++;
         else if (!strcmp(word, "--threads")) options.threads = number(word, next, 1, 64), i++;
         else if (!strcmp(word, "--pipeline")) options.pipeline = number(word, next, 1, 10000), i++;
-        else if (!strcmp(word, "--seconds")) options.seconds = seconds(next), i++;
-        else if (!strcmp(word, "--requests")) options.requests = number(word, next, 1, 2000000000), i++;
+        else if (!strcmp(word, "--seconds")) options.seconds = fraction(word, next, 86400), i++;
+        else if (!strcmp(word, "--reads")) options.reads = number(word, next, 1, 2000000000), i++;
         else if (!strcmp(word, "--keys")) options.keys = number(word, next, 1, 9999999), i++;
         else if (!strcmp(word, "--value")) options.value = number(word, next, 0, 131072), i++;
         else if (!strcmp(word, "--sets")) options.sets = number(word, next, 0, 100), i++;
@@ -409,11 +427,11 @@ static void read_words(int count, char **words) {
 
 // The figures of all threads in one line.
 static void report(struct worker *workers, double seconds) {
-    uint64_t requests = 0, hits = 0, keys = 0, kept = 0;
+    uint64_t requests = 0, hits = 0, keys = 0, kept = 0, refused = 0;
     uint32_t *all = malloc((size_t)options.threads * MOST_LATENCIES * sizeof *all);
     for (int i = 0; i < options.threads; i++) {
         struct worker *w = &workers[i];
-        requests += w->requests, hits += w->hits, keys += w->keys_asked;
+        requests += w->requests, hits += w->hits, keys += w->keys_asked, refused += w->refused;
         uint64_t n = w->latencies_seen < MOST_LATENCIES ? w->latencies_seen : MOST_LATENCIES;
         memcpy(all + kept, w->latencies, n * sizeof *all);
         kept += n;
@@ -423,15 +441,17 @@ static void report(struct worker *workers, double seconds) {
     struct rusage used;
     getrusage(RUSAGE_SELF, &used);
     double ran = used.ru_utime.tv_sec + used.ru_stime.tv_sec + (used.ru_utime.tv_usec + used.ru_stime.tv_usec) / 1e6;
-    printf("requests=%lu seconds=%.3f rate=%.0f hits=%lu misses=%lu p50=%u p99=%u p999=%u most=%u busy=%.2f\n",
-           (unsigned long)requests, seconds, requests / seconds, (unsigned long)hits, (unsigned long)(keys - hits), PERCENTILE(0.5),
-           PERCENTILE(0.99), PERCENTILE(0.999), PERCENTILE(1.0), ran / seconds / options.threads);
+    printf("requests=%lu seconds=%.3f rate=%.0f hits=%lu misses=%lu refused=%lu p50=%u p99=%u p999=%u most=%u busy=%.2f\n",
+           (unsigned long)requests, seconds, requests / seconds, (unsigned long)hits, (unsigned long)(keys - hits),
+           (unsigned long)refused, PERCENTILE(0.5), PERCENTILE(0.99), PERCENTILE(0.999), PERCENTILE(1.0),
+           ran / seconds / options.threads);
 }
 
 int main(int count, char **words) {
     read_words(count, words);
-    if (options.zipf) make_zipf();
+    if (options.zipf > 0) make_zipf();
     make_values();
+    make_tails();
     open_connections();
     struct worker *workers = calloc(options.threads, sizeof *workers);
     double began = now();
@@ -443,7 +463,7 @@ int main(int count, char **words) {
         w->latencies = malloc(MOST_LATENCIES * sizeof *w->latencies);
         if (pthread_create(&w->thread, NULL, run_worker, w)) die("thread");
     }
-    if (!options.fill && !options.requests) {
+    if (!options.fill && !options.reads) {
         usleep(options.seconds * 1e6);
         is_over = true;
     }

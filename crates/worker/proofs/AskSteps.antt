@@ -16,20 +16,20 @@ use Rattle.session_book.specs.declared.causes.Unsettled.{Unsettled}
 use Rattle.session_book.specs.Session.{SessionState, ReadsOn}
 use Rattle.session_book.specs.Book.{BookState, session_of, NextAsk, held_of, GivesNone, given_in, OnlyAt, unsettled_of as unsettled_at}
 use Rattle.worker.specs.Ports.{PortStory}
-use Rattle.worker.specs.declared.worker.Worker.{Worker}
+use Rattle.worker.specs.declared.state.WorkerState.{WorkerState}
 use Rattle.worker.specs.Sessions.{port_facts, RunView, facts, asked_by, AreFactsConsistent}
 use Rattle.worker.specs.Places.{piece_of}
-use Rattle.worker.specs.Workers.{posted_by, unsettled_post, IsNumbered, IsSteady, IsStoryKnown, run_view, IsWorkerServing, WorkerGoesOn}
+use Rattle.worker.specs.Workers.{posted_by, unsettled_post, IsNumbered, IsSteady, IsStoryKnown, run_view, IsWorkerServing}
 use Rattle.worker.proofs.Facts.{asked_here, asked_elsewhere}
 use Rattle.worker.proofs.SessionSteps.{not_both, runs, is_running, served_read}
 use Rattle.worker.proofs.RunViews.{facts_equal, change_at, at_other, at_same}
 use Rattle.worker.proofs.StoryLaws.{same_story, paused_kept}
 use Rattle.worker.proofs.PieceLaws.{pieces_kept}
-use Rattle.worker.proofs.WorkerSteps.{steps_on, steady_same, same_end}
+use Rattle.worker.proofs.WorkerSteps.{WorkerGoesOn, steps_on, steady_same, same_end}
 use Rattle.worker.proofs.OutputSteps.{told_within}
 
 -- a worker that went on from a to b, and from b to c, went on from a to c
-pub goes_on_trans : {P : Type 0} (told : P → Option PortStory) (a b c : Worker P) → WorkerGoesOn told a b
+pub goes_on_trans : {P : Type 0} (told : P → Option PortStory) (a b c : WorkerState P) → WorkerGoesOn told a b
     → WorkerGoesOn told b c → WorkerGoesOn told a c
 goes_on_trans told a b c h k = record {
   tells = k.tells ∙ h.tells;
@@ -90,7 +90,7 @@ told_read v v' unopened ended t s read ms h open_is reads here_asked other_asked
     (change_at t v v' others (subst AreFactsConsistent (sym here) now) (λ k ne. h.each k))
 
 -- with no request
-pub none_goes_on : {P : Type 0} (told : P → Option PortStory) (old new : Worker P) (t : ℕ) (s : SessionState)
+pub none_goes_on : {P : Type 0} (told : P → Option PortStory) (old new : WorkerState P) (t : ℕ) (s : SessionState)
     (result : Result (Option (Request × ℕ)) NoMemory) → new.port ≡ old.port → new.worker_end ≡ old.worker_end
     → new.request ≡ old.request
     → new.sessions ≡ old.sessions → new.unopened ≡ old.unopened → new.strangers ≡ old.strangers → new.ended ≡ old.ended
@@ -143,7 +143,7 @@ back_le end e =
     omega (arith, length-take (length end.back) end.sent)
 
 -- the worker goes on where a session gives a request, which is held from then on
-pub one_goes_on : {P : Type 0} (told : P → Option PortStory) (old new : Worker P) (t : ℕ) (s : SessionState)
+pub one_goes_on : {P : Type 0} (told : P → Option PortStory) (old new : WorkerState P) (t : ℕ) (s : SessionState)
     (q : Request) (n : ℕ)
     → new.port ≡ old.port → new.worker_end ≡ old.worker_end → old.request ≡ None
     → new.request ≡ Some (record { session = t; number = n; request = q }) → new.sessions ≡ old.sessions
@@ -196,7 +196,7 @@ one_goes_on told old new t s q n port end was_none request sessions unopened str
     ))
 
 -- no request is left, or the session isn't open
-pub quiet_goes_on : {P : Type 0} (told : P → Option PortStory) (old new : Worker P) (t : ℕ) (o : Option SessionState)
+pub quiet_goes_on : {P : Type 0} (told : P → Option PortStory) (old new : WorkerState P) (t : ℕ) (o : Option SessionState)
     → o ≡ session_of old.book t
     → new.port ≡ old.port → new.worker_end ≡ old.worker_end → new.request ≡ old.request → new.sessions ≡ old.sessions
     → new.unopened ≡ old.unopened → new.strangers ≡ old.strangers → new.ended ≡ old.ended → IsWorkerServing told old
@@ -230,7 +230,7 @@ quiet_goes_on told old new t None o port end request sessions unopened strangers
     ))
 
 -- the held request is sent
-pub posted_goes_on : {P : Type 0} (told : P → Option PortStory) (old : Worker P) (p : Posted) (end : WorkerView)
+pub posted_goes_on : {P : Type 0} (told : P → Option PortStory) (old : WorkerState P) (p : Posted) (end : WorkerView)
     (request : Option Posted)
     → old.request ≡ Some p → request ≡ None → end ≡ record old.worker_end { sent = old.worker_end.sent ++ p ∷ [] }
     → IsWorkerServing told old
@@ -266,7 +266,7 @@ posted_goes_on told old p end request held taken sent h =
     ))
 
 -- a worker that doesn't change goes on
-pub goes_on_same : {P : Type 0} (told : P → Option PortStory) (a : Worker P) → IsWorkerServing told a
+pub goes_on_same : {P : Type 0} (told : P → Option PortStory) (a : WorkerState P) → IsWorkerServing told a
     → WorkerGoesOn told a a
 goes_on_same told a h = record { tells = refl; same_end = record { exchange = refl; worker = refl }; serving = h }
 

@@ -12,17 +12,17 @@ use Rattle.proto.proofs.Options.{some_is}
 use Rattle.session_book.specs.Book.{BookState, session_of, out_of, held_of, OnlyAt, ChangesOpen}
 use Rattle.worker.specs.declared.port.PortRecord.{PortRecord}
 use Rattle.worker.specs.declared.port.PortRecord.TheVariants as was
-use Rattle.worker.specs.declared.worker.Worker.{Worker}
+use Rattle.worker.specs.declared.state.WorkerState.{WorkerState}
 use Rattle.worker.specs.Ports.{PortStory, then_told, with_pause, is_open, give_records, has_ended, opened_count, AcceptsOnlyOpen}
 use Rattle.worker.specs.Sessions.{port_facts, RunView, facts, AreFactsConsistent, IsSessionServed}
 use Rattle.worker.specs.Places.{Rises, piece_of}
-use Rattle.worker.specs.Workers.{posted_by, IsSteady, AreSessionsCounted, IsStoryKnown, run_view, IsWorkerServing, WorkerGoesOn, Closes, LeavesWorker}
+use Rattle.worker.specs.Workers.{posted_by, IsSteady, AreSessionsCounted, IsStoryKnown, run_view, IsWorkerServing, Closes, LeavesWorker}
 use Rattle.worker.proofs.Facts.{elsewhere, accepted_here}
 use Rattle.worker.proofs.SessionSteps.{runs, served_fed, served_holding, served_gave}
 use Rattle.worker.proofs.RunViews.{facts_equal, change_at, at_other, at_same, ended_same, count_same, accepts_more}
 use Rattle.worker.proofs.StoryLaws.{paused_but, paused_elsewhere}
 use Rattle.worker.proofs.PieceLaws.{pieces_at}
-use Rattle.worker.proofs.WorkerSteps.{StoryFacts, steps_on, closes_in, steady_same, steady_closed, same_end, told_gone, told_open, fact_at, running_on}
+use Rattle.worker.proofs.WorkerSteps.{WorkerGoesOn, StoryFacts, steps_on, closes_in, steady_same, steady_closed, same_end, told_gone, told_open, fact_at, running_on}
 use Rattle.proto.proofs.CountLemmas.{either_way}
 
 -- ---- a held piece is fed
@@ -74,7 +74,7 @@ told_refed v v' unopened ended t s h open_is held e p b r book piece =
     (λ k ne. piece k ∙ at_other t k [] (v.piece k) ne)) (subst AreFactsConsistent (sym here) now) (λ k ne. h.each k))
 
 -- what goes on where only the port and the book change
-pub within_goes_on : {P : Type 0} (told : P → Option PortStory) (old new : Worker P) (f : PortStory → PortStory)
+pub within_goes_on : {P : Type 0} (told : P → Option PortStory) (old new : WorkerState P) (f : PortStory → PortStory)
     → LeavesWorker old new
     → told new.port ≡ option_map f (told old.port) → new.book.posted ≡ old.book.posted
     → new.book.unsettled ≡ old.book.unsettled → IsWorkerServing told old
@@ -178,7 +178,7 @@ told_gave v v' unopened ended t n s h open_is e p b r book piece =
     }
 
 -- a session whose peer has gone at a `give`
-pub lost_goes_on : {P : Type 0} (told : P → Option PortStory) (old new : Worker P) (port : P) (t : ℕ) (s : SessionState)
+pub lost_goes_on : {P : Type 0} (told : P → Option PortStory) (old new : WorkerState P) (port : P) (t : ℕ) (s : SessionState)
     → session_of old.book t ≡ Some s → told port ≡ option_map (then_told (was.Gone t ∷ [])) (told old.port)
     → IsWorkerServing told old → new.port ≡ port
     → Closes (record old { port = port }) new t causes.Gone → WorkerGoesOn told old new
@@ -227,7 +227,7 @@ offered_is o out (inl none) some = absurd (true≢false (sym (ap (λ (x : List �
 offered_is o out (inr is) some = some_out o out is (λ none. true≢false (sym (eq-eqb (length out) 0 none) ∙ some))
 
 -- the held piece of a session was fed, which is resumed
-pub refed_goes_on : {P : Type 0} (told : P → Option PortStory) (old new : Worker P) (t : ℕ) → LeavesWorker old new
+pub refed_goes_on : {P : Type 0} (told : P → Option PortStory) (old new : WorkerState P) (t : ℕ) → LeavesWorker old new
     → told new.port ≡ option_map (with_pause t false) (told old.port) → IsWorkerServing told old
     → ChangesOpen old.book new.book t (λ (s u : SessionState). ¬ (IsInputFull s s.held) × (u ≡ held_fed s))
     → WorkerGoesOn told old new

@@ -13,11 +13,11 @@ use Rattle.session_book.specs.Session.{SessionState, new_session, once_fed, hold
 use Rattle.session_book.specs.Book.{BookState, session_of, held_of}
 use Rattle.worker.specs.declared.port.PortRecord.{PortRecord}
 use Rattle.worker.specs.declared.port.PortRecord.TheVariants as was
-use Rattle.worker.specs.declared.worker.Worker.{Worker}
+use Rattle.worker.specs.declared.state.WorkerState.{WorkerState}
 use Rattle.worker.specs.Ports.{PortStory, then_told, with_pause, IsOpenIn, is_open, was_opened, has_ended, AcceptsOnlyOpen}
 use Rattle.worker.specs.Sessions.{PortFacts, port_facts, RunView, facts, cause_of, AreFactsConsistent}
 use Rattle.worker.specs.Places.{Rises, piece_of}
-use Rattle.worker.specs.Workers.{posted_by, IsSteady, AreSessionsCounted, IsStoryKnown, run_view, IsWorkerServing, WorkerGoesOn, Closes, Shuts, LeavesWorker}
+use Rattle.worker.specs.Workers.{posted_by, IsSteady, AreSessionsCounted, IsStoryKnown, run_view, IsWorkerServing, Closes, Shuts, LeavesWorker}
 use Rattle.worker.specs.Workers.{HandlesData, feeds, holds, shuts, drops, Admits, Refuses, SameRest}
 use Rattle.worker.proofs.PlaceLemmas.{rises_more, rises_with, length-with, cause_more, cause_new}
 use Rattle.worker.proofs.Facts.{elsewhere, opened_here, fed_here, shut_here}
@@ -27,7 +27,7 @@ use Rattle.worker.proofs.RunViews.{facts_equal, change_at, at_other, at_same, en
 use Rattle.worker.proofs.RunViews.{shuts_here, close_all, apart_shut}
 use Rattle.worker.proofs.StoryLaws.{told_before, two_calls, paused_elsewhere, paused_kept, paused_but, paused_more, resumed_holds_none}
 use Rattle.worker.proofs.PieceLaws.{pieces_at, pieces_kept, fed_piece}
-use Rattle.worker.proofs.WorkerSteps.{OwnFacts, StoryFacts, steps, steps_on, steady_same, same_end, told_finished, told_gone, closes_in, steady_closed}
+use Rattle.worker.proofs.WorkerSteps.{WorkerGoesOn, OwnFacts, StoryFacts, steps, steps_on, steady_same, same_end, told_finished, told_gone, closes_in, steady_closed}
 use Rattle.worker.proofs.WorkerSteps.{shut_goes_on, told_fed, told_held, open_here, open_at}
 use Rattle.proto.proofs.CountLemmas.{either_way}
 
@@ -64,13 +64,13 @@ finished_is (Some s) c e =
     (s, refl, no_length s.queue q.0, no_length s.out q.1, p.1)
 
 -- a session that has finished is still open at a port that tells its list
-pub finished_open : {P : Type 0} (told : P → Option PortStory) (w : Worker P) (t : ℕ) (c : EndCause)
+pub finished_open : {P : Type 0} (told : P → Option PortStory) (w : WorkerState P) (t : ℕ) (c : EndCause)
     → IsWorkerServing told w
     → option_and_then finished_by (session_of w.book t) ≡ Some c → IsOpenIn t (told w.port)
 finished_open told w t c h e = let f = finished_is (session_of w.book t) c e in open_at told w t f.0 h f.1
 
 -- the worker goes on where it shuts a session that has finished, with the cause by which that ended
-pub finish_goes_on : {P : Type 0} (told : P → Option PortStory) (old new : Worker P) (t : ℕ) (c : EndCause)
+pub finish_goes_on : {P : Type 0} (told : P → Option PortStory) (old new : WorkerState P) (t : ℕ) (c : EndCause)
     → Shuts told old new t c
     → IsWorkerServing told old → option_and_then finished_by (session_of old.book t) ≡ Some c
     → WorkerGoesOn told old new
@@ -188,7 +188,7 @@ pub record OpensAt {P : Type 0} (told : P → Option PortStory) (old port : P) (
   pub may : (story : PortStory) → told old ≡ Some story → MayOpen story.events t
 
 -- the worker goes on where it admits the session that the port opened
-admit_goes_on : {P : Type 0} (told : P → Option PortStory) (old new : Worker P) (port : P) (t : ℕ)
+admit_goes_on : {P : Type 0} (told : P → Option PortStory) (old new : WorkerState P) (port : P) (t : ℕ)
     → OpensAt told old.port port t
     → SameRest (record old { port = port }) new → IsWorkerServing told old
     → Admits told (record old { port = port }) new t → WorkerGoesOn told old new
@@ -216,7 +216,7 @@ admit_goes_on told old new port t opens rest h k =
     ))
 
 -- the worker goes on where it refuses the session that the port opened
-refuse_goes_on : {P : Type 0} (told : P → Option PortStory) (old new : Worker P) (port : P) (t : ℕ)
+refuse_goes_on : {P : Type 0} (told : P → Option PortStory) (old new : WorkerState P) (port : P) (t : ℕ)
     → OpensAt told old.port port t
     → SameRest (record old { port = port }) new → IsWorkerServing told old
     → Refuses told (record old { port = port }) new t → WorkerGoesOn told old new
@@ -248,7 +248,7 @@ refuse_goes_on told old new port t opens rest h k =
         (λ (ne : t ≢ s). sym (at_other t s [] (piece s) ne))
 
 -- the worker goes on where the port opened a session, whether it admits or refuses it
-pub opened_goes_on : {P : Type 0} (told : P → Option PortStory) (old new : Worker P) (port : P) (t : ℕ)
+pub opened_goes_on : {P : Type 0} (told : P → Option PortStory) (old new : WorkerState P) (port : P) (t : ℕ)
     → OpensAt told old.port port t
     → SameRest (record old { port = port }) new → IsWorkerServing told old
     → Admits told (record old { port = port }) new t ⊎ Refuses told (record old { port = port }) new t
@@ -257,7 +257,7 @@ opened_goes_on told old new port t opens rest h k =
     ⊎_elim (admit_goes_on told old new port t opens rest h) (refuse_goes_on told old new port t opens rest h) k
 
 -- a session that has just been opened is open
-pub opened_is_open : {P : Type 0} (told : P → Option PortStory) (w : Worker P) (port : P) (t : ℕ)
+pub opened_is_open : {P : Type 0} (told : P → Option PortStory) (w : WorkerState P) (port : P) (t : ℕ)
     → IsWorkerServing told w → OpensAt told w.port port t
     → IsOpenIn t (told port)
 opened_is_open told w port t h opens =
@@ -281,7 +281,7 @@ still_open told old port t b told_is opened =
     ∙ ap (λ (p : PortFacts). p.opened && not (p.gone || p.shut)) (fed_here q.0.events t b) ∙ opened q.0 q.1
 
 -- of a session whose data came no bytes are held
-pub came_unheld : {P : Type 0} (told : P → Option PortStory) (w : Worker P) (port : P) (t : ℕ) (b : List ℕ)
+pub came_unheld : {P : Type 0} (told : P → Option PortStory) (w : WorkerState P) (port : P) (t : ℕ) (b : List ℕ)
     → IsWorkerServing told w
     → told port ≡ option_map (then_told (was.Data t b ∷ [])) (told w.port)
     → ((story : PortStory) → told w.port ≡ Some story → story.paused t ≡ false)
@@ -292,7 +292,7 @@ came_unheld told w port t b h told_is resumed =
     resumed_holds_none (piece_of w.book t) (q.0.paused t) (h.paused q.0 q.1 t) (resumed q.0 q.1)
 
 -- receiving leaves the rest
-rest_facts : {P : Type 0} (told : P → Option PortStory) (old new : Worker P) (port : P)
+rest_facts : {P : Type 0} (told : P → Option PortStory) (old new : WorkerState P) (port : P)
     → LeavesWorker (record old { port = port }) new
     → (new.book.posted ≡ old.book.posted) × (new.book.unsettled ≡ old.book.unsettled) → IsWorkerServing told old
     → OwnFacts old new
@@ -347,7 +347,7 @@ told_data_shut v v' unopened ended t b h opened k =
     }
 
 -- a session that is open at a port that tells is open in the book
-pub open_in_book : {P : Type 0} (story : PortStory) (w : Worker P) (t : ℕ)
+pub open_in_book : {P : Type 0} (story : PortStory) (w : WorkerState P) (t : ℕ)
     → IsStoryKnown (run_view story w) w.unopened w.ended
     → is_open t story.events ≡ true → session_of w.book t ≡ None → ⊥
 open_in_book story w t h opened none =
@@ -362,7 +362,7 @@ pub record FeedsAt {P : Type 0} (told : P → Option PortStory) (old port : P) (
 
 -- the worker goes on where data of a session came, whether they are fed, held or dropped, or the session is shut for
 -- want of memory
-pub received_goes_on : {P : Type 0} (told : P → Option PortStory) (old new : Worker P) (port : P) (t : ℕ) (b : List ℕ)
+pub received_goes_on : {P : Type 0} (told : P → Option PortStory) (old new : WorkerState P) (port : P) (t : ℕ) (b : List ℕ)
     → FeedsAt told old.port port t b → IsWorkerServing told old → HandlesData told (record old { port = port }) t b new
     → WorkerGoesOn told old new
 received_goes_on told old new port t b came h (feeds none book port_is rest) =
@@ -431,7 +431,7 @@ pub record LosesAt {P : Type 0} (told : P → Option PortStory) (old port : P) (
   pub opened : (story : PortStory) → told old ≡ Some story → is_open t story.events ≡ true
 
 -- a session goes
-pub gone_goes_on : {P : Type 0} (told : P → Option PortStory) (old new : Worker P) (port : P) (t : ℕ)
+pub gone_goes_on : {P : Type 0} (told : P → Option PortStory) (old new : WorkerState P) (port : P) (t : ℕ)
     → LosesAt told old.port port t
     → IsWorkerServing told old → new.port ≡ port → Closes (record old { port = port }) new t causes.Gone
     → WorkerGoesOn told old new
@@ -455,7 +455,7 @@ gone_goes_on told old new port t loses h port_is k =
     ))
 
 -- what a port that tells nothing has gone of
-pub stranger_goes_on : {P : Type 0} (told : P → Option PortStory) (old : Worker P) (port : P) (t : ℕ)
+pub stranger_goes_on : {P : Type 0} (told : P → Option PortStory) (old : WorkerState P) (port : P) (t : ℕ)
     → LosesAt told old.port port t
     → IsWorkerServing told old → session_of old.book t ≡ None → WorkerGoesOn told old (record old { port = port })
 stranger_goes_on told old port t loses h none =
@@ -471,7 +471,7 @@ stranger_goes_on told old port t loses h none =
     (λ story e was_so. absurd (open_in_book story old t was_so.0 (loses.opened story e) none))
 
 -- what the worker does where a session has gone
-pub lose_goes_on : {P : Type 0} (told : P → Option PortStory) (old new : Worker P) (port : P) (t : ℕ)
+pub lose_goes_on : {P : Type 0} (told : P → Option PortStory) (old new : WorkerState P) (port : P) (t : ℕ)
     (o : Option SessionState)
     → o ≡ session_of old.book t → LosesAt told old.port port t → IsWorkerServing told old → new.port ≡ port
     → (is_some (session_of old.book t) ≡ true → Closes (record old { port = port }) new t causes.Gone)
@@ -483,7 +483,7 @@ lose_goes_on told old new port t (Some s) o loses h port_is closes keeps =
     gone_goes_on told old new port t loses h port_is (closes (ap is_some (sym o)))
 
 -- nothing came
-pub idle_goes_on : {P : Type 0} (told : P → Option PortStory) (old : Worker P) (port : P)
+pub idle_goes_on : {P : Type 0} (told : P → Option PortStory) (old : WorkerState P) (port : P)
     → told port ≡ option_map (then_told []) (told old.port)
     → IsWorkerServing told old → WorkerGoesOn told old (record old { port = port })
 idle_goes_on told old port told_is h =
@@ -499,7 +499,7 @@ idle_goes_on told old port told_is h =
     (record old { port = port }) old.unopened old.ended) (sym (append-nil story.events)) was_so)
 
 -- the port has ended
-pub ended_goes_on : {P : Type 0} (told : P → Option PortStory) (old : Worker P) (port : P)
+pub ended_goes_on : {P : Type 0} (told : P → Option PortStory) (old : WorkerState P) (port : P)
     → told port ≡ option_map (then_told (was.Ended ∷ [])) (told old.port) → IsWorkerServing told old
     → WorkerGoesOn told old (record old { port = port; ended = true })
 ended_goes_on told old port told_is h =

@@ -22,19 +22,19 @@ use Rattle.session_book.specs.Session.{SessionState, with_reply}
 use Rattle.session_book.specs.Book.{BookState, session_of, held_of, IsOldest, SettlesOldest, SettlesReply}
 use Rattle.worker.specs.declared.port.PortRecord.{PortRecord}
 use Rattle.worker.specs.declared.port.PortRecord.TheVariants as was
-use Rattle.worker.specs.declared.worker.Worker.{Worker}
+use Rattle.worker.specs.declared.state.WorkerState.{WorkerState}
 use Rattle.worker.specs.Sessions.{PortFacts, port_facts, RunView, facts, asked_by, had_by, cause_of, AreFactsConsistent, IsSessionServed}
 use Rattle.worker.specs.Ports.{PortStory, then_told, has_ended, AcceptsOnlyOpen}
 use Rattle.worker.specs.Places.{Rises, piece_of}
 use Rattle.worker.specs.Workers.{posted_by, unsettled_post, IsNumbered, IsSteady, AreSessionsCounted, IsStoryKnown, run_view, IsWorkerServing, TakesNone}
-use Rattle.worker.specs.Workers.{TakesBack, WorkerGoesOn, Shuts}
+use Rattle.worker.specs.Workers.{TakesBack, Shuts}
 use Rattle.worker.proofs.Facts.{had_here, had_elsewhere}
 use Rattle.worker.proofs.SessionSteps.{runs, is_running, Stays, served_settled, closed_starved, dropped}
 use Rattle.worker.proofs.PlaceLemmas.{rises_with, length-with}
 use Rattle.worker.proofs.RunViews.{facts_equal, change_at, at_other, at_same, ended_same, count_same, accepts_more, ClosesIn, close_all, shuts_here, apart_shut}
 use Rattle.worker.proofs.StoryLaws.{same_story, paused_kept, paused_but, paused_elsewhere}
 use Rattle.worker.proofs.PieceLaws.{pieces_kept, pieces_gone}
-use Rattle.worker.proofs.WorkerSteps.{steps_on, steady_closed, same_end, closes_in}
+use Rattle.worker.proofs.WorkerSteps.{WorkerGoesOn, steps_on, steady_closed, same_end, closes_in}
 use Rattle.worker.proofs.OutputSteps.{told_within}
 
 -- ---- lists
@@ -208,7 +208,7 @@ told_dropped v v' unopened ended a h closed has k =
 -- ---- the worker after an answer
 
 -- but for the end and the book
-pub record KeepsRest {P : Type 0} (old new : Worker P) : Type 0 where
+pub record KeepsRest {P : Type 0} (old new : WorkerState P) : Type 0 where
   pub port : new.port ≡ old.port
   pub request : new.request ≡ old.request
   pub sessions : new.sessions ≡ old.sessions
@@ -217,7 +217,7 @@ pub record KeepsRest {P : Type 0} (old new : Worker P) : Type 0 where
   pub ended : new.ended ≡ old.ended
 
 -- what taking back an answer makes of the worker's view, the held pieces left as they were
-taken_in : {P : Type 0} (story : PortStory) (old new : Worker P) (a : Answered) (st : Option SessionState)
+taken_in : {P : Type 0} (story : PortStory) (old new : WorkerState P) (a : Answered) (st : Option SessionState)
     → KeepsRest old new
     → TakesBack old.worker_end new.worker_end a
     → ((k : ℕ) → session_of new.book k ≡ cond (k == a.session) st (session_of old.book k))
@@ -233,7 +233,7 @@ taken_in story old new a st k b book = record {
 
 -- a worker that took back an answer goes on, where the book's oldest request is no longer unsettled, the held pieces stay, and
 -- all is known still
-answer_goes_on : {P : Type 0} (told : P → Option PortStory) (old new : Worker P) (a : Answered) → KeepsRest old new
+answer_goes_on : {P : Type 0} (told : P → Option PortStory) (old new : WorkerState P) (a : Answered) → KeepsRest old new
     → TakesBack old.worker_end new.worker_end a → IsWorkerServing told old → new.book.posted ≡ old.book.posted
     → new.book.unsettled ≡ drop 1 old.book.unsettled
     → ((s : ℕ) → piece_of new.book s ≡ piece_of old.book s)
@@ -271,7 +271,7 @@ steady_still end end' request book k h =
     }
 
 -- a worker whose end found no answer goes on
-pub none_taken_goes_on : {P : Type 0} (told : P → Option PortStory) (old : Worker P) (end : WorkerView)
+pub none_taken_goes_on : {P : Type 0} (told : P → Option PortStory) (old : WorkerState P) (end : WorkerView)
     → TakesNone old.worker_end end
     → IsWorkerServing told old → WorkerGoesOn told old (record old { worker_end = end })
 none_taken_goes_on told old end k h =
@@ -293,7 +293,7 @@ none_taken_goes_on told old end k h =
     ))
 
 -- a worker goes on where the answer that came back went to its session
-pub kept_goes_on : {P : Type 0} (told : P → Option PortStory) (old new : Worker P) (a : Answered) → KeepsRest old new
+pub kept_goes_on : {P : Type 0} (told : P → Option PortStory) (old new : WorkerState P) (a : Answered) → KeepsRest old new
     → TakesBack old.worker_end new.worker_end a → IsWorkerServing told old → SettlesReply old.book new.book a
     → WorkerGoesOn told old new
 kept_goes_on told old new a k b h r =
@@ -306,7 +306,7 @@ kept_goes_on told old new a k b h r =
     (taken_in story old new a (Some (with_reply r.s a.reply)) k b r.settles.only_at))
 
 -- a worker goes on where the answer that came back was dropped, as its session was closed
-pub dropped_goes_on : {P : Type 0} (told : P → Option PortStory) (old new : Worker P) (a : Answered) → KeepsRest old new
+pub dropped_goes_on : {P : Type 0} (told : P → Option PortStory) (old new : WorkerState P) (a : Answered) → KeepsRest old new
     → TakesBack old.worker_end new.worker_end a → IsWorkerServing told old → session_of old.book a.session ≡ None
     → SettlesOldest old.book new.book a None
     → WorkerGoesOn told old new
@@ -361,7 +361,7 @@ told_starved v u v' unopened ended a s h open_is k c =
     }
 
 -- a worker goes on where the answer that came back found no memory, and its session was shut
-pub starved_goes_on : {P : Type 0} (told : P → Option PortStory) (old mid new : Worker P) (a : Answered)
+pub starved_goes_on : {P : Type 0} (told : P → Option PortStory) (old mid new : WorkerState P) (a : Answered)
     (s : SessionState) → KeepsRest old mid
     → TakesBack old.worker_end mid.worker_end a → IsWorkerServing told old → session_of old.book a.session ≡ Some s
     → SettlesOldest old.book mid.book a None → Shuts told mid new a.session causes.NoMemory → WorkerGoesOn told old new

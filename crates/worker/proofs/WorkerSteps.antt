@@ -1,7 +1,7 @@
 -- What each step of a worker leaves true.
 use Rattle.std.proofs.Common.{◌≡◌, ◌≢◌, ℕ, ◌-◌, ◌^◌, ◌≤◌, ◌==◌, Bool, true, false, true≢false, ◌||◌, ◌&&◌, not}
 use Rattle.std.proofs.Common.{cond, ne_eqb, List, [], ◌∷◌, ◌++◌, length}
-use Rattle.std.proofs.Common.{min, refl, sym, ap, subst, ◌∙◌, Option, Some, None}
+use Rattle.std.proofs.Common.{min, refl, sym, ap, subst, ◌∙◌, Option, Some, None, is_some}
 use Rattle.std.specs.Option.{option_map}
 use Rattle.proto.specs.declared.history.Posted.{Posted}
 use Rattle.exchange.specs.Ends.{WorkerView}
@@ -11,12 +11,12 @@ use Rattle.session_book.specs.Session.{SessionState, once_fed, holding}
 use Rattle.session_book.specs.Book.{BookState, session_of}
 use Rattle.worker.specs.declared.port.PortRecord.{PortRecord}
 use Rattle.worker.specs.declared.port.PortRecord.TheVariants as was
-use Rattle.worker.specs.declared.worker.Worker.{Worker}
+use Rattle.worker.specs.declared.state.WorkerState.{WorkerState}
 use Rattle.worker.specs.Ports.{PortStory, then_told, IsOpenIn, is_open, was_opened, has_gone, was_shut, has_ended, opened_count, IsProper, AcceptsOnlyOpen}
 use Rattle.worker.specs.Sessions.{PortFacts, port_facts, SessionFacts, RunView, facts, asked_by, had_by, cause_of, AreFactsConsistent, IsSessionServed}
 use Rattle.worker.specs.Sessions.{IsClosed}
 use Rattle.worker.specs.Places.{Rises, piece_of}
-use Rattle.worker.specs.Workers.{posted_by, IsSteady, AreSessionsCounted, IsStoryKnown, run_view, ArePaused, IsWorkerServing, IsSameEnd, WorkerGoesOn, Closes}
+use Rattle.worker.specs.Workers.{posted_by, IsSteady, AreSessionsCounted, IsStoryKnown, run_view, ArePaused, IsWorkerServing, IsSameEnd, Continues, Closes}
 use Rattle.worker.specs.Workers.{Shuts}
 use Rattle.worker.proofs.PlaceLemmas.{rises_with, length-with}
 use Rattle.worker.proofs.Facts.{about, elsewhere, fed_here}
@@ -26,6 +26,35 @@ use Rattle.worker.proofs.StoryLaws.{told_before, tells_as, paused_but, paused_el
 use Rattle.worker.proofs.PieceLaws.{pieces_at}
 use Rattle.worker.proofs.RunViews.{facts_equal, change_at, at_other, at_same, ended_same, count_same, accepts_more, ClosesIn, shuts_here, goes_here, stays}
 use Rattle.worker.proofs.RunViews.{close_all, apart_shut, apart_gone}
+
+-- a worker went on, and still serves
+pub record WorkerGoesOn {P : Type 0} (told : P → Option PortStory) (old new : WorkerState P) : Type 0 where
+  pub tells : is_some (told new.port) ≡ is_some (told old.port)
+  pub same_end : IsSameEnd old.worker_end new.worker_end
+  pub serving : IsWorkerServing told new
+
+-- so it continues, where its port leads on
+pub continues : {P : Type 0} (told : P → Option PortStory) (leads_to : P → P → Type 0) (old now new : WorkerState P)
+    → old ≡ now → leads_to old.port new.port → WorkerGoesOn told old new → Continues told leads_to now new
+continues told leads_to old now new same leads h =
+    subst (λ (w : WorkerState _). Continues told leads_to w new) same (record {
+      tells = h.tells;
+      leads = leads;
+      same_end = h.same_end;
+    })
+
+-- what goes on from a to b, and from b to c, goes on from a to c
+pub continues_trans : {P : Type 0} (told : P → Option PortStory) (leads_to : P → P → Type 0) (a b c : WorkerState P)
+    → ((p q r : P) → leads_to p q → leads_to q r → leads_to p r)
+    → Continues told leads_to a b → Continues told leads_to b c → Continues told leads_to a c
+continues_trans told leads_to a b c leads_on h k = record {
+  tells = k.tells ∙ h.tells;
+  leads = leads_on a.port b.port c.port h.leads k.leads;
+  same_end = record {
+    exchange = k.same_end.exchange ∙ h.same_end.exchange;
+    worker = k.same_end.worker ∙ h.same_end.worker;
+  };
+}
 
 -- what the list has open was opened, and is neither gone nor shut
 pub open_parts : (o g s : Bool) → (o && not (g || s)) ≡ true → (o ≡ true) × (g ≡ false) × (s ≡ false)
@@ -120,7 +149,7 @@ told_finished v v' unopened ended t c h k r queue out ends =
     (facts v t).piece c r.running.served st queue out ends (ap (λ (p : PortFacts). p.shut) here.port_is))
 
 -- what a closing of the worker makes of its view
-pub closes_in : {P : Type 0} (story : PortStory) (old new : Worker P) (t : ℕ) (c : EndCause) (x : PortRecord)
+pub closes_in : {P : Type 0} (story : PortStory) (old new : WorkerState P) (t : ℕ) (c : EndCause) (x : PortRecord)
     → Closes old new t c
     → Rises old.sessions.items → ClosesIn (run_view story old) (run_view (then_told (x ∷ []) story) new) t c x
 closes_in story old new t c x k rises = record {
@@ -133,7 +162,7 @@ closes_in story old new t c x k rises = record {
 }
 
 -- the end and the book agree still once a session is closed
-pub steady_closed : {P : Type 0} (old new : Worker P) (t : ℕ) (c : EndCause) → Closes old new t c
+pub steady_closed : {P : Type 0} (old new : WorkerState P) (t : ℕ) (c : EndCause) → Closes old new t c
     → IsSteady old.worker_end old.request old.book
     → IsSteady new.worker_end new.request new.book
 steady_closed old new t c k h =
@@ -142,7 +171,7 @@ steady_closed old new t c k h =
     (ap (λ (b : BookState). b.unsettled) k.book.rest) h)
 
 -- an end that hasn't changed is the same end
-pub same_end : {P : Type 0} (old new : Worker P) → new.worker_end ≡ old.worker_end
+pub same_end : {P : Type 0} (old new : WorkerState P) → new.worker_end ≡ old.worker_end
     → IsSameEnd old.worker_end new.worker_end
 same_end old new e = record {
   exchange = ap (λ (w : WorkerView). w.exchange) e;
@@ -152,7 +181,7 @@ same_end old new e = record {
 -- ---- a worker goes on
 
 -- what is true of a worker beside its port's story
-pub record OwnFacts {P : Type 0} (old new : Worker P) : Type 0 where
+pub record OwnFacts {P : Type 0} (old new : WorkerState P) : Type 0 where
   pub same_end : IsSameEnd old.worker_end new.worker_end
   pub steady : IsSteady new.worker_end new.request new.book
   pub strangers : new.strangers ≡ 0
@@ -160,17 +189,17 @@ pub record OwnFacts {P : Type 0} (old new : Worker P) : Type 0 where
   pub ended : new.ended ≡ old.ended
 
 -- what is true of it beside its own facts, at this story
-abbrev pub StoryFacts : {P : Type 0} → PortStory → Worker P → ℕ → Bool → Type 0
+abbrev pub StoryFacts : {P : Type 0} → PortStory → WorkerState P → ℕ → Bool → Type 0
 StoryFacts story w unopened ended = IsStoryKnown (run_view story w) unopened ended × ArePaused story (piece_of w.book)
 
 -- of a serving worker all is known at the story that its port tells, and each session of which bytes are held is paused
-pub story_facts : {P : Type 0} (told : P → Option PortStory) (w : Worker P) → IsWorkerServing told w
+pub story_facts : {P : Type 0} (told : P → Option PortStory) (w : WorkerState P) → IsWorkerServing told w
     → (story : PortStory) → told w.port ≡ Some story
     → StoryFacts story w w.unopened w.ended
 story_facts told w h story e = (h.known story e, h.paused story e)
 
 -- a step that makes of each story what f does
-pub steps : {P : Type 0} (told : P → Option PortStory) (old new : Worker P) (f : PortStory → PortStory)
+pub steps : {P : Type 0} (told : P → Option PortStory) (old new : WorkerState P) (f : PortStory → PortStory)
     → told new.port ≡ option_map f (told old.port) → IsSameEnd old.worker_end new.worker_end
     → IsSteady new.worker_end new.request new.book
     → new.strangers ≡ 0 → IsWorkerServing told old
@@ -193,7 +222,7 @@ steps told old new f port same steady strangers h each =
     }
 
 -- the same where the counts stay
-pub steps_on : {P : Type 0} (told : P → Option PortStory) (old new : Worker P) (f : PortStory → PortStory)
+pub steps_on : {P : Type 0} (told : P → Option PortStory) (old new : WorkerState P) (f : PortStory → PortStory)
     → told new.port ≡ option_map f (told old.port) → OwnFacts old new → IsWorkerServing told old
     → ((story : PortStory) → told old.port ≡ Some story → StoryFacts story old old.unopened old.ended
     → StoryFacts (f story) new old.unopened old.ended) → WorkerGoesOn told old new
@@ -203,7 +232,7 @@ steps_on told old new f port own h each =
     (λ i. (sym own.unopened i, sym own.ended i)) (each story e k))
 
 -- a worker whose session was shut goes on, if all is told of it
-pub shut_goes_on : {P : Type 0} (told : P → Option PortStory) (old new : Worker P) (t : ℕ) (c : EndCause)
+pub shut_goes_on : {P : Type 0} (told : P → Option PortStory) (old new : WorkerState P) (t : ℕ) (c : EndCause)
     → Shuts told old new t c → IsWorkerServing told old
     → ((story : PortStory) → IsStoryKnown (run_view story old) old.unopened old.ended
     → ClosesIn (run_view story old) (run_view (then_told (was.Shut t ∷ []) story) new) t c (was.Shut t)
@@ -225,7 +254,7 @@ shut_goes_on told old new t c k h is_told =
     ))
 
 -- a worker that has shut an open session for want of memory goes on
-pub no_memory_goes_on : {P : Type 0} (told : P → Option PortStory) (old new : Worker P) (t : ℕ) (s : SessionState)
+pub no_memory_goes_on : {P : Type 0} (told : P → Option PortStory) (old new : WorkerState P) (t : ℕ) (s : SessionState)
     → Shuts told old new t causes.NoMemory → IsWorkerServing told old → session_of old.book t ≡ Some s
     → WorkerGoesOn told old new
 no_memory_goes_on told old new t s k h e =
@@ -249,7 +278,7 @@ told_open v unopened ended t s h e =
     (was_shut t v.events) r.opened r.running.gone r.running.shut
 
 -- the same of a worker
-pub open_at : {P : Type 0} (told : P → Option PortStory) (w : Worker P) (t : ℕ) (s : SessionState)
+pub open_at : {P : Type 0} (told : P → Option PortStory) (w : WorkerState P) (t : ℕ) (s : SessionState)
     → IsWorkerServing told w → session_of w.book t ≡ Some s
     → IsOpenIn t (told w.port)
 open_at told w t s h e = λ story q. told_open (run_view story w) w.unopened w.ended t s (h.known story q) e

@@ -17,7 +17,7 @@ use Rattle.session_book.specs.Session.{SessionState, new_session, once_fed, hold
 use Rattle.session_book.specs.Book.{BookState, session_of, ChangesSession, OnlyAt, GivesNone}
 use Rattle.worker.specs.declared.port.PortRecord.{PortRecord}
 use Rattle.worker.specs.declared.port.PortRecord.TheVariants as was
-use Rattle.worker.specs.declared.worker.Worker.{Worker}
+use Rattle.worker.specs.declared.state.WorkerState.{WorkerState}
 use Rattle.worker.specs.Ports.{PortStory, then_told, with_pause, has_ended, opened_count, AcceptsOnlyOpen}
 use Rattle.worker.specs.Sessions.{RunView, facts, AreFactsConsistent}
 use Rattle.worker.specs.Places.{Rises, with_cause, piece_of}
@@ -56,7 +56,7 @@ pub record IsStoryKnown (v : RunView) (unopened : ℕ) (ended : Bool) : Type 0 w
   pub at_end : has_ended v.events ≡ ended
   pub accepts : AcceptsOnlyOpen v.events
 
-abbrev pub run_view : {P : Type 0} → PortStory → Worker P → RunView
+abbrev pub run_view : {P : Type 0} → PortStory → WorkerState P → RunView
 run_view story w =
     record {
       events = story.events;
@@ -72,7 +72,7 @@ abbrev pub ArePaused : PortStory → (ℕ → List ℕ) → Type 0
 ArePaused story piece = (s : ℕ) → (piece s ≡ [] → ⊥) → story.paused s ≡ true
 
 -- what stays true of a worker over a port
-pub record IsWorkerServing {P : Type 0} (told : P → Option PortStory) (w : Worker P) : Type 0 where
+pub record IsWorkerServing {P : Type 0} (told : P → Option PortStory) (w : WorkerState P) : Type 0 where
   pub steady : IsSteady w.worker_end w.request w.book
   pub strangers : w.strangers ≡ 0
   pub known : (story : PortStory) → told w.port ≡ Some story → IsStoryKnown (run_view story w) w.unopened w.ended
@@ -98,15 +98,16 @@ pub record TakesBack (old new : WorkerView) (a : Answered) : Type 0 where
   pub back : new.back ≡ old.back ++ a ∷ []
   pub same : IsSameEnd old new
 
--- the worker went on
-pub record WorkerGoesOn {P : Type 0} (told : P → Option PortStory) (old new : Worker P) : Type 0 where
+-- the worker goes on: over the same port, later, and at the same end
+pub record Continues {P : Type 0} (told : P → Option PortStory) (leads_to : P → P → Type 0)
+    (old new : WorkerState P) : Type 0 where
   pub tells : is_some (told new.port) ≡ is_some (told old.port)
+  pub leads : leads_to old.port new.port
   pub same_end : IsSameEnd old.worker_end new.worker_end
-  pub serving : IsWorkerServing told new
 
 -- Of a worker only the port and what it knows of this session change: it is no longer in the book, with its held piece,
 -- and the cause stands at its place.
-pub record Closes {P : Type 0} (old new : Worker P) (session : ℕ) (cause : EndCause) : Type 0 where
+pub record Closes {P : Type 0} (old new : WorkerState P) (session : ℕ) (cause : EndCause) : Type 0 where
   pub end : new.worker_end ≡ old.worker_end
   pub request : new.request ≡ old.request
   pub book : ChangesSession old.book new.book session None
@@ -116,34 +117,34 @@ pub record Closes {P : Type 0} (old new : Worker P) (session : ℕ) (cause : End
   pub ended : new.ended ≡ old.ended
 
 -- the session is shut at the port, and closed
-pub record Shuts {P : Type 0} (told : P → Option PortStory) (old new : Worker P) (session : ℕ)
+pub record Shuts {P : Type 0} (told : P → Option PortStory) (old new : WorkerState P) (session : ℕ)
     (cause : EndCause) : Type 0 where
   pub port : told new.port ≡ option_map (then_told (was.Shut session ∷ [])) (told old.port)
   pub closes : Closes old new session cause
 
 -- A session was just opened: it has a place in the report and is in the book; or it is shut and counted.
-pub record Admits {P : Type 0} (told : P → Option PortStory) (old new : Worker P) (session : ℕ) : Type 0 where
+pub record Admits {P : Type 0} (told : P → Option PortStory) (old new : WorkerState P) (session : ℕ) : Type 0 where
   pub port : new.port ≡ old.port
   pub sessions : new.sessions.items ≡ old.sessions.items ++ (session, causes.Drained) ∷ []
   pub book : OnlyAt old.book new.book session (Some new_session)
   pub counts : (new.book.posted ≡ old.book.posted) × (new.book.unsettled ≡ old.book.unsettled)
   pub unopened : new.unopened ≡ old.unopened
 
-pub record Refuses {P : Type 0} (told : P → Option PortStory) (old new : Worker P) (session : ℕ) : Type 0 where
+pub record Refuses {P : Type 0} (told : P → Option PortStory) (old new : WorkerState P) (session : ℕ) : Type 0 where
   pub port : told new.port ≡ option_map (then_told (was.Shut session ∷ [])) (told old.port)
   pub sessions : new.sessions.items ≡ old.sessions.items
   pub book : new.book ≡ old.book
   pub unopened : new.unopened ≡ min (old.unopened + 1) (2 ^ 64 - 1)
 
 -- what doesn't change when a session is opened
-pub record SameRest {P : Type 0} (old new : Worker P) : Type 0 where
+pub record SameRest {P : Type 0} (old new : WorkerState P) : Type 0 where
   pub end : new.worker_end ≡ old.worker_end
   pub request : new.request ≡ old.request
   pub strangers : new.strangers ≡ old.strangers
   pub ended : new.ended ≡ old.ended
 
 -- the rest of the worker
-pub record LeavesWorker {P : Type 0} (old new : Worker P) : Type 0 where
+pub record LeavesWorker {P : Type 0} (old new : WorkerState P) : Type 0 where
   pub end : new.worker_end ≡ old.worker_end
   pub request : new.request ≡ old.request
   pub sessions : new.sessions.items ≡ old.sessions.items
@@ -152,16 +153,16 @@ pub record LeavesWorker {P : Type 0} (old new : Worker P) : Type 0 where
   pub ended : new.ended ≡ old.ended
 
 -- the piece is held, and nothing else changes but for a pause
-pub record HoldsPiece {P : Type 0} (told : P → Option PortStory) (old : Worker P) (session : ℕ) (bytes : List ℕ)
-    (new : Worker P) : Type 0 where
+pub record HoldsPiece {P : Type 0} (told : P → Option PortStory) (old : WorkerState P) (session : ℕ) (bytes : List ℕ)
+    (new : WorkerState P) : Type 0 where
   pub book : ChangesSession old.book new.book session (option_map (λ s. holding s bytes) (session_of old.book session))
   pub port : told new.port ≡ option_map (with_pause session true) (told old.port)
   pub leaves : LeavesWorker old new
 
 -- A piece of input came: it is fed, or held, or its session is shut for want of memory; a session that isn't
 -- open drops it. That bytes are held already is a reason to shut only at a port that tells nothing.
-pub data HandlesData {P : Type 0} (told : P → Option PortStory) (old : Worker P) (session : ℕ) (bytes : List ℕ)
-    (new : Worker P) : Type 0 where
+pub data HandlesData {P : Type 0} (told : P → Option PortStory) (old : WorkerState P) (session : ℕ) (bytes : List ℕ)
+    (new : WorkerState P) : Type 0 where
   feeds : piece_of old.book session ≡ []
       → ChangesSession old.book new.book session (option_map (λ s. once_fed s bytes) (session_of old.book session))
       → new.port ≡ old.port
@@ -174,7 +175,7 @@ pub data HandlesData {P : Type 0} (told : P → Option PortStory) (old : Worker 
       → HandlesData told old session bytes new
 
 -- The session was asked and gave no request; nothing else of the worker changed but what was read of it.
-pub record IsQuiet {P : Type 0} (old new : Worker P) (session : ℕ) : Type 0 where
+pub record IsQuiet {P : Type 0} (old new : WorkerState P) (session : ℕ) : Type 0 where
   pub end : new.worker_end ≡ old.worker_end
   pub request : new.request ≡ old.request
   pub sessions : new.sessions ≡ old.sessions
@@ -183,7 +184,7 @@ pub record IsQuiet {P : Type 0} (old new : Worker P) (session : ℕ) : Type 0 wh
   pub here : (s : SessionState) → session_of new.book session ≡ Some s → GivesNone old.book s
 
 -- nothing of the worker changes but what the book has of this session, where it is still open
-pub record IsStill {P : Type 0} (old new : Worker P) (session : ℕ) (cause : EndCause) : Type 0 where
+pub record IsStill {P : Type 0} (old new : WorkerState P) (session : ℕ) (cause : EndCause) : Type 0 where
   pub end : new.worker_end ≡ old.worker_end
   pub request : new.request ≡ old.request
   pub sessions : new.sessions ≡ old.sessions
@@ -198,7 +199,7 @@ pub record IsEmptied (s : SessionState) : Type 0 where
   pub stops : Stops s
 
 -- nothing is held or outstanding, and each session that is still open is emptied
-pub record IsDrained {P : Type 0} (w : Worker P) : Type 0 where
+pub record IsDrained {P : Type 0} (w : WorkerState P) : Type 0 where
   pub ended : w.ended ≡ true
   pub request : w.request ≡ None
   pub back : length w.worker_end.back ≡ length w.worker_end.sent

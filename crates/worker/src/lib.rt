@@ -10,6 +10,7 @@ mod port;
 mod report;
 mod rooms;
 mod run;
+mod state;
 mod worker;
 
 pub use gate::Gate;

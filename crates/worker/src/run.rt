@@ -3,19 +3,18 @@
 ghost use Rattle.std.specs.Prelude.{◌≡◌, ◌<◌, [], true, false, is_some};
 ghost use Rattle.session_book.specs.Session.{SessionState};
 ghost use Rattle.session_book.specs.Book.{session_of};
-ghost use Rattle.worker.specs.Workers.{IsWorkerServing, WorkerGoesOn, IsStill, IsEmptied, IsDrained};
+ghost use Rattle.worker.specs.Workers.{Continues, IsStill, IsEmptied, IsDrained};
 ghost use Rattle.worker.specs.Ports.{PortStory};
 ghost use Rattle.worker.specs.Reports.{IsReported, IsOver};
 
-use crate::batched_end::BatchedEnd;
 use crate::gate::Gate;
 use crate::port::Port;
 use crate::report::WorkerReport;
-use crate::rooms::Rooms;
+use crate::state::WorkerState;
 use crate::worker::Worker;
 use crossbeam_utils::Backoff;
 use exchange::{StorageSignals, WorkerEnd};
-use session_book::{Book, EndCause, MAX_POSTS, MAX_UNSETTLED};
+use session_book::{EndCause, MAX_POSTS, MAX_UNSETTLED};
 use std::alloc::Global;
 use std::sync::Wait;
 
@@ -28,9 +27,7 @@ const SLOW_A_TURN: usize = 2;
 // Takes what has come, in a few events, and asks at once what they bring: what a session has sent is asked before it is
 // taken that its peer has gone. They end where a session can't be asked further.
 fn take_events<P: Port, G: Gate>(worker: &mut Worker<P>, gate: &G, storage: &StorageSignals) -> bool
-    requires { IsWorkerServing P.told worker.old }
-    ensures goes_on { WorkerGoesOn P.told worker.old worker.new }
-    ensures leads { P.leads_to worker.old.port worker.new.port }
+    ensures { Continues P.told P.leads_to worker.old worker.new }
 {
     let mut moved = false;
     for _ in 0..EVENTS_A_TURN {
@@ -39,7 +36,7 @@ fn take_events<P: Port, G: Gate>(worker: &mut Worker<P>, gate: &G, storage: &Sto
         }
         moved = true;
         ask_sessions(worker, gate, storage);
-        if worker.book.to_ask() > 0 {
+        if worker.state.book.to_ask() > 0 {
             break;
         }
     }
@@ -48,12 +45,10 @@ fn take_events<P: Port, G: Gate>(worker: &mut Worker<P>, gate: &G, storage: &Sto
 
 // Feeds each held piece that may fit by now.
 fn feed_pieces<P: Port>(worker: &mut Worker<P>) -> bool
-    requires { IsWorkerServing P.told worker.old }
-    ensures goes_on { WorkerGoesOn P.told worker.old worker.new }
-    ensures leads { P.leads_to worker.old.port worker.new.port }
+    ensures { Continues P.told P.leads_to worker.old worker.new }
 {
     let mut moved = false;
-    for _ in 0..worker.book.to_feed() {
+    for _ in 0..worker.state.book.to_feed() {
         moved |= worker.feed_next();
     }
     moved
@@ -66,9 +61,7 @@ fn ask_session<P: Port, G: Gate>(
     gate: &G,
     storage: &StorageSignals,
 )
-    requires { IsWorkerServing P.told worker.old }
-    ensures goes_on { WorkerGoesOn P.told worker.old worker.new }
-    ensures leads { P.leads_to worker.old.port worker.new.port }
+    ensures { Continues P.told P.leads_to worker.old worker.new }
 {
     for _ in 0..=MAX_UNSETTLED {
         if !worker.ask_and_post(session, gate, storage) {
@@ -79,14 +72,12 @@ fn ask_session<P: Port, G: Gate>(
 
 // Asks the next session that has input, unless no request can be asked now.
 fn ask_next<P: Port, G: Gate>(worker: &mut Worker<P>, gate: &G, storage: &StorageSignals) -> bool
-    requires { IsWorkerServing P.told worker.old }
-    ensures goes_on { WorkerGoesOn P.told worker.old worker.new }
-    ensures leads { P.leads_to worker.old.port worker.new.port }
+    ensures { Continues P.told P.leads_to worker.old worker.new }
 {
     if worker.is_busy() {
         return false;
     }
-    match worker.book.next_to_ask() {
+    match worker.state.book.next_to_ask() {
         Some(session) => {
             ask_session(worker, session, gate, storage);
             true
@@ -97,11 +88,9 @@ fn ask_next<P: Port, G: Gate>(worker: &mut Worker<P>, gate: &G, storage: &Storag
 
 // Asks the sessions in turn while the window has room.
 fn ask_sessions<P: Port, G: Gate>(worker: &mut Worker<P>, gate: &G, storage: &StorageSignals)
-    requires { IsWorkerServing P.told worker.old }
-    ensures goes_on { WorkerGoesOn P.told worker.old worker.new }
-    ensures leads { P.leads_to worker.old.port worker.new.port }
+    ensures { Continues P.told P.leads_to worker.old worker.new }
 {
-    for _ in 0..worker.book.to_ask() {
+    for _ in 0..worker.state.book.to_ask() {
         if !ask_next(worker, gate, storage) {
             break;
         }
@@ -114,28 +103,24 @@ fn post_requests<P: Port, G: Gate>(
     gate: &G,
     storage: &StorageSignals,
 ) -> bool
-    requires { IsWorkerServing P.told worker.old }
-    ensures goes_on { WorkerGoesOn P.told worker.old worker.new }
-    ensures leads { P.leads_to worker.old.port worker.new.port }
+    ensures { Continues P.told P.leads_to worker.old worker.new }
 {
     let held = worker.post(gate, storage);
     let came = take_events(worker, gate, storage);
     let fed = feed_pieces(worker);
-    let posted = worker.worker_end.posted();
+    let posted = worker.state.worker_end.posted();
     ask_sessions(worker, gate, storage);
-    let asked = worker.worker_end.posted() > posted;
+    let asked = worker.state.worker_end.posted() > posted;
     worker.flush(storage);
     held || came || fed || asked
 }
 
 // Takes and settles all answers that are there.
 fn settle_answers<P: Port, G: Gate>(worker: &mut Worker<P>, gate: &G) -> bool
-    requires { IsWorkerServing P.told worker.old }
-    ensures goes_on { WorkerGoesOn P.told worker.old worker.new }
-    ensures leads { P.leads_to worker.old.port worker.new.port }
+    ensures { Continues P.told P.leads_to worker.old worker.new }
 {
     let mut moved = false;
-    for _ in 0..worker.worker_end.outstanding() {
+    for _ in 0..worker.state.worker_end.outstanding() {
         if !worker.settle_next(gate) {
             break;
         }
@@ -146,12 +131,10 @@ fn settle_answers<P: Port, G: Gate>(worker: &mut Worker<P>, gate: &G) -> bool
 
 // Gives the output of each session that has some, and shuts those that have finished.
 fn give_output<P: Port>(worker: &mut Worker<P>) -> bool
-    requires { IsWorkerServing P.told worker.old }
-    ensures goes_on { WorkerGoesOn P.told worker.old worker.new }
-    ensures leads { P.leads_to worker.old.port worker.new.port }
+    ensures { Continues P.told P.leads_to worker.old worker.new }
 {
     let mut moved = false;
-    for _ in 0..worker.book.to_give() {
+    for _ in 0..worker.state.book.to_give() {
         moved |= worker.give_next();
     }
     moved
@@ -159,12 +142,10 @@ fn give_output<P: Port>(worker: &mut Worker<P>) -> bool
 
 // The same of a few of the sessions whose peer accepted nothing.
 fn give_slowly<P: Port>(worker: &mut Worker<P>) -> bool
-    requires { IsWorkerServing P.told worker.old }
-    ensures goes_on { WorkerGoesOn P.told worker.old worker.new }
-    ensures leads { P.leads_to worker.old.port worker.new.port }
+    ensures { Continues P.told P.leads_to worker.old worker.new }
 {
     let mut moved = false;
-    for _ in 0..worker.book.to_give_slowly().min(SLOW_A_TURN) {
+    for _ in 0..worker.state.book.to_give_slowly().min(SLOW_A_TURN) {
         moved |= worker.give_next_slow();
     }
     moved
@@ -173,9 +154,7 @@ fn give_slowly<P: Port>(worker: &mut Worker<P>) -> bool
 // One turn. False where there was nothing to do. Storage knows of all that was posted before the answers are looked for, so
 // nothing is kept back while the worker waits.
 fn take_turn<P: Port, G: Gate>(worker: &mut Worker<P>, gate: &G, storage: &StorageSignals) -> bool
-    requires { IsWorkerServing P.told worker.old }
-    ensures goes_on { WorkerGoesOn P.told worker.old worker.new }
-    ensures leads { P.leads_to worker.old.port worker.new.port }
+    ensures { Continues P.told P.leads_to worker.old worker.new }
 {
     let posted = post_requests(worker, gate, storage);
     let settled = settle_answers(worker, gate);
@@ -187,19 +166,20 @@ fn take_turn<P: Port, G: Gate>(worker: &mut Worker<P>, gate: &G, storage: &Stora
 // Whether all is done: the port has ended, nothing is held or outstanding, and no open session has a message or
 // output left. A request that is found is held.
 fn has_drained<P: Port>(worker: &mut Worker<P>) -> bool
-    requires { IsWorkerServing P.told worker.old }
-    ensures goes_on { WorkerGoesOn P.told worker.old worker.new }
-    ensures leads { P.leads_to worker.old.port worker.new.port }
+    ensures goes_on { Continues P.told P.leads_to worker.old worker.new }
     ensures drained { result ≡ true → IsDrained worker.new }
 {
-    if !worker.ended || worker.request.is_some() || worker.worker_end.outstanding() > 0 {
+    if !worker.state.ended
+        || worker.state.request.is_some()
+        || worker.state.worker_end.outstanding() > 0
+    {
         return false;
     }
-    if !worker.book.is_idle() || worker.worker_end.posted() >= MAX_POSTS {
+    if !worker.state.book.is_idle() || worker.state.worker_end.posted() >= MAX_POSTS {
         return false;
     }
-    for place in 0..worker.sessions.len() {
-        let (session, cause) = worker.sessions[place];
+    for place in 0..worker.state.sessions.len() {
+        let (session, cause) = worker.state.sessions[place];
         if !is_emptied(worker, session, cause) {
             return false;
         }
@@ -209,12 +189,10 @@ fn has_drained<P: Port>(worker: &mut Worker<P>) -> bool
 
 // Whether a session that is still open has nothing left to read and to give.
 fn is_emptied<P: Port>(worker: &mut Worker<P>, session: u64, cause: EndCause) -> bool
-    requires serving { IsWorkerServing P.told worker.old }
     requires none { worker.old.request ≡ None }
     requires settled { worker.old.book.unsettled ≡ [] }
     requires few { worker.old.book.posted < MAX_POSTS }
-    ensures goes_on { WorkerGoesOn P.told worker.old worker.new }
-    ensures leads { P.leads_to worker.old.port worker.new.port }
+    ensures goes_on { Continues P.told P.leads_to worker.old worker.new }
     ensures still { result ≡ true → IsStill worker.old worker.new session cause }
     ensures emptied { result ≡ true → cause ≡ EndCause.Drained → (s : SessionState) → session_of worker.new.book session ≡ Some s
         → IsEmptied s }
@@ -222,33 +200,12 @@ fn is_emptied<P: Port>(worker: &mut Worker<P>, session: u64, cause: EndCause) ->
     match cause {
         EndCause::Drained => {
             if !worker.ask(session) {
-                worker.book.ask_later(session);
+                worker.state.book.ask_later(session);
                 return false;
             }
             worker.has_no_output(session) && worker.holds_nothing(session)
         }
         _ => true,
-    }
-}
-
-fn new_worker<P: Port>(alloc: Global, port: P, worker_end: WorkerEnd) -> Worker<P>
-    requires port { (story : PortStory) → P.told port ≡ Some story → story.events ≡ [] }
-    requires fresh { (worker_end.sent ≡ []) × (worker_end.back ≡ []) × (worker_end.said_bye ≡ false) }
-    ensures port { result.port ≡ port }
-    ensures end { result.worker_end ≡ worker_end }
-    ensures serving { IsWorkerServing P.told result }
-{
-    let book = Book::new(alloc, worker_end.worker());
-    Worker {
-        port,
-        worker_end: BatchedEnd::new(worker_end),
-        book,
-        request: None,
-        sessions: Vec::new(alloc),
-        unopened: 0,
-        strangers: 0,
-        ended: false,
-        rooms: Rooms::new(alloc),
     }
 }
 
@@ -273,7 +230,7 @@ pub fn run_worker<P: Port, G: Gate, R: Wait>(
     ensures reported { (story : PortStory) → P.told result.port ≡ Some story
         → IsReported story.events result.worker_end result.sessions.items result.unopened }
 {
-    let mut worker = new_worker(alloc, port, worker_end);
+    let mut worker = Worker::new(alloc, port, worker_end);
     let backoff = Backoff::new();
     for _ in rt.forever() {
         if take_turn(&mut worker, gate, storage) {
@@ -289,15 +246,15 @@ pub fn run_worker<P: Port, G: Gate, R: Wait>(
 
 // Says bye, and leaves the report.
 fn leave<P: Port>(worker: Worker<P>, storage: &StorageSignals) -> WorkerReport<P>
-    requires serving { IsWorkerServing P.told worker }
-    requires drained { IsDrained worker }
+    requires { IsDrained worker }
     ensures port { result.port ≡ worker.port }
     ensures over { IsOver worker.worker_end result.worker_end }
     ensures strangers { result.strangers ≡ 0 }
     ensures reported { (story : PortStory) → P.told result.port ≡ Some story
         → IsReported story.events result.worker_end result.sessions.items result.unopened }
 {
-    let Worker {
+    let Worker { state } = worker;
+    let WorkerState {
         port,
         worker_end,
         book: _,
@@ -307,7 +264,7 @@ fn leave<P: Port>(worker: Worker<P>, storage: &StorageSignals) -> WorkerReport<P
         strangers,
         ended: _,
         rooms: _,
-    } = worker;
+    } = state;
     let mut worker_end = worker_end.into_end();
     worker_end.bye();
     storage.parking().unpark();

@@ -1,154 +1,102 @@
-//! What a worker holds while it runs, and its steps.
+//! A worker that serves its port, by the steps that it takes.
 
-ghost use Rattle.std.specs.Prelude.{◌≡◌, ◌⊎◌, true, false, Some, None, IsSome, []};
+ghost use Rattle.std.specs.Prelude.{◌≡◌, true, false, Some, None, []};
 ghost use Rattle.session_book.specs.Session.{SessionState, finished_by};
 ghost use Rattle.session_book.specs.Book.{session_of};
-ghost use Rattle.worker.specs.Places.{piece_of};
-ghost use Rattle.worker.specs.Ports.{PortStory, IsOpenIn};
-ghost use Rattle.worker.specs.Workers.{Closes, Shuts, IsWorkerServing, WorkerGoesOn, Admits, Refuses, SameRest};
-ghost use Rattle.worker.specs.Workers.{HandlesData, IsQuiet};
+ghost use Rattle.worker.specs.Ports.{PortStory};
+ghost use Rattle.worker.specs.Workers.{Continues, IsQuiet};
 ghost use Rattle.std.specs.Option.{option_and_then};
 
 use crate::batched_end::BatchedEnd;
 use crate::gate::Gate;
-use crate::places::set_cause;
 use crate::port::{Gone, Port, PortEvent};
 use crate::rooms::Rooms;
-use bytes::Bytes;
-use exchange::StorageSignals;
+use crate::state::WorkerState;
+use exchange::{StorageSignals, WorkerEnd};
 use proto::Posted;
-use session_book::{Book, EndCause, MAX_UNSETTLED, Received, Settled};
+use session_book::{Book, EndCause, MAX_UNSETTLED, Settled};
+use std::alloc::Global;
+use std::marker::Model;
 
+/// A worker. Contracts see it as its state, of which all parts agree between its steps, with the port's story too where the
+/// port tells it.
 #[derive(Drop)]
-pub(crate) struct Worker<P> {
-    pub(crate) port: P,
-    pub(crate) worker_end: BatchedEnd,
-    pub(crate) book: Book,
-    /// A request that has its number and isn't posted yet.
-    pub(crate) request: Option<Posted>,
-    pub(crate) sessions: Vec<(u64, EndCause)>,
-    pub(crate) unopened: u64,
-    pub(crate) strangers: u64,
-    /// The port has ended.
-    pub(crate) ended: bool,
-    pub(crate) rooms: Rooms,
+pub(crate) struct Worker<P: Port> {
+    pub(crate) state: WorkerState<P>,
+}
+
+impl<P: Port> Model for Worker<P> {
+    ghost use Rattle.worker.specs.declared.state.WorkerState.{WorkerState};
+    ghost use Rattle.worker.specs.Workers.{IsWorkerServing};
+
+    ghost Value = { WorkerState P };
+
+    ghost view = { λ w. w.state };
+
+    ghost invariant = { λ w. IsWorkerServing P.told w.state };
 }
 
 impl<P: Port> Worker<P> {
-    // Takes a session out of the book, and writes why it ended.
-    pub(crate) fn close(&mut self, session: u64, cause: EndCause)
-        ensures port { self.new.port ≡ self.old.port }
-        ensures leads { P.leads_to self.old.port self.new.port }
-        ensures closes { Closes self.old self.new session cause }
+    // A worker whose end has sent nothing yet, over a port that has told nothing.
+    pub(crate) fn new(alloc: Global, port: P, worker_end: WorkerEnd) -> Worker<P>
+        requires port { (story : PortStory) → P.told port ≡ Some story → story.events ≡ [] }
+        requires fresh { (worker_end.sent ≡ []) × (worker_end.back ≡ []) × (worker_end.said_bye ≡ false) }
+        ensures port { result.port ≡ port }
+        ensures end { result.worker_end ≡ worker_end }
     {
-        self.book.close(session);
-        set_cause(&mut self.sessions, session, cause);
-    }
-
-    pub(crate) fn shut(&mut self, session: u64, cause: EndCause)
-        requires { IsOpenIn session (P.told self.old.port) }
-        ensures shuts { Shuts P.told self.old self.new session cause }
-        ensures leads { P.leads_to self.old.port self.new.port }
-    {
-        self.port.shut(session);
-        self.close(session, cause);
-    }
-
-    // Shuts a session that was just opened, as there is no room for it.
-    fn refuse(&mut self, newcomer: u64)
-        requires { IsOpenIn newcomer (P.told self.old.port) }
-        ensures leads { P.leads_to self.old.port self.new.port }
-        ensures rest { SameRest self.old self.new }
-        ensures refuses { Refuses P.told self.old self.new newcomer }
-    {
-        self.port.shut(newcomer);
-        self.unopened = self.unopened.saturating_add(1);
-    }
-
-    // Takes a session's place in the report and opens it in the book.
-    fn admit(&mut self, session: u64)
-        requires { IsOpenIn session (P.told self.old.port) }
-        ensures leads { P.leads_to self.old.port self.new.port }
-        ensures rest { SameRest self.old self.new }
-        ensures admits { Admits P.told self.old self.new session ⊎ Refuses P.told self.old self.new session }
-    {
-        if self.sessions.push((session, EndCause::Drained)).is_err() {
-            self.refuse(session);
-            return;
-        }
-        if self.book.open(session).is_err() {
-            self.sessions.pop();
-            self.refuse(session);
-        }
-    }
-
-    // Feeds a piece of input that came, or holds it until it fits, and then pauses its session. Input of a session that
-    // isn't open is dropped. At a port that tells, a session of which bytes are held is paused and has no data.
-    fn receive(&mut self, session: u64, bytes: Bytes)
-        requires open { IsOpenIn session (P.told self.old.port) }
-        requires resumed { (story : PortStory) → P.told self.old.port ≡ Some story → piece_of self.old.book session ≡ [] }
-        ensures receives { HandlesData P.told self.old session bytes self.new }
-        ensures leads { P.leads_to self.old.port self.new.port }
-        ensures drops { session_of self.old.book session ≡ None → self.new ≡ self.old }
-    {
-        match self.book.receive(session, bytes) {
-            Received::Fed | Received::Unknown => {}
-            Received::Held => self.port.pause(session),
-            Received::Refused => self.shut(session, EndCause::NoMemory),
-        }
-    }
-
-    // The session's peer has gone. A session that isn't open keeps the cause that it has.
-    fn lose(&mut self, session: u64)
-        ensures port { self.new.port ≡ self.old.port }
-        ensures leads { P.leads_to self.old.port self.new.port }
-        ensures loses { IsSome (session_of self.old.book session) → Closes self.old self.new session EndCause.Gone }
-        ensures drops { session_of self.old.book session ≡ None → self.new ≡ self.old }
-    {
-        if self.book.is_open(session) {
-            self.close(session, EndCause::Gone);
+        let book = Book::new(alloc, worker_end.worker());
+        Worker {
+            state: WorkerState {
+                port,
+                worker_end: BatchedEnd::new(worker_end),
+                book,
+                request: None,
+                sessions: Vec::new(alloc),
+                unopened: 0,
+                strangers: 0,
+                ended: false,
+                rooms: Rooms::new(alloc),
+            },
         }
     }
 
     // Whether the port may wait: nothing is outstanding or held back, and no session has anything to do.
     fn may_wait(&self) -> bool {
-        self.request.is_none() && self.worker_end.outstanding() == 0 && self.book.is_idle()
+        self.state.request.is_none()
+            && self.state.worker_end.outstanding() == 0
+            && self.state.book.is_idle()
     }
 
     // One event of the port, unless it has ended. False where there was none.
     pub(crate) fn take_event(&mut self) -> bool
-        requires { IsWorkerServing P.told self.old }
-        ensures goes_on { WorkerGoesOn P.told self.old self.new }
-        ensures leads { P.leads_to self.old.port self.new.port }
+        ensures { Continues P.told P.leads_to self.old self.new }
     {
-        if self.ended {
+        if self.state.ended {
             return false;
         }
         let may_wait = self.may_wait();
-        match self.port.next(may_wait) {
-            PortEvent::Opened(session) => self.admit(session),
-            PortEvent::Data(session, bytes) => self.receive(session, bytes),
-            PortEvent::Gone(session) => self.lose(session),
+        match self.state.port.next(may_wait) {
+            PortEvent::Opened(session) => self.state.admit(session),
+            PortEvent::Data(session, bytes) => self.state.receive(session, bytes),
+            PortEvent::Gone(session) => self.state.lose(session),
             PortEvent::Idle => return false,
-            PortEvent::Ended => self.ended = true,
+            PortEvent::Ended => self.state.ended = true,
         }
         true
     }
 
     // Feeds the session's held piece, if it fits by now.
     pub(crate) fn feed_again(&mut self, session: u64) -> bool
-        requires { IsWorkerServing P.told self.old }
-        ensures goes_on { WorkerGoesOn P.told self.old self.new }
-        ensures leads { P.leads_to self.old.port self.new.port }
+        ensures { Continues P.told P.leads_to self.old self.new }
     {
-        match self.book.feed_held(session) {
+        match self.state.book.feed_held(session) {
             Ok(true) => {
-                self.port.resume(session);
+                self.state.port.resume(session);
                 true
             }
             Ok(false) => false,
             Err(_) => {
-                self.shut(session, EndCause::NoMemory);
+                self.state.shut(session, EndCause::NoMemory);
                 true
             }
         }
@@ -156,16 +104,14 @@ impl<P: Port> Worker<P> {
 
     // Reads up to the session's next request, which is held until it is posted. True where none is left for now.
     pub(crate) fn ask(&mut self, session: u64) -> bool
-        requires serving { IsWorkerServing P.told self.old }
-        requires none { self.old.request ≡ None }
-        ensures goes_on { WorkerGoesOn P.told self.old self.new }
-        ensures leads { P.leads_to self.old.port self.new.port }
+        requires { self.old.request ≡ None }
+        ensures goes_on { Continues P.told P.leads_to self.old self.new }
         ensures quiet { result ≡ true → IsQuiet self.old self.new session }
     {
-        match self.book.next_ask(session) {
+        match self.state.book.next_ask(session) {
             Ok(Some((mut request, number))) => {
-                self.rooms.lend(&mut request);
-                self.request = Some(Posted {
+                self.state.rooms.lend(&mut request);
+                self.state.request = Some(Posted {
                     session,
                     number,
                     request,
@@ -174,7 +120,7 @@ impl<P: Port> Worker<P> {
             }
             Ok(None) => true,
             Err(_) => {
-                self.shut(session, EndCause::NoMemory);
+                self.state.shut(session, EndCause::NoMemory);
                 false
             }
         }
@@ -185,10 +131,10 @@ impl<P: Port> Worker<P> {
     pub(crate) fn is_busy(&self) -> bool
         ensures { result ≡ false → self.now.request ≡ None }
     {
-        let outstanding = self.worker_end.outstanding();
-        self.request.is_some()
+        let outstanding = self.state.worker_end.outstanding();
+        self.state.request.is_some()
             || outstanding >= MAX_UNSETTLED as u64
-            || (outstanding > 0 && self.book.is_crowded())
+            || (outstanding > 0 && self.state.book.is_crowded())
     }
 
     // Reads the session's next request and posts it. True where there may be another one. Where none can be asked the
@@ -199,39 +145,35 @@ impl<P: Port> Worker<P> {
         gate: &G,
         storage: &StorageSignals,
     ) -> bool
-        requires { IsWorkerServing P.told self.old }
-        ensures goes_on { WorkerGoesOn P.told self.old self.new }
-        ensures leads { P.leads_to self.old.port self.new.port }
+        ensures { Continues P.told P.leads_to self.old self.new }
     {
         if self.is_busy() {
-            self.book.ask_later(session);
+            self.state.book.ask_later(session);
             return false;
         }
         if self.ask(session) {
             return false;
         }
         self.post(gate, storage);
-        self.book.reads_on()
+        self.state.book.reads_on()
     }
 
     // Posts the held request, if the gate lets it and there is room. Storage is told of it at the next flush, if not at once.
     pub(crate) fn post<G: Gate>(&mut self, gate: &G, storage: &StorageSignals) -> bool
-        requires { IsWorkerServing P.told self.old }
-        ensures goes_on { WorkerGoesOn P.told self.old self.new }
-        ensures leads { P.leads_to self.old.port self.new.port }
+        ensures goes_on { Continues P.told P.leads_to self.old self.new }
         ensures posted { result ≡ true → self.new.request ≡ None }
     {
-        let Some(posted) = self.request.take() else {
+        let Some(posted) = self.state.request.take() else {
             return false;
         };
-        if !gate.may_post(self.worker_end.worker(), posted.number) {
-            self.request = Some(posted);
+        if !gate.may_post(self.state.worker_end.worker(), posted.number) {
+            self.state.request = Some(posted);
             return false;
         }
-        match self.worker_end.post(posted, storage) {
+        match self.state.worker_end.post(posted, storage) {
             Ok(()) => true,
             Err(posted) => {
-                self.request = Some(posted);
+                self.state.request = Some(posted);
                 false
             }
         }
@@ -239,31 +181,27 @@ impl<P: Port> Worker<P> {
 
     // Tells storage of all that was posted.
     pub(crate) fn flush(&mut self, storage: &StorageSignals)
-        requires { IsWorkerServing P.told self.old }
-        ensures goes_on { WorkerGoesOn P.told self.old self.new }
-        ensures leads { P.leads_to self.old.port self.new.port }
+        ensures { Continues P.told P.leads_to self.old self.new }
     {
-        self.worker_end.flush(storage);
+        self.state.worker_end.flush(storage);
     }
 
     // Takes the next answer and settles it. False where there is none.
     pub(crate) fn settle_next<G: Gate>(&mut self, gate: &G) -> bool
-        requires { IsWorkerServing P.told self.old }
-        ensures goes_on { WorkerGoesOn P.told self.old self.new }
-        ensures leads { P.leads_to self.old.port self.new.port }
+        ensures { Continues P.told P.leads_to self.old self.new }
     {
-        let Some(answered) = self.worker_end.take() else {
+        let Some(answered) = self.state.worker_end.take() else {
             return false;
         };
         let session = answered.session;
-        gate.answered(self.worker_end.worker(), answered.number);
-        let settled = self.book.settle(&answered);
-        self.rooms.keep(answered);
+        gate.answered(self.state.worker_end.worker(), answered.number);
+        let settled = self.state.book.settle(&answered);
+        self.state.rooms.keep(answered);
         match settled {
             Settled::Kept => {}
             Settled::Dropped => {}
-            Settled::Starved => self.shut(session, EndCause::NoMemory),
-            Settled::Stranger => self.strangers = self.strangers.saturating_add(1),
+            Settled::Starved => self.state.shut(session, EndCause::NoMemory),
+            Settled::Stranger => self.state.strangers = self.state.strangers.saturating_add(1),
         }
         true
     }
@@ -271,19 +209,17 @@ impl<P: Port> Worker<P> {
     // Offers the session's output in one call, where it is worth it. It answers whether that changed anything, and whether
     // the session has finished.
     pub(crate) fn offer(&mut self, session: u64) -> (bool, Option<EndCause>)
-        requires { IsWorkerServing P.told self.old }
-        ensures goes_on { WorkerGoesOn P.told self.old self.new }
-        ensures leads { P.leads_to self.old.port self.new.port }
+        ensures goes_on { Continues P.told P.leads_to self.old self.new }
         ensures finished { result.1 ≡ option_and_then finished_by (session_of self.new.book session) }
     {
-        let offer = self.book.offer(session);
+        let offer = self.state.book.offer(session);
         if offer.out.is_empty() {
             return (false, offer.finished);
         }
-        match self.port.give(session, offer.out) {
-            Ok(accepted) => (accepted > 0, self.book.gave(session, accepted)),
+        match self.state.port.give(session, offer.out) {
+            Ok(accepted) => (accepted > 0, self.state.book.gave(session, accepted)),
             Err(Gone) => {
-                self.close(session, EndCause::Gone);
+                self.state.close(session, EndCause::Gone);
                 (true, None)
             }
         }
@@ -294,23 +230,21 @@ impl<P: Port> Worker<P> {
         ensures { result ≡ true → (s : SessionState) → session_of self.now.book session ≡ Some s
             → (s.out ≡ []) × (finished_by s ≡ None) }
     {
-        self.book.out(session).is_empty() && self.book.finished(session).is_none()
+        self.state.book.out(session).is_empty() && self.state.book.finished(session).is_none()
     }
 
     // No piece of the session is held.
     pub(crate) fn holds_nothing(&self, session: u64) -> bool
         ensures { result ≡ true → (s : SessionState) → session_of self.now.book session ≡ Some s → s.held ≡ [] }
     {
-        self.book.held(session).is_empty()
+        self.state.book.held(session).is_empty()
     }
 
     // Feeds the next held piece that may fit by now.
     pub(crate) fn feed_next(&mut self) -> bool
-        requires { IsWorkerServing P.told self.old }
-        ensures goes_on { WorkerGoesOn P.told self.old self.new }
-        ensures leads { P.leads_to self.old.port self.new.port }
+        ensures { Continues P.told P.leads_to self.old self.new }
     {
-        match self.book.next_to_feed() {
+        match self.state.book.next_to_feed() {
             Some(session) => self.feed_again(session),
             None => false,
         }
@@ -318,11 +252,9 @@ impl<P: Port> Worker<P> {
 
     // Offers the output of the next session that has some, and shuts it where it has finished.
     pub(crate) fn give_next(&mut self) -> bool
-        requires { IsWorkerServing P.told self.old }
-        ensures goes_on { WorkerGoesOn P.told self.old self.new }
-        ensures leads { P.leads_to self.old.port self.new.port }
+        ensures { Continues P.told P.leads_to self.old self.new }
     {
-        match self.book.next_to_give() {
+        match self.state.book.next_to_give() {
             Some(session) => self.give(session),
             None => false,
         }
@@ -330,11 +262,9 @@ impl<P: Port> Worker<P> {
 
     // The same of the next session whose peer accepted nothing when it was last offered some.
     pub(crate) fn give_next_slow(&mut self) -> bool
-        requires { IsWorkerServing P.told self.old }
-        ensures goes_on { WorkerGoesOn P.told self.old self.new }
-        ensures leads { P.leads_to self.old.port self.new.port }
+        ensures { Continues P.told P.leads_to self.old self.new }
     {
-        match self.book.next_to_give_slowly() {
+        match self.state.book.next_to_give_slowly() {
             Some(session) => self.give(session),
             None => false,
         }
@@ -342,9 +272,7 @@ impl<P: Port> Worker<P> {
 
     // Offers the session's output, and shuts it where it has finished.
     fn give(&mut self, session: u64) -> bool
-        requires { IsWorkerServing P.told self.old }
-        ensures goes_on { WorkerGoesOn P.told self.old self.new }
-        ensures leads { P.leads_to self.old.port self.new.port }
+        ensures { Continues P.told P.leads_to self.old self.new }
     {
         let (moved, finished) = self.offer(session);
         let finished = self.finish(session, finished);
@@ -353,14 +281,12 @@ impl<P: Port> Worker<P> {
 
     // Shuts a session that has ended itself, once all was answered and given.
     pub(crate) fn finish(&mut self, session: u64, finished: Option<EndCause>) -> bool
-        requires serving { IsWorkerServing P.told self.old }
-        requires is { finished ≡ option_and_then finished_by (session_of self.old.book session) }
-        ensures goes_on { WorkerGoesOn P.told self.old self.new }
-        ensures leads { P.leads_to self.old.port self.new.port }
+        requires { finished ≡ option_and_then finished_by (session_of self.old.book session) }
+        ensures { Continues P.told P.leads_to self.old self.new }
     {
         match finished {
             Some(cause) => {
-                self.shut(session, cause);
+                self.state.shut(session, cause);
                 true
             }
             None => false,

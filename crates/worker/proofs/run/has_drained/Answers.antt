@@ -1,27 +1,30 @@
-use Rattle.std.proofs.Common.{◌≡◌, ℕ, ◌+◌, ◌<◌, List, length, sym, ap, subst, ◌∙◌, arith}
+use Rattle.std.proofs.Common.{◌≡◌, ℕ, ◌+◌, ◌<◌, List, length, get_or, refl, sym, ap, subst, ◌∙◌, arith}
 use Rattle.std.proofs.lemmas.List.{get_or_default}
 use Rattle.exchange.specs.Ends.{WorkerView}
 use Rattle.session_book.specs.declared.limits.TheConstants.{MAX_POSTS}
 use Rattle.session_book.specs.declared.causes.EndCause.{EndCause}
-use Rattle.worker.proofs.AskSteps.{goes_on_trans}
+use Rattle.worker.proofs.WorkerSteps.{continues_trans}
 use Rattle.worker.proofs.DrainSteps.{EmptiedBelow, emptied_more}
 use Rattle.worker.proofs.run.has_drained.Goals as goal
 
 pub loop-place-preserved : goal.loop-place-preserved
 loop-place-preserved g c =
+    let start : c.worker.inside.state.sessions.items ≡ c.args.worker.now.sessions.items = rw c.worker.view_is refl in
+    let now : c.worker-in-loop-place.inside.state.sessions.items ≡ c.loop-place.worker.sessions.items =
+    rw c.worker-in-loop-place.view_is refl in
     let i = c.loop-place.invariant in let e = c.is_emptied.ensures in let yes = c.if-not-is_emptied.false in
     let still = e.still yes in
     let w = c.loop-place.worker in let new = c.is_emptied.new.worker in let xs = w.sessions.items in
     let x = c.index.result.now in let n = c.loop-place.place in
     let lt : n < length xs = omega (
       arith,
-      ap (length {A = ℕ × EndCause}) i.sessions,
+      ap (length {A = ℕ × EndCause}) (i.sessions ∙ sym start),
       c.len-place-end.ensures,
       c.loop-place-test.true,
     ) in
     let same : new.sessions.items ≡ xs = λ j. (still.sessions j).items in record {
-      goes_on = goes_on_trans g.P.Port.told c.args.worker.now w new i.goes_on e.goes_on;
-      leads = g.met.P.Port.leads_transitive c.args.worker.now.port w.port new.port i.leads e.leads;
+      goes_on = continues_trans g.P.Port.told g.P.Port.leads_to c.args.worker.now w new g.met.P.Port.leads_transitive
+          i.goes_on e.goes_on;
       request = still.request ∙ i.request;
       back = ap (λ (v : WorkerView). length v.back) still.end ∙ i.back
           ∙ sym (ap (λ (v : WorkerView). length v.sent) still.end);
@@ -30,12 +33,14 @@ loop-place-preserved g c =
       sessions = same ∙ i.sessions;
       emptied = subst (λ (ys : List (ℕ × EndCause)). EmptiedBelow new.book ys (n + 1)) (sym same)
           (emptied_more w.book new.book xs n x.0 x.1 i.emptied
-          (λ d. get_or_default xs n d x lt ∙ sym c.index.ensures) still.others (e.emptied yes));
+          (λ d. get_or_default xs n d x lt
+          ∙ subst (λ (ys : List (ℕ × EndCause)). get_or ys n x ≡ x) now (sym c.index.ensures)) still.others (e.emptied yes));
     }
 
 pub returns-clause-drained : goal.returns-clause-drained
 returns-clause-drained g c =
     λ done.
+    let start : c.worker.inside.state.sessions.items ≡ c.args.worker.now.sessions.items = rw c.worker.view_is refl in
     let i = c.loop-place.invariant in record {
       ended = i.ended;
       request = i.request;
@@ -44,7 +49,7 @@ returns-clause-drained g c =
         arith,
         lt,
         ap
-            (length {A = ℕ × EndCause}) i.sessions,
+            (length {A = ℕ × EndCause}) (i.sessions ∙ sym start),
         c.len-place-end.ensures,
         c.loop-place-test.false,
       )) e s q;

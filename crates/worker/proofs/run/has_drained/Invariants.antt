@@ -1,13 +1,12 @@
 use Rattle.std.proofs.Common.{◌≡◌, ◌<◌, length, true, None}
 use Rattle.session_book.specs.declared.limits.TheConstants.{MAX_POSTS}
-use Rattle.worker.specs.Workers.{WorkerGoesOn}
+use Rattle.worker.specs.Workers.{Continues}
 use Rattle.worker.proofs.DrainSteps.{EmptiedBelow}
 use Rattle.worker.proofs.run.has_drained.Given as goal
 
 abbrev pub invariant-loop-place : goal.invariant-loop-place
 invariant-loop-place g l = record {
-  goes_on : WorkerGoesOn g.P.Port.told l.fn.worker l.worker;
-  leads : g.P.Port.leads_to l.fn.worker.port l.worker.port;
+  goes_on : Continues g.P.Port.told g.P.Port.leads_to l.fn.worker l.worker;
   request : l.worker.request ≡ None;
   back : length l.worker.worker_end.back ≡ length l.worker.worker_end.sent;
   few : length l.worker.worker_end.sent < MAX_POSTS;

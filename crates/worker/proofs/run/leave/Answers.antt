@@ -4,7 +4,7 @@ use Rattle.proto.specs.History.{asked_posted}
 use Rattle.exchange.specs.Ends.{WorkerView}
 use Rattle.session_book.specs.declared.causes.EndCause.TheVariants.{Drained}
 use Rattle.session_book.specs.Book.{session_of}
-use Rattle.worker.specs.Workers.{IsStoryKnown, run_view}
+use Rattle.worker.specs.Workers.{IsStoryKnown, IsDrained, run_view}
 use Rattle.worker.proofs.DrainSteps.{sent_posted}
 use Rattle.worker.proofs.ReportSteps.{reported, place_of_cause}
 use Rattle.worker.proofs.run.leave.Goals as goal
@@ -12,7 +12,8 @@ use Rattle.worker.proofs.run.leave.Goals as goal
 pub returns-clause-reported : goal.returns-clause-reported
 returns-clause-reported g c =
     λ story e.
-    let w = c.args.worker in let k = c.requires.serving in let d = c.requires.drained in
+    let w = c.worker.inside.state in let k = c.worker.invariant in
+    let d = subst (λ v. IsDrained v) (sym c.worker.view_is) c.requires in
     let bye : c.bye.new.self ≡ record w.worker_end { said_bye = true } = c.bye.ensures
     ∙ ap (λ (e : WorkerView). record e { said_bye = true }) c.into_end-worker_end.ensures in
     let v = run_view story w in

@@ -1,8 +1,5 @@
-use Rattle.worker.specs.Workers.{WorkerGoesOn}
+use Rattle.worker.specs.Workers.{Continues}
 use Rattle.worker.proofs.run.settle_answers.Given as goal
 
 abbrev pub invariant-loop : goal.invariant-loop
-invariant-loop g l = record {
-  goes_on : WorkerGoesOn g.P.Port.told l.fn.worker l.worker;
-  leads : g.P.Port.leads_to l.fn.worker.port l.worker.port;
-}
+invariant-loop g l = Continues g.P.Port.told g.P.Port.leads_to l.fn.worker l.worker

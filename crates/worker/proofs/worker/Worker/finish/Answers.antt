@@ -1,13 +1,20 @@
-use Rattle.std.proofs.Common.{sym, ◌∙◌}
+use Rattle.std.proofs.Common.{sym, ap, ◌∙◌}
+use Rattle.session_book.specs.Book.{session_of}
+use Rattle.worker.proofs.WorkerSteps.{continues}
 use Rattle.worker.proofs.PortSteps.{finished_open, finish_goes_on}
 use Rattle.worker.proofs.worker.Worker.finish.Goals as goal
 
-pub returns-in-Some-clause-goes_on : goal.returns-in-Some-clause-goes_on
-returns-in-Some-clause-goes_on g c =
-    finish_goes_on g.P.Port.told c.args.self.now c.shut.new.self c.args.session c.in-Some.cause c.shut.ensures.shuts
-    c.requires.serving
-    (sym c.requires.is ∙ c.in-Some.is)
-
 pub shut-requires : goal.shut-requires
-shut-requires g c = finished_open g.P.Port.told c.args.self.now c.args.session c.in-Some.cause c.requires.serving
-    (sym c.requires.is ∙ c.in-Some.is)
+shut-requires g c = finished_open g.P.Port.told c.self.inside.state c.args.session c.in-Some.cause c.self.invariant
+    (rw c.self.view_is (sym c.requires ∙ c.in-Some.is))
+
+pub invariant_of-self : goal.invariant_of-self
+invariant_of-self g c = (finish_goes_on g.P.Port.told c.self.inside.state c.shut.new.self c.args.session c.in-Some.cause
+    c.shut.ensures.shuts c.self.invariant (rw c.self.view_is (sym c.requires ∙ c.in-Some.is))).serving
+
+pub returns-in-Some : goal.returns-in-Some
+returns-in-Some g c =
+    continues g.P.Port.told g.P.Port.leads_to c.self.inside.state c.args.self.now _ c.self.view_is
+    c.shut.ensures.leads
+    (finish_goes_on g.P.Port.told c.self.inside.state c.shut.new.self c.args.session c.in-Some.cause
+    c.shut.ensures.shuts c.self.invariant (rw c.self.view_is (sym c.requires ∙ c.in-Some.is)))

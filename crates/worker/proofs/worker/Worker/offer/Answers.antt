@@ -7,20 +7,19 @@ use Rattle.worker.specs.Places.{piece_of}
 use Rattle.worker.specs.Workers.{run_view}
 use Rattle.worker.proofs.StoryLaws.{paused_kept, paused_given}
 use Rattle.worker.proofs.PieceLaws.{pieces_kept, gave_piece}
-use Rattle.worker.proofs.WorkerSteps.{open_at}
+use Rattle.worker.proofs.WorkerSteps.{continues, open_at}
 use Rattle.worker.proofs.OutputSteps.{told_gave, lost_goes_on, within_goes_on, offered_is}
 use Rattle.worker.proofs.worker.Worker.offer.Goals as goal
 
 pub give-requires : goal.give-requires
 give-requires g c =
-    let w = c.args.self.now in
+    let w = c.self.inside.state in
     let s = offered_is (session_of w.book c.args.session)
     c.offer-offer.result.out.now c.offer-offer.ensures.out (sym c.is_empty.ensures ∙ c.if-is_empty.false) in
-    open_at g.P.Port.told w c.args.session s.0 c.requires s.1
+    open_at g.P.Port.told w c.args.session s.0 c.self.invariant s.1
 
-pub returns-in-Ok-clause-goes_on : goal.returns-in-Ok-clause-goes_on
-returns-in-Ok-clause-goes_on g c =
-    let w = c.args.self.now in let t = c.args.session in let out = c.offer-offer.result.out.now in
+pub invariant_of-self : goal.invariant_of-self
+invariant_of-self g c = let w = c.self.inside.state in let t = c.args.session in (let out = c.offer-offer.result.out.now in
     let n = c.in-Ok.accepted in
     let new = record w { port = c.give.new.self; book = c.gave.new.self } in
     let f = then_told (give_records t out (Ok n)) in let k = c.gave.ensures.gave in
@@ -32,20 +31,53 @@ returns-in-Ok-clause-goes_on g c =
     within_goes_on g.P.Port.told w new f
     (record { end = refl; request = refl; sessions = refl; unopened = refl; strangers = refl; ended = refl })
     c.in-Ok.ensures.told
-    (ap (λ (b : BookState). b.posted) k.rest) (ap (λ (b : BookState). b.unsettled) k.rest) c.requires
+    (ap (λ (b : BookState). b.posted) k.rest) (ap (λ (b : BookState). b.unsettled) k.rest) c.self.invariant
     (λ story was_so. (
       told_gave (run_view story w) (run_view (f story) new) w.unopened w.ended t n s.0 was_so.0 s.1
           (ap (λ (b : List ℕ). story.events ++ give_records t b (Ok n)) s.2) refl refl refl k.only_at
           (λ i q. pieces q i),
       paused_kept story (f story) (piece_of w.book) (piece_of new.book) pieces
           (λ q. paused_given story t n out q) was_so.1,
-    ))
+    ))).serving
 
-pub returns-in-Err-clause-goes_on : goal.returns-in-Err-clause-goes_on
-returns-in-Err-clause-goes_on g c =
-    let w = c.args.self.now in
-    let s = offered_is (session_of w.book c.args.session)
+pub returns-in-Ok-clause-goes_on : goal.returns-in-Ok-clause-goes_on
+returns-in-Ok-clause-goes_on g c = let w = c.self.inside.state in let t = c.args.session in
+    continues g.P.Port.told g.P.Port.leads_to c.self.inside.state c.args.self.now _ c.self.view_is
+    c.in-Ok.ensures.leads
+    (let out = c.offer-offer.result.out.now in
+    let n = c.in-Ok.accepted in
+    let new = record w { port = c.give.new.self; book = c.gave.new.self } in
+    let f = then_told (give_records t out (Ok n)) in let k = c.gave.ensures.gave in
+    let s = offered_is (session_of w.book t) out c.offer-offer.ensures.out
+    (sym c.is_empty.ensures ∙ c.if-is_empty.false) in
+    let pieces = pieces_kept w.book c.gave.new.self t
+    (option_map (λ (x : SessionState). gave x n) (session_of w.book t)) k.only_at
+    (gave_piece (session_of w.book t) n) in
+    within_goes_on g.P.Port.told w new f
+    (record { end = refl; request = refl; sessions = refl; unopened = refl; strangers = refl; ended = refl })
+    c.in-Ok.ensures.told
+    (ap (λ (b : BookState). b.posted) k.rest) (ap (λ (b : BookState). b.unsettled) k.rest) c.self.invariant
+    (λ story was_so. (
+      told_gave (run_view story w) (run_view (f story) new) w.unopened w.ended t n s.0 was_so.0 s.1
+          (ap (λ (b : List ℕ). story.events ++ give_records t b (Ok n)) s.2) refl refl refl k.only_at
+          (λ i q. pieces q i),
+      paused_kept story (f story) (piece_of w.book) (piece_of new.book) pieces
+          (λ q. paused_given story t n out q) was_so.1,
+    )))
+
+pub invariant_of-self-in-Err : goal.invariant_of-self-in-Err
+invariant_of-self-in-Err g c = let w = c.self.inside.state in (let s = offered_is (session_of w.book c.args.session)
     c.offer-offer.result.out.now c.offer-offer.ensures.out (sym c.is_empty.ensures ∙ c.if-is_empty.false) in
     lost_goes_on g.P.Port.told w c.close.new.self c.give.new.self c.args.session s.0 s.1 c.in-Err.ensures.told
-    c.requires
-    c.close.ensures.port c.close.ensures.closes
+    c.self.invariant
+    c.close.ensures.port c.close.ensures.closes).serving
+
+pub returns-in-Err-clause-goes_on : goal.returns-in-Err-clause-goes_on
+returns-in-Err-clause-goes_on g c = let w = c.self.inside.state in
+    continues g.P.Port.told g.P.Port.leads_to c.self.inside.state c.args.self.now _ c.self.view_is
+    (g.met.P.Port.leads_transitive _ _ _ c.in-Err.ensures.leads c.close.ensures.leads)
+    (let s = offered_is (session_of w.book c.args.session)
+    c.offer-offer.result.out.now c.offer-offer.ensures.out (sym c.is_empty.ensures ∙ c.if-is_empty.false) in
+    lost_goes_on g.P.Port.told w c.close.new.self c.give.new.self c.args.session s.0 s.1 c.in-Err.ensures.told
+    c.self.invariant
+    c.close.ensures.port c.close.ensures.closes)

@@ -1,0 +1,108 @@
+//! What a worker holds while it runs, and the parts of its steps.
+
+ghost use Rattle.std.specs.Prelude.{◌≡◌, ◌⊎◌, Some, None, IsSome, []};
+ghost use Rattle.session_book.specs.Book.{session_of};
+ghost use Rattle.worker.specs.Places.{piece_of};
+ghost use Rattle.worker.specs.Ports.{PortStory, IsOpenIn};
+ghost use Rattle.worker.specs.Workers.{Closes, Shuts, Admits, Refuses, SameRest, HandlesData};
+
+use crate::batched_end::BatchedEnd;
+use crate::places::set_cause;
+use crate::port::Port;
+use crate::rooms::Rooms;
+use bytes::Bytes;
+use proto::Posted;
+use session_book::{Book, EndCause, Received};
+
+/// What a worker holds. While it takes a step, these parts needn't agree.
+#[derive(Drop)]
+pub(crate) struct WorkerState<P> {
+    pub(crate) port: P,
+    pub(crate) worker_end: BatchedEnd,
+    pub(crate) book: Book,
+    /// A request that has its number and isn't posted yet.
+    pub(crate) request: Option<Posted>,
+    pub(crate) sessions: Vec<(u64, EndCause)>,
+    pub(crate) unopened: u64,
+    pub(crate) strangers: u64,
+    /// The port has ended.
+    pub(crate) ended: bool,
+    pub(crate) rooms: Rooms,
+}
+
+impl<P: Port> WorkerState<P> {
+    // Takes a session out of the book, and writes why it ended.
+    pub(crate) fn close(&mut self, session: u64, cause: EndCause)
+        ensures port { self.new.port ≡ self.old.port }
+        ensures leads { P.leads_to self.old.port self.new.port }
+        ensures closes { Closes self.old self.new session cause }
+    {
+        self.book.close(session);
+        set_cause(&mut self.sessions, session, cause);
+    }
+
+    pub(crate) fn shut(&mut self, session: u64, cause: EndCause)
+        requires { IsOpenIn session (P.told self.old.port) }
+        ensures shuts { Shuts P.told self.old self.new session cause }
+        ensures leads { P.leads_to self.old.port self.new.port }
+    {
+        self.port.shut(session);
+        self.close(session, cause);
+    }
+
+    // Shuts a session that was just opened, as there is no room for it.
+    fn refuse(&mut self, newcomer: u64)
+        requires { IsOpenIn newcomer (P.told self.old.port) }
+        ensures leads { P.leads_to self.old.port self.new.port }
+        ensures rest { SameRest self.old self.new }
+        ensures refuses { Refuses P.told self.old self.new newcomer }
+    {
+        self.port.shut(newcomer);
+        self.unopened = self.unopened.saturating_add(1);
+    }
+
+    // Takes a session's place in the report and opens it in the book.
+    pub(crate) fn admit(&mut self, session: u64)
+        requires { IsOpenIn session (P.told self.old.port) }
+        ensures leads { P.leads_to self.old.port self.new.port }
+        ensures rest { SameRest self.old self.new }
+        ensures admits { Admits P.told self.old self.new session ⊎ Refuses P.told self.old self.new session }
+    {
+        if self.sessions.push((session, EndCause::Drained)).is_err() {
+            self.refuse(session);
+            return;
+        }
+        if self.book.open(session).is_err() {
+            self.sessions.pop();
+            self.refuse(session);
+        }
+    }
+
+    // Feeds a piece of input that came, or holds it until it fits, and then pauses its session. Input of a session that
+    // isn't open is dropped. At a port that tells, a session of which bytes are held is paused and has no data.
+    pub(crate) fn receive(&mut self, session: u64, bytes: Bytes)
+        requires open { IsOpenIn session (P.told self.old.port) }
+        requires resumed { (story : PortStory) → P.told self.old.port ≡ Some story → piece_of self.old.book session ≡ [] }
+        ensures receives { HandlesData P.told self.old session bytes self.new }
+        ensures leads { P.leads_to self.old.port self.new.port }
+        ensures drops { session_of self.old.book session ≡ None → self.new ≡ self.old }
+    {
+        match self.book.receive(session, bytes) {
+            Received::Fed | Received::Unknown => {}
+            Received::Held => self.port.pause(session),
+            Received::Refused => self.shut(session, EndCause::NoMemory),
+        }
+    }
+
+    // The session's peer has gone. A session that isn't open keeps the cause that it has.
+    pub(crate) fn lose(&mut self, session: u64)
+        ensures port { self.new.port ≡ self.old.port }
+        ensures leads { P.leads_to self.old.port self.new.port }
+        ensures loses { IsSome (session_of self.old.book session) → Closes self.old self.new session EndCause.Gone }
+        ensures drops { session_of self.old.book session ≡ None → self.new ≡ self.old }
+    {
+        if self.book.is_open(session) {
+            self.close(session, EndCause::Gone);
+        }
+    }
+}

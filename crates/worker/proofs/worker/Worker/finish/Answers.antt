@@ -1,5 +1,4 @@
-use Rattle.std.proofs.Common.{sym, ap, ◌∙◌}
-use Rattle.session_book.specs.Book.{session_of}
+use Rattle.std.proofs.Common.{sym, ◌∙◌}
 use Rattle.worker.proofs.WorkerSteps.{continues}
 use Rattle.worker.proofs.PortSteps.{finished_open, finish_goes_on}
 use Rattle.worker.proofs.worker.Worker.finish.Goals as goal

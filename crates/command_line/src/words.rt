@@ -135,7 +135,9 @@ fn with_workers<'a>(
     default: &'a str,
 ) -> Result<Command<'a>, AllocError> {
     let help = "Number of worker threads, 1 to 8";
-    command.arg(ranged(alloc, "workers", "COUNT", help, 1, MAX_WORKERS as i64).default_value(default))
+    command.arg(ranged(alloc, "workers", "COUNT", help, 1, MAX_WORKERS as i64).default_value(
+        default,
+    ))
 }
 
 /// The sizes of the segments; both jobs have them.
@@ -144,8 +146,24 @@ fn with_segments<'a>(alloc: Global, command: Command<'a>) -> Result<Command<'a>,
     let count =
         "Number of segments, 8 to 65536. Where no request sets a life, all is sure to stay while what was written takes no more than 7/8 of all segments but one";
     command
-        .arg(ranged(alloc, "segment-size", "BYTES", size, MIN_SEGMENT_SIZE as i64, MAX_SEGMENT_SIZE as i64).default_value("65536"))?
-        .arg(ranged(alloc, "segments", "COUNT", count, MIN_SEGMENTS as i64, MAX_SEGMENTS as i64).default_value("64"))
+        .arg(ranged(
+            alloc,
+            "segment-size",
+            "BYTES",
+            size,
+            MIN_SEGMENT_SIZE as i64,
+            MAX_SEGMENT_SIZE as i64,
+        )
+        .default_value("65536"))?
+        .arg(ranged(
+            alloc,
+            "segments",
+            "COUNT",
+            count,
+            MIN_SEGMENTS as i64,
+            MAX_SEGMENTS as i64,
+        )
+        .default_value("64"))
 }
 
 /// The clock of a replay.
@@ -245,8 +263,20 @@ fn replay_options(alloc: Global, matches: &ArgMatches<'_>) -> Result<Options, Wo
 {
     Ok(Options {
         workers: number_in(alloc, matches, "workers", 1, MAX_WORKERS as u64)?,
-        segment_size: number_in(alloc, matches, "segment-size", MIN_SEGMENT_SIZE as u64, MAX_SEGMENT_SIZE as u64)?,
-        segments: number_in(alloc, matches, "segments", MIN_SEGMENTS as u64, MAX_SEGMENTS as u64)?,
+        segment_size: number_in(
+            alloc,
+            matches,
+            "segment-size",
+            MIN_SEGMENT_SIZE as u64,
+            MAX_SEGMENT_SIZE as u64,
+        )?,
+        segments: number_in(
+            alloc,
+            matches,
+            "segments",
+            MIN_SEGMENTS as u64,
+            MAX_SEGMENTS as u64,
+        )?,
         now: number(matches, "now"),
         tick: number(matches, "tick"),
         accept: number_in(alloc, matches, "accept", 0, MAX_ACCEPTED)?,
@@ -261,8 +291,20 @@ fn serve_options(alloc: Global, matches: &ArgMatches<'_>) -> Result<ServeOptions
     Ok(ServeOptions {
         workers: number_in(alloc, matches, "workers", 1, MAX_WORKERS as u64)?,
         sessions: matches.get_one::<u64>("sessions"),
-        segment_size: number_in(alloc, matches, "segment-size", MIN_SEGMENT_SIZE as u64, MAX_SEGMENT_SIZE as u64)?,
-        segments: number_in(alloc, matches, "segments", MIN_SEGMENTS as u64, MAX_SEGMENTS as u64)?,
+        segment_size: number_in(
+            alloc,
+            matches,
+            "segment-size",
+            MIN_SEGMENT_SIZE as u64,
+            MAX_SEGMENT_SIZE as u64,
+        )?,
+        segments: number_in(
+            alloc,
+            matches,
+            "segments",
+            MIN_SEGMENTS as u64,
+            MAX_SEGMENTS as u64,
+        )?,
         listen: String::from_str(alloc, matches.get_str("listen").unwrap_or(""))?,
     })
 }

@@ -53,7 +53,9 @@ pub(crate) fn send_put(lane_table: &LaneTable, seat: &mut LaneSeat, worker: usiz
     ensures table { SameSeat seat.old seat.new }
     ensures sent { seat.new.me ≡ (Worker (all_sent (worker_at seat.old.me)), []) }
 {
-    lane_table.shared.store::<Posts>(seat, LANE * worker, number);
+    lane_table
+        .shared
+        .store::<Posts>(seat, LANE * worker, number);
 }
 
 /// Puts the Bye into its slot, and stores posted.
@@ -86,7 +88,9 @@ pub(crate) fn take_answer(
     ensures seat { seat.new.me ≡ (Worker (worker_at seat.new.me), []) }
     ensures taken { StateTakes (worker_at seat.old.me) result.0 result.1 (worker_at seat.new.me) }
 {
-    let done = lane_table.shared.load::<LoadsDone>(seat, LANE * worker + DONE);
+    let done = lane_table
+        .shared
+        .load::<LoadsDone>(seat, LANE * worker + DONE);
     if done <= back || sent <= back {
         return (done, None);
     }
@@ -155,7 +159,9 @@ pub(crate) fn take_seen_message(
       (lane_slot lane (settled (storage_at seat.old.me) lane), None) ∷ [],
     ) }
 {
-    lane_table.shared.load::<OpensSeen>(seat, LANE * lane + DONE);
+    lane_table
+        .shared
+        .load::<OpensSeen>(seat, LANE * lane + DONE);
     take_out_message(lane_table, seat, lane, count)
 }
 

@@ -24,7 +24,11 @@ pub fn wait_for_start<'a, R: Wait>(rt: &R, start: &'a OnceLock<bool>) -> OnceTok
 }
 
 /// Says to all threads whether to begin, and gives what they were told.
-pub fn announce_start<'a, R: Wait>(rt: &R, start: &'a OnceLock<bool>, begin: bool) -> OnceToken<'a, bool>
+pub fn announce_start<'a, R: Wait>(
+    rt: &R,
+    start: &'a OnceLock<bool>,
+    begin: bool,
+) -> OnceToken<'a, bool>
     ensures { result.of ≡ start.now.id }
 {
     match start.set(rt, begin) {

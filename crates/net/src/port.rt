@@ -5,7 +5,7 @@ ghost use Rattle.net.specs.Events.{IsNew, IsNextEvent, KeepsSessions, EndsSessio
 
 use crate::ceasing::CeasingSessions;
 use crate::fault::NetFault;
-use crate::hand::{WAKER, Hand};
+use crate::hand::{Hand, WAKER};
 use crate::streams::{Reading, Streams};
 use exchange::SpinPolicy;
 use mio::{Events, Poll};

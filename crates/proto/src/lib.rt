@@ -41,7 +41,7 @@ pub use message_view::{MessageView, RequestView};
 pub use next::{next_message, to_message};
 pub use no_memory::NoMemory;
 pub use parse::number;
-pub use spare_buffer::SpareBuffer;
 pub use showing::{show, show_reply, shows_cas};
+pub use spare_buffer::SpareBuffer;
 pub use view::{NextView, next_view};
 pub use words::Words;

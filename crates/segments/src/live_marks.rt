@@ -46,7 +46,11 @@ impl LiveMarks {
     {
         Ok(LiveMarks {
             geometry,
-            rows: empty_rows(alloc, geometry.segments(), geometry.segment_size() / MIN_ITEM_SIZE)?,
+            rows: empty_rows(
+                alloc,
+                geometry.segments(),
+                geometry.segment_size() / MIN_ITEM_SIZE,
+            )?,
         })
     }
 

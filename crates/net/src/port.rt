@@ -24,8 +24,8 @@ const LONG_ROW: u32 = 64;
 
 const SHORT_ROW: u32 = 1;
 
-/// While the worker may not wait, the sockets are looked at only at each so many idle calls: a lone request is mostly
-/// answered before the first of these looks.
+/// While the worker may not wait, the sockets are looked at only at the last of each so many idle calls, so that a lone
+/// request may be answered before the first of these looks.
 const CALLS_EACH_POLL: u32 = 4;
 
 /// So many idle calls in a row are taken not to end: the worker has output for peers that take none. From then on each

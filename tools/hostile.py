@@ -515,8 +515,8 @@ def large_use(is_long):
 
         together(server, 60, fill)
         resident = server.kilobytes("VmRSS")
-        # (a quarter of the segments for the index, a 32nd for the marks, and 64 MiB for the rest)
-        most = segments * 1024 * 1.3 + 65536
+        # (a 32nd of the segments for the marks, at most three slots of 4 bytes an item for the index, and 32 MiB for merges, workers and program)
+        most = segments * 1024 * (1 + 1 / 32 + 12 / size) + 32768
         if resident > most:
             raise Trouble(f"{resident} kB of memory, and at most {most:.0f} were said")
         return f"{8 * writes} values of {size} bytes into {segments} MiB, {sum(found)} old ones found and right, {resident // 1024} MiB of memory"

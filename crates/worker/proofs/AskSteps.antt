@@ -18,7 +18,7 @@ use Rattle.session_book.specs.Book.{BookState, session_of, NextAsk, held_of, Giv
 use Rattle.worker.specs.Ports.{PortStory}
 use Rattle.worker.specs.declared.state.WorkerState.{WorkerState}
 use Rattle.worker.specs.Sessions.{port_facts, RunView, facts, asked_by, AreFactsConsistent}
-use Rattle.worker.specs.Places.{piece_of}
+use Rattle.worker.specs.EndCauses.{piece_of}
 use Rattle.worker.specs.Workers.{posted_by, unsettled_post, IsNumbered, IsSteady, IsStoryKnown, run_view, IsWorkerServing}
 use Rattle.worker.proofs.Facts.{asked_here, asked_elsewhere}
 use Rattle.worker.proofs.SessionSteps.{not_both, runs, is_running, served_read}

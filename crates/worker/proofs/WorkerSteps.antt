@@ -15,10 +15,10 @@ use Rattle.worker.specs.declared.state.WorkerState.{WorkerState}
 use Rattle.worker.specs.Ports.{PortStory, then_told, IsOpenIn, is_open, was_opened, has_gone, was_shut, has_ended, opened_count, IsProper, AcceptsOnlyOpen}
 use Rattle.worker.specs.Sessions.{PortFacts, port_facts, SessionFacts, RunView, facts, asked_by, had_by, cause_of, AreFactsConsistent, IsSessionServed}
 use Rattle.worker.specs.Sessions.{IsClosed}
-use Rattle.worker.specs.Places.{Rises, piece_of}
+use Rattle.worker.specs.EndCauses.{Rises, piece_of}
 use Rattle.worker.specs.Workers.{posted_by, IsSteady, AreSessionsCounted, IsStoryKnown, run_view, ArePaused, IsWorkerServing, IsSameEnd, Continues, Closes}
 use Rattle.worker.specs.Workers.{Shuts}
-use Rattle.worker.proofs.PlaceLemmas.{rises_with, length-with}
+use Rattle.worker.proofs.EndCauseLemmas.{rises_with, length-with}
 use Rattle.worker.proofs.Facts.{about, elsewhere, fed_here}
 use Rattle.worker.proofs.SessionSteps.{Runs, runs, runs_at_port, is_running, closed_gone, closed_no_memory, closed_finished, served_came, served_fed}
 use Rattle.worker.proofs.SessionSteps.{served_holding}

@@ -20,7 +20,7 @@ use Rattle.worker.specs.declared.port.PortRecord.TheVariants as was
 use Rattle.worker.specs.declared.state.WorkerState.{WorkerState}
 use Rattle.worker.specs.Ports.{PortStory, then_told, with_pause, has_ended, opened_count, AcceptsOnlyOpen}
 use Rattle.worker.specs.Sessions.{RunView, facts, AreFactsConsistent}
-use Rattle.worker.specs.Places.{Rises, with_cause, piece_of}
+use Rattle.worker.specs.EndCauses.{Rises, with_cause, piece_of}
 
 -- the requests that were sent, and the one that is held
 abbrev pub posted_by : WorkerView → Option Posted → List Posted
@@ -106,7 +106,7 @@ pub record Continues {P : Type 0} (told : P → Option PortStory) (leads_to : P 
   pub same_end : IsSameEnd old.worker_end new.worker_end
 
 -- Of a worker only the port and what it knows of this session change: it is no longer in the book, with its held piece,
--- and the cause stands at its place.
+-- and the cause stands at its entry in the report.
 pub record Closes {P : Type 0} (old new : WorkerState P) (session : ℕ) (cause : EndCause) : Type 0 where
   pub end : new.worker_end ≡ old.worker_end
   pub request : new.request ≡ old.request
@@ -122,7 +122,7 @@ pub record Shuts {P : Type 0} (told : P → Option PortStory) (old new : WorkerS
   pub port : told new.port ≡ option_map (then_told (was.Shut session ∷ [])) (told old.port)
   pub closes : Closes old new session cause
 
--- A session was just opened: it has a place in the report and is in the book; or it is shut and counted.
+-- A session was just opened: it has an entry in the report and is in the book; or it is shut and counted.
 pub record Admits {P : Type 0} (told : P → Option PortStory) (old new : WorkerState P) (session : ℕ) : Type 0 where
   pub port : new.port ≡ old.port
   pub sessions : new.sessions.items ≡ old.sessions.items ++ (session, causes.Drained) ∷ []

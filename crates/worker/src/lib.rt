@@ -2,13 +2,13 @@
 #![tactic(auto)]
 
 mod batched_end;
+mod end_causes;
 mod gate;
 mod hold_gate;
 mod open_gate;
-mod places;
 mod port;
+mod reply_buffers;
 mod report;
-mod rooms;
 mod run;
 mod state;
 mod worker;

@@ -178,8 +178,8 @@ fn has_drained<P: Port>(worker: &mut Worker<P>) -> bool
     if !worker.state.book.is_idle() || worker.state.worker_end.posted() >= MAX_POSTS {
         return false;
     }
-    for place in 0..worker.state.sessions.len() {
-        let (session, cause) = worker.state.sessions[place];
+    for position in 0..worker.state.sessions.len() {
+        let (session, cause) = worker.state.sessions[position];
         if !is_emptied(worker, session, cause) {
             return false;
         }
@@ -263,7 +263,7 @@ fn leave<P: Port>(worker: Worker<P>, storage: &StorageSignals) -> WorkerReport<P
         unopened,
         strangers,
         ended: _,
-        rooms: _,
+        reply_buffers: _,
     } = state;
     let mut worker_end = worker_end.into_end();
     worker_end.bye();

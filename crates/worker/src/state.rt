@@ -2,14 +2,14 @@
 
 ghost use Rattle.std.specs.Prelude.{◌≡◌, ◌⊎◌, Some, None, IsSome, []};
 ghost use Rattle.session_book.specs.Book.{session_of};
-ghost use Rattle.worker.specs.Places.{piece_of};
+ghost use Rattle.worker.specs.EndCauses.{piece_of};
 ghost use Rattle.worker.specs.Ports.{PortStory, IsOpenIn};
 ghost use Rattle.worker.specs.Workers.{Closes, Shuts, Admits, Refuses, SameRest, HandlesData};
 
 use crate::batched_end::BatchedEnd;
-use crate::places::set_cause;
+use crate::end_causes::set_cause;
 use crate::port::Port;
-use crate::rooms::Rooms;
+use crate::reply_buffers::ReplyBuffers;
 use bytes::Bytes;
 use proto::Posted;
 use session_book::{Book, EndCause, Received};
@@ -27,7 +27,7 @@ pub(crate) struct WorkerState<P> {
     pub(crate) strangers: u64,
     /// The port has ended.
     pub(crate) ended: bool,
-    pub(crate) rooms: Rooms,
+    pub(crate) reply_buffers: ReplyBuffers,
 }
 
 impl<P: Port> WorkerState<P> {
@@ -61,7 +61,7 @@ impl<P: Port> WorkerState<P> {
         self.unopened = self.unopened.saturating_add(1);
     }
 
-    // Takes a session's place in the report and opens it in the book.
+    // Writes a session's entry in the report and opens it in the book.
     pub(crate) fn admit(&mut self, session: u64)
         requires { IsOpenIn session (P.told self.old.port) }
         ensures leads { P.leads_to self.old.port self.new.port }

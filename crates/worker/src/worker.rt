@@ -10,7 +10,7 @@ ghost use Rattle.std.specs.Option.{option_and_then};
 use crate::batched_end::BatchedEnd;
 use crate::gate::Gate;
 use crate::port::{Gone, Port, PortEvent};
-use crate::rooms::Rooms;
+use crate::reply_buffers::ReplyBuffers;
 use crate::state::WorkerState;
 use exchange::{StorageSignals, WorkerEnd};
 use proto::Posted;
@@ -55,7 +55,7 @@ impl<P: Port> Worker<P> {
                 unopened: 0,
                 strangers: 0,
                 ended: false,
-                rooms: Rooms::new(alloc),
+                reply_buffers: ReplyBuffers::new(alloc),
             },
         }
     }
@@ -110,7 +110,7 @@ impl<P: Port> Worker<P> {
     {
         match self.state.book.next_ask(session) {
             Ok(Some((mut request, number))) => {
-                self.state.rooms.lend(&mut request);
+                self.state.reply_buffers.lend(&mut request);
                 self.state.request = Some(Posted {
                     session,
                     number,
@@ -196,7 +196,7 @@ impl<P: Port> Worker<P> {
         let session = answered.session;
         gate.answered(self.state.worker_end.worker(), answered.number);
         let settled = self.state.book.settle(&answered);
-        self.state.rooms.keep(answered);
+        self.state.reply_buffers.keep(answered);
         match settled {
             Settled::Kept => {}
             Settled::Dropped => {}

@@ -6,7 +6,7 @@ use Rattle.session_book.specs.declared.causes.EndCause.TheVariants.{Drained}
 use Rattle.session_book.specs.Book.{session_of}
 use Rattle.worker.specs.Workers.{IsStoryKnown, IsDrained, run_view}
 use Rattle.worker.proofs.DrainSteps.{sent_posted}
-use Rattle.worker.proofs.ReportSteps.{reported, place_of_cause}
+use Rattle.worker.proofs.ReportSteps.{reported, position_of_cause}
 use Rattle.worker.proofs.run.leave.Goals as goal
 
 pub returns-clause-reported : goal.returns-clause-reported
@@ -23,5 +23,5 @@ returns-clause-reported g c =
     (sent_posted w.worker_end w.request d.request ∙ sym (ap (λ (e : WorkerView). e.sent) bye))
     (sym (ap (λ (e : WorkerView). e.back) bye))
     (ap (λ (e : WorkerView). asked_posted e.back) bye ∙ all ∙ sym (ap (λ (e : WorkerView). e.sent) bye)) (λ s. refl)
-    (λ s cause st q. let p = place_of_cause w.sessions.items s Drained cause in let at = p.2 (0, Drained) in
+    (λ s cause st q. let p = position_of_cause w.sessions.items s Drained cause in let at = p.2 (0, Drained) in
     d.emptied p.0 (0, Drained) p.1 at.1 st (ap (session_of w.book) at.0 ∙ q))

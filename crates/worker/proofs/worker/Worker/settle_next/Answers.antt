@@ -11,7 +11,8 @@ some_of None h = absurd (true≢false (sym h))
 some_of (Some s) h = (s, refl)
 
 pub invariant_of-self-in-Kept : goal.invariant_of-self-in-Kept
-invariant_of-self-in-Kept g c = let w = c.self.inside.state in let a = c.in-Some.answered in (kept_goes_on g.P.Port.told w (record w { worker_end = c.take.new.self; book = c.settle-settled.new.self; rooms = c.keep.new.self }) a
+invariant_of-self-in-Kept g c = let w = c.self.inside.state in let a = c.in-Some.answered in
+    (kept_goes_on g.P.Port.told w (record w { worker_end = c.take.new.self; book = c.settle-settled.new.self; reply_buffers = c.keep.new.self }) a
     (record { port = refl; request = refl; sessions = refl; unopened = refl; strangers = refl; ended = refl })
     c.in-Some.ensures c.self.invariant c.in-Kept.ensures).serving
 
@@ -19,12 +20,13 @@ pub returns-in-Kept : goal.returns-in-Kept
 returns-in-Kept g c = let w = c.self.inside.state in let a = c.in-Some.answered in
     continues g.P.Port.told g.P.Port.leads_to c.self.inside.state c.args.self.now _ c.self.view_is
     (g.met.P.Port.leads_reflexive _)
-    (kept_goes_on g.P.Port.told w (record w { worker_end = c.take.new.self; book = c.settle-settled.new.self; rooms = c.keep.new.self }) a
+    (kept_goes_on g.P.Port.told w (record w { worker_end = c.take.new.self; book = c.settle-settled.new.self; reply_buffers = c.keep.new.self }) a
     (record { port = refl; request = refl; sessions = refl; unopened = refl; strangers = refl; ended = refl })
     c.in-Some.ensures c.self.invariant c.in-Kept.ensures)
 
 pub invariant_of-self-in-Dropped : goal.invariant_of-self-in-Dropped
-invariant_of-self-in-Dropped g c = let w = c.self.inside.state in let a = c.in-Some.answered in (dropped_goes_on g.P.Port.told w (record w { worker_end = c.take.new.self; book = c.settle-settled.new.self; rooms = c.keep.new.self }) a
+invariant_of-self-in-Dropped g c = let w = c.self.inside.state in let a = c.in-Some.answered in
+    (dropped_goes_on g.P.Port.told w (record w { worker_end = c.take.new.self; book = c.settle-settled.new.self; reply_buffers = c.keep.new.self }) a
     (record { port = refl; request = refl; sessions = refl; unopened = refl; strangers = refl; ended = refl })
     c.in-Some.ensures c.self.invariant c.in-Dropped.ensures.0 c.in-Dropped.ensures.1).serving
 
@@ -32,13 +34,15 @@ pub returns-in-Dropped : goal.returns-in-Dropped
 returns-in-Dropped g c = let w = c.self.inside.state in let a = c.in-Some.answered in
     continues g.P.Port.told g.P.Port.leads_to c.self.inside.state c.args.self.now _ c.self.view_is
     (g.met.P.Port.leads_reflexive _)
-    (dropped_goes_on g.P.Port.told w (record w { worker_end = c.take.new.self; book = c.settle-settled.new.self; rooms = c.keep.new.self }) a
+    (dropped_goes_on g.P.Port.told w (record w { worker_end = c.take.new.self; book = c.settle-settled.new.self; reply_buffers = c.keep.new.self }) a
     (record { port = refl; request = refl; sessions = refl; unopened = refl; strangers = refl; ended = refl })
     c.in-Some.ensures c.self.invariant c.in-Dropped.ensures.0 c.in-Dropped.ensures.1)
 
 pub invariant_of-self-in-Starved : goal.invariant_of-self-in-Starved
-invariant_of-self-in-Starved g c = let w = c.self.inside.state in let a = c.in-Some.answered in (let s = some_of (session_of w.book a.session) c.in-Starved.ensures.0 in
-    starved_goes_on g.P.Port.told w (record w { worker_end = c.take.new.self; book = c.settle-settled.new.self; rooms = c.keep.new.self }) c.shut.new.self a s.0
+invariant_of-self-in-Starved g c = let w = c.self.inside.state in let a = c.in-Some.answered in
+    (let s = some_of (session_of w.book a.session) c.in-Starved.ensures.0 in
+    starved_goes_on g.P.Port.told w (record w { worker_end = c.take.new.self; book = c.settle-settled.new.self; reply_buffers = c.keep.new.self })
+    c.shut.new.self a s.0
     (record { port = refl; request = refl; sessions = refl; unopened = refl; strangers = refl; ended = refl })
     c.in-Some.ensures c.self.invariant s.1 c.in-Starved.ensures.1 c.shut.ensures.shuts).serving
 
@@ -47,7 +51,8 @@ returns-in-Starved g c = let w = c.self.inside.state in let a = c.in-Some.answer
     continues g.P.Port.told g.P.Port.leads_to c.self.inside.state c.args.self.now _ c.self.view_is
     c.shut.ensures.leads
     (let s = some_of (session_of w.book a.session) c.in-Starved.ensures.0 in
-    starved_goes_on g.P.Port.told w (record w { worker_end = c.take.new.self; book = c.settle-settled.new.self; rooms = c.keep.new.self }) c.shut.new.self a s.0
+    starved_goes_on g.P.Port.told w (record w { worker_end = c.take.new.self; book = c.settle-settled.new.self; reply_buffers = c.keep.new.self })
+    c.shut.new.self a s.0
     (record { port = refl; request = refl; sessions = refl; unopened = refl; strangers = refl; ended = refl })
     c.in-Some.ensures c.self.invariant s.1 c.in-Starved.ensures.1 c.shut.ensures.shuts)
 

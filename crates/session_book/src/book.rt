@@ -332,9 +332,9 @@ impl Book {
     pub fn close(&mut self, session: u64)
         ensures { ChangesSession self.old self.new session None }
     {
-        let waiting = self.out(session).len();
-        self.load.output_changed(waiting, 0);
-        self.sessions.remove(&session);
+        if let Some(open) = self.sessions.remove(&session) {
+            self.load.output_changed(open.waiting(), 0);
+        }
     }
 
     /// The session is asked again.

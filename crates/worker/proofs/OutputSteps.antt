@@ -16,7 +16,7 @@ use Rattle.worker.specs.declared.state.WorkerState.{WorkerState}
 use Rattle.worker.specs.Ports.{PortStory, then_told, with_pause, is_open, give_records, has_ended, opened_count, AcceptsOnlyOpen}
 use Rattle.worker.specs.Sessions.{port_facts, RunView, facts, AreFactsConsistent, IsSessionServed}
 use Rattle.worker.specs.EndCauses.{Rises, piece_of}
-use Rattle.worker.specs.Workers.{posted_by, IsSteady, AreSessionsCounted, IsStoryKnown, run_view, IsWorkerServing, Closes, LeavesWorker}
+use Rattle.worker.specs.Workers.{end_of, posted_by, IsSteady, AreSessionsCounted, IsStoryKnown, run_view, IsWorkerServing, Closes, LeavesWorker}
 use Rattle.worker.proofs.Facts.{elsewhere, accepted_here}
 use Rattle.worker.proofs.SessionSteps.{runs, served_fed, served_holding, served_gave}
 use Rattle.worker.proofs.RunViews.{facts_equal, change_at, at_other, at_same, ended_same, count_same, accepts_more}
@@ -86,7 +86,7 @@ within_goes_on told old new f rest port p u h each =
       same_end = same_end old new rest.end;
       steady = subst (λ (y : WorkerView × Option Posted). IsSteady y.0 y.1 new.book)
           (λ i. (sym rest.end i, sym rest.request i))
-          (steady_same old.worker_end old.request old.book new.book p u h.steady);
+          (steady_same (end_of old) old.request old.book new.book p u h.steady);
       strangers = rest.strangers ∙ h.strangers;
       unopened = rest.unopened;
       ended = rest.ended;

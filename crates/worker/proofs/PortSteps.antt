@@ -17,7 +17,7 @@ use Rattle.worker.specs.declared.state.WorkerState.{WorkerState}
 use Rattle.worker.specs.Ports.{PortStory, then_told, with_pause, IsOpenIn, is_open, was_opened, has_ended, AcceptsOnlyOpen}
 use Rattle.worker.specs.Sessions.{PortFacts, port_facts, RunView, facts, cause_of, AreFactsConsistent}
 use Rattle.worker.specs.EndCauses.{Rises, piece_of}
-use Rattle.worker.specs.Workers.{posted_by, IsSteady, AreSessionsCounted, IsStoryKnown, run_view, IsWorkerServing, Closes, Shuts, LeavesWorker}
+use Rattle.worker.specs.Workers.{end_of, posted_by, IsSteady, AreSessionsCounted, IsStoryKnown, run_view, IsWorkerServing, Closes, Shuts, LeavesWorker}
 use Rattle.worker.specs.Workers.{HandlesData, feeds, holds, shuts, drops, Admits, Refuses, SameRest}
 use Rattle.worker.proofs.EndCauseLemmas.{rises_more, rises_with, length-with, cause_more, cause_new}
 use Rattle.worker.proofs.Facts.{elsewhere, opened_here, fed_here, shut_here}
@@ -198,7 +198,7 @@ admit_goes_on told old new port t opens rest h k =
       same_end = same_end old new rest.end;
       steady = subst (λ (y : WorkerView × Option Posted). IsSteady y.0 y.1 new.book)
           (λ i. (sym rest.end i, sym rest.request i))
-          (steady_same old.worker_end old.request old.book new.book k.counts.0 k.counts.1 h.steady);
+          (steady_same (end_of old) old.request old.book new.book k.counts.0 k.counts.1 h.steady);
       strangers = rest.strangers ∙ h.strangers;
       unopened = k.unopened;
       ended = rest.ended;
@@ -300,7 +300,7 @@ rest_facts told old new port rest b h = record {
   same_end = same_end old new rest.end;
   steady = subst (λ (y : WorkerView × Option Posted). IsSteady y.0 y.1 new.book)
       (λ i. (sym rest.end i, sym rest.request i))
-      (steady_same old.worker_end old.request old.book new.book b.0 b.1 h.steady);
+      (steady_same (end_of old) old.request old.book new.book b.0 b.1 h.steady);
   strangers = rest.strangers ∙ h.strangers;
   unopened = rest.unopened;
   ended = rest.ended;

@@ -1,7 +1,6 @@
 //! One worker's loop over a port: the port's events become requests, and the answers become bytes.
 #![tactic(auto)]
 
-mod batched_end;
 mod end_causes;
 mod gate;
 mod hold_gate;
@@ -10,6 +9,7 @@ mod port;
 mod reply_buffers;
 mod report;
 mod run;
+mod sending;
 mod state;
 mod worker;
 

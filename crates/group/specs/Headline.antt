@@ -14,7 +14,7 @@ use Rattle.storage_thread.specs.Serving.{IsTimed}
 use Rattle.worker.specs.declared.port.PortRecord.{PortRecord}
 use Rattle.worker.specs.Ports.{PortStory, fed, given, was_opened, was_shut, has_ended, AcceptsOnlyOpen}
 use Rattle.worker.specs.Sessions.{cause_of}
-use Rattle.worker.specs.Places.{Rises}
+use Rattle.worker.specs.EndCauses.{Rises}
 use Rattle.worker.specs.Workers.{AreSessionsCounted}
 use Rattle.worker.specs.Reports.{IsSessionAnswered}
 use Rattle.group.specs.declared.report.GroupWorker.{GroupWorker}

@@ -50,7 +50,7 @@ fn did_something(reply: &Reply) -> bool {
 /// goes round, as between a worker and the storage thread.
 fn send<E: StorageEngine>(store: &mut E, requests: &mut [Request], rounds: u64) -> u64 {
     let mut done: u64 = 0;
-    let mut room: Option<SpareBuffer> = None;
+    let mut spare: Option<SpareBuffer> = None;
     let count = (requests.len() as u64).max(1);
     for sent in 0..rounds {
         let Some(request) = requests.get_mut((sent % count) as usize) else {
@@ -59,14 +59,14 @@ fn send<E: StorageEngine>(store: &mut E, requests: &mut [Request], rounds: u64) 
         if store.last_moment() > 0 {
             return done;
         }
-        if let Some(lent) = room.take() {
+        if let Some(lent) = spare.take() {
             let _ = request.lend_buffer(lent);
         }
         let reply = store.handle(0, request);
         if did_something(&reply) {
             done = done.wrapping_add(1);
         }
-        room = reply.into_buffer();
+        spare = reply.into_buffer();
     }
     done
 }

@@ -10,8 +10,8 @@ mod bounded;
 mod commands;
 #[cfg(test)]
 mod in_turn;
-pub mod random;
 #[cfg(test)]
-mod rooms;
+mod lent_buffers;
+pub mod random;
 #[cfg(test)]
 mod session;

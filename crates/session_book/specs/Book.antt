@@ -45,9 +45,9 @@ pub record IsBook (book : BookState) : Type 0 where
   pub open_below : (session : ℕ) → book.greatest < session → session_of book session ≡ None
   pub unsettled_below : (session : ℕ) → book.greatest < session → unsettled_in book.unsettled session ≡ 0
 
--- it isn't open, or nothing came of it
-abbrev pub IsSilent : Option SessionState → Type 0
-IsSilent s = (s ≡ None) ⊎ (s ≡ Some new_session)
+-- it isn't open, or has had no input
+abbrev pub HasNoInput : Option SessionState → Type 0
+HasNoInput s = (s ≡ None) ⊎ (s ≡ Some new_session)
 
 -- the output that wasn't given yet, none of a session that isn't open
 abbrev pub out_of : Option SessionState → List ℕ

@@ -1,4 +1,4 @@
-pub mod Place
+pub mod Kinds
 pub mod Session
 pub mod Book
 pub mod Accounts

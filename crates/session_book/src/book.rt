@@ -9,9 +9,9 @@ use crate::causes::{EndCause, OpenFault, Received, Settled, Unsettled};
 use crate::limits::{MAX_POSTS, MAX_SESSIONS, MAX_UNSETTLED};
 use crate::load::Load;
 use crate::open_session::OpenSession;
-use crate::ready::Ready;
+use crate::ready_queues::ReadyQueues;
 use crate::session::Session;
-use crate::spares::Spares;
+use crate::spare_buffers::SpareBuffers;
 use bytes::Bytes;
 use proto::{Answered, NoMemory, Request};
 use std::alloc::Global;
@@ -29,8 +29,8 @@ pub struct Offer<'a> {
 
 /// The sessions of a worker. Contracts see it as a `BookState`.
 ///
-/// It keeps which sessions have something to do, in four lines. Calls put a session into a line, and its owner takes it out
-/// and does it; no clause says that a session stands in one.
+/// It keeps which sessions have something to do, in four ready queues. Calls put a session into one, and its owner takes it
+/// out and does it; no clause says that a session stands in one.
 #[derive(Drop)]
 pub struct Book {
     alloc: Global,
@@ -42,9 +42,9 @@ pub struct Book {
     opened: u64,
     looks: u64,
     load: Load,
-    ready: Ready,
-    inputs: Spares,
-    outputs: Spares,
+    ready: ReadyQueues,
+    inputs: SpareBuffers,
+    outputs: SpareBuffers,
     reads_on: bool,
 }
 
@@ -76,7 +76,7 @@ impl Model for Book {
 
 impl Book {
     ghost use Rattle.session_book.specs.Book.{session_of, out_of, held_of, ChangesSession, Receives, FeedsHeldOf};
-    ghost use Rattle.session_book.specs.Book.{IsSilent, OnlyAt, IsKnown, NextAsk, Settles};
+    ghost use Rattle.session_book.specs.Book.{HasNoInput, OnlyAt, IsKnown, NextAsk, Settles};
 
     /// No session is open yet. The worker's number is kept for its owner.
     pub fn new(alloc: Global, worker: usize) -> Self
@@ -100,9 +100,9 @@ impl Book {
             opened: 0,
             looks: 0,
             load: Load::new(),
-            ready: Ready::new(alloc),
-            inputs: Spares::new(alloc),
-            outputs: Spares::new(alloc),
+            ready: ReadyQueues::new(alloc),
+            inputs: SpareBuffers::new(alloc),
+            outputs: SpareBuffers::new(alloc),
             reads_on: false,
         }
     }
@@ -124,7 +124,7 @@ impl Book {
         if session <= self.greatest || self.opened >= MAX_SESSIONS {
             return Err(OpenFault::Known);
         }
-        if self.ready.take_room(self.sessions.len() + 1).is_err() {
+        if self.ready.reserve(self.sessions.len() + 1).is_err() {
             return Err(OpenFault::NoMemory);
         }
         match self.sessions.insert(session, OpenSession::new()) {
@@ -176,7 +176,7 @@ impl Book {
 
     /// The state of a session that is open and has had input.
     fn state(&self, session: u64) -> Option<&Session>
-        ensures { MatchOption result (IsSilent (session_of self.now session))
+        ensures { MatchOption result (HasNoInput (session_of self.now session))
             (λ state. session_of self.now session ≡ Some state.now) }
     {
         let Some(open) = self.sessions.get(&session) else {
@@ -199,7 +199,7 @@ impl Book {
     }
 
     /// The next request of a session with its number, which the caller posts. Messages that the book answers
-    /// itself take their places; nothing is read while 64 requests are unsettled or all numbers were given. After
+    /// itself are answered in their order; nothing is read while 64 requests are unsettled or all numbers were given. After
     /// `NoMemory` the messages before the refused one stay read.
     pub fn next_ask(&mut self, session: u64) -> Result<Option<(Request, u64)>, NoMemory>
         ensures closed { session_of self.old session ≡ None → (result ≡ Ok None) × (self.new ≡ self.old) }
@@ -332,9 +332,9 @@ impl Book {
     pub fn close(&mut self, session: u64)
         ensures { ChangesSession self.old self.new session None }
     {
-        let waiting = self.out(session).len();
-        self.load.output_changed(waiting, 0);
-        self.sessions.remove(&session);
+        if let Some(open) = self.sessions.remove(&session) {
+            self.load.output_changed(open.waiting(), 0);
+        }
     }
 
     /// The session is asked again.

@@ -94,18 +94,18 @@ impl Buffer {
         self.bytes.capacity() > 0
     }
 
-    /// An empty buffer has the memory of the room from now on, in place of its own.
-    pub fn borrow_room(&mut self, room: SpareBuffer)
+    /// An empty buffer has the memory of the spare one from now on, in place of its own.
+    pub fn lend_buffer(&mut self, spare: SpareBuffer)
         ensures { self.new ≡ self.old }
     {
         if self.bytes.is_empty() {
-            self.bytes = room.into_bytes();
+            self.bytes = spare.into_bytes();
             self.start = 0;
         }
     }
 
     /// The memory of an empty buffer, which has none from now on.
-    pub fn hand_out_room(&mut self, alloc: Global) -> Option<SpareBuffer>
+    pub fn take_buffer(&mut self, alloc: Global) -> Option<SpareBuffer>
         ensures { self.new ≡ self.old }
     {
         if !self.bytes.is_empty() || !self.has_memory() {

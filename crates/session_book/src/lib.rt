@@ -1,5 +1,5 @@
-//! The sessions of one worker: their unread bytes and a piece that is held until it fits, the places of answers that are
-//! still missing, their output, and which of them have something to do.
+//! The sessions of one worker: their unread bytes and a piece that is held until it fits, the answers that are still
+//! missing, their output, and which of them have something to do.
 #![tactic(auto)]
 
 mod book;
@@ -9,10 +9,10 @@ pub mod laws;
 mod limits;
 mod load;
 mod open_session;
-mod place;
-mod ready;
+mod pending_answer;
+mod ready_queues;
 mod session;
-mod spares;
+mod spare_buffers;
 
 pub use book::Book;
 pub use causes::{EndCause, OpenFault, Received, Settled};

@@ -42,4 +42,12 @@ impl OpenSession {
         }
         Ok(())
     }
+
+    /// How many bytes of output weren't given yet.
+    pub fn waiting(&self) -> usize {
+        match &self.state {
+            Some(state) => state.out().len(),
+            None => 0,
+        }
+    }
 }

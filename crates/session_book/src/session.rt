@@ -1,4 +1,4 @@
-//! One session: reading its messages and answering them in their places.
+//! One session: reading its messages and answering them in their order.
 
 ghost use Rattle.std.specs.Prelude.{◌≡◌, ◌≤◌, ◌<◌, ◌+◌, ◌↔◌, [], length, not, ◌==◌, drop, is_some, OnOk, OnErr, ◌∷◌};
 ghost use Rattle.std.specs.Prelude.{◌++◌, true, None, Err};
@@ -10,9 +10,9 @@ ghost use Rattle.proto.specs.Reading.{asks};
 use crate::buffer::Buffer;
 use crate::causes::{EndCause, FeedFault, Received};
 use crate::limits::{MAX_UNREAD, MAX_WAITING};
-use crate::place::AnswerPlace;
-use crate::ready::{Places, Ready};
-use crate::spares::Spares;
+use crate::pending_answer::PendingAnswer;
+use crate::ready_queues::{ReadyQueues, Tickets};
+use crate::spare_buffers::SpareBuffers;
 use bytes::Bytes;
 use proto::{Message, NextView, NoMemory, Reply, Request, next_view, to_message};
 use std::alloc::Global;
@@ -27,18 +27,18 @@ const WORTH_GIVING: usize = 16_384;
 /// of a whole message, has the room.
 const WORTH_FEEDING: usize = 65_536;
 
-/// The state of a session from its first input on, with its places in the lines of its book. Contracts see it as a
-/// `SessionState`, without the places.
+/// The state of a session from its first input on, with its tickets of the book's ready queues. Contracts see it as
+/// a `SessionState`, without the tickets.
 #[derive(Drop)]
 pub struct Session {
     alloc: Global,
     input: Buffer,
-    queue: VecDeque<AnswerPlace>,
+    queue: VecDeque<PendingAnswer>,
     output: Buffer,
     ended: Option<EndCause>,
     need: usize,
     held: Option<Bytes>,
-    places: Places,
+    tickets: Tickets,
 }
 
 impl Model for Session {
@@ -83,7 +83,7 @@ impl Session {
             ended: None,
             need: 1,
             held: None,
-            places: Places::none(),
+            tickets: Tickets::none(),
         }
     }
 
@@ -106,7 +106,7 @@ impl Session {
     }
 
     /// Feeds a piece, or holds it until it fits.
-    pub fn receive(&mut self, piece: Bytes, inputs: &mut Spares) -> Received
+    pub fn receive(&mut self, piece: Bytes, inputs: &mut SpareBuffers) -> Received
         ensures { TakesPiece self.old piece result self.new }
     {
         if self.held.is_some() {
@@ -200,7 +200,7 @@ impl Session {
 
     /// Gives the first request of the queue its reply. Where there is no memory for the bytes the session is of no
     /// further use.
-    pub fn settle(&mut self, reply: &Reply, outputs: &mut Spares) -> Result<(), NoMemory>
+    pub fn settle(&mut self, reply: &Reply, outputs: &mut SpareBuffers) -> Result<(), NoMemory>
         requires { 0 < length (asks self.old.queue) }
         ensures { OnOk result (self.new ≡ with_reply self.old reply.now) }
     {
@@ -238,30 +238,35 @@ impl Session {
     }
 }
 
-/// What a session has to do next. No clause speaks of its places in the lines.
+/// What a session has to do next. No clause speaks of the ready queues.
 impl Session {
-    pub fn ask_later(&mut self, session: u64, ready: &mut Ready)
+    pub fn ask_later(&mut self, session: u64, ready: &mut ReadyQueues)
         ensures { self.new ≡ self.old }
     {
-        ready.ask_later(session, &mut self.places);
+        ready.ask_later(session, &mut self.tickets);
     }
 
-    pub fn give_later(&mut self, session: u64, ready: &mut Ready)
+    pub fn give_later(&mut self, session: u64, ready: &mut ReadyQueues)
         ensures { self.new ≡ self.old }
     {
-        ready.give_later(session, &mut self.places);
+        ready.give_later(session, &mut self.tickets);
     }
 
     /// The session was asked: there may be room for its held piece, and it may have output. Whether it can be read further.
-    pub fn was_asked(&mut self, session: u64, ready: &mut Ready, inputs: &mut Spares) -> bool
+    pub fn was_asked(
+        &mut self,
+        session: u64,
+        ready: &mut ReadyQueues,
+        inputs: &mut SpareBuffers,
+    ) -> bool
         ensures { self.new ≡ self.old }
     {
         inputs.take_back(&mut self.input);
         if self.held.is_some() && self.has_room() {
-            ready.feed_later(session, &mut self.places);
+            ready.feed_later(session, &mut self.tickets);
         }
         if self.output.len() > 0 || self.ended.is_some() {
-            ready.give_later(session, &mut self.places);
+            ready.give_later(session, &mut self.tickets);
         }
         self.is_ready()
     }
@@ -276,27 +281,27 @@ impl Session {
         &mut self,
         session: u64,
         accepted: usize,
-        ready: &mut Ready,
-        outputs: &mut Spares,
+        ready: &mut ReadyQueues,
+        outputs: &mut SpareBuffers,
     )
         ensures { self.new ≡ self.old }
     {
         outputs.take_back(&mut self.output);
         if self.output.len().saturating_add(accepted) > MAX_WAITING {
-            ready.ask_later(session, &mut self.places);
+            ready.ask_later(session, &mut self.tickets);
         }
         if accepted == 0 {
-            ready.give_slowly(session, &mut self.places);
+            ready.give_slowly(session, &mut self.tickets);
         } else if self.output.len() > 0 {
-            ready.give_later(session, &mut self.places);
+            ready.give_later(session, &mut self.tickets);
         }
     }
 
     /// Whether the output is to be given now: little output waits for the answers that are outstanding, and for the
     /// input that is left to be read.
-    pub fn is_worth_giving(&self, ready: &Ready) -> bool {
+    pub fn is_worth_giving(&self, ready: &ReadyQueues) -> bool {
         self.output.len() >= WORTH_GIVING
-            || (self.queue.is_empty() && !ready.is_asking(&self.places))
+            || (self.queue.is_empty() && !ready.is_asking(&self.tickets))
     }
 }
 
@@ -323,7 +328,7 @@ fn read_of(message: Message) -> Read
 
 /// Puts a message behind the queue, or answers it at once where nothing is before it.
 fn put_behind(
-    queue: &mut VecDeque<AnswerPlace>,
+    queue: &mut VecDeque<PendingAnswer>,
     out: &mut Buffer,
     message: &Message,
 ) -> Result<(), NoMemory>
@@ -333,17 +338,17 @@ fn put_behind(
     ensures err_queue { OnErr result (queue.new.items ≡ queue.old.items) }
     ensures err_out { OnErr result (out.new ≡ out.old) }
 {
-    let place = AnswerPlace::of(message);
-    if queue.is_empty() && !place.is_ask() {
-        return place.show(None, out);
+    let pending = PendingAnswer::of(message);
+    if queue.is_empty() && !pending.is_ask() {
+        return pending.show(None, out);
     }
-    queue.push_back(place)?;
+    queue.push_back(pending)?;
     Ok(())
 }
 
 /// Answers the first request of the queue, and the messages up to the next one.
 fn answer_first(
-    queue: &mut VecDeque<AnswerPlace>,
+    queue: &mut VecDeque<PendingAnswer>,
     reply: &Reply,
     out: &mut Buffer,
 ) -> Result<(), NoMemory>
@@ -352,22 +357,22 @@ fn answer_first(
     ensures queue { OnOk result (queue.new.items ≡ left queue.old.items (reply.now ∷ [])) }
     ensures out { OnOk result (out.new ≡ out.old ++ said queue.old.items (reply.now ∷ [])) }
 {
-    if let Some(place) = queue.pop_front() {
-        place.show(Some(reply), out)?;
+    if let Some(pending) = queue.pop_front() {
+        pending.show(Some(reply), out)?;
     }
     answer_locals(queue, out)
 }
 
 /// Answers the messages before the first request of the queue.
-fn answer_locals(queue: &mut VecDeque<AnswerPlace>, out: &mut Buffer) -> Result<(), NoMemory>
+fn answer_locals(queue: &mut VecDeque<PendingAnswer>, out: &mut Buffer) -> Result<(), NoMemory>
     ensures queue { OnOk result (queue.new.items ≡ left queue.old.items []) }
     ensures out { OnOk result (out.new ≡ out.old ++ said queue.old.items []) }
 {
-    while let Some(place) = queue.front() {
-        if place.is_ask() {
+    while let Some(pending) = queue.front() {
+        if pending.is_ask() {
             break;
         }
-        place.show(None, out)?;
+        pending.show(None, out)?;
         queue.pop_front();
     }
     Ok(())

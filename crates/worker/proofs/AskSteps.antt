@@ -11,15 +11,15 @@ use Rattle.proto.specs.declared.history.Posted.{Posted}
 use Rattle.proto.specs.declared.history.Answered.{Answered}
 use Rattle.proto.specs.History.{asked_posted}
 use Rattle.proto.specs.Reading.{asks}
-use Rattle.exchange.specs.Ends.{WorkerView}
+use Rattle.exchange.specs.Ends.{WorkerView, WorkerBatchView}
 use Rattle.session_book.specs.declared.causes.Unsettled.{Unsettled}
 use Rattle.session_book.specs.Session.{SessionState, ReadsOn}
 use Rattle.session_book.specs.Book.{BookState, session_of, NextAsk, held_of, GivesNone, given_in, OnlyAt, unsettled_of as unsettled_at}
 use Rattle.worker.specs.Ports.{PortStory}
 use Rattle.worker.specs.declared.state.WorkerState.{WorkerState}
 use Rattle.worker.specs.Sessions.{port_facts, RunView, facts, asked_by, AreFactsConsistent}
-use Rattle.worker.specs.Places.{piece_of}
-use Rattle.worker.specs.Workers.{posted_by, unsettled_post, IsNumbered, IsSteady, IsStoryKnown, run_view, IsWorkerServing}
+use Rattle.worker.specs.EndCauses.{piece_of}
+use Rattle.worker.specs.Workers.{all_sent, end_of, posted_by, unsettled_post, IsNumbered, IsSteady, IsStoryKnown, run_view, IsWorkerServing}
 use Rattle.worker.proofs.Facts.{asked_here, asked_elsewhere}
 use Rattle.worker.proofs.SessionSteps.{not_both, runs, is_running, served_read}
 use Rattle.worker.proofs.RunViews.{facts_equal, change_at, at_other, at_same}
@@ -91,7 +91,7 @@ told_read v v' unopened ended t s read ms h open_is reads here_asked other_asked
 
 -- with no request
 pub none_goes_on : {P : Type 0} (told : P → Option PortStory) (old new : WorkerState P) (t : ℕ) (s : SessionState)
-    (result : Result (Option (Request × ℕ)) NoMemory) → new.port ≡ old.port → new.worker_end ≡ old.worker_end
+    (result : Result (Option (Request × ℕ)) NoMemory) → new.port ≡ old.port → end_of new ≡ end_of old
     → new.request ≡ old.request
     → new.sessions ≡ old.sessions → new.unopened ≡ old.unopened → new.strangers ≡ old.strangers → new.ended ≡ old.ended
     → IsWorkerServing told old → session_of old.book t ≡ Some s → NextAsk old.book t s result new.book
@@ -101,13 +101,13 @@ none_goes_on told old new t s result port end request sessions unopened stranger
     (a.reading.reads.held ∙ sym (ap held_of open_is)) in
     let no_asks : asks a.messages ≡ [] =
     a.reading.requests_are ∙ ap (λ (x : List (Request × ℕ)). map (λ (y : Request × ℕ). y.0) x) none in
-    let no_more : (k : ℕ) → asked_by (posted_by new.worker_end new.request) k
-    ≡ asked_by (posted_by old.worker_end old.request) k = λ k i. asked_by
+    let no_more : (k : ℕ) → asked_by (posted_by (end_of new) new.request) k
+    ≡ asked_by (posted_by (end_of old) old.request) k = λ k i. asked_by
     (posted_by (end i) (request i)) k in
     steps_on told old new (λ story. story) (same_story (told old.port) (told new.port) (ap told port)) (record {
       same_end = same_end old new end;
       steady = subst (λ (y : WorkerView × Option Posted). IsSteady y.0 y.1 new.book) (λ i. (sym end i, sym request i))
-          (steady_same old.worker_end old.request old.book new.book
+          (steady_same (end_of old) old.request old.book new.book
           (ap (λ (x : BookState). x.posted) a.rest ∙ ap (λ (x : List (Request × ℕ)). old.book.posted + length x) none
           ∙ omega arith)
           (ap (λ (x : BookState). x.unsettled) a.rest
@@ -120,8 +120,8 @@ none_goes_on told old new t s result port end request sessions unopened stranger
     (λ story e was_so. (
       told_read (run_view story old) (run_view story new) old.unopened old.ended t s a.read a.messages was_so.0 open_is
           a.reading.reads
-          (no_more t ∙ sym (append-nil (asked_by (posted_by old.worker_end old.request) t))
-          ∙ ap (λ (x : List Request). asked_by (posted_by old.worker_end old.request) t ++ x) (sym no_asks))
+          (no_more t ∙ sym (append-nil (asked_by (posted_by (end_of old) old.request) t))
+          ∙ ap (λ (x : List Request). asked_by (posted_by (end_of old) old.request) t ++ x) (sym no_asks))
           (λ k ne. no_more k) refl
           (ap (λ (w : WorkerView). w.back) end) (λ i. (sessions i).items) a.only_at (λ i q. pieces q i),
       paused_kept story story (piece_of old.book) (piece_of new.book) pieces (λ q. refl) was_so.1,
@@ -145,7 +145,7 @@ back_le end e =
 -- the worker goes on where a session gives a request, which is held from then on
 pub one_goes_on : {P : Type 0} (told : P → Option PortStory) (old new : WorkerState P) (t : ℕ) (s : SessionState)
     (q : Request) (n : ℕ)
-    → new.port ≡ old.port → new.worker_end ≡ old.worker_end → old.request ≡ None
+    → new.port ≡ old.port → end_of new ≡ end_of old → old.request ≡ None
     → new.request ≡ Some (record { session = t; number = n; request = q }) → new.sessions ≡ old.sessions
     → new.unopened ≡ old.unopened → new.strangers ≡ old.strangers → new.ended ≡ old.ended → IsWorkerServing told old
     → session_of old.book t ≡ Some s
@@ -154,18 +154,18 @@ one_goes_on told old new t s q n port end was_none request sessions unopened str
     let p : Posted = record { session = t; number = n; request = q } in
     let pieces = pieces_kept old.book new.book t (Some a.read) a.only_at
     (a.reading.reads.held ∙ sym (ap held_of open_is)) in
-    let sent = old.worker_end.sent in
-    let before : posted_by old.worker_end old.request ≡ sent =
-    (λ i. posted_by old.worker_end (was_none i)) ∙ append-nil sent in
-    let after : posted_by new.worker_end new.request ≡ sent ++ p ∷ [] = λ i. posted_by (end i) (request i) in
-    let more : asked_by (posted_by new.worker_end new.request) t
-    ≡ asked_by (posted_by old.worker_end old.request) t ++ asks a.messages =
+    let sent = (end_of old).sent in
+    let before : posted_by (end_of old) old.request ≡ sent =
+    (λ i. posted_by (end_of old) (was_none i)) ∙ append-nil sent in
+    let after : posted_by (end_of new) new.request ≡ sent ++ p ∷ [] = λ i. posted_by (end i) (request i) in
+    let more : asked_by (posted_by (end_of new) new.request) t
+    ≡ asked_by (posted_by (end_of old) old.request) t ++ asks a.messages =
     ap (λ l. asked_by l t) after ∙ asked_here sent p t refl ∙ ap (λ l. asked_by l t ++ q ∷ []) (sym before)
-    ∙ ap (λ (x : List Request). asked_by (posted_by old.worker_end old.request) t ++ x) (sym a.reading.requests_are) in
-    let others : (k : ℕ) → t ≢ k → asked_by (posted_by new.worker_end new.request) k
-    ≡ asked_by (posted_by old.worker_end old.request) k =
+    ∙ ap (λ (x : List Request). asked_by (posted_by (end_of old) old.request) t ++ x) (sym a.reading.requests_are) in
+    let others : (k : ℕ) → t ≢ k → asked_by (posted_by (end_of new) new.request) k
+    ≡ asked_by (posted_by (end_of old) old.request) k =
     λ k ne. ap (λ l. asked_by l k) after ∙ asked_elsewhere sent p k ne ∙ ap (λ l. asked_by l k) (sym before) in
-    let le = back_le old.worker_end h.steady.back in
+    let le = back_le (end_of old) h.steady.back in
     let posted : old.book.posted ≡ length sent = h.steady.posted ∙ ap (length {A = Posted}) before in
     let numbered : n ≡ old.book.posted + 1 = ap (λ (l : List ℕ). get_or l 0 0) a.numbers in
     steps_on told old new (λ story. story) (same_story (told old.port) (told new.port) (ap told port)) (record {
@@ -178,9 +178,9 @@ one_goes_on told old new t s q n port end was_none request sessions unopened str
             numbered = omega (arith, numbered, posted);
             unsettled = ap (λ (x : BookState). x.unsettled) a.rest
                 ∙ ap (λ (x : List Unsettled). x ++ unsettled_post p ∷ []) (h.steady.unsettled
-                ∙ ap (λ (l : List Posted). map unsettled_post (drop (length old.worker_end.back) l)) before)
-                ∙ sym (map-append unsettled_post (drop (length old.worker_end.back) sent) (p ∷ []))
-                ∙ ap (map unsettled_post) (sym (drop-append-le (length old.worker_end.back) sent (p ∷ []) le));
+                ∙ ap (λ (l : List Posted). map unsettled_post (drop (length (end_of old).back) l)) before)
+                ∙ sym (map-append unsettled_post (drop (length (end_of old).back) sent) (p ∷ []))
+                ∙ ap (map unsettled_post) (sym (drop-append-le (length (end_of old).back) sent (p ∷ []) le));
             back = h.steady.back;
           });
       strangers = strangers ∙ h.strangers;
@@ -198,7 +198,7 @@ one_goes_on told old new t s q n port end was_none request sessions unopened str
 -- no request is left, or the session isn't open
 pub quiet_goes_on : {P : Type 0} (told : P → Option PortStory) (old new : WorkerState P) (t : ℕ) (o : Option SessionState)
     → o ≡ session_of old.book t
-    → new.port ≡ old.port → new.worker_end ≡ old.worker_end → new.request ≡ old.request → new.sessions ≡ old.sessions
+    → new.port ≡ old.port → end_of new ≡ end_of old → new.request ≡ old.request → new.sessions ≡ old.sessions
     → new.unopened ≡ old.unopened → new.strangers ≡ old.strangers → new.ended ≡ old.ended → IsWorkerServing told old
     → (session_of old.book t ≡ None → new.book ≡ old.book) → ((s : SessionState) → session_of old.book t ≡ Some s
     → NextAsk old.book t s (Ok None) new.book) → WorkerGoesOn told old new
@@ -230,13 +230,13 @@ quiet_goes_on told old new t None o port end request sessions unopened strangers
     ))
 
 -- the held request is sent
-pub posted_goes_on : {P : Type 0} (told : P → Option PortStory) (old : WorkerState P) (p : Posted) (end : WorkerView)
+pub posted_goes_on : {P : Type 0} (told : P → Option PortStory) (old : WorkerState P) (p : Posted) (batch : WorkerBatchView)
     (request : Option Posted)
-    → old.request ≡ Some p → request ≡ None → end ≡ record old.worker_end { sent = old.worker_end.sent ++ p ∷ [] }
+    → old.request ≡ Some p → request ≡ None → all_sent batch ≡ record (end_of old) { sent = (end_of old).sent ++ p ∷ [] }
     → IsWorkerServing told old
-    → WorkerGoesOn told old (record old { worker_end = end; request = request })
-posted_goes_on told old p end request held taken sent h =
-    let w = old.worker_end in let new = record old { worker_end = end; request = request } in
+    → WorkerGoesOn told old (record old { batch = batch; request = request })
+posted_goes_on told old p batch request held taken sent h =
+    let w = end_of old in let end = all_sent batch in let new = record old { batch = batch; request = request } in
     let all : posted_by end request ≡ posted_by w old.request =
     (λ i. posted_by (sent i) (taken i)) ∙ append-nil (w.sent ++ p ∷ [])
     ∙ (λ i. posted_by w (sym held i)) in

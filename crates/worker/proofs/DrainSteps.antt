@@ -48,7 +48,7 @@ few_posted end request book h e few = let p : book.posted ≡ length end.sent =
 
 -- ---- the walk over the report
 
--- at the first n places of the report, each session with the cause Drained that is still in the book is emptied
+-- in the first n entries of the report, each session with the cause Drained that is still in the book is emptied
 abbrev pub EmptiedBelow : BookState → List (ℕ × EndCause) → ℕ → Type 0
 EmptiedBelow book xs n = (k : ℕ) (d : ℕ × EndCause) → k < n → (get_or xs k d).1 ≡ causes.Drained → (s : SessionState)
     → session_of book (get_or xs k d).0 ≡ Some s → IsEmptied s
@@ -61,7 +61,7 @@ by_cause causes.Fatal = inr (λ e. absurd (cc))
 by_cause causes.Gone = inr (λ e. absurd (cc))
 by_cause causes.NoMemory = inr (λ e. absurd (cc))
 
--- the sessions at the first n places are emptied, and so is the next: then they are at one place more, if the book changed
+-- the sessions in the first n entries are emptied, and so is the next: then they are in one entry more, if the book changed
 -- at that next session only
 pub emptied_more : (old new : BookState) (xs : List (ℕ × EndCause)) (n t : ℕ) (c : EndCause) → EmptiedBelow old xs n
     → ((d : ℕ × EndCause) → get_or xs n d ≡ (t, c))

@@ -3,7 +3,7 @@ pub mod Readings
 pub mod Facts
 pub mod BookLaws
 pub mod SessionSteps
-pub mod PlaceLemmas
+pub mod EndCauseLemmas
 pub mod RunViews
 pub mod StoryLaws
 pub mod PieceLaws

@@ -15,14 +15,15 @@ use Rattle.worker.specs.declared.port.PortRecord.TheVariants as was
 use Rattle.worker.specs.declared.state.WorkerState.{WorkerState}
 use Rattle.worker.specs.Ports.{PortStory, then_told, with_pause, is_open, give_records, has_ended, opened_count, AcceptsOnlyOpen}
 use Rattle.worker.specs.Sessions.{port_facts, RunView, facts, AreFactsConsistent, IsSessionServed}
-use Rattle.worker.specs.Places.{Rises, piece_of}
-use Rattle.worker.specs.Workers.{posted_by, IsSteady, AreSessionsCounted, IsStoryKnown, run_view, IsWorkerServing, Closes, LeavesWorker}
+use Rattle.worker.specs.EndCauses.{Rises, piece_of}
+use Rattle.worker.specs.Workers.{end_of, posted_by, IsSteady, AreSessionsCounted, IsStoryKnown, run_view, IsWorkerServing, Closes, LeavesWorker}
 use Rattle.worker.proofs.Facts.{elsewhere, accepted_here}
 use Rattle.worker.proofs.SessionSteps.{runs, served_fed, served_holding, served_gave}
 use Rattle.worker.proofs.RunViews.{facts_equal, change_at, at_other, at_same, ended_same, count_same, accepts_more}
 use Rattle.worker.proofs.StoryLaws.{paused_but, paused_elsewhere}
 use Rattle.worker.proofs.PieceLaws.{pieces_at}
-use Rattle.worker.proofs.WorkerSteps.{WorkerGoesOn, StoryFacts, steps_on, closes_in, steady_same, steady_closed, same_end, told_gone, told_open, fact_at, running_on}
+use Rattle.worker.proofs.WorkerSteps.{WorkerGoesOn, StoryFacts, steps_on, closes_in, steady_same, steady_closed, same_end}
+use Rattle.worker.proofs.WorkerSteps.{told_gone, told_open, fact_at, running_on}
 use Rattle.proto.proofs.CountLemmas.{either_way}
 
 -- ---- a held piece is fed
@@ -85,7 +86,7 @@ within_goes_on told old new f rest port p u h each =
       same_end = same_end old new rest.end;
       steady = subst (λ (y : WorkerView × Option Posted). IsSteady y.0 y.1 new.book)
           (λ i. (sym rest.end i, sym rest.request i))
-          (steady_same old.worker_end old.request old.book new.book p u h.steady);
+          (steady_same (end_of old) old.request old.book new.book p u h.steady);
       strangers = rest.strangers ∙ h.strangers;
       unopened = rest.unopened;
       ended = rest.ended;

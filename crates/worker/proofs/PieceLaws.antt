@@ -4,7 +4,7 @@ use Rattle.std.proofs.Common.{List, [], ◌++◌, refl, sym, ap, ◌∙◌, Opti
 use Rattle.std.specs.Option.{option_map}
 use Rattle.session_book.specs.Session.{SessionState, once_fed, gave}
 use Rattle.session_book.specs.Book.{BookState, session_of, held_of, OnlyAt}
-use Rattle.worker.specs.Places.{piece_of}
+use Rattle.worker.specs.EndCauses.{piece_of}
 use Rattle.worker.proofs.RunViews.{at_other}
 use Rattle.proto.proofs.CountLemmas.{either_way}
 

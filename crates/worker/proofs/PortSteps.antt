@@ -16,10 +16,10 @@ use Rattle.worker.specs.declared.port.PortRecord.TheVariants as was
 use Rattle.worker.specs.declared.state.WorkerState.{WorkerState}
 use Rattle.worker.specs.Ports.{PortStory, then_told, with_pause, IsOpenIn, is_open, was_opened, has_ended, AcceptsOnlyOpen}
 use Rattle.worker.specs.Sessions.{PortFacts, port_facts, RunView, facts, cause_of, AreFactsConsistent}
-use Rattle.worker.specs.Places.{Rises, piece_of}
-use Rattle.worker.specs.Workers.{posted_by, IsSteady, AreSessionsCounted, IsStoryKnown, run_view, IsWorkerServing, Closes, Shuts, LeavesWorker}
+use Rattle.worker.specs.EndCauses.{Rises, piece_of}
+use Rattle.worker.specs.Workers.{end_of, posted_by, IsSteady, AreSessionsCounted, IsStoryKnown, run_view, IsWorkerServing, Closes, Shuts, LeavesWorker}
 use Rattle.worker.specs.Workers.{HandlesData, feeds, holds, shuts, drops, Admits, Refuses, SameRest}
-use Rattle.worker.proofs.PlaceLemmas.{rises_more, rises_with, length-with, cause_more, cause_new}
+use Rattle.worker.proofs.EndCauseLemmas.{rises_more, rises_with, length-with, cause_more, cause_new}
 use Rattle.worker.proofs.Facts.{elsewhere, opened_here, fed_here, shut_here}
 use Rattle.worker.proofs.SessionSteps.{Stays, served_came, closed_no_memory, runs, runs_at_port, untouched, is_running, is_unopened, served_new}
 use Rattle.worker.proofs.SessionSteps.{opened_if_placed}
@@ -27,8 +27,8 @@ use Rattle.worker.proofs.RunViews.{facts_equal, change_at, at_other, at_same, en
 use Rattle.worker.proofs.RunViews.{shuts_here, close_all, apart_shut}
 use Rattle.worker.proofs.StoryLaws.{told_before, two_calls, paused_elsewhere, paused_kept, paused_but, paused_more, resumed_holds_none}
 use Rattle.worker.proofs.PieceLaws.{pieces_at, pieces_kept, fed_piece}
-use Rattle.worker.proofs.WorkerSteps.{WorkerGoesOn, OwnFacts, StoryFacts, steps, steps_on, steady_same, same_end, told_finished, told_gone, closes_in, steady_closed}
-use Rattle.worker.proofs.WorkerSteps.{shut_goes_on, told_fed, told_held, open_here, open_at}
+use Rattle.worker.proofs.WorkerSteps.{WorkerGoesOn, OwnFacts, StoryFacts, steps, steps_on, steady_same, same_end}
+use Rattle.worker.proofs.WorkerSteps.{told_finished, told_gone, closes_in, steady_closed, shut_goes_on, told_fed, told_held, open_here, open_at}
 use Rattle.proto.proofs.CountLemmas.{either_way}
 
 -- a truth value that can't be true is false
@@ -95,7 +95,7 @@ MayOpen l t = (0 < t) × ((u : ℕ) → was_opened u l ≡ true → u < t) × (h
 pub fresh : (l : List PortRecord) (t : ℕ) → MayOpen l t → was_opened t l ≡ false
 fresh l t may = bool_false (was_opened t l) (λ e. let lt = may.1 t e in omega (arith, lt))
 
--- all that is known stays true where a session is opened and gets a place in the report and in the book
+-- all that is known stays true where a session is opened and gets an entry in the report and in the book
 pub told_admitted : (v v' : RunView) (unopened : ℕ) (ended : Bool) (t : ℕ) → IsStoryKnown v unopened ended
     → MayOpen v.events t
     → v'.events ≡ v.events ++ was.Opened t ∷ [] → v'.posted ≡ v.posted → v'.back ≡ v.back
@@ -198,7 +198,7 @@ admit_goes_on told old new port t opens rest h k =
       same_end = same_end old new rest.end;
       steady = subst (λ (y : WorkerView × Option Posted). IsSteady y.0 y.1 new.book)
           (λ i. (sym rest.end i, sym rest.request i))
-          (steady_same old.worker_end old.request old.book new.book k.counts.0 k.counts.1 h.steady);
+          (steady_same (end_of old) old.request old.book new.book k.counts.0 k.counts.1 h.steady);
       strangers = rest.strangers ∙ h.strangers;
       unopened = k.unopened;
       ended = rest.ended;
@@ -300,7 +300,7 @@ rest_facts told old new port rest b h = record {
   same_end = same_end old new rest.end;
   steady = subst (λ (y : WorkerView × Option Posted). IsSteady y.0 y.1 new.book)
       (λ i. (sym rest.end i, sym rest.request i))
-      (steady_same old.worker_end old.request old.book new.book b.0 b.1 h.steady);
+      (steady_same (end_of old) old.request old.book new.book b.0 b.1 h.steady);
   strangers = rest.strangers ∙ h.strangers;
   unopened = rest.unopened;
   ended = rest.ended;

@@ -206,7 +206,7 @@ final_drained v s messages rest run held emptied many reads =
     ∙ r.has_said.whole)
     (run.gone, run.shut, sym r.has_read.ended ∙ ends)
 
--- a session with a place in the report is final, where it has as many replies as requests and, if it is still open,
+-- a session with an entry in the report is final, where it has as many replies as requests and, if it is still open,
 -- is emptied
 final_placed : (v : RunView) (s : ℕ) (c : EndCause) (messages : List Message) (rest : List ℕ)
     → IsReportedAs (facts v s) (Some c)
@@ -225,7 +225,7 @@ final_placed v s causes.Gone messages rest h none emptied many reads =
 final_placed v s causes.NoMemory messages rest h none emptied many reads =
     final_closed v s causes.NoMemory messages rest h reads
 
--- a session at whose place in the report a cause stands is running or closed, as that cause says
+-- a session at whose entry in the report a cause stands is running or closed, as that cause says
 placed_as : (f : SessionFacts) (c : EndCause) (o : Bool) (k : Option EndCause) → IsKnownAs o k f → k ≡ Some c
     → IsReportedAs f (Some c)
 placed_as f c false k h e = absurd (not_both k c h.1 e)
@@ -312,13 +312,13 @@ reported v end unopened h posted back all none emptied = record {
 }
 
 -- where a cause stands
-pub place_of_cause : (xs : List (ℕ × EndCause)) (s : ℕ) (c : EndCause) → cause_of xs s ≡ Some c
+pub position_of_cause : (xs : List (ℕ × EndCause)) (s : ℕ) (c : EndCause) → cause_of xs s ≡ Some c
     → (k : ℕ) × (k < length xs) × ((d : ℕ × EndCause) → ((get_or xs k d).0 ≡ s) × ((get_or xs k d).1 ≡ c))
-place_of_cause [] s c e = absurd (cc)
-place_of_cause (x ∷ xs) s c e =
+position_of_cause [] s c e = absurd (cc)
+position_of_cause (x ∷ xs) s c e =
     either_way x.0 s
     (λ (q : x.0 ≡ s). let here : Some x.1 ≡ Some c = sym (ap (λ b. cond b (Some x.1) (cause_of xs s)) (eq-eqb x.0 s q))
     ∙ e in (0, omega arith, λ d. (q, cc)))
-    (λ (ne : x.0 ≢ s). let k = place_of_cause xs s c
+    (λ (ne : x.0 ≢ s). let k = position_of_cause xs s c
     (sym (ap (λ b. cond b (Some x.1) (cause_of xs s)) (ne_eqb x.0 s ne)) ∙ e) in
     (suc k.0, omega (arith, k.1), k.2))

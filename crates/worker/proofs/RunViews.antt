@@ -10,9 +10,9 @@ use Rattle.worker.specs.declared.port.PortRecord.{PortRecord}
 use Rattle.worker.specs.declared.port.PortRecord.TheVariants.{Opened, Gone, Ended, Shut}
 use Rattle.worker.specs.Ports.{has_ended, is_end, opened_count, opens, IsProper, AreProperAfter, AcceptsOnlyOpen}
 use Rattle.worker.specs.Sessions.{PortFacts, port_facts, SessionFacts, asked_by, had_by, cause_of, RunView, facts, AreFactsConsistent, IsClosed}
-use Rattle.worker.specs.Places.{with_cause}
+use Rattle.worker.specs.EndCauses.{with_cause}
 use Rattle.worker.proofs.Facts.{about, elsewhere, shut_here, gone_here, any_no, any_yes}
-use Rattle.worker.proofs.PlaceLemmas.{cause_apart, cause_here}
+use Rattle.worker.proofs.EndCauseLemmas.{cause_apart, cause_here}
 use Rattle.worker.proofs.SessionSteps.{Stays, is_closed}
 use Rattle.proto.proofs.CountLemmas.{either_way}
 
@@ -71,7 +71,7 @@ accepts_more l x h k = proper_after [] l x h k
 
 -- ---- a session is closed
 
--- the list has one more entry, the cause stands at the session's place, and the session is no longer in the book, with its held
+-- the list has one more entry, the cause stands at the session's entry, and the session is no longer in the book, with its held
 -- piece; nothing else changes
 pub record ClosesIn (w w' : RunView) (t : ℕ) (cause : EndCause) (x : PortRecord) : Type 0 where
   pub events : w'.events ≡ w.events ++ x ∷ []

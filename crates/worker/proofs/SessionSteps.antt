@@ -383,7 +383,7 @@ pub dropped : (f : SessionFacts) (r : Reply) → f.state ≡ None → (f.asked �
     → AreFactsConsistent (record f { had = f.had ++ r ∷ [] })
 dropped f r none some h = record { known = dropped_as f r f.port.opened f.cause none some h.known }
 
--- a session with a place was opened
+-- a session with an entry was opened
 placed_opened : (f : SessionFacts) (d : EndCause) (o : Bool) (c : Option EndCause) → IsKnownAs o c f → c ≡ Some d
     → o ≡ true
 placed_opened f d false c h e = absurd (not_both c d h.1 e)

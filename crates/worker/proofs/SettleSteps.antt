@@ -12,7 +12,7 @@ use Rattle.proto.specs.declared.history.Answered.{Answered}
 use Rattle.proto.proofs.Options.{some_is}
 use Rattle.proto.specs.History.{asked_posted}
 use Rattle.proto.specs.Reading.{asks}
-use Rattle.exchange.specs.Ends.{WorkerView}
+use Rattle.exchange.specs.Ends.{WorkerView, WorkerBatchView}
 use Rattle.exchange.specs.Beginnings.{posted_of}
 use Rattle.exchange.proofs.Lists.{take_more}
 use Rattle.session_book.specs.declared.causes.EndCause.{EndCause}
@@ -25,12 +25,12 @@ use Rattle.worker.specs.declared.port.PortRecord.TheVariants as was
 use Rattle.worker.specs.declared.state.WorkerState.{WorkerState}
 use Rattle.worker.specs.Sessions.{PortFacts, port_facts, RunView, facts, asked_by, had_by, cause_of, AreFactsConsistent, IsSessionServed}
 use Rattle.worker.specs.Ports.{PortStory, then_told, has_ended, AcceptsOnlyOpen}
-use Rattle.worker.specs.Places.{Rises, piece_of}
-use Rattle.worker.specs.Workers.{posted_by, unsettled_post, IsNumbered, IsSteady, AreSessionsCounted, IsStoryKnown, run_view, IsWorkerServing, TakesNone}
-use Rattle.worker.specs.Workers.{TakesBack, Shuts}
+use Rattle.worker.specs.EndCauses.{Rises, piece_of}
+use Rattle.worker.specs.Workers.{all_sent, end_of, posted_by, unsettled_post, IsNumbered, IsSteady, AreSessionsCounted, IsStoryKnown, run_view, IsWorkerServing}
+use Rattle.worker.specs.Workers.{TakesNone, TakesBack, Shuts}
 use Rattle.worker.proofs.Facts.{had_here, had_elsewhere}
 use Rattle.worker.proofs.SessionSteps.{runs, is_running, Stays, served_settled, closed_starved, dropped}
-use Rattle.worker.proofs.PlaceLemmas.{rises_with, length-with}
+use Rattle.worker.proofs.EndCauseLemmas.{rises_with, length-with}
 use Rattle.worker.proofs.RunViews.{facts_equal, change_at, at_other, at_same, ended_same, count_same, accepts_more, ClosesIn, close_all, shuts_here, apart_shut}
 use Rattle.worker.proofs.StoryLaws.{same_story, paused_kept, paused_but, paused_elsewhere}
 use Rattle.worker.proofs.PieceLaws.{pieces_kept, pieces_gone}
@@ -219,7 +219,7 @@ pub record KeepsRest {P : Type 0} (old new : WorkerState P) : Type 0 where
 -- what taking back an answer makes of the worker's view, the held pieces left as they were
 taken_in : {P : Type 0} (story : PortStory) (old new : WorkerState P) (a : Answered) (st : Option SessionState)
     → KeepsRest old new
-    → TakesBack old.worker_end new.worker_end a
+    → TakesBack (end_of old) (end_of new) a
     → ((k : ℕ) → session_of new.book k ≡ cond (k == a.session) st (session_of old.book k))
     → TakesIn (run_view story old) (record (run_view story new) { piece = piece_of old.book }) a st
 taken_in story old new a st k b book = record {
@@ -234,7 +234,7 @@ taken_in story old new a st k b book = record {
 -- a worker that took back an answer goes on, where the book's oldest request is no longer unsettled, the held pieces stay, and
 -- all is known still
 answer_goes_on : {P : Type 0} (told : P → Option PortStory) (old new : WorkerState P) (a : Answered) → KeepsRest old new
-    → TakesBack old.worker_end new.worker_end a → IsWorkerServing told old → new.book.posted ≡ old.book.posted
+    → TakesBack (end_of old) (end_of new) a → IsWorkerServing told old → new.book.posted ≡ old.book.posted
     → new.book.unsettled ≡ drop 1 old.book.unsettled
     → ((s : ℕ) → piece_of new.book s ≡ piece_of old.book s)
     → ((story : PortStory) → IsStoryKnown (run_view story old) old.unopened old.ended
@@ -243,8 +243,8 @@ answer_goes_on : {P : Type 0} (told : P → Option PortStory) (old new : WorkerS
 answer_goes_on told old new a k b h p u pieces is_told =
     steps_on told old new (λ story. story) (same_story (told old.port) (told new.port) (ap told k.port)) (record {
       same_end = b.same;
-      steady = subst (λ (r : Option Posted). IsSteady new.worker_end r new.book) (sym k.request)
-          (steady_taken old.worker_end new.worker_end old.request old.book new.book a h.steady b p u);
+      steady = subst (λ (r : Option Posted). IsSteady (end_of new) r new.book) (sym k.request)
+          (steady_taken (end_of old) (end_of new) old.request old.book new.book a h.steady b p u);
       strangers = k.strangers ∙ h.strangers;
       unopened = k.unopened;
       ended = k.ended;
@@ -271,14 +271,14 @@ steady_still end end' request book k h =
     }
 
 -- a worker whose end found no answer goes on
-pub none_taken_goes_on : {P : Type 0} (told : P → Option PortStory) (old : WorkerState P) (end : WorkerView)
-    → TakesNone old.worker_end end
-    → IsWorkerServing told old → WorkerGoesOn told old (record old { worker_end = end })
-none_taken_goes_on told old end k h =
-    let new = record old { worker_end = end } in
+pub none_taken_goes_on : {P : Type 0} (told : P → Option PortStory) (old : WorkerState P) (batch : WorkerBatchView)
+    → TakesNone (end_of old) (all_sent batch)
+    → IsWorkerServing told old → WorkerGoesOn told old (record old { batch = batch })
+none_taken_goes_on told old batch k h =
+    let new = record old { batch = batch } in
     steps_on told old new (λ story. story) (same_story (told old.port) (told old.port) refl) (record {
       same_end = k.same;
-      steady = steady_still old.worker_end end old.request old.book k h.steady;
+      steady = steady_still (end_of old) (all_sent batch) old.request old.book k h.steady;
       strangers = h.strangers;
       unopened = refl;
       ended = refl;
@@ -292,9 +292,23 @@ none_taken_goes_on told old end k h =
       was_so.1,
     ))
 
+-- a worker whose end is the same once all that was put is flushed goes on
+pub flushed_goes_on : {P : Type 0} (told : P → Option PortStory) (old : WorkerState P) (batch : WorkerBatchView)
+    → all_sent batch ≡ end_of old
+    → IsWorkerServing told old → WorkerGoesOn told old (record old { batch = batch })
+flushed_goes_on told old batch same h = none_taken_goes_on told old batch (record {
+  sent = ap (λ (w : WorkerView). w.sent) same;
+  back = ap (λ (w : WorkerView). w.back) same;
+  running = ap (λ (w : WorkerView). w.said_bye) same;
+  same = record {
+    exchange = ap (λ (w : WorkerView). w.exchange) same;
+    worker = ap (λ (w : WorkerView). w.worker) same;
+  };
+}) h
+
 -- a worker goes on where the answer that came back went to its session
 pub kept_goes_on : {P : Type 0} (told : P → Option PortStory) (old new : WorkerState P) (a : Answered) → KeepsRest old new
-    → TakesBack old.worker_end new.worker_end a → IsWorkerServing told old → SettlesReply old.book new.book a
+    → TakesBack (end_of old) (end_of new) a → IsWorkerServing told old → SettlesReply old.book new.book a
     → WorkerGoesOn told old new
 kept_goes_on told old new a k b h r =
     answer_goes_on told old new a k b h (ap (λ (x : BookState). x.posted) r.settles.rest)
@@ -307,7 +321,7 @@ kept_goes_on told old new a k b h r =
 
 -- a worker goes on where the answer that came back was dropped, as its session was closed
 pub dropped_goes_on : {P : Type 0} (told : P → Option PortStory) (old new : WorkerState P) (a : Answered) → KeepsRest old new
-    → TakesBack old.worker_end new.worker_end a → IsWorkerServing told old → session_of old.book a.session ≡ None
+    → TakesBack (end_of old) (end_of new) a → IsWorkerServing told old → session_of old.book a.session ≡ None
     → SettlesOldest old.book new.book a None
     → WorkerGoesOn told old new
 dropped_goes_on told old new a k b h closed r =
@@ -317,8 +331,8 @@ dropped_goes_on told old new a k b h closed r =
     (λ story was_told.
     told_dropped (run_view story old) (record (run_view story new) { piece = piece_of old.book }) old.unopened old.ended
     a was_told closed
-    (some_asked (posted_by old.worker_end old.request) (length old.worker_end.back) a.session (posted_of a)
-    (at_posted old.worker_end old.request a b.own) refl) (taken_in story old new a None k b r.only_at))
+    (some_asked (posted_by (end_of old) old.request) (length (end_of old).back) a.session (posted_of a)
+    (at_posted (end_of old) old.request a b.own) refl) (taken_in story old new a None k b r.only_at))
 
 -- all is known still once a reply came back that found no memory, and its session was shut
 told_starved : (v u v' : RunView) (unopened : ℕ) (ended : Bool) (a : Answered) (s : SessionState)
@@ -363,12 +377,12 @@ told_starved v u v' unopened ended a s h open_is k c =
 -- a worker goes on where the answer that came back found no memory, and its session was shut
 pub starved_goes_on : {P : Type 0} (told : P → Option PortStory) (old mid new : WorkerState P) (a : Answered)
     (s : SessionState) → KeepsRest old mid
-    → TakesBack old.worker_end mid.worker_end a → IsWorkerServing told old → session_of old.book a.session ≡ Some s
+    → TakesBack (end_of old) (end_of mid) a → IsWorkerServing told old → session_of old.book a.session ≡ Some s
     → SettlesOldest old.book mid.book a None → Shuts told mid new a.session causes.NoMemory → WorkerGoesOn told old new
 starved_goes_on {P} told old mid new a s k b h open_is r c =
-    let steady : IsSteady mid.worker_end mid.request mid.book =
-    subst (λ (q : Option Posted). IsSteady mid.worker_end q mid.book) (sym k.request)
-    (steady_taken old.worker_end mid.worker_end old.request old.book mid.book a h.steady b
+    let steady : IsSteady (end_of mid) mid.request mid.book =
+    subst (λ (q : Option Posted). IsSteady (end_of mid) q mid.book) (sym k.request)
+    (steady_taken (end_of old) (end_of mid) old.request old.book mid.book a h.steady b
     (ap (λ (x : BookState). x.posted) r.rest)
     (ap (λ (x : BookState). x.unsettled) r.rest)) in
     let same = same_end mid new c.closes.end in let f = then_told (was.Shut a.session ∷ []) in

@@ -15,10 +15,10 @@ use Rattle.worker.specs.declared.state.WorkerState.{WorkerState}
 use Rattle.worker.specs.Ports.{PortStory, then_told, IsOpenIn, is_open, was_opened, has_gone, was_shut, has_ended, opened_count, IsProper, AcceptsOnlyOpen}
 use Rattle.worker.specs.Sessions.{PortFacts, port_facts, SessionFacts, RunView, facts, asked_by, had_by, cause_of, AreFactsConsistent, IsSessionServed}
 use Rattle.worker.specs.Sessions.{IsClosed}
-use Rattle.worker.specs.Places.{Rises, piece_of}
-use Rattle.worker.specs.Workers.{posted_by, IsSteady, AreSessionsCounted, IsStoryKnown, run_view, ArePaused, IsWorkerServing, IsSameEnd, Continues, Closes}
-use Rattle.worker.specs.Workers.{Shuts}
-use Rattle.worker.proofs.PlaceLemmas.{rises_with, length-with}
+use Rattle.worker.specs.EndCauses.{Rises, piece_of}
+use Rattle.worker.specs.Workers.{end_of, posted_by, IsSteady, AreSessionsCounted, IsStoryKnown, run_view, ArePaused, IsWorkerServing, IsSameEnd}
+use Rattle.worker.specs.Workers.{Continues, Closes, Shuts}
+use Rattle.worker.proofs.EndCauseLemmas.{rises_with, length-with}
 use Rattle.worker.proofs.Facts.{about, elsewhere, fed_here}
 use Rattle.worker.proofs.SessionSteps.{Runs, runs, runs_at_port, is_running, closed_gone, closed_no_memory, closed_finished, served_came, served_fed}
 use Rattle.worker.proofs.SessionSteps.{served_holding}
@@ -30,7 +30,7 @@ use Rattle.worker.proofs.RunViews.{close_all, apart_shut, apart_gone}
 -- a worker went on, and still serves
 pub record WorkerGoesOn {P : Type 0} (told : P → Option PortStory) (old new : WorkerState P) : Type 0 where
   pub tells : is_some (told new.port) ≡ is_some (told old.port)
-  pub same_end : IsSameEnd old.worker_end new.worker_end
+  pub same_end : IsSameEnd (end_of old) (end_of new)
   pub serving : IsWorkerServing told new
 
 -- so it continues, where its port leads on
@@ -163,16 +163,16 @@ closes_in story old new t c x k rises = record {
 
 -- the end and the book agree still once a session is closed
 pub steady_closed : {P : Type 0} (old new : WorkerState P) (t : ℕ) (c : EndCause) → Closes old new t c
-    → IsSteady old.worker_end old.request old.book
-    → IsSteady new.worker_end new.request new.book
+    → IsSteady (end_of old) old.request old.book
+    → IsSteady (end_of new) new.request new.book
 steady_closed old new t c k h =
     subst (λ (y : WorkerView × Option Posted). IsSteady y.0 y.1 new.book) (λ i. (sym k.end i, sym k.request i))
-    (steady_same old.worker_end old.request old.book new.book (ap (λ (b : BookState). b.posted) k.book.rest)
+    (steady_same (end_of old) old.request old.book new.book (ap (λ (b : BookState). b.posted) k.book.rest)
     (ap (λ (b : BookState). b.unsettled) k.book.rest) h)
 
 -- an end that hasn't changed is the same end
-pub same_end : {P : Type 0} (old new : WorkerState P) → new.worker_end ≡ old.worker_end
-    → IsSameEnd old.worker_end new.worker_end
+pub same_end : {P : Type 0} (old new : WorkerState P) → end_of new ≡ end_of old
+    → IsSameEnd (end_of old) (end_of new)
 same_end old new e = record {
   exchange = ap (λ (w : WorkerView). w.exchange) e;
   worker = ap (λ (w : WorkerView). w.worker) e;
@@ -182,8 +182,8 @@ same_end old new e = record {
 
 -- what is true of a worker beside its port's story
 pub record OwnFacts {P : Type 0} (old new : WorkerState P) : Type 0 where
-  pub same_end : IsSameEnd old.worker_end new.worker_end
-  pub steady : IsSteady new.worker_end new.request new.book
+  pub same_end : IsSameEnd (end_of old) (end_of new)
+  pub steady : IsSteady (end_of new) new.request new.book
   pub strangers : new.strangers ≡ 0
   pub unopened : new.unopened ≡ old.unopened
   pub ended : new.ended ≡ old.ended
@@ -200,8 +200,8 @@ story_facts told w h story e = (h.known story e, h.paused story e)
 
 -- a step that makes of each story what f does
 pub steps : {P : Type 0} (told : P → Option PortStory) (old new : WorkerState P) (f : PortStory → PortStory)
-    → told new.port ≡ option_map f (told old.port) → IsSameEnd old.worker_end new.worker_end
-    → IsSteady new.worker_end new.request new.book
+    → told new.port ≡ option_map f (told old.port) → IsSameEnd (end_of old) (end_of new)
+    → IsSteady (end_of new) new.request new.book
     → new.strangers ≡ 0 → IsWorkerServing told old
     → ((story : PortStory) → told old.port ≡ Some story → StoryFacts story old old.unopened old.ended
     → StoryFacts (f story) new new.unopened new.ended) → WorkerGoesOn told old new

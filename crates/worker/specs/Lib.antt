@@ -1,5 +1,5 @@
 pub mod Ports
 pub mod Sessions
-pub mod Places
+pub mod EndCauses
 pub mod Workers
 pub mod Reports

@@ -14,7 +14,7 @@ use Rattle.session_book.specs.Session.{ended_by}
 use Rattle.worker.specs.declared.port.PortRecord.{PortRecord}
 use Rattle.worker.specs.Ports.{fed, given, was_opened, has_gone, was_shut, has_ended, AcceptsOnlyOpen}
 use Rattle.worker.specs.Sessions.{cause_of}
-use Rattle.worker.specs.Places.{Rises}
+use Rattle.worker.specs.EndCauses.{Rises}
 use Rattle.worker.specs.Workers.{AreSessionsCounted}
 
 -- the session was answered to its end

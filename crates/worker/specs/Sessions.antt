@@ -44,13 +44,13 @@ asked_by posted s = map (λ (p : Posted). p.request) (filter (λ (p : Posted). p
 abbrev pub had_by : List Answered → ℕ → List Reply
 had_by back s = map (λ (a : Answered). a.reply) (filter (λ (a : Answered). a.session == s) back)
 
--- the cause that stands at a session's place in the report
+-- the cause that stands at a session's entry in the report
 abbrev pub cause_of : List (ℕ × EndCause) → ℕ → Option EndCause
 cause_of [] s = None
 cause_of (e ∷ sessions) s = if e.0 == s then Some e.1 else cause_of sessions s
 
 -- What is known of a session: what the port's list says of it; the requests that were posted for it, or are
--- held to be; the replies that came back; its place in the report; its state in the book, while it is open;
+-- held to be; the replies that came back; its entry in the report; its state in the book, while it is open;
 -- and the piece of input that is held until it fits.
 pub record SessionFacts : Type 0 where
   pub port : PortFacts
@@ -128,7 +128,7 @@ pub record IsClosed (f : SessionFacts) (cause : EndCause) : Type 0 where
   pub over : (f.port.gone ≡ true) ⊎ (f.port.shut ≡ true)
   pub state : f.state ≡ None
 
--- what is known of a session, by whether it was opened and by its place in the report
+-- what is known of a session, by whether it was opened and by its entry in the report
 abbrev pub IsReportedAs : SessionFacts → Option EndCause → Type 0
 IsReportedAs f None = IsUnopened f
 IsReportedAs f (Some causes.Drained) = IsRunning f

@@ -8,7 +8,7 @@ use lib.ListN.{get_elem?}
 use Rattle.proto.specs.declared.history.Posted.{Posted}
 use Rattle.proto.specs.declared.history.Answered.{Answered}
 use Rattle.proto.specs.History.{asked_posted}
-use Rattle.exchange.specs.Ends.{WorkerView}
+use Rattle.exchange.specs.Ends.{WorkerView, WorkerBatchView, flushed}
 use Rattle.exchange.specs.Beginnings.{posted_of}
 use Rattle.session_book.specs.declared.causes.EndCause.{EndCause}
 use Rattle.session_book.specs.declared.causes.Unsettled.{Unsettled}
@@ -20,7 +20,14 @@ use Rattle.worker.specs.declared.port.PortRecord.TheVariants as was
 use Rattle.worker.specs.declared.state.WorkerState.{WorkerState}
 use Rattle.worker.specs.Ports.{PortStory, then_told, with_pause, has_ended, opened_count, AcceptsOnlyOpen}
 use Rattle.worker.specs.Sessions.{RunView, facts, AreFactsConsistent}
-use Rattle.worker.specs.Places.{Rises, with_cause, piece_of}
+use Rattle.worker.specs.EndCauses.{Rises, with_cause, piece_of}
+
+-- a worker's end as it is once all that was put is flushed: so what was put counts as sent
+abbrev pub all_sent : WorkerBatchView → WorkerView
+all_sent batch = (flushed batch).end
+
+abbrev pub end_of : {P : Type 0} → WorkerState P → WorkerView
+end_of w = all_sent w.batch
 
 -- the requests that were sent, and the one that is held
 abbrev pub posted_by : WorkerView → Option Posted → List Posted
@@ -60,8 +67,8 @@ abbrev pub run_view : {P : Type 0} → PortStory → WorkerState P → RunView
 run_view story w =
     record {
       events = story.events;
-      posted = posted_by w.worker_end w.request;
-      back = w.worker_end.back;
+      posted = posted_by (end_of w) w.request;
+      back = (end_of w).back;
       sessions = w.sessions.items;
       book = w.book;
       piece = piece_of w.book;
@@ -73,7 +80,7 @@ ArePaused story piece = (s : ℕ) → (piece s ≡ [] → ⊥) → story.paused 
 
 -- what stays true of a worker over a port
 pub record IsWorkerServing {P : Type 0} (told : P → Option PortStory) (w : WorkerState P) : Type 0 where
-  pub steady : IsSteady w.worker_end w.request w.book
+  pub steady : IsSteady (end_of w) w.request w.book
   pub strangers : w.strangers ≡ 0
   pub known : (story : PortStory) → told w.port ≡ Some story → IsStoryKnown (run_view story w) w.unopened w.ended
   pub paused : (story : PortStory) → told w.port ≡ Some story → ArePaused story (piece_of w.book)
@@ -103,12 +110,12 @@ pub record Continues {P : Type 0} (told : P → Option PortStory) (leads_to : P 
     (old new : WorkerState P) : Type 0 where
   pub tells : is_some (told new.port) ≡ is_some (told old.port)
   pub leads : leads_to old.port new.port
-  pub same_end : IsSameEnd old.worker_end new.worker_end
+  pub same_end : IsSameEnd (end_of old) (end_of new)
 
 -- Of a worker only the port and what it knows of this session change: it is no longer in the book, with its held piece,
--- and the cause stands at its place.
+-- and the cause stands at its entry in the report.
 pub record Closes {P : Type 0} (old new : WorkerState P) (session : ℕ) (cause : EndCause) : Type 0 where
-  pub end : new.worker_end ≡ old.worker_end
+  pub end : end_of new ≡ end_of old
   pub request : new.request ≡ old.request
   pub book : ChangesSession old.book new.book session None
   pub sessions : Rises old.sessions.items → new.sessions.items ≡ with_cause old.sessions.items session cause
@@ -122,7 +129,7 @@ pub record Shuts {P : Type 0} (told : P → Option PortStory) (old new : WorkerS
   pub port : told new.port ≡ option_map (then_told (was.Shut session ∷ [])) (told old.port)
   pub closes : Closes old new session cause
 
--- A session was just opened: it has a place in the report and is in the book; or it is shut and counted.
+-- A session was just opened: it has an entry in the report and is in the book; or it is shut and counted.
 pub record Admits {P : Type 0} (told : P → Option PortStory) (old new : WorkerState P) (session : ℕ) : Type 0 where
   pub port : new.port ≡ old.port
   pub sessions : new.sessions.items ≡ old.sessions.items ++ (session, causes.Drained) ∷ []
@@ -138,14 +145,14 @@ pub record Refuses {P : Type 0} (told : P → Option PortStory) (old new : Worke
 
 -- what doesn't change when a session is opened
 pub record SameRest {P : Type 0} (old new : WorkerState P) : Type 0 where
-  pub end : new.worker_end ≡ old.worker_end
+  pub end : end_of new ≡ end_of old
   pub request : new.request ≡ old.request
   pub strangers : new.strangers ≡ old.strangers
   pub ended : new.ended ≡ old.ended
 
 -- the rest of the worker
 pub record LeavesWorker {P : Type 0} (old new : WorkerState P) : Type 0 where
-  pub end : new.worker_end ≡ old.worker_end
+  pub end : end_of new ≡ end_of old
   pub request : new.request ≡ old.request
   pub sessions : new.sessions.items ≡ old.sessions.items
   pub unopened : new.unopened ≡ old.unopened
@@ -176,7 +183,7 @@ pub data HandlesData {P : Type 0} (told : P → Option PortStory) (old : WorkerS
 
 -- The session was asked and gave no request; nothing else of the worker changed but what was read of it.
 pub record IsQuiet {P : Type 0} (old new : WorkerState P) (session : ℕ) : Type 0 where
-  pub end : new.worker_end ≡ old.worker_end
+  pub end : end_of new ≡ end_of old
   pub request : new.request ≡ old.request
   pub sessions : new.sessions ≡ old.sessions
   pub ended : new.ended ≡ old.ended
@@ -185,7 +192,7 @@ pub record IsQuiet {P : Type 0} (old new : WorkerState P) (session : ℕ) : Type
 
 -- nothing of the worker changes but what the book has of this session, where it is still open
 pub record IsStill {P : Type 0} (old new : WorkerState P) (session : ℕ) (cause : EndCause) : Type 0 where
-  pub end : new.worker_end ≡ old.worker_end
+  pub end : end_of new ≡ end_of old
   pub request : new.request ≡ old.request
   pub sessions : new.sessions ≡ old.sessions
   pub ended : new.ended ≡ old.ended
@@ -202,7 +209,7 @@ pub record IsEmptied (s : SessionState) : Type 0 where
 pub record IsDrained {P : Type 0} (w : WorkerState P) : Type 0 where
   pub ended : w.ended ≡ true
   pub request : w.request ≡ None
-  pub back : length w.worker_end.back ≡ length w.worker_end.sent
+  pub back : length (end_of w).back ≡ length (end_of w).sent
   pub emptied : (k : ℕ) (d : ℕ × EndCause) → k < length w.sessions.items
       → (slice_index_or w.sessions.items k d).1 ≡ causes.Drained
       → (s : SessionState) → session_of w.book (slice_index_or w.sessions.items k d).0 ≡ Some s → IsEmptied s

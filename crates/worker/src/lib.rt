@@ -1,15 +1,15 @@
 //! One worker's loop over a port: the port's events become requests, and the answers become bytes.
 #![tactic(auto)]
 
-mod batched_end;
+mod end_causes;
 mod gate;
 mod hold_gate;
 mod open_gate;
-mod places;
 mod port;
+mod reply_buffers;
 mod report;
-mod rooms;
 mod run;
+mod sending;
 mod state;
 mod worker;
 

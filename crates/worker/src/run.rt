@@ -3,7 +3,7 @@
 ghost use Rattle.std.specs.Prelude.{◌≡◌, ◌<◌, [], true, false, is_some};
 ghost use Rattle.session_book.specs.Session.{SessionState};
 ghost use Rattle.session_book.specs.Book.{session_of};
-ghost use Rattle.worker.specs.Workers.{Continues, IsStill, IsEmptied, IsDrained};
+ghost use Rattle.worker.specs.Workers.{end_of, Continues, IsStill, IsEmptied, IsDrained};
 ghost use Rattle.worker.specs.Ports.{PortStory};
 ghost use Rattle.worker.specs.Reports.{IsReported, IsOver};
 
@@ -108,9 +108,9 @@ fn post_requests<P: Port, G: Gate>(
     let held = worker.post(gate, storage);
     let came = take_events(worker, gate, storage);
     let fed = feed_pieces(worker);
-    let posted = worker.state.worker_end.posted();
+    let posted = worker.state.posted();
     ask_sessions(worker, gate, storage);
-    let asked = worker.state.worker_end.posted() > posted;
+    let asked = worker.state.posted() > posted;
     worker.flush(storage);
     held || came || fed || asked
 }
@@ -120,7 +120,7 @@ fn settle_answers<P: Port, G: Gate>(worker: &mut Worker<P>, gate: &G) -> bool
     ensures { Continues P.told P.leads_to worker.old worker.new }
 {
     let mut moved = false;
-    for _ in 0..worker.state.worker_end.outstanding() {
+    for _ in 0..worker.state.outstanding() {
         if !worker.settle_next(gate) {
             break;
         }
@@ -169,17 +169,14 @@ fn has_drained<P: Port>(worker: &mut Worker<P>) -> bool
     ensures goes_on { Continues P.told P.leads_to worker.old worker.new }
     ensures drained { result ≡ true → IsDrained worker.new }
 {
-    if !worker.state.ended
-        || worker.state.request.is_some()
-        || worker.state.worker_end.outstanding() > 0
-    {
+    if !worker.state.ended || worker.state.request.is_some() || worker.state.outstanding() > 0 {
         return false;
     }
-    if !worker.state.book.is_idle() || worker.state.worker_end.posted() >= MAX_POSTS {
+    if !worker.state.book.is_idle() || worker.state.posted() >= MAX_POSTS {
         return false;
     }
-    for place in 0..worker.state.sessions.len() {
-        let (session, cause) = worker.state.sessions[place];
+    for position in 0..worker.state.sessions.len() {
+        let (session, cause) = worker.state.sessions[position];
         if !is_emptied(worker, session, cause) {
             return false;
         }
@@ -248,7 +245,7 @@ pub fn run_worker<P: Port, G: Gate, R: Wait>(
 fn leave<P: Port>(worker: Worker<P>, storage: &StorageSignals) -> WorkerReport<P>
     requires { IsDrained worker }
     ensures port { result.port ≡ worker.port }
-    ensures over { IsOver worker.worker_end result.worker_end }
+    ensures over { IsOver (end_of worker) result.worker_end }
     ensures strangers { result.strangers ≡ 0 }
     ensures reported { (story : PortStory) → P.told result.port ≡ Some story
         → IsReported story.events result.worker_end result.sessions.items result.unopened }
@@ -256,16 +253,17 @@ fn leave<P: Port>(worker: Worker<P>, storage: &StorageSignals) -> WorkerReport<P
     let Worker { state } = worker;
     let WorkerState {
         port,
-        worker_end,
+        mut batch,
         book: _,
         request: _,
         sessions,
         unopened,
         strangers,
         ended: _,
-        rooms: _,
+        reply_buffers: _,
     } = state;
-    let mut worker_end = worker_end.into_end();
+    batch.flush();
+    let mut worker_end = batch.into_end();
     worker_end.bye();
     storage.parking().unpark();
     WorkerReport {

@@ -1,16 +1,16 @@
 //! What a worker holds while it runs, and the parts of its steps.
 
-ghost use Rattle.std.specs.Prelude.{◌≡◌, ◌⊎◌, Some, None, IsSome, []};
+ghost use Rattle.std.specs.Prelude.{◌≡◌, ◌≤◌, ◌+◌, ◌⊎◌, Some, None, IsSome, [], length};
 ghost use Rattle.session_book.specs.Book.{session_of};
-ghost use Rattle.worker.specs.Places.{piece_of};
+ghost use Rattle.worker.specs.EndCauses.{piece_of};
 ghost use Rattle.worker.specs.Ports.{PortStory, IsOpenIn};
-ghost use Rattle.worker.specs.Workers.{Closes, Shuts, Admits, Refuses, SameRest, HandlesData};
+ghost use Rattle.worker.specs.Workers.{end_of, Closes, Shuts, Admits, Refuses, SameRest, HandlesData};
 
-use crate::batched_end::BatchedEnd;
-use crate::places::set_cause;
+use crate::end_causes::set_cause;
 use crate::port::Port;
-use crate::rooms::Rooms;
+use crate::reply_buffers::ReplyBuffers;
 use bytes::Bytes;
+use exchange::WorkerBatch;
 use proto::Posted;
 use session_book::{Book, EndCause, Received};
 
@@ -18,7 +18,8 @@ use session_book::{Book, EndCause, Received};
 #[derive(Drop)]
 pub(crate) struct WorkerState<P> {
     pub(crate) port: P,
-    pub(crate) worker_end: BatchedEnd,
+    /// The worker's end of its lane.
+    pub(crate) batch: WorkerBatch,
     pub(crate) book: Book,
     /// A request that has its number and isn't posted yet.
     pub(crate) request: Option<Posted>,
@@ -27,10 +28,25 @@ pub(crate) struct WorkerState<P> {
     pub(crate) strangers: u64,
     /// The port has ended.
     pub(crate) ended: bool,
-    pub(crate) rooms: Rooms,
+    pub(crate) reply_buffers: ReplyBuffers,
 }
 
 impl<P: Port> WorkerState<P> {
+    // How many requests were posted.
+    pub(crate) fn posted(&self) -> u64
+        ensures { result ≡ length (end_of self.now).sent }
+    {
+        self.batch.sent() + self.batch.waiting()
+    }
+
+    // How many requests were posted and not taken back.
+    pub(crate) fn outstanding(&self) -> u64
+        ensures value { result + length (end_of self.now).back ≡ length (end_of self.now).sent }
+        ensures range { result ≤ 64 }
+    {
+        self.batch.outstanding()
+    }
+
     // Takes a session out of the book, and writes why it ended.
     pub(crate) fn close(&mut self, session: u64, cause: EndCause)
         ensures port { self.new.port ≡ self.old.port }
@@ -61,7 +77,7 @@ impl<P: Port> WorkerState<P> {
         self.unopened = self.unopened.saturating_add(1);
     }
 
-    // Takes a session's place in the report and opens it in the book.
+    // Writes a session's entry in the report and opens it in the book.
     pub(crate) fn admit(&mut self, session: u64)
         requires { IsOpenIn session (P.told self.old.port) }
         ensures leads { P.leads_to self.old.port self.new.port }

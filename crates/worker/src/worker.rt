@@ -4,13 +4,13 @@ ghost use Rattle.std.specs.Prelude.{◌≡◌, true, false, Some, None, []};
 ghost use Rattle.session_book.specs.Session.{SessionState, finished_by};
 ghost use Rattle.session_book.specs.Book.{session_of};
 ghost use Rattle.worker.specs.Ports.{PortStory};
-ghost use Rattle.worker.specs.Workers.{Continues, IsQuiet};
+ghost use Rattle.worker.specs.Workers.{end_of, Continues, IsQuiet};
 ghost use Rattle.std.specs.Option.{option_and_then};
 
-use crate::batched_end::BatchedEnd;
 use crate::gate::Gate;
 use crate::port::{Gone, Port, PortEvent};
-use crate::rooms::Rooms;
+use crate::reply_buffers::ReplyBuffers;
+use crate::sending;
 use crate::state::WorkerState;
 use exchange::{StorageSignals, WorkerEnd};
 use proto::Posted;
@@ -42,29 +42,27 @@ impl<P: Port> Worker<P> {
         requires port { (story : PortStory) → P.told port ≡ Some story → story.events ≡ [] }
         requires fresh { (worker_end.sent ≡ []) × (worker_end.back ≡ []) × (worker_end.said_bye ≡ false) }
         ensures port { result.port ≡ port }
-        ensures end { result.worker_end ≡ worker_end }
+        ensures end { end_of result ≡ worker_end }
     {
         let book = Book::new(alloc, worker_end.worker());
         Worker {
             state: WorkerState {
                 port,
-                worker_end: BatchedEnd::new(worker_end),
+                batch: worker_end.batched(),
                 book,
                 request: None,
                 sessions: Vec::new(alloc),
                 unopened: 0,
                 strangers: 0,
                 ended: false,
-                rooms: Rooms::new(alloc),
+                reply_buffers: ReplyBuffers::new(alloc),
             },
         }
     }
 
     // Whether the port may wait: nothing is outstanding or held back, and no session has anything to do.
     fn may_wait(&self) -> bool {
-        self.state.request.is_none()
-            && self.state.worker_end.outstanding() == 0
-            && self.state.book.is_idle()
+        self.state.request.is_none() && self.state.outstanding() == 0 && self.state.book.is_idle()
     }
 
     // One event of the port, unless it has ended. False where there was none.
@@ -110,7 +108,7 @@ impl<P: Port> Worker<P> {
     {
         match self.state.book.next_ask(session) {
             Ok(Some((mut request, number))) => {
-                self.state.rooms.lend(&mut request);
+                self.state.reply_buffers.lend(&mut request);
                 self.state.request = Some(Posted {
                     session,
                     number,
@@ -131,7 +129,7 @@ impl<P: Port> Worker<P> {
     pub(crate) fn is_busy(&self) -> bool
         ensures { result ≡ false → self.now.request ≡ None }
     {
-        let outstanding = self.state.worker_end.outstanding();
+        let outstanding = self.state.outstanding();
         self.state.request.is_some()
             || outstanding >= MAX_UNSETTLED as u64
             || (outstanding > 0 && self.state.book.is_crowded())
@@ -166,11 +164,11 @@ impl<P: Port> Worker<P> {
         let Some(posted) = self.state.request.take() else {
             return false;
         };
-        if !gate.may_post(self.state.worker_end.worker(), posted.number) {
+        if !gate.may_post(self.state.batch.worker(), posted.number) {
             self.state.request = Some(posted);
             return false;
         }
-        match self.state.worker_end.post(posted, storage) {
+        match sending::post(&mut self.state.batch, posted, storage) {
             Ok(()) => true,
             Err(posted) => {
                 self.state.request = Some(posted);
@@ -183,20 +181,20 @@ impl<P: Port> Worker<P> {
     pub(crate) fn flush(&mut self, storage: &StorageSignals)
         ensures { Continues P.told P.leads_to self.old self.new }
     {
-        self.state.worker_end.flush(storage);
+        sending::flush(&mut self.state.batch, storage);
     }
 
     // Takes the next answer and settles it. False where there is none.
     pub(crate) fn settle_next<G: Gate>(&mut self, gate: &G) -> bool
         ensures { Continues P.told P.leads_to self.old self.new }
     {
-        let Some(answered) = self.state.worker_end.take() else {
+        let Some(answered) = sending::take_answer(&mut self.state.batch) else {
             return false;
         };
         let session = answered.session;
-        gate.answered(self.state.worker_end.worker(), answered.number);
+        gate.answered(self.state.batch.worker(), answered.number);
         let settled = self.state.book.settle(&answered);
-        self.state.rooms.keep(answered);
+        self.state.reply_buffers.keep(answered);
         match settled {
             Settled::Kept => {}
             Settled::Dropped => {}

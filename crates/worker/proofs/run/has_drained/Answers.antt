@@ -7,20 +7,20 @@ use Rattle.worker.proofs.WorkerSteps.{continues_trans}
 use Rattle.worker.proofs.DrainSteps.{EmptiedBelow, emptied_more}
 use Rattle.worker.proofs.run.has_drained.Goals as goal
 
-pub loop-place-preserved : goal.loop-place-preserved
-loop-place-preserved g c =
+pub loop-position-preserved : goal.loop-position-preserved
+loop-position-preserved g c =
     let start : c.worker.inside.state.sessions.items ≡ c.args.worker.now.sessions.items = rw c.worker.view_is refl in
-    let now : c.worker-in-loop-place.inside.state.sessions.items ≡ c.loop-place.worker.sessions.items =
-    rw c.worker-in-loop-place.view_is refl in
-    let i = c.loop-place.invariant in let e = c.is_emptied.ensures in let yes = c.if-not-is_emptied.false in
+    let now : c.worker-in-loop-position.inside.state.sessions.items ≡ c.loop-position.worker.sessions.items =
+    rw c.worker-in-loop-position.view_is refl in
+    let i = c.loop-position.invariant in let e = c.is_emptied.ensures in let yes = c.if-not-is_emptied.false in
     let still = e.still yes in
-    let w = c.loop-place.worker in let new = c.is_emptied.new.worker in let xs = w.sessions.items in
-    let x = c.index.result.now in let n = c.loop-place.place in
+    let w = c.loop-position.worker in let new = c.is_emptied.new.worker in let xs = w.sessions.items in
+    let x = c.index.result.now in let n = c.loop-position.position in
     let lt : n < length xs = omega (
       arith,
       ap (length {A = ℕ × EndCause}) (i.sessions ∙ sym start),
-      c.len-place-end.ensures,
-      c.loop-place-test.true,
+      c.len-position-end.ensures,
+      c.loop-position-test.true,
     ) in
     let same : new.sessions.items ≡ xs = λ j. (still.sessions j).items in record {
       goes_on = continues_trans g.P.Port.told g.P.Port.leads_to c.args.worker.now w new g.met.P.Port.leads_transitive
@@ -41,7 +41,7 @@ pub returns-clause-drained : goal.returns-clause-drained
 returns-clause-drained g c =
     λ done.
     let start : c.worker.inside.state.sessions.items ≡ c.args.worker.now.sessions.items = rw c.worker.view_is refl in
-    let i = c.loop-place.invariant in record {
+    let i = c.loop-position.invariant in record {
       ended = i.ended;
       request = i.request;
       back = i.back;
@@ -50,7 +50,7 @@ returns-clause-drained g c =
         lt,
         ap
             (length {A = ℕ × EndCause}) (i.sessions ∙ sym start),
-        c.len-place-end.ensures,
-        c.loop-place-test.false,
+        c.len-position-end.ensures,
+        c.loop-position-test.false,
       )) e s q;
     }

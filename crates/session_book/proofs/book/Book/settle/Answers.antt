@@ -3,7 +3,8 @@ use Rattle.std.specs.Prelude.{slice_get, box_value}
 use Rattle.std.specs.Option.{option_map_or}
 use Rattle.proto.specs.Reading.{asks}
 use Rattle.session_book.specs.Session.{SessionState, new_session, with_reply}
-use Rattle.session_book.proofs.Books.{written_only, updated_only, closed_only, only_again, first_asked, silent_unasked, settles_book, settles_kept, settles_reply}
+use Rattle.session_book.proofs.Books.{written_only, updated_only, closed_only, only_again, first_asked, silent_unasked}
+use Rattle.session_book.proofs.Books.{settles_book, settles_kept, settles_reply}
 use Rattle.session_book.proofs.book.Book.settle.Goals as goal
 
 pub invariant_of-self : goal.invariant_of-self

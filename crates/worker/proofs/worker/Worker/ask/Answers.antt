@@ -10,10 +10,11 @@ use Rattle.worker.proofs.AskSteps.{quiet_elsewhere, quiet_here, quiet_goes_on, n
 use Rattle.worker.proofs.worker.Worker.ask.Goals as goal
 
 pub invariant_of-self : goal.invariant_of-self
-invariant_of-self g c = let w = c.self.inside.state in let t = c.args.session in let b = c.next_ask.new.self in (let a = c.in-Ok-Some in
+invariant_of-self g c = let w = c.self.inside.state in let t = c.args.session in let b = c.next_ask.new.self in
+    (let a = c.in-Ok-Some in
     let is = a.is ∙ ap Ok a.field-0-is in
     let held : Request → Posted = λ q. record { session = t; number = a.number; request = q } in
-    let new = record w { book = b; request = Some (held c.lend.new.request); rooms = c.lend.new.self } in
+    let new = record w { book = b; request = Some (held c.lend.new.request); reply_buffers = c.lend.new.self } in
     let s = some_known (session_of w.book t) (λ none. let bad = (c.next_ask.ensures.closed none).0 in absurd (cc)) in
     one_goes_on g.P.Port.told w new t s.0 a.request a.number refl refl (rw c.self.view_is c.requires)
     (ap (λ (q : Request). Some (held q)) c.lend.ensures) refl refl refl refl c.self.invariant s.1
@@ -26,14 +27,15 @@ returns-in-Ok-Some-clause-goes_on g c = let w = c.self.inside.state in let t = c
     (let a = c.in-Ok-Some in
     let is = a.is ∙ ap Ok a.field-0-is in
     let held : Request → Posted = λ q. record { session = t; number = a.number; request = q } in
-    let new = record w { book = b; request = Some (held c.lend.new.request); rooms = c.lend.new.self } in
+    let new = record w { book = b; request = Some (held c.lend.new.request); reply_buffers = c.lend.new.self } in
     let s = some_known (session_of w.book t) (λ none. let bad = (c.next_ask.ensures.closed none).0 in absurd (cc)) in
     one_goes_on g.P.Port.told w new t s.0 a.request a.number refl refl (rw c.self.view_is c.requires)
     (ap (λ (q : Request). Some (held q)) c.lend.ensures) refl refl refl refl c.self.invariant s.1
     (subst (λ r. NextAsk w.book t s.0 r b) is (c.next_ask.ensures.open s.0 s.1)))
 
 pub invariant_of-self-in-Ok-None : goal.invariant_of-self-in-Ok-None
-invariant_of-self-in-Ok-None g c = let w = c.self.inside.state in let t = c.args.session in let b = c.next_ask.new.self in (let is = c.in-Ok-None.is ∙ ap Ok c.in-Ok-None.field-0-is in
+invariant_of-self-in-Ok-None g c = let w = c.self.inside.state in let t = c.args.session in let b = c.next_ask.new.self in
+    (let is = c.in-Ok-None.is ∙ ap Ok c.in-Ok-None.field-0-is in
     quiet_goes_on g.P.Port.told w (record w { book = b }) t
     (session_of w.book t) refl refl refl refl refl refl refl refl c.self.invariant
     (λ none. (c.next_ask.ensures.closed none).1)
@@ -50,7 +52,8 @@ returns-in-Ok-None-clause-goes_on g c = let w = c.self.inside.state in let t = c
     (λ s e. subst (λ r. NextAsk w.book t s r b) is (c.next_ask.ensures.open s e)))
 
 pub invariant_of-self-in-Err : goal.invariant_of-self-in-Err
-invariant_of-self-in-Err g c = let w = c.self.inside.state in let t = c.args.session in let b = c.next_ask.new.self in (let s = some_known (session_of w.book t)
+invariant_of-self-in-Err g c = let w = c.self.inside.state in let t = c.args.session in let b = c.next_ask.new.self in
+    (let s = some_known (session_of w.book t)
     (λ none. let bad = (c.next_ask.ensures.closed none).0 in let is = c.in-Err.is in absurd (cc)) in
     let a = c.next_ask.ensures.open s.0 s.1 in
     let mid = record w { book = b } in

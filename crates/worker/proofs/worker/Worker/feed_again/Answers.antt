@@ -15,7 +15,8 @@ resume-requires g c =
     open_at g.P.Port.told w t k.s c.self.invariant k.was_open
 
 pub invariant_of-self : goal.invariant_of-self
-invariant_of-self g c = let w = c.self.inside.state in let t = c.args.session in (let k = subst (λ (r : Result Bool NoMemory). FeedsHeldOf w.book t r c.feed_held.new.self)
+invariant_of-self g c = let w = c.self.inside.state in let t = c.args.session in
+    (let k = subst (λ (r : Result Bool NoMemory). FeedsHeldOf w.book t r c.feed_held.new.self)
     (c.in-Ok-true.is ∙ ap Ok c.in-Ok-true.field-0-test) c.feed_held.ensures in
     refed_goes_on g.P.Port.told w (record w { port = c.resume.new.self; book = c.feed_held.new.self }) t
     (record { end = refl; request = refl; sessions = refl; unopened = refl; strangers = refl; ended = refl })
@@ -40,7 +41,8 @@ shut-requires g c =
     open_at g.P.Port.told w t s.0 c.self.invariant s.1
 
 pub invariant_of-self-in-Err : goal.invariant_of-self-in-Err
-invariant_of-self-in-Err g c = let w = c.self.inside.state in let t = c.args.session in (let k = subst (λ (r : Result Bool NoMemory). FeedsHeldOf w.book t r c.feed_held.new.self) c.in-Err.is
+invariant_of-self-in-Err g c = let w = c.self.inside.state in let t = c.args.session in
+    (let k = subst (λ (r : Result Bool NoMemory). FeedsHeldOf w.book t r c.feed_held.new.self) c.in-Err.is
     c.feed_held.ensures in
     let s = some_there (session_of w.book t) k.0 in
     no_memory_goes_on g.P.Port.told w c.shut.new.self t s.0 (subst

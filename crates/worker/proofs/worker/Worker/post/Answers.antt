@@ -1,8 +1,8 @@
 use Rattle.std.proofs.Common.{◌≡◌, sym, ap, subst, ◌∙◌, Option, Some}
-use Rattle.exchange.specs.Ends.{WorkerView}
 use Rattle.proto.specs.declared.history.Posted.{Posted}
 use Rattle.worker.proofs.WorkerSteps.{WorkerGoesOn, continues}
 use Rattle.worker.proofs.AskSteps.{goes_on_same, posted_goes_on}
+use Rattle.worker.proofs.SettleSteps.{flushed_goes_on}
 use Rattle.worker.proofs.worker.Worker.post.Goals as goal
 
 pub returns-in_default-clause-goes_on : goal.returns-in_default-clause-goes_on
@@ -32,7 +32,7 @@ returns-then-not-may_post-clause-goes_on g c = let w = c.self.inside.state in
 pub invariant_of-self-in-Ok : goal.invariant_of-self-in-Ok
 invariant_of-self-in-Ok g c = let w = c.self.inside.state in (let taken = c.in-Some.ensures in let some = c.in-Some.is in
     let same : w.request ≡ Some c.in-Some.posted = cc in
-    posted_goes_on g.P.Port.told w c.in-Some.posted c.post.new.self c.take.new.self same c.in-Some.ensures.after
+    posted_goes_on g.P.Port.told w c.in-Some.posted c.post.new.batch c.take.new.self same c.in-Some.ensures.after
     c.in-Ok.ensures.1 c.self.invariant).serving
 
 pub returns-in-Ok-clause-goes_on : goal.returns-in-Ok-clause-goes_on
@@ -41,16 +41,15 @@ returns-in-Ok-clause-goes_on g c = let w = c.self.inside.state in
     (g.met.P.Port.leads_reflexive _)
     (let taken = c.in-Some.ensures in let some = c.in-Some.is in
     let same : w.request ≡ Some c.in-Some.posted = cc in
-    posted_goes_on g.P.Port.told w c.in-Some.posted c.post.new.self c.take.new.self same c.in-Some.ensures.after
+    posted_goes_on g.P.Port.told w c.in-Some.posted c.post.new.batch c.take.new.self same c.in-Some.ensures.after
     c.in-Ok.ensures.1 c.self.invariant)
 
 pub invariant_of-self-in-Err : goal.invariant_of-self-in-Err
 invariant_of-self-in-Err g c = let w = c.self.inside.state in (let x = c.in-Err.ensures in let taken = c.in-Some.ensures in let some = c.in-Some.is in
     let same : w.request ≡ Some c.in-Some.posted = cc in
     let held : w.request ≡ Some c.in-Err.posted = same ∙ ap (λ (p : Posted). Some p) (sym x.1) in
-    subst (λ (y : WorkerView × Option Posted). WorkerGoesOn g.P.Port.told w
-    (record w { worker_end = y.0; request = y.1 })) (λ i. (sym x.2 i, held i))
-    (goes_on_same g.P.Port.told w c.self.invariant)).serving
+    subst (λ (r : Option Posted). WorkerGoesOn g.P.Port.told w (record w { batch = c.post.new.batch; request = r })) held
+    (flushed_goes_on g.P.Port.told w c.post.new.batch x.2 c.self.invariant)).serving
 
 pub returns-in-Err-clause-goes_on : goal.returns-in-Err-clause-goes_on
 returns-in-Err-clause-goes_on g c = let w = c.self.inside.state in
@@ -59,6 +58,5 @@ returns-in-Err-clause-goes_on g c = let w = c.self.inside.state in
     (let x = c.in-Err.ensures in let taken = c.in-Some.ensures in let some = c.in-Some.is in
     let same : w.request ≡ Some c.in-Some.posted = cc in
     let held : w.request ≡ Some c.in-Err.posted = same ∙ ap (λ (p : Posted). Some p) (sym x.1) in
-    subst (λ (y : WorkerView × Option Posted). WorkerGoesOn g.P.Port.told w
-    (record w { worker_end = y.0; request = y.1 })) (λ i. (sym x.2 i, held i))
-    (goes_on_same g.P.Port.told w c.self.invariant))
+    subst (λ (r : Option Posted). WorkerGoesOn g.P.Port.told w (record w { batch = c.post.new.batch; request = r })) held
+    (flushed_goes_on g.P.Port.told w c.post.new.batch x.2 c.self.invariant))

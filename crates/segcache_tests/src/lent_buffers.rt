@@ -7,10 +7,10 @@ use std::alloc::Global;
 use std::process::Abort;
 use std::test::Fail;
 
-/// The capacity of the room that is lent with each request.
+/// The capacity of the buffer that is lent with each request.
 const LENT: usize = 100;
 
-/// Requests in order, and the capacity of the room that comes back with the reply to each.
+/// Requests in order, and the capacity of the buffer that comes back with the reply to each.
 const REQUESTS: [(&str, Option<usize>); 5] = [
     ("set a 0 0 1\r\nx\r\n", None),
     ("get a\r\n", Some(LENT)),
@@ -26,22 +26,22 @@ fn read(alloc: Global, text: &str) -> Result<Request, Fail> {
     }
 }
 
-fn capacity_of(room: Option<SpareBuffer>) -> Option<usize> {
-    match room {
-        Some(room) => Some(room.capacity()),
+fn capacity_of(buffer: Option<SpareBuffer>) -> Option<usize> {
+    match buffer {
+        Some(buffer) => Some(buffer.capacity()),
         None => None,
     }
 }
 
-/// The capacity of the room that the request hands back, and of the one that comes back with the reply.
-fn rooms_back(
+/// The capacity of the buffer that the request hands back, and of the one that comes back with the reply.
+fn buffers_back(
     alloc: Global,
     store: &mut Store,
     text: &str,
 ) -> Result<(Option<usize>, Option<usize>), Fail> {
     let mut request = read(alloc, text)?;
-    let room = SpareBuffer::emptied(Vec::with_capacity(alloc, LENT)?);
-    let handed_back = capacity_of(request.lend_buffer(room));
+    let buffer = SpareBuffer::emptied(Vec::with_capacity(alloc, LENT)?);
+    let handed_back = capacity_of(request.lend_buffer(buffer));
     if store.last_moment() > 1 {
         return Err(Fail::from("the moment 1 is over"));
     }
@@ -50,17 +50,21 @@ fn rooms_back(
     Ok((handed_back, capacity_of(reply.into_buffer())))
 }
 
-fn check_rooms(rt: &impl Abort, alloc: Global, rows: &[(&str, Option<usize>)]) -> Result<(), Fail> {
+fn check_buffers(
+    rt: &impl Abort,
+    alloc: Global,
+    rows: &[(&str, Option<usize>)],
+) -> Result<(), Fail> {
     let mut store = Store::new(alloc, Geometry::new(4096, 8)?)?;
     for (text, comes_back) in rows {
-        let (handed_back, room) = rooms_back(alloc, &mut store, text)?;
-        assert_eq!(rt; room, *comes_back, "with the reply to {text}");
-        assert_eq!(rt; handed_back.is_some(), room.is_none(), "of {text}");
+        let (handed_back, kept) = buffers_back(alloc, &mut store, text)?;
+        assert_eq!(rt; kept, *comes_back, "with the reply to {text}");
+        assert_eq!(rt; handed_back.is_some(), kept.is_none(), "of {text}");
     }
     Ok(())
 }
 
 #[test]
 fn the_memory_of_hits_goes_round(rt: HostRuntime) -> Result<(), Fail> {
-    check_rooms(&rt, rt.alloc(), &REQUESTS)
+    check_buffers(&rt, rt.alloc(), &REQUESTS)
 }

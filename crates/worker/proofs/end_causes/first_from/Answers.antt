@@ -3,9 +3,9 @@ use Rattle.std.specs.Prelude.{nat_lt}
 use Rattle.std.proofs.lemmas.Bool.{ltb-true, ltb-false}
 use Rattle.std.proofs.lemmas.List.Sorted.{IsPartitionPoint-from_clause, IsPartitionedBy-ltb}
 use Rattle.session_book.specs.declared.causes.EndCause.{EndCause}
-use Rattle.worker.specs.Places.{Rises}
-use Rattle.worker.proofs.PlaceLemmas.{rises_on}
-use Rattle.worker.proofs.places.first_from.Goals as goal
+use Rattle.worker.specs.EndCauses.{Rises}
+use Rattle.worker.proofs.EndCauseLemmas.{rises_on}
+use Rattle.worker.proofs.end_causes.first_from.Goals as goal
 
 pub returns : goal.returns
 returns c =

@@ -7,7 +7,7 @@ use Rattle.exchange.specs.Beginnings.{posted_of}
 use Rattle.exchange.specs.Ends.{WorkerView, WorkerBatchView, TakesAnswer, TakesSeen, flushed}
 use Rattle.worker.specs.Workers.{TakesNone, TakesBack}
 use Rattle.worker.proofs.SettleSteps.{at_append}
-use Rattle.worker.proofs.batched_end.BatchedEnd.take.Goals as goal
+use Rattle.worker.proofs.sending.take_answer.Goals as goal
 
 -- what is told of an answer, or of none
 abbrev Takes : WorkerBatchView → Option Answered → WorkerBatchView → Type 0
@@ -51,16 +51,14 @@ none_seen old new k put = λ i. (flushed (record { end = k.1.1 i; put = put i })
 
 pub returns-in-Some : goal.returns-in-Some
 returns-in-Some c =
-    let old = c.self.inside.batch in let new = c.take_seen.new.self in let a = c.in-Some.answered in
     let k = c.in-Some.ensures in
-    subst (λ (w : WorkerView). TakesBack w (flushed new).end a) c.self.view_is
-    (seen_before old new a k.taken k.put k.own)
+    seen_before c.args.batch.now c.take_seen.new.self c.in-Some.answered k.taken k.put k.own
 
 pub returns-in-None : goal.returns-in-None
 returns-in-None c =
-    let old = c.self.inside.batch in let mid = c.take_seen.new.self in let new = c.take.new.self in
+    let old = c.args.batch.now in let mid = c.take_seen.new.self in let new = c.take.new.self in
     let k = c.take.ensures in
     let none = c.in-None.ensures in
     subst (λ (w : WorkerView). MatchOption c.take.result (TakesNone w (flushed new).end)
     (λ (a : Answered). TakesBack w (flushed new).end a))
-    (none_seen old mid none.taken none.put ∙ c.self.view_is) (by_look mid new c.take.result k.taken k.put k.own)
+    (none_seen old mid none.taken none.put) (by_look mid new c.take.result k.taken k.put k.own)

@@ -1,4 +1,4 @@
--- The places of sessions in the report, and the pieces of input that are held.
+-- The entries of sessions in the report, and the pieces of input that are held.
 use Rattle.std.specs.Prelude.{ℕ, ◌<◌, ◌≤◌, ⊤, length, slice_index_or, List, [], ◌∷◌, ◌==◌, if◌then◌else◌, map}
 use Rattle.session_book.specs.declared.causes.EndCause.{EndCause}
 use Rattle.session_book.specs.Book.{BookState, session_of, held_of}
@@ -8,11 +8,11 @@ abbrev pub ReportRisesFrom : ℕ → List (ℕ × EndCause) → Type 0
 ReportRisesFrom n [] = ⊤
 ReportRisesFrom n (e ∷ sessions) = (n < e.0) × ReportRisesFrom e.0 sessions
 
--- the numbers rise, so that no session has two places
+-- the numbers rise, so that no session has two entries
 abbrev pub Rises : List (ℕ × EndCause) → Type 0
 Rises sessions = ReportRisesFrom 0 sessions
 
--- the report with this cause at the session's place
+-- the report with this cause at the session's entry
 abbrev pub with_cause : List (ℕ × EndCause) → ℕ → EndCause → List (ℕ × EndCause)
 with_cause sessions session cause = map (λ (e : ℕ × EndCause). if e.0 == session then (session, cause) else e) sessions
 
@@ -20,8 +20,8 @@ with_cause sessions session cause = map (λ (e : ℕ × EndCause). if e.0 == ses
 abbrev pub piece_of : BookState → ℕ → List ℕ
 piece_of book session = held_of (session_of book session)
 
--- the numbers before this place are below the session's, and those from it on are not
+-- the numbers before this position are below the session's, and those from it on are not
 abbrev pub IsFirstFrom : List (ℕ × EndCause) → ℕ → ℕ → Type 0
-IsFirstFrom sessions session place =
-    ((k : ℕ) (d : ℕ × EndCause) → k < place → (slice_index_or sessions k d).0 < session)
-    × ((k : ℕ) (d : ℕ × EndCause) → place ≤ k → k < length sessions → session ≤ (slice_index_or sessions k d).0)
+IsFirstFrom sessions session position =
+    ((k : ℕ) (d : ℕ × EndCause) → k < position → (slice_index_or sessions k d).0 < session)
+    × ((k : ℕ) (d : ℕ × EndCause) → position ≤ k → k < length sessions → session ≤ (slice_index_or sessions k d).0)

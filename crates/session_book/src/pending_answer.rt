@@ -1,8 +1,8 @@
-//! The places of answers in a session's output.
+//! The answers of a session that are still to be given, in the order of its messages.
 
 ghost use Rattle.std.specs.Prelude.{◌≡◌, ◌++◌, is_some, option_copied, OnOk, OnErr};
 ghost use Rattle.proto.specs.Answers.{answer, is_ask};
-ghost use Rattle.session_book.specs.Place.{kind_of};
+ghost use Rattle.session_book.specs.Kinds.{kind_of};
 
 use crate::buffer::Buffer;
 use proto::{FatalKind, Message, NoMemory, Reply, WrongKind, shows_cas};
@@ -32,31 +32,31 @@ fn kind_of(message: &Message) -> Kind
     }
 }
 
-/// The place of the answer to a message. Clauses see the message; of its bytes nothing is kept but its kind.
+/// The answer to a message, which is still to be given. Clauses see the message; of its bytes nothing is kept but its kind.
 #[derive(Drop)]
-pub struct AnswerPlace {
+pub struct PendingAnswer {
     kind: Kind,
     message: Snapshot<Message>,
 }
 
-impl Model for AnswerPlace {
+impl Model for PendingAnswer {
     ghost use Rattle.proto.specs.declared.message.Message.{Message};
 
     ghost Value = { Message };
 
     ghost use Rattle.std.specs.Prelude.{◌≡◌};
-    ghost use Rattle.session_book.specs.Place.{kind_of};
+    ghost use Rattle.session_book.specs.Kinds.{kind_of};
 
     ghost view = { λ a. a.message.value };
 
     ghost invariant = { λ a. a.kind ≡ kind_of a.message.value };
 }
 
-impl AnswerPlace {
+impl PendingAnswer {
     pub fn of(message: &Message) -> Self
         ensures { result ≡ message.now }
     {
-        AnswerPlace {
+        PendingAnswer {
             kind: kind_of(message),
             message: Snapshot::of(message),
         }
@@ -68,7 +68,7 @@ impl AnswerPlace {
         matches!(self.kind, Kind::Ask { .. })
     }
 
-    /// Puts the answer to the message of this place behind the output.
+    /// Puts the answer behind the output.
     pub fn show(&self, reply: Option<&Reply>, out: &mut Buffer) -> Result<(), NoMemory>
         requires { is_some reply ≡ is_ask self.now }
         ensures ok { OnOk result (out.new ≡ out.old ++ answer self.now (option_copied reply.entry)) }

@@ -1,26 +1,26 @@
--- What a cause written at its place makes of the report.
+-- What a cause written at its entry makes of the report.
 use Rattle.std.proofs.Common.{◌≡◌, ◌≢◌, ℕ, zero, suc, ◌<◌, ◌≤◌, ◌==◌, cond, eq-eqb, ne_eqb}
 use Rattle.std.proofs.Common.{List, [], ◌∷◌, ◌++◌, length, get_or, slice_set, refl, sym}
 use Rattle.std.proofs.Common.{ap, subst, ◌∙◌, arith, Some, None}
 use Rattle.session_book.specs.declared.causes.EndCause.{EndCause}
 use Rattle.worker.specs.Sessions.{cause_of}
-use Rattle.worker.specs.Places.{ReportRisesFrom, Rises, with_cause, IsFirstFrom}
+use Rattle.worker.specs.EndCauses.{ReportRisesFrom, Rises, with_cause, IsFirstFrom}
 use Rattle.proto.proofs.CountLemmas.{either_way}
 
 -- the report: the numbers of sessions, each with its cause
-abbrev Places : Type 0
-Places = List (ℕ × EndCause)
+abbrev Report : Type 0
+Report = List (ℕ × EndCause)
 
 -- ---- rising numbers
 
 -- where the numbers rise from one above n, each is above n
-above : (n : ℕ) (xs : Places) (j : ℕ) (d : ℕ × EndCause) → ReportRisesFrom n xs → j < length xs → n < (get_or xs j d).0
+above : (n : ℕ) (xs : Report) (j : ℕ) (d : ℕ × EndCause) → ReportRisesFrom n xs → j < length xs → n < (get_or xs j d).0
 above n [] j d h lt = absurd (omega arith)
 above n (x ∷ xs) zero d h lt = h.0
 above n (x ∷ xs) (suc j) d h lt = let k = above x.0 xs j d h.1 (omega arith) in omega (arith, h.0, k)
 
--- where the numbers rise, the one at a later place is no smaller
-pub rises_on : (n : ℕ) (xs : Places) (i j : ℕ) (d : ℕ × EndCause) → ReportRisesFrom n xs → i ≤ j → j < length xs
+-- where the numbers rise, the one at a later position is no smaller
+pub rises_on : (n : ℕ) (xs : Report) (i j : ℕ) (d : ℕ × EndCause) → ReportRisesFrom n xs → i ≤ j → j < length xs
     → (get_or xs i d).0 ≤ (get_or xs j d).0
 rises_on n [] i j d h le lt = absurd (omega arith)
 rises_on n (x ∷ xs) zero zero d h le lt = omega arith
@@ -30,23 +30,23 @@ rises_on n (x ∷ xs) (suc i) (suc j) d h le lt = rises_on x.0 xs i j d h.1 (ome
 
 -- ---- writing a cause
 
--- writing a session's cause leaves the place of another session
+-- writing a session's cause leaves the entry of another session
 kept_apart : (e : ℕ × EndCause) (s : ℕ) (c : EndCause) → e.0 ≢ s → cond (e.0 == s) (s, c) e ≡ e
 kept_apart e s c ne = ap (λ b. cond b (s, c) e) (ne_eqb e.0 s ne)
 
--- writing a session's cause puts it at the session's own place
+-- writing a session's cause puts it at the session's own entry
 written : (e : ℕ × EndCause) (s : ℕ) (c : EndCause) → e.0 ≡ s → cond (e.0 == s) (s, c) e ≡ (s, c)
 written e s c e_is = ap (λ b. cond b (s, c) e) (eq-eqb e.0 s e_is)
 
 -- where all numbers are above n, writing the cause of a session up to n changes nothing
-absent_above : (n : ℕ) (xs : Places) (s : ℕ) (c : EndCause) → ReportRisesFrom n xs → s ≤ n → with_cause xs s c ≡ xs
+absent_above : (n : ℕ) (xs : Report) (s : ℕ) (c : EndCause) → ReportRisesFrom n xs → s ≤ n → with_cause xs s c ≡ xs
 absent_above n [] s c h le = refl
 absent_above n (x ∷ xs) s c h le =
     let ne : x.0 ≢ s = λ e. omega (arith, e, h.0) in
     let rest = absent_above x.0 xs s c h.1 (omega (arith, h.0)) in λ i. kept_apart x s c ne i ∷ rest i
 
--- where the numbers rise from one above n, to set the place at which the session's number stands is to write its cause
-set_from : (n : ℕ) (xs : Places) (i s : ℕ) (c : EndCause) → ReportRisesFrom n xs → i < length xs
+-- where the numbers rise from one above n, to set the entry at which the session's number stands is to write its cause
+set_from : (n : ℕ) (xs : Report) (i s : ℕ) (c : EndCause) → ReportRisesFrom n xs → i < length xs
     → ((d : ℕ × EndCause) → (get_or xs i d).0 ≡ s)
     → slice_set xs i (s, c) ≡ with_cause xs s c
 set_from n [] i s c h lt at = absurd (omega arith)
@@ -58,21 +58,21 @@ set_from n (x ∷ xs) (suc i) s c h lt at =
     let ne : x.0 ≢ s = λ q. omega (arith, q, k, e) in
     let rest = set_from x.0 xs i s c h.1 (omega arith) (λ d. at d) in λ j. sym (kept_apart x s c ne) j ∷ rest j
 
--- in a report whose numbers rise, to set the place at which the session's number stands is to write its cause
-pub set_found : (xs : Places) (i s : ℕ) (c : EndCause) → Rises xs → i < length xs
+-- in a report whose numbers rise, to set the entry at which the session's number stands is to write its cause
+pub set_found : (xs : Report) (i s : ℕ) (c : EndCause) → Rises xs → i < length xs
     → ((d : ℕ × EndCause) → (get_or xs i d).0 ≡ s)
     → slice_set xs i (s, c) ≡ with_cause xs s c
 set_found xs i s c h lt at = set_from 0 xs i s c h lt at
 
 -- writing the cause of a session whose number stands nowhere in the report changes nothing
-absent : (xs : Places) (s : ℕ) (c : EndCause) → ((j : ℕ) (d : ℕ × EndCause) → j < length xs → (get_or xs j d).0 ≢ s)
+absent : (xs : Report) (s : ℕ) (c : EndCause) → ((j : ℕ) (d : ℕ × EndCause) → j < length xs → (get_or xs j d).0 ≢ s)
     → with_cause xs s c ≡ xs
 absent [] s c h = refl
 absent (x ∷ xs) s c h = let rest = absent xs s c (λ j d lt. h (suc j) d (omega arith)) in
     λ i. kept_apart x s c (h 0 x (omega arith)) i ∷ rest i
 
 -- where no number, or another one, is the first that isn't below the session's, writing the session's cause changes nothing
-pub set_absent : (xs : Places) (i s : ℕ) (c : EndCause) → Rises xs → IsFirstFrom xs s i
+pub set_absent : (xs : Report) (i s : ℕ) (c : EndCause) → Rises xs → IsFirstFrom xs s i
     → (i < length xs → (d : ℕ × EndCause) → (get_or xs i d).0 ≢ s) → with_cause xs s c ≡ xs
 set_absent xs i s c h first other =
     absent xs s c (λ j d lt e.
@@ -85,7 +85,7 @@ set_absent xs i s c h first other =
 -- ---- the causes afterwards
 
 -- writing the cause of one session leaves the cause of another
-pub cause_apart : (xs : Places) (s t : ℕ) (c : EndCause) → t ≢ s → cause_of (with_cause xs t c) s ≡ cause_of xs s
+pub cause_apart : (xs : Report) (s t : ℕ) (c : EndCause) → t ≢ s → cause_of (with_cause xs t c) s ≡ cause_of xs s
 cause_apart [] s t c ne = refl
 cause_apart (x ∷ xs) s t c ne =
     let below = cause_apart xs s t c ne in
@@ -99,8 +99,8 @@ cause_apart (x ∷ xs) s t c ne =
     ap (λ (y : ℕ × EndCause). cond (y.0 == s) (Some y.1) (cause_of (with_cause xs t c) s)) (kept_apart x t c apart)
     ∙ ap (λ k. cond (x.0 == s) (Some x.1) k) below)
 
--- a session that has a place in the report has the cause that was written for it
-pub cause_here : (xs : Places) (s : ℕ) (c old : EndCause) → cause_of xs s ≡ Some old
+-- a session that has an entry in the report has the cause that was written for it
+pub cause_here : (xs : Report) (s : ℕ) (c old : EndCause) → cause_of xs s ≡ Some old
     → cause_of (with_cause xs s c) s ≡ Some c
 cause_here [] s c old e = absurd (cc)
 cause_here (x ∷ xs) s c old e =
@@ -114,7 +114,7 @@ cause_here (x ∷ xs) s c old e =
     ∙ cause_here xs s c old (sym (ap (λ b. cond b (Some x.1) (cause_of xs s)) (ne_eqb x.0 s ne)) ∙ e))
 
 -- numbers that rise from one above n do so after a cause is written
-with_rises : (n : ℕ) (xs : Places) (s : ℕ) (c : EndCause) → ReportRisesFrom n xs → ReportRisesFrom n (with_cause xs s c)
+with_rises : (n : ℕ) (xs : Report) (s : ℕ) (c : EndCause) → ReportRisesFrom n xs → ReportRisesFrom n (with_cause xs s c)
 with_rises n [] s c h = tt
 with_rises n (x ∷ xs) s c h =
     let same : (cond (x.0 == s) (s, c) x).0 ≡ x.0 =
@@ -125,21 +125,21 @@ with_rises n (x ∷ xs) s c h =
     )
 
 -- the numbers of a report rise after a cause is written, if they rose before
-pub rises_with : (xs : Places) (s : ℕ) (c : EndCause) → Rises xs → Rises (with_cause xs s c)
+pub rises_with : (xs : Report) (s : ℕ) (c : EndCause) → Rises xs → Rises (with_cause xs s c)
 rises_with xs s c h = with_rises 0 xs s c h
 
--- writing a cause leaves the number of places
-pub length-with : (xs : Places) (s : ℕ) (c : EndCause) → length (with_cause xs s c) ≡ length xs
+-- writing a cause leaves the number of entries
+pub length-with : (xs : Report) (s : ℕ) (c : EndCause) → length (with_cause xs s c) ≡ length xs
 length-with [] s c = refl
 length-with (x ∷ xs) s c = let h = length-with xs s c in omega arith
 
--- a place at the end
-pub cause_more : (xs : Places) (s t : ℕ) (c : EndCause) → t ≢ s → cause_of (xs ++ (t, c) ∷ []) s ≡ cause_of xs s
+-- an entry at the end
+pub cause_more : (xs : Report) (s t : ℕ) (c : EndCause) → t ≢ s → cause_of (xs ++ (t, c) ∷ []) s ≡ cause_of xs s
 cause_more [] s t c ne = ap (λ b. cond b (Some c) None) (ne_eqb t s ne)
 cause_more (x ∷ xs) s t c ne = ap (λ k. cond (x.0 == s) (Some x.1) k) (cause_more xs s t c ne)
 
--- a session that had no place has the cause of its new place at the end
-pub cause_new : (xs : Places) (s : ℕ) (c : EndCause) → cause_of xs s ≡ None → cause_of (xs ++ (s, c) ∷ []) s ≡ Some c
+-- a session that had no entry has the cause of its new entry at the end
+pub cause_new : (xs : Report) (s : ℕ) (c : EndCause) → cause_of xs s ≡ None → cause_of (xs ++ (s, c) ∷ []) s ≡ Some c
 cause_new [] s c e = ap (λ b. cond b (Some c) None) (eq-eqb s s refl)
 cause_new (x ∷ xs) s c e =
     either_way x.0 s
@@ -150,7 +150,7 @@ cause_new (x ∷ xs) s c e =
     ∙ cause_new xs s c (sym (ap (λ b. cond b (Some x.1) (cause_of xs s)) (ne_eqb x.0 s ne)) ∙ e))
 
 -- numbers that rise from one above n do so with one more at the end that is above n and above them all
-more_from : (n : ℕ) (xs : Places) (t : ℕ) (c : EndCause) → ReportRisesFrom n xs → n < t
+more_from : (n : ℕ) (xs : Report) (t : ℕ) (c : EndCause) → ReportRisesFrom n xs → n < t
     → ((s : ℕ) (d : EndCause) → cause_of xs s ≡ Some d → s < t)
     → ReportRisesFrom n (xs ++ (t, c) ∷ [])
 more_from n [] t c h lt below = (lt, tt)
@@ -164,6 +164,6 @@ more_from n (x ∷ xs) t c h lt below = (
 )
 
 -- the numbers of a report rise with one more at the end that is above 0 and above them all
-pub rises_more : (xs : Places) (t : ℕ) (c : EndCause) → Rises xs → 0 < t
+pub rises_more : (xs : Report) (t : ℕ) (c : EndCause) → Rises xs → 0 < t
     → ((s : ℕ) (d : EndCause) → cause_of xs s ≡ Some d → s < t) → Rises (xs ++ (t, c) ∷ [])
 rises_more xs t c h lt below = more_from 0 xs t c h lt below

@@ -1,0 +1,54 @@
+//! Sending several requests at once, and taking their answers back.
+//!
+//! Contracts speak of the worker's end as it is once all that was put is flushed, so what was put counts as sent.
+
+ghost use Rattle.std.specs.Prelude.{◌≡◌, ◌+◌, ◌++◌, ◌∷◌, [], length, MatchOption, MatchResult};
+ghost use Rattle.exchange.specs.Ends.{CanPost};
+ghost use Rattle.worker.specs.Workers.{all_sent, TakesNone, TakesBack};
+
+use exchange::{Answered, Posted, StorageSignals, WorkerBatch};
+
+// Puts a request, or hands it back unchanged. Where storage has nothing else of this worker it is told at once, so that
+// it begins while the worker reads on; else at the next flush. A hint of the key is left for it.
+pub(crate) fn post(
+    batch: &mut WorkerBatch,
+    posted: Posted,
+    storage: &StorageSignals,
+) -> Result<(), Posted>
+    requires { posted.number ≡ length (all_sent batch.old).sent + 1 }
+    ensures { MatchResult result
+        (λ _. CanPost (all_sent batch.old)
+        × (all_sent batch.new ≡ record (all_sent batch.old) { sent = (all_sent batch.old).sent ++ posted ∷ [] }))
+        (λ p. (¬ (CanPost (all_sent batch.old))) × (p ≡ posted) × (all_sent batch.new ≡ all_sent batch.old)) }
+{
+    if let Some(key) = posted.request.first_key() {
+        storage.leave_hint(batch.worker(), posted.number - 1, key);
+    }
+    let is_first = batch.outstanding() == batch.waiting();
+    batch.put(posted)?;
+    if is_first {
+        flush(batch, storage);
+    }
+    Ok(())
+}
+
+// Tells storage of all that was put, and unparks it.
+pub(crate) fn flush(batch: &mut WorkerBatch, storage: &StorageSignals)
+    ensures { all_sent batch.new ≡ all_sent batch.old }
+{
+    if batch.waiting() > 0 {
+        batch.flush();
+        storage.parking().unpark();
+    }
+}
+
+// The next answer: one that was seen before, or else one that is found by a look.
+pub(crate) fn take_answer(batch: &mut WorkerBatch) -> Option<Answered>
+    ensures { MatchOption result (TakesNone (all_sent batch.old) (all_sent batch.new))
+        (λ a. TakesBack (all_sent batch.old) (all_sent batch.new) a) }
+{
+    match batch.take_seen() {
+        Some(answered) => Some(answered),
+        None => batch.take(),
+    }
+}

@@ -21,6 +21,7 @@ use Rattle.segments.specs.Marks.{Marks, is_marked, lives_by}
 use Rattle.index.specs.Table.{Table, Places}
 use Rattle.segcache.specs.Shown.{current, shown_entries, live_entries, entry_at}
 use Rattle.segcache.specs.Kept.{IsTied}
+use Rattle.segcache.specs.State.{MapState, IsSegmentedMap}
 use Rattle.segcache.specs.Leaving.{HaveExpiredLeft}
 use Rattle.segcache.specs.Living.{live_marks, live_others}
 use Rattle.segcache.specs.Making.{MakesRoom}
@@ -357,3 +358,22 @@ placed_over p index between marks others bucket t i after found tied left is h =
           ∙ ap (λ (ks : List (List ℕ)). finite.insert (without (shown_entries p index t) ks) i.key
           (entry_at after h.place)) k.keys_are;
     }
+
+-- so it was placed where the one of its key had left
+pub placed_left : (old left : MapState) (bucket : ℕ) (i : Item) (after : PoolState) (found : Table)
+    → IsSegmentedMap old → IsSegmentedMap left → left.pool ≡ old.pool → left.moment ≡ old.moment
+    → current left.pool left.index ≡ finite.remove (current old.pool old.index) i.key
+    → PlacesItem (live_marks left.marks left.moment) left.pool left.index bucket left.moment i after found
+    → PlacesItem (live_others i.key old.marks old.moment) old.pool old.index bucket old.moment i after found
+placed_left old left bucket i after found was kept pool moment is placed =
+    let p = old.pool in
+    let t = old.moment in
+    let there : current p left.index ≡ finite.remove (current p old.index) i.key =
+    subst (λ (q : PoolState). current q left.index ≡ finite.remove (current p old.index) i.key) pool is in
+    let tied : IsTied p left.index left.marks =
+    subst (λ (q : PoolState). IsTied q left.index left.marks) pool kept.tied in
+    let h : PlacesItem (live_marks left.marks t) p left.index bucket t i after found =
+    subst (λ (u : ℕ). PlacesItem (live_marks left.marks u) p left.index bucket u i after found) moment
+    (subst (λ (q : PoolState). PlacesItem (live_marks left.marks left.moment) q left.index bucket left.moment i after
+    found) pool placed) in
+    placed_over p old.index left.index old.marks left.marks bucket t i after found was.tied tied there h

@@ -1,9 +1,12 @@
 -- Items of a segment that leave one after the other, segments whose items leave, and all items at once.
-use Rattle.std.proofs.Common.{◌≡◌, ◌≢◌, ℕ, ◌+◌, ◌<◌, ◌≤◌, Bool, true, false, List, [], ◌∷◌, get_or, Some, refl, sym, ap, subst, ◌∙◌, inl, inr, arith}
+use Rattle.std.proofs.Common.{◌≡◌, ◌≢◌, ℕ, ◌+◌, ◌<◌, ◌≤◌, ◌*◌, ◌/◌, Bool, true, false, List, [], ◌∷◌, get_or, Some, refl, sym, ap, subst, ◌∙◌, inl, inr, arith}
 use Rattle.std.specs.Prelude.{All}
 use Rattle.std.specs.List.{list_any}
 use Rattle.std.specs.FinMap as finite
 use Rattle.std.proofs.lemmas.Bool.{cases_Bool, cases_eq, false≢true}
+use Rattle.std.proofs.lemmas.Option.{none-some}
+use Rattle.std.specs.Ordering.{nat_cmp}
+use Rattle.std.specs.Cmp.Lexicographic.{slice_cmp}
 use Rattle.std.proofs.lemmas.List.Folds.{list_any_at}
 use Rattle.std.proofs.lemmas.List.Elements.{All-head, All-tail}
 use Rattle.segments.specs.declared.place.Place.{Place}
@@ -15,11 +18,15 @@ use Rattle.segments.proofs.Places.{standing_by, mark_within}
 use Rattle.segments.proofs.MovedPlaces.{same_place_is, same_place_itself}
 use Rattle.segments.proofs.Agreeing.{in_segment}
 use Rattle.segments.proofs.PlanLemmas.{found_from}
-use Rattle.segments.specs.Marks.{Marks, is_marked}
-use Rattle.index.specs.Table.{Table, Places}
-use Rattle.segcache.specs.Shown.{current}
+use Rattle.segments.specs.Marks.{Marks, KnowsPool, mark_at, is_marked}
+use Rattle.index.specs.Layouts.{IsLayoutOf}
+use Rattle.index.specs.Keys.{key_at}
+use Rattle.index.specs.Table.{Table, Places, IsMap, IsSameSize}
+use Rattle.segcache.specs.Shown.{current, live_entries, shown_entries}
 use Rattle.segcache.specs.Kept.{IsTied}
 use Rattle.segcache.specs.Leaving.{HasLeft, HaveExpiredLeft}
+use Rattle.segcache.specs.State.{MapState, IsSegmentedMap}
+use Rattle.segcache.proofs.Showing.{shown_remove}
 use Rattle.segcache.proofs.Tying.{current_item, removed_at, removed_other}
 
 -- whether a place is among those that are left of a walk
@@ -199,4 +206,42 @@ expired_left p t old index marks n h le =
           (let x = current_item p index q r e in let lt = (mark_within p r x.0 h.tied.known.pool x.1).0 in
           h.waiting q r e (omega (arith, lt, le)));
       others = h.others;
+    }
+
+-- where a key has left, what it had is no longer shown
+pub shown_left_at : (old new : MapState) (key : List ℕ) → new.pool ≡ old.pool → new.moment ≡ old.moment
+    → current new.pool new.index ≡ finite.remove (current old.pool old.index) key
+    → shown_entries new.pool new.index new.moment
+    ≡ finite.remove (shown_entries old.pool old.index old.moment) key
+shown_left_at old new key pool moment left =
+    let m = current old.pool old.index in
+    ap (λ (n : Places). live_entries new.pool n new.moment) left
+    ∙ ap (λ (q : PoolState). live_entries q (finite.remove m key) new.moment) pool
+    ∙ ap (λ t. live_entries old.pool (finite.remove m key) t) moment
+    ∙ shown_remove old.pool m old.moment key
+
+-- what is kept of a pool, an index and a moment is kept of equal ones
+pub kept_same : (p q : PoolState) (x y : Table) (u : Marks) (t w : ℕ) → q ≡ p → y ≡ x → w ≡ t
+    → IsSegmentedMap (record { pool = p; index = x; marks = u; moment = t })
+    → IsSegmentedMap (record { pool = q; index = y; marks = u; moment = w })
+kept_same p q x y u t w pool index moment kept =
+    subst (λ (n : ℕ). IsSegmentedMap (record { pool = q; index = y; marks = u; moment = n })) (sym moment)
+    (subst (λ (z : Table). IsSegmentedMap (record { pool = q; index = z; marks = u; moment = t })) (sym index)
+    (subst (λ (r : PoolState). IsSegmentedMap (record { pool = r; index = x; marks = u; moment = t })) (sym pool) kept))
+
+-- where the index is empty and nothing is marked, the two are still those of the pool
+pub tied_none : (p : PoolState) (index found : Table) (marks others : Marks) → IsTied p index marks
+    → KnowsPool others p → IsMap (key_at p) found finite.empty → IsSameSize index found
+    → ((n k : ℕ) → n < p.sizes.segments → mark_at others n k ≡ false) → IsTied p found others
+tied_none p index found marks others tied known m size none =
+    record {
+      known = known;
+      indexed = m.index;
+      held = λ q r h. absurd (none-some r
+          (sym (ap (λ (n : Places). finite.get n q) m.places_are ∙ finite.get-empty (slice_cmp nat_cmp) q) ∙ h));
+      marked = λ r i e h.
+          (let w = (mark_within p r i known.pool e).0 in
+          absurd (false≢true (sym (none r.segment (r.offset / 32) w) ∙ h)));
+      roomy = subst (λ n. 2 * (p.sizes.segments * (p.sizes.segment_size / 32)) ≤ n) (sym size.count) tied.roomy;
+      layout = subst (IsLayoutOf p.sizes) (sym size.layout) tied.layout;
     }

@@ -9,7 +9,7 @@ pub mod Evicting
 pub mod Giving
 pub mod RoomMade
 pub mod Putting
-pub mod Writing
+pub mod Written
 pub mod MergedMarks
 pub mod MergedRoom
 pub mod MergePlans

@@ -91,11 +91,10 @@ crowded_replanned p after o index marks t tied pool is crowded =
 pub made_replanned : (p mid : PoolState) (o : Option Plan) (index : Table) (marks : Marks) (t : ℕ) (after : PoolState)
     (found : Table)
     → IsTied p index marks → IsPool mid → mid ≡ with_plan p o
-    → IsCrowded p index t → ((u : ℕ) → IsCrowded mid index u → IsRoomMade mid index u after found)
+    → IsCrowded p index t → IsRoomMade mid index t after found
     → IsRoomMade p index t after found
 made_replanned p mid o index marks t after found tied pool is crowded made =
-    swept_evicted p index t mid index marks after found (swept_replanned p mid o index marks t tied pool is crowded)
-    (made t (crowded_replanned p mid o index marks t tied pool is crowded))
+    swept_evicted p index t mid index marks after found (swept_replanned p mid o index marks t tied pool is crowded) made
 
 -- the plan is that of the marked items
 pub has_plan : (p after : PoolState) (plan : Plan) (marks : Marks) → IsPlan (lives_by marks) p plan

@@ -24,11 +24,12 @@ use Rattle.segcache.specs.Shown.{current, shown_entries, live_entries, entry_at,
 use Rattle.segcache.specs.Kept.{IsTied, IsPast}
 use Rattle.proto.proofs.CacheLemmas.{without-nil}
 use Rattle.segcache.specs.Room.{IsPut, IsPutOver, AreKept}
-use Rattle.segcache.proofs.Writing.{insert_removed}
+use Rattle.segcache.proofs.Written.{insert_removed}
 use Rattle.segcache.proofs.Opening.{in_time_past}
 use Rattle.segcache.specs.Forgetting.{HasMadeRoom, PlacesItem}
 use Rattle.index.proofs.Mapping.{get-insert}
-use Rattle.segcache.proofs.Showing.{shown_insert, entry_is}
+use Rattle.segcache.specs.State.{MapState}
+use Rattle.segcache.proofs.Showing.{shown_insert, shown_remove, entry_is}
 use Rattle.segcache.proofs.Tying.{current_item}
 use Rattle.segcache.proofs.Appending.{appended_here, appended_other}
 
@@ -89,7 +90,7 @@ in_segment p bucket t i after place pool past (inr a) =
     }
 
 -- where an item is appended, segments still stand in order, and none was opened after the moment
-past_put : (p : PoolState) (bucket t : ℕ) (i : Item) (after : PoolState) (place : Place) → IsPool p → IsPast p t
+pub past_put : (p : PoolState) (bucket t : ℕ) (i : Item) (after : PoolState) (place : Place) → IsPool p → IsPast p t
     → IsAddedToTail p bucket t i after place ⊎ IsAddedToFree p bucket t i after place
     → IsIn p bucket t after place → IsPast after t
 past_put p bucket t i after place pool past added x =
@@ -273,3 +274,29 @@ pub never_refused : {A B : Type 0} (r : Result A B) (P : A → Type 0) (Q : Type
     → (x : A) × P x
 never_refused (Ok x) P Q h n = (x, h)
 never_refused (Err x) P Q h n = absurd (n h)
+
+-- an item that was put where the one of its key had left was put over it
+pub put_left : (old left : MapState) (i : Item) (asked : Option ℕ) (after : PoolState) (found : Table)
+    → left.pool ≡ old.pool → left.moment ≡ old.moment
+    → current left.pool left.index ≡ finite.remove (current old.pool old.index) i.key
+    → IsPut left.pool left.index left.moment i asked after found
+    → IsPutOver old.pool old.index old.moment i asked after found
+put_left old left i asked after found pool moment is put =
+    let p = old.pool in
+    let t = old.moment in
+    let there : current p left.index ≡ finite.remove (current p old.index) i.key =
+    subst (λ (q : PoolState). current q left.index ≡ finite.remove (current p old.index) i.key) pool is in
+    let h : IsPut p left.index t i asked after found =
+    subst (λ (u : ℕ). IsPut p left.index u i asked after found) moment
+    (subst (λ (q : PoolState). IsPut q left.index left.moment i asked after found) pool put) in
+    let shows : shown_entries p left.index t ≡ finite.remove (shown_entries p old.index t) i.key =
+    ap (λ (m : Places). live_entries p m t) there ∙ shown_remove p (current p old.index) t i.key in
+    record {
+      sizes = h.sizes;
+      past = h.past;
+      deadline = h.deadline;
+      may_live = h.may_live;
+      kept = h.kept;
+      are_kept = subst (λ (e : Entries). AreKept p.sizes e h.kept) shows h.are_kept;
+      entries = h.entries;
+    }

@@ -17,6 +17,7 @@ use Rattle.segments.specs.Marks.{Marks, lives_by}
 use Rattle.index.specs.Table.{Table, Places}
 use Rattle.segcache.specs.Shown.{current, shown_entries, live_entries, kept_entry}
 use Rattle.segcache.specs.Kept.{IsTied, IsPast}
+use Rattle.segcache.specs.State.{MapState, IsSegmentedMap}
 use Rattle.segcache.specs.Leaving.{HaveExpiredLeft}
 use Rattle.segcache.specs.Room.{AllWait, IsCrowded, IsRoomMade, AreKept}
 use Rattle.segcache.proofs.Showing.{shown_same, shown_left, entry_is}
@@ -121,3 +122,16 @@ alive_given marks p after pool other full g none n lt =
     has_live_by lives p after n e = ap
         (λ (o : Option Used). list_any (λ (s : Standing). lives s.place s.item (deadline_in o))
         (standing_from n 0 (items_of o))) e
+
+-- so where the pool that segments were given back in is that of the map before and after the expired keys left
+pub swept_left : (old left : MapState) (after : PoolState) → IsSegmentedMap old → IsSegmentedMap left
+    → left.pool ≡ old.pool → left.moment ≡ old.moment
+    → HaveExpiredLeft old.pool old.moment (current old.pool old.index) (current left.pool left.index)
+    → IsPool after → IsGivenBack (lives_by left.marks) left.pool after
+    → IsSwept old.pool old.index old.moment after left.index left.marks
+swept_left old left after was kept is moment gone pool g =
+    swept old.pool after old.index left.index left.marks old.moment was.past
+    (subst (λ (q : PoolState). IsTied q left.index left.marks) is kept.tied) pool
+    (subst (λ (q : PoolState). IsGivenBack (lives_by left.marks) q after) is g)
+    (subst (λ (q : PoolState). HaveExpiredLeft old.pool old.moment (current old.pool old.index) (current q left.index))
+    is gone)

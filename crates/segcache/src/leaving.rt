@@ -4,14 +4,17 @@ ghost use Rattle.std.specs.Prelude.{◌≡◌, ◌<◌, Some};
 ghost use Rattle.std.specs.FinMap as map;
 ghost use Rattle.segcache.specs.Kept.{IsTied};
 ghost use Rattle.segcache.specs.Shown.{current};
+ghost use Rattle.segcache.specs.State.{IsSegmentedMap};
+ghost use Rattle.segcache.specs.Writes.{HasSamePool};
 ghost use Rattle.segcache.specs.Leaving.{HasLeft, HaveExpiredLeft};
 
+use crate::segment_map::SegmentMap;
 use engine::has_arrived;
 use index::Index;
 use segments::{LiveMarks, Place, Pool};
 
-/// The current item of a key, at a place, leaves.
-pub fn leave(pool: &Pool, index: &mut Index, marks: &mut LiveMarks, key: &[u8], place: Place)
+/// The current item of a key, at a place, leaves. The key may be lent by the pool.
+fn leave(pool: &Pool, index: &mut Index, marks: &mut LiveMarks, key: &[u8], place: Place)
     requires tied { IsTied pool.now index.old marks.old }
     requires there { map.get (current pool.now index.old) key.now ≡ Some place }
     ensures tied { IsTied pool.now index.new marks.new }
@@ -21,53 +24,63 @@ pub fn leave(pool: &Pool, index: &mut Index, marks: &mut LiveMarks, key: &[u8], 
     marks.unmark(place);
 }
 
-/// The item of a key leaves, if there is one.
-pub fn leave_key(pool: &Pool, index: &mut Index, marks: &mut LiveMarks, key: &[u8])
-    requires tied { IsTied pool.now index.old marks.old }
-    ensures tied { IsTied pool.now index.new marks.new }
-    ensures left { current pool.now index.new ≡ map.remove (current pool.now index.old) key.now }
-{
-    if let Some(place) = index.look_up(pool, key) {
-        leave(pool, index, marks, key, place);
-    }
-}
-
-/// The current items of a segment leave.
-pub fn leave_segment(pool: &Pool, index: &mut Index, marks: &mut LiveMarks, segment: u32)
-    requires tied { IsTied pool.now index.old marks.old }
-    requires in_range { segment < pool.now.sizes.segments }
-    ensures tied { IsTied pool.now index.new marks.new }
-    ensures left { HasLeft segment (current pool.now index.old) (current pool.now index.new) }
-{
-    let mut walk = pool.walk(segment);
-    while let Some((place, item)) = walk.next() {
-        if marks.is_marked(place) {
-            leave(pool, index, marks, item.key, place);
+impl SegmentMap {
+    /// The item of a key leaves, if there is one.
+    pub fn leave_key(&mut self, key: &[u8])
+        ensures left { current self.new.pool self.new.index ≡ map.remove (current self.old.pool self.old.index) key.now }
+        ensures same { HasSamePool self.old self.new }
+        ensures moment { self.new.moment ≡ self.old.moment }
+    {
+        if let Some(place) = self.index.look_up(&self.pool, key) {
+            leave(&self.pool, &mut self.index, &mut self.marks, key, place);
         }
     }
-}
 
-/// The current items leave whose deadline is at or before the moment.
-pub fn leave_expired(pool: &Pool, index: &mut Index, marks: &mut LiveMarks, now: u64)
-    requires tied { IsTied pool.now index.old marks.old }
-    ensures tied { IsTied pool.now index.new marks.new }
-    ensures left { HaveExpiredLeft pool.now now (current pool.now index.old) (current pool.now index.new) }
-{
-    for segment in 0..pool.geometry().segments() {
-        if has_arrived(pool.deadline(segment), now) {
-            leave_segment(pool, index, marks, segment);
+    /// The current items of a segment leave.
+    pub fn leave_segment(&mut self, segment: u32)
+        requires in_range { segment < self.old.pool.sizes.segments }
+        ensures left { HasLeft segment (current self.old.pool self.old.index) (current self.new.pool self.new.index) }
+        ensures same { HasSamePool self.old self.new }
+        ensures moment { self.new.moment ≡ self.old.moment }
+    {
+        let mut walk = self.pool.walk(segment);
+        while let Some((place, item)) = walk.next() {
+            if self.marks.is_marked(place) {
+                leave(
+                    &self.pool,
+                    &mut self.index,
+                    &mut self.marks,
+                    item.key,
+                    place,
+                );
+            }
         }
     }
-}
 
-/// All current items leave.
-pub fn leave_all(pool: &Pool, index: &mut Index, marks: &mut LiveMarks)
-    requires tied { IsTied pool.now index.old marks.old }
-    ensures tied { IsTied pool.now index.new marks.new }
-    ensures left { current pool.now index.new ≡ map.empty }
-{
-    index.clear();
-    for segment in 0..pool.geometry().segments() {
-        marks.clear_segment(segment);
+    /// The current items leave whose deadline has come.
+    pub fn leave_expired(&mut self)
+        ensures left { HaveExpiredLeft self.old.pool self.old.moment (current self.old.pool self.old.index) (current self.new.pool self.new.index) }
+        // for callers that read no field
+        ensures kept { IsSegmentedMap self.old }
+        ensures same { HasSamePool self.old self.new }
+        ensures moment { self.new.moment ≡ self.old.moment }
+    {
+        for segment in 0..self.pool.geometry().segments() {
+            if has_arrived(self.pool.deadline(segment), self.moment) {
+                self.leave_segment(segment);
+            }
+        }
+    }
+
+    /// All current items leave.
+    pub fn leave_all(&mut self)
+        ensures left { current self.new.pool self.new.index ≡ map.empty }
+        ensures same { HasSamePool self.old self.new }
+        ensures moment { self.new.moment ≡ self.old.moment }
+    {
+        self.index.clear();
+        for segment in 0..self.pool.geometry().segments() {
+            self.marks.clear_segment(segment);
+        }
     }
 }

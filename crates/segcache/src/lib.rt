@@ -2,11 +2,10 @@
 //! given back whole or merged where room is needed.
 #![tactic(auto)]
 
-mod finding;
+mod freeing;
 mod leaving;
-mod merging;
-mod room;
 mod segment_map;
 mod store;
+mod writing;
 
 pub use store::Store;

@@ -1,21 +1,18 @@
 //! The map of live entries that stand in segments.
 
-ghost use Rattle.std.specs.Prelude.{◌≡◌, ◌≤◌, ◌<◌, ◌*◌, [], false, IfOk, IsSome};
+ghost use Rattle.std.specs.Prelude.{◌≡◌, ◌≤◌, ◌<◌, ◌*◌, [], Some, None, false, IfOk, IfSome, IsSome, MatchOption};
+ghost use Rattle.std.specs.FinMap as map;
 ghost use Rattle.std.specs.Int.{IsNextPowerOfTwo};
 ghost use Rattle.index.specs.Keys.{seeded};
 ghost use Rattle.index.specs.Sizing.{most_items};
-ghost use Rattle.proto.specs.Cache.{no_entries};
+ghost use Rattle.proto.specs.Cache.{has_arrived, no_entries};
 ghost use Rattle.proto.specs.Buckets.{time_to_live};
 ghost use Rattle.segments.specs.Pools.{item_in, place_deadline};
 ghost use Rattle.engine.specs.Shown.{entry_of};
-ghost use Rattle.segcache.specs.Kept.{IsTied};
-ghost use Rattle.segcache.specs.Shown.{entry_at, shown_entries};
+ghost use Rattle.segcache.specs.Shown.{current, entry_at, shown_entries};
 ghost use Rattle.segcache.specs.Keeping.{KeepsStored};
 
-use crate::finding::find;
-use crate::leaving::{leave_all, leave_key};
-use crate::room::write;
-use engine::{EntryRef, LiveMap};
+use engine::{EntryRef, LiveMap, has_arrived};
 use index::{Index, layout_for, slots_for};
 use proto::{Geometry, NoMemory};
 use segments::{ItemRef, LiveMarks, Place, Pool, bucket_of};
@@ -27,11 +24,11 @@ use std::sync::atomic::{AtomicU64, Ordering};
 /// Entries in the segments of a pool, found by an index. All memory is taken when the map is made.
 #[derive(Drop)]
 pub struct SegmentMap {
-    pool: Pool,
-    index: Index,
+    pub(crate) pool: Pool,
+    pub(crate) index: Index,
     /// Which items of the pool the index has.
-    marks: LiveMarks,
-    moment: u64,
+    pub(crate) marks: LiveMarks,
+    pub(crate) moment: u64,
     /// Some of what was read ahead last, so that a compiler doesn't leave the reading out.
     read_ahead: AtomicU64,
 }
@@ -87,6 +84,22 @@ impl SegmentMap {
             read_ahead: AtomicU64::new(0),
         })
     }
+
+    /// The place of the key's item, where that is live.
+    fn find(&self, key: &[u8]) -> Option<Place>
+        ensures found { MatchOption result
+            (map.get (shown_entries self.now.pool self.now.index self.now.moment) key.now ≡ None)
+            (λ place. map.get (shown_entries self.now.pool self.now.index self.now.moment) key.now ≡ Some (entry_at self.now.pool place)) }
+        ensures current { IfSome result (λ place. map.get (current self.now.pool self.now.index) key.now ≡ Some place) }
+        ensures item { IfSome result (λ place. IsSome (item_in self.now.pool place)) }
+        ensures waits { IfSome result (λ place. has_arrived (place_deadline self.now.pool place) self.now.moment ≡ false) }
+    {
+        let place = self.index.look_up(&self.pool, key)?;
+        if has_arrived(self.pool.deadline(place.segment), self.moment) {
+            return None;
+        }
+        Some(place)
+    }
 }
 
 impl LiveMap for SegmentMap {
@@ -137,7 +150,7 @@ impl LiveMap for SegmentMap {
     }
 
     fn get<'a>(&'a self, key: &[u8]) -> Option<(EntryRef<'a>, Place)> {
-        let place = find(&self.pool, &self.index, self.moment, key)?;
+        let place = self.find(key)?;
         Some((entry_at(&self.pool, place), place))
     }
 
@@ -146,7 +159,7 @@ impl LiveMap for SegmentMap {
     }
 
     fn contains_key(&self, key: &[u8]) -> bool {
-        find(&self.pool, &self.index, self.moment, key).is_some()
+        self.find(key).is_some()
     }
 
     fn count_read(&mut self, _key: &[u8], place: Place) {
@@ -163,22 +176,15 @@ impl LiveMap for SegmentMap {
             reads: 0,
         };
         let bucket = bucket_of(time_to_live(entry.deadline, self.moment));
-        write(
-            &mut self.pool,
-            &mut self.index,
-            &mut self.marks,
-            bucket,
-            self.moment,
-            item,
-        );
+        self.write_item(bucket, item);
         Ok(())
     }
 
     fn remove(&mut self, key: &[u8]) {
-        leave_key(&self.pool, &mut self.index, &mut self.marks, key);
+        self.leave_key(key);
     }
 
     fn clear(&mut self) {
-        leave_all(&self.pool, &mut self.index, &mut self.marks);
+        self.leave_all();
     }
 }

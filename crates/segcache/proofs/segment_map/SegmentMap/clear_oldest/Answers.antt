@@ -1,0 +1,89 @@
+use Rattle.std.proofs.Common.{◌≡◌, ℕ, sym, ap, subst, ◌∙◌}
+use Rattle.segments.specs.Pools.{PoolState}
+use Rattle.segments.specs.Changes.{IsPoolFull, cleared}
+use Rattle.segcache.specs.Kept.{IsTied, IsPast}
+use Rattle.segcache.specs.Leaving.{HasLeft}
+use Rattle.segcache.specs.Room.{IsCrowded}
+use Rattle.segcache.specs.Shown.{current}
+use Rattle.segcache.specs.State.{MapState}
+use Rattle.segcache.proofs.Evicting.{tied_cleared, cleared_made}
+use Rattle.segcache.proofs.Giving.{some_oldest}
+use Rattle.segcache.proofs.MergedKeys.{cleared_evicted}
+use Rattle.segcache.proofs.segment_map.SegmentMap.clear_oldest.Goals as goal
+
+pub invariant_of-self : goal.invariant_of-self
+invariant_of-self c =
+    let a = c.self.inside in
+    let b = c.self-in-Some.inside in
+    let n = c.in-Some.segment in
+    let pool : b.pool ≡ a.pool = ap (λ (m : MapState). m.pool) c.self-in-Some.view_is
+    ∙ c.leave_segment.ensures.same.pool ∙ sym (ap (λ (m : MapState). m.pool) c.self.view_is) in
+    let moment : b.moment ≡ a.moment = ap (λ (m : MapState). m.moment) c.self-in-Some.view_is
+    ∙ c.leave_segment.ensures.moment ∙ sym (ap (λ (m : MapState). m.moment) c.self.view_is) in
+    let tied : IsTied a.pool b.index b.marks =
+    subst (λ (q : PoolState). IsTied q b.index b.marks) pool c.self-in-Some.invariant.tied in
+    let left : HasLeft n (current a.pool a.index) (current b.pool b.index) =
+    (let h = c.leave_segment.ensures.left in rw (← c.self.view_is, ← c.self-in-Some.view_is) at h) in
+    let gone : HasLeft n (current a.pool a.index) (current a.pool b.index) =
+    subst (λ (q : PoolState). HasLeft n (current a.pool a.index) (current q b.index)) pool left in
+    let is : c.clear.new.self ≡ cleared a.pool n =
+    c.clear.ensures.cleared ∙ ap (λ (q : PoolState). cleared q n) pool in
+    let crowded : IsCrowded a.pool a.index a.moment = (let h = c.requires.crowded in rw (← c.self.view_is) at h) in
+    record {
+      tied = (tied_cleared a.pool c.clear.new.self n b.index b.marks tied c.clear.ensures.pool is
+          c.in-Some.ensures.in_chain (λ q r e s. gone.elsewhere q r e s)).0;
+      past = subst (λ (t : ℕ). IsPast c.clear.new.self t) (sym moment)
+          (cleared_made a.pool c.clear.new.self n a.index b.index a.marks b.marks a.moment
+          c.self.invariant.tied tied c.clear.ensures.pool is c.in-Some.ensures.in_chain gone crowded).past;
+    }
+
+pub returns-in-Some-clause-made : goal.returns-in-Some-clause-made
+returns-in-Some-clause-made c =
+    let a = c.self.inside in
+    let b = c.self-in-Some.inside in
+    let n = c.in-Some.segment in
+    let pool : b.pool ≡ a.pool = ap (λ (m : MapState). m.pool) c.self-in-Some.view_is
+    ∙ c.leave_segment.ensures.same.pool ∙ sym (ap (λ (m : MapState). m.pool) c.self.view_is) in
+    let tied : IsTied a.pool b.index b.marks =
+    subst (λ (q : PoolState). IsTied q b.index b.marks) pool c.self-in-Some.invariant.tied in
+    let left : HasLeft n (current a.pool a.index) (current b.pool b.index) =
+    (let h = c.leave_segment.ensures.left in rw (← c.self.view_is, ← c.self-in-Some.view_is) at h) in
+    let gone : HasLeft n (current a.pool a.index) (current a.pool b.index) =
+    subst (λ (q : PoolState). HasLeft n (current a.pool a.index) (current q b.index)) pool left in
+    let is : c.clear.new.self ≡ cleared a.pool n =
+    c.clear.ensures.cleared ∙ ap (λ (q : PoolState). cleared q n) pool in
+    let crowded : IsCrowded a.pool a.index a.moment = (let h = c.requires.crowded in rw (← c.self.view_is) at h) in
+    rw (← c.self.view_is)
+    (cleared_made a.pool c.clear.new.self n a.index b.index a.marks b.marks a.moment
+    c.self.invariant.tied tied c.clear.ensures.pool is c.in-Some.ensures.in_chain gone crowded)
+
+pub returns-in-Some-clause-evicted : goal.returns-in-Some-clause-evicted
+returns-in-Some-clause-evicted c =
+    let a = c.self.inside in
+    let b = c.self-in-Some.inside in
+    let n = c.in-Some.segment in
+    let pool : b.pool ≡ a.pool = ap (λ (m : MapState). m.pool) c.self-in-Some.view_is
+    ∙ c.leave_segment.ensures.same.pool ∙ sym (ap (λ (m : MapState). m.pool) c.self.view_is) in
+    let tied : IsTied a.pool b.index b.marks =
+    subst (λ (q : PoolState). IsTied q b.index b.marks) pool c.self-in-Some.invariant.tied in
+    let left : HasLeft n (current a.pool a.index) (current b.pool b.index) =
+    (let h = c.leave_segment.ensures.left in rw (← c.self.view_is, ← c.self-in-Some.view_is) at h) in
+    let gone : HasLeft n (current a.pool a.index) (current a.pool b.index) =
+    subst (λ (q : PoolState). HasLeft n (current a.pool a.index) (current q b.index)) pool left in
+    let is : c.clear.new.self ≡ cleared a.pool n =
+    c.clear.ensures.cleared ∙ ap (λ (q : PoolState). cleared q n) pool in
+    rw (← c.self.view_is) (λ none.
+    cleared_evicted a.pool c.clear.new.self n a.index b.index a.marks b.marks c.self.invariant.tied tied
+    c.clear.ensures.pool is c.in-Some.ensures.in_chain gone (sym c.in-Some.ensures.first) none)
+
+pub returns-in_default-clause-made : goal.returns-in_default-clause-made
+returns-in_default-clause-made c =
+    let full : IsPoolFull c.self.inside.pool = (let h = c.requires.full in rw (← c.self.view_is) at h) in
+    absurd (some_oldest c.self.inside.pool c.self.invariant.tied.known.pool full
+    (sym c.oldest.ensures.first ∙ c.in_default.is))
+
+pub returns-in_default-clause-evicted : goal.returns-in_default-clause-evicted
+returns-in_default-clause-evicted c =
+    let full : IsPoolFull c.self.inside.pool = (let h = c.requires.full in rw (← c.self.view_is) at h) in
+    absurd (some_oldest c.self.inside.pool c.self.invariant.tied.known.pool full
+    (sym c.oldest.ensures.first ∙ c.in_default.is))

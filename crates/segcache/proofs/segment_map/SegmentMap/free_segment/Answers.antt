@@ -1,0 +1,189 @@
+use Rattle.std.proofs.Common.{◌≡◌, ℕ, sym, ap, subst, ◌∙◌, arith}
+use Rattle.segments.specs.Pools.{PoolState}
+use Rattle.segments.specs.Changes.{IsPoolFull, IsGivenBack, dead_segments}
+use Rattle.segments.specs.Marks.{lives_by}
+use Rattle.segments.proofs.Places.{given_free}
+use Rattle.segcache.specs.Kept.{IsTied, IsPast}
+use Rattle.segcache.specs.Leaving.{HaveExpiredLeft}
+use Rattle.segcache.specs.Living.{live_marks}
+use Rattle.segcache.specs.Room.{IsCrowded, IsRoomMade}
+use Rattle.segcache.specs.Shown.{current}
+use Rattle.segcache.specs.State.{MapState}
+use Rattle.segcache.proofs.Giving.{full_given}
+use Rattle.segcache.proofs.RoomMade.{swept_left, swept_made, swept_crowded, swept_evicted, alive_given}
+use Rattle.segcache.proofs.Forgotten.{expired_agree, room_evicted, room_given}
+use Rattle.segcache.proofs.segment_map.SegmentMap.free_segment.Goals as goal
+
+pub invariant_of-self : goal.invariant_of-self
+invariant_of-self c =
+    let s = c.args.self.now in
+    let a = c.self.inside in
+    let new = c.give_back.new.self in
+    let b : MapState = record { pool = a.pool; index = a.index; marks = a.marks; moment = a.moment } in
+    let pool : a.pool ≡ s.pool =
+    ap (λ (m : MapState). m.pool) c.self.view_is ∙ c.leave_expired.ensures.same.pool in
+    let moment : a.moment ≡ s.moment =
+    ap (λ (m : MapState). m.moment) c.self.view_is ∙ c.leave_expired.ensures.moment in
+    let left : HaveExpiredLeft s.pool s.moment (current s.pool s.index) (current a.pool a.index) =
+    (let h = c.leave_expired.ensures.left in rw (← c.self.view_is) at h) in
+    let w = swept_left s b new c.leave_expired.ensures.kept c.self.invariant pool moment left c.give_back.ensures.pool
+    c.give_back.ensures.freed in
+    record {
+      tied = w.tied;
+      past = subst (λ (t : ℕ). IsPast new t) (sym moment) w.past;
+    }
+
+pub invariant_of-self-else-give_back-eq0 : goal.invariant_of-self-else-give_back-eq0
+invariant_of-self-else-give_back-eq0 c =
+    let s = c.args.self.now in
+    let a = c.self.inside in
+    let new = c.give_back.new.self in
+    let b : MapState = record { pool = a.pool; index = a.index; marks = a.marks; moment = a.moment } in
+    let pool : a.pool ≡ s.pool =
+    ap (λ (m : MapState). m.pool) c.self.view_is ∙ c.leave_expired.ensures.same.pool in
+    let moment : a.moment ≡ s.moment =
+    ap (λ (m : MapState). m.moment) c.self.view_is ∙ c.leave_expired.ensures.moment in
+    let left : HaveExpiredLeft s.pool s.moment (current s.pool s.index) (current a.pool a.index) =
+    (let h = c.leave_expired.ensures.left in rw (← c.self.view_is) at h) in
+    let w = swept_left s b new c.leave_expired.ensures.kept c.self.invariant pool moment left c.give_back.ensures.pool
+    c.give_back.ensures.freed in
+    record {
+      tied = w.tied;
+      past = subst (λ (t : ℕ). IsPast new t) (sym moment) w.past;
+    }
+
+pub evict-requires-clause-full : goal.evict-requires-clause-full
+evict-requires-clause-full c =
+    let s = c.args.self.now in
+    let a = c.self.inside in
+    let new = c.give_back.new.self in
+    let b : MapState = record { pool = a.pool; index = a.index; marks = a.marks; moment = a.moment } in
+    let pool : a.pool ≡ s.pool =
+    ap (λ (m : MapState). m.pool) c.self.view_is ∙ c.leave_expired.ensures.same.pool in
+    let moment : a.moment ≡ s.moment =
+    ap (λ (m : MapState). m.moment) c.self.view_is ∙ c.leave_expired.ensures.moment in
+    let left : HaveExpiredLeft s.pool s.moment (current s.pool s.index) (current a.pool a.index) =
+    (let h = c.leave_expired.ensures.left in rw (← c.self.view_is) at h) in
+    let w = swept_left s b new c.leave_expired.ensures.kept c.self.invariant pool moment left c.give_back.ensures.pool
+    c.give_back.ensures.freed in
+    let full : IsPoolFull a.pool = subst IsPoolFull (sym pool) c.requires.full in
+    full_given (lives_by a.marks) a.pool new c.self.invariant.tied.known.pool full c.give_back.ensures.freed
+    (sym c.give_back.ensures.count ∙ c.if-give_back-eq0.true)
+
+pub evict-requires-clause-crowded : goal.evict-requires-clause-crowded
+evict-requires-clause-crowded c =
+    let s = c.args.self.now in
+    let a = c.self.inside in
+    let new = c.give_back.new.self in
+    let b : MapState = record { pool = a.pool; index = a.index; marks = a.marks; moment = a.moment } in
+    let pool : a.pool ≡ s.pool =
+    ap (λ (m : MapState). m.pool) c.self.view_is ∙ c.leave_expired.ensures.same.pool in
+    let moment : a.moment ≡ s.moment =
+    ap (λ (m : MapState). m.moment) c.self.view_is ∙ c.leave_expired.ensures.moment in
+    let left : HaveExpiredLeft s.pool s.moment (current s.pool s.index) (current a.pool a.index) =
+    (let h = c.leave_expired.ensures.left in rw (← c.self.view_is) at h) in
+    let w = swept_left s b new c.leave_expired.ensures.kept c.self.invariant pool moment left c.give_back.ensures.pool
+    c.give_back.ensures.freed in
+    let full : IsPoolFull a.pool = subst IsPoolFull (sym pool) c.requires.full in
+    let live = alive_given a.marks a.pool new c.self.invariant.tied.known.pool c.give_back.ensures.pool full
+    c.give_back.ensures.freed (sym c.give_back.ensures.count ∙ c.if-give_back-eq0.true) in
+    subst (λ (t : ℕ). IsCrowded new a.index t) (sym moment)
+    (swept_crowded s.pool s.index s.moment new a.index a.marks w live)
+
+pub returns-then-give_back-eq0-clause-made : goal.returns-then-give_back-eq0-clause-made
+returns-then-give_back-eq0-clause-made c =
+    let s = c.args.self.now in
+    let a = c.self.inside in
+    let new = c.give_back.new.self in
+    let b : MapState = record { pool = a.pool; index = a.index; marks = a.marks; moment = a.moment } in
+    let pool : a.pool ≡ s.pool =
+    ap (λ (m : MapState). m.pool) c.self.view_is ∙ c.leave_expired.ensures.same.pool in
+    let moment : a.moment ≡ s.moment =
+    ap (λ (m : MapState). m.moment) c.self.view_is ∙ c.leave_expired.ensures.moment in
+    let left : HaveExpiredLeft s.pool s.moment (current s.pool s.index) (current a.pool a.index) =
+    (let h = c.leave_expired.ensures.left in rw (← c.self.view_is) at h) in
+    let w = swept_left s b new c.leave_expired.ensures.kept c.self.invariant pool moment left c.give_back.ensures.pool
+    c.give_back.ensures.freed in
+    swept_evicted s.pool s.index s.moment new a.index a.marks c.evict.new.self.pool c.evict.new.self.index w
+    (subst (λ (t : ℕ). IsRoomMade new a.index t c.evict.new.self.pool c.evict.new.self.index) moment
+    c.evict.ensures.made)
+
+pub returns-else-give_back-eq0-clause-made : goal.returns-else-give_back-eq0-clause-made
+returns-else-give_back-eq0-clause-made c =
+    let s = c.args.self.now in
+    let a = c.self.inside in
+    let new = c.give_back.new.self in
+    let b : MapState = record { pool = a.pool; index = a.index; marks = a.marks; moment = a.moment } in
+    let pool : a.pool ≡ s.pool =
+    ap (λ (m : MapState). m.pool) c.self.view_is ∙ c.leave_expired.ensures.same.pool in
+    let moment : a.moment ≡ s.moment =
+    ap (λ (m : MapState). m.moment) c.self.view_is ∙ c.leave_expired.ensures.moment in
+    let left : HaveExpiredLeft s.pool s.moment (current s.pool s.index) (current a.pool a.index) =
+    (let h = c.leave_expired.ensures.left in rw (← c.self.view_is) at h) in
+    let w = swept_left s b new c.leave_expired.ensures.kept c.self.invariant pool moment left c.give_back.ensures.pool
+    c.give_back.ensures.freed in
+    let count = c.give_back.ensures.count in
+    let some = c.if-give_back-eq0.false in
+    swept_made s.pool s.index s.moment new a.index a.marks w
+    (given_free (lives_by a.marks) a.pool new c.self.invariant.tied.known.pool c.give_back.ensures.freed
+    (omega (arith, count, some)))
+
+pub returns-then-give_back-eq0-clause-room : goal.returns-then-give_back-eq0-clause-room
+returns-then-give_back-eq0-clause-room c =
+    let s = c.args.self.now in
+    let a = c.self.inside in
+    let new = c.give_back.new.self in
+    let b : MapState = record { pool = a.pool; index = a.index; marks = a.marks; moment = a.moment } in
+    let pool : a.pool ≡ s.pool =
+    ap (λ (m : MapState). m.pool) c.self.view_is ∙ c.leave_expired.ensures.same.pool in
+    let moment : a.moment ≡ s.moment =
+    ap (λ (m : MapState). m.moment) c.self.view_is ∙ c.leave_expired.ensures.moment in
+    let left : HaveExpiredLeft s.pool s.moment (current s.pool s.index) (current a.pool a.index) =
+    (let h = c.leave_expired.ensures.left in rw (← c.self.view_is) at h) in
+    let w = swept_left s b new c.leave_expired.ensures.kept c.self.invariant pool moment left c.give_back.ensures.pool
+    c.give_back.ensures.freed in
+    let tied : IsTied s.pool a.index a.marks =
+    subst (λ (q : PoolState). IsTied q a.index a.marks) pool c.self.invariant.tied in
+    let gone : HaveExpiredLeft s.pool s.moment (current s.pool s.index) (current s.pool a.index) =
+    subst (λ (q : PoolState). HaveExpiredLeft s.pool s.moment (current s.pool s.index) (current q a.index)) pool left in
+    let agree = expired_agree s.pool s.index a.index s.marks a.marks s.moment c.leave_expired.ensures.kept.tied tied
+    gone in
+    let given : IsGivenBack (lives_by a.marks) s.pool new =
+    subst (λ (q : PoolState). IsGivenBack (lives_by a.marks) q new) pool c.give_back.ensures.freed in
+    let count : c.give_back.result ≡ dead_segments (lives_by a.marks) s.pool =
+    c.give_back.ensures.count ∙ ap (λ (q : PoolState). dead_segments (lives_by a.marks) q) pool in
+    λ bucket i full.
+    room_evicted s.pool s.index (lives_by a.marks)
+    (live_marks s.marks s.moment) bucket s.moment i new a.index a.marks
+    c.evict.new.self.pool c.evict.new.self.index c.leave_expired.ensures.kept.tied.known.pool agree full
+    (sym count ∙ c.if-give_back-eq0.true) given w c.evict.ensures.evicted
+
+pub returns-else-give_back-eq0-clause-room : goal.returns-else-give_back-eq0-clause-room
+returns-else-give_back-eq0-clause-room c =
+    let s = c.args.self.now in
+    let a = c.self.inside in
+    let new = c.give_back.new.self in
+    let b : MapState = record { pool = a.pool; index = a.index; marks = a.marks; moment = a.moment } in
+    let pool : a.pool ≡ s.pool =
+    ap (λ (m : MapState). m.pool) c.self.view_is ∙ c.leave_expired.ensures.same.pool in
+    let moment : a.moment ≡ s.moment =
+    ap (λ (m : MapState). m.moment) c.self.view_is ∙ c.leave_expired.ensures.moment in
+    let left : HaveExpiredLeft s.pool s.moment (current s.pool s.index) (current a.pool a.index) =
+    (let h = c.leave_expired.ensures.left in rw (← c.self.view_is) at h) in
+    let w = swept_left s b new c.leave_expired.ensures.kept c.self.invariant pool moment left c.give_back.ensures.pool
+    c.give_back.ensures.freed in
+    let tied : IsTied s.pool a.index a.marks =
+    subst (λ (q : PoolState). IsTied q a.index a.marks) pool c.self.invariant.tied in
+    let gone : HaveExpiredLeft s.pool s.moment (current s.pool s.index) (current s.pool a.index) =
+    subst (λ (q : PoolState). HaveExpiredLeft s.pool s.moment (current s.pool s.index) (current q a.index)) pool left in
+    let agree = expired_agree s.pool s.index a.index s.marks a.marks s.moment c.leave_expired.ensures.kept.tied tied
+    gone in
+    let given : IsGivenBack (lives_by a.marks) s.pool new =
+    subst (λ (q : PoolState). IsGivenBack (lives_by a.marks) q new) pool c.give_back.ensures.freed in
+    let count : c.give_back.result ≡ dead_segments (lives_by a.marks) s.pool =
+    c.give_back.ensures.count ∙ ap (λ (q : PoolState). dead_segments (lives_by a.marks) q) pool in
+    let some = c.if-give_back-eq0.false in
+    λ bucket i full.
+    room_given s.pool s.index (lives_by a.marks)
+    (live_marks s.marks s.moment) bucket s.moment i new a.index a.marks agree full
+    (omega (arith, count, some)) given w

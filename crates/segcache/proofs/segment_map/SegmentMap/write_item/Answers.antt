@@ -1,0 +1,93 @@
+use Rattle.std.proofs.Common.{◌≡◌, ℕ, false, sym, ap, subst, ◌∙◌, refl}
+use Rattle.std.specs.FinMap as finite
+use Rattle.std.proofs.lemmas.Slice.Eq.{bytes_eq-Decides}
+use Rattle.proto.specs.Sizes.{item_limit}
+use Rattle.proto.specs.Cache.{has_arrived}
+use Rattle.proto.specs.Buckets.{bucket_of, time_to_live}
+use Rattle.segments.specs.Items.{IsStorable}
+use Rattle.segments.specs.Shown.{item_of}
+use Rattle.segments.specs.Pools.{PoolState}
+use Rattle.index.specs.Table.{Places}
+use Rattle.index.proofs.Mapping.{get-remove}
+use Rattle.segcache.specs.State.{MapState}
+use Rattle.segcache.specs.Shown.{current}
+use Rattle.segcache.specs.Living.{live_others}
+use Rattle.segcache.proofs.Forgotten.{placed_left, room_was, room_there}
+use Rattle.segcache.proofs.Putting.{put_over, put_left, put_placed, was_refused, was_done}
+use Rattle.segcache.proofs.segment_map.SegmentMap.write_item.Goals as goal
+
+pub put-requires-clause-storable : goal.put-requires-clause-storable
+put-requires-clause-storable c =
+    let first = was_refused c.append.result _ _ c.append.ensures.appended
+    (sym c.is_err.ensures.value ∙ c.if-is_err.true) in
+    let pool : c.leave_key.new.self.pool ≡ c.args.self.now.pool =
+    c.leave_key.ensures.same.pool ∙ ap (λ (x : MapState). x.pool) first.1 in
+    subst (λ (q : PoolState). IsStorable (item_limit q.sizes) (item_of c.args.item)) (sym pool) c.requires.storable
+
+pub put-requires-clause-absent : goal.put-requires-clause-absent
+put-requires-clause-absent c =
+    let key = c.args.item.key.now in
+    ap (λ (m : Places). finite.get m key) c.leave_key.ensures.left
+    ∙ get-remove (current c.append.new.self.pool c.append.new.self.index) key key
+    ∙ (let z = (bytes_eq-Decides key key).1 refl in rw z refl)
+
+pub put-requires-clause-waits : goal.put-requires-clause-waits
+put-requires-clause-waits c =
+    subst (λ (t : ℕ). has_arrived c.args.item.deadline t ≡ false)
+    (sym (c.leave_key.ensures.moment ∙ c.append.ensures.moment)) c.requires.waits
+
+pub put-requires-clause-of_bucket : goal.put-requires-clause-of_bucket
+put-requires-clause-of_bucket c =
+    subst (λ (t : ℕ). c.args.bucket ≡ bucket_of (time_to_live c.args.item.deadline t))
+    (sym (c.leave_key.ensures.moment ∙ c.append.ensures.moment)) c.requires.of_bucket
+
+pub returns-then-is_err-clause-put : goal.returns-then-is_err-clause-put
+returns-then-is_err-clause-put c =
+    let s = c.args.self.now in
+    let i = item_of c.args.item in
+    let left = c.leave_key.new.self in
+    let first = was_refused c.append.result _ _ c.append.ensures.appended
+    (sym c.is_err.ensures.value ∙ c.if-is_err.true) in
+    let is : current left.pool left.index ≡ finite.remove (current s.pool s.index) i.key =
+    subst (λ (x : MapState). current left.pool left.index ≡ finite.remove (current x.pool x.index) i.key) first.1
+    c.leave_key.ensures.left in
+    put_left s left i c.args.item.deadline c.put.new.self.pool c.put.new.self.index
+    (c.leave_key.ensures.same.pool ∙ ap (λ (x : MapState). x.pool) first.1)
+    (c.leave_key.ensures.moment ∙ c.append.ensures.moment) is c.put.ensures.put
+
+pub returns-else-is_err-clause-put : goal.returns-else-is_err-clause-put
+returns-else-is_err-clause-put c =
+    let s = c.args.self.now in
+    let done = was_done c.append.result _ _ c.append.ensures.appended
+    (sym c.is_err.ensures.value ∙ c.if-is_err.false) in
+    put_over s.pool s.index s.marks c.args.bucket s.moment
+    (item_of c.args.item) c.args.item.deadline
+    c.append.new.self.pool c.append.new.self.index done.0 c.append.ensures.kept.past c.append.ensures.kept.tied
+    done.1.0 done.1.1 c.requires.waits c.requires.of_bucket
+
+pub returns-then-is_err-clause-placed : goal.returns-then-is_err-clause-placed
+returns-then-is_err-clause-placed c =
+    let s = c.args.self.now in
+    let i = item_of c.args.item in
+    let left = c.leave_key.new.self in
+    let first = was_refused c.append.result _ _ c.append.ensures.appended
+    (sym c.is_err.ensures.value ∙ c.if-is_err.true) in
+    let is : current left.pool left.index ≡ finite.remove (current s.pool s.index) i.key =
+    subst (λ (x : MapState). current left.pool left.index ≡ finite.remove (current x.pool x.index) i.key) first.1
+    c.leave_key.ensures.left in
+    placed_left s left c.args.bucket i c.put.new.self.pool c.put.new.self.index c.append.ensures.kept
+    c.leave_key.ensures.same.kept (c.leave_key.ensures.same.pool ∙ ap (λ (x : MapState). x.pool) first.1)
+    (c.leave_key.ensures.moment ∙ c.append.ensures.moment) is c.put.ensures.placed
+
+pub returns-else-is_err-clause-placed : goal.returns-else-is_err-clause-placed
+returns-else-is_err-clause-placed c =
+    let s = c.args.self.now in
+    let i = item_of c.args.item in
+    let lives = live_others i.key s.marks s.moment in
+    let done = was_done c.append.result _ _ c.append.ensures.appended
+    (sym c.is_err.ensures.value ∙ c.if-is_err.false) in
+    put_placed lives s.pool s.index s.pool s.index s.marks c.args.bucket s.moment i c.args.item.deadline
+    c.append.new.self.pool c.append.new.self.index done.0
+    (room_there lives s.pool s.index c.args.bucket s.moment i
+    (room_was s.pool c.args.bucket s.moment i c.append.new.self.pool done.0 done.1.0))
+    c.append.ensures.kept.past c.append.ensures.kept.tied done.1.0 done.1.1 c.requires.waits c.requires.of_bucket

@@ -1,0 +1,74 @@
+//! How a segment becomes free where none is: by giving back, by a merge, or by clearing the one that was opened first.
+
+ghost use Rattle.std.specs.Prelude.{◌≡◌, ℕ};
+ghost use Rattle.segments.specs.Items.{Item};
+ghost use Rattle.segments.specs.Changes.{HasNoRoom, IsPoolFull};
+ghost use Rattle.segments.specs.Merges.{NoneQualifies};
+ghost use Rattle.segments.specs.Marks.{lives_by};
+ghost use Rattle.segcache.specs.Forgetting.{IsEvicted, HasMadeRoom};
+ghost use Rattle.segcache.specs.Living.{live_marks};
+ghost use Rattle.segcache.specs.Merging.{HasPlan};
+ghost use Rattle.segcache.specs.Room.{IsCrowded, IsRoomMade};
+
+use crate::segment_map::SegmentMap;
+
+impl SegmentMap {
+    /// Carries out the merge that was planned.
+    fn merge(&mut self)
+        requires planned { HasPlan self.old.pool self.old.marks }
+        requires crowded { IsCrowded self.old.pool self.old.index self.old.moment }
+        ensures made { IsRoomMade self.old.pool self.old.index self.old.moment self.new.pool self.new.index }
+        ensures evicted { IsEvicted (lives_by self.old.marks) self.old.pool self.old.index self.new.pool self.new.index }
+        ensures moment { self.new.moment ≡ self.old.moment }
+    {
+        let moves = self.pool.moves();
+        self.index.follow(&self.pool);
+        self.marks.carry(moves);
+        self.pool.merge_next();
+    }
+
+    /// Forgets the items of the segment that was opened first.
+    fn clear_oldest(&mut self)
+        requires full { IsPoolFull self.old.pool }
+        requires crowded { IsCrowded self.old.pool self.old.index self.old.moment }
+        ensures made { IsRoomMade self.old.pool self.old.index self.old.moment self.new.pool self.new.index }
+        ensures evicted { NoneQualifies self.old.pool
+            → IsEvicted (lives_by self.old.marks) self.old.pool self.old.index self.new.pool self.new.index }
+        ensures moment { self.new.moment ≡ self.old.moment }
+    {
+        if let Some(segment) = self.pool.oldest() {
+            self.leave_segment(segment);
+            self.pool.clear(segment);
+        }
+    }
+
+    /// Forgets what has to be forgotten where each segment has a live item: what a merge doesn't keep, or where nothing
+    /// can be merged the segment that was opened first.
+    fn evict(&mut self)
+        requires full { IsPoolFull self.old.pool }
+        requires crowded { IsCrowded self.old.pool self.old.index self.old.moment }
+        ensures made { IsRoomMade self.old.pool self.old.index self.old.moment self.new.pool self.new.index }
+        ensures evicted { IsEvicted (lives_by self.old.marks) self.old.pool self.old.index self.new.pool self.new.index }
+        ensures moment { self.new.moment ≡ self.old.moment }
+    {
+        if self.pool.plan_merge(&self.marks) {
+            self.merge();
+        } else {
+            self.clear_oldest();
+        }
+    }
+
+    /// Makes a segment free: those without a live item are given back, and where there is none something is forgotten.
+    pub fn free_segment(&mut self)
+        requires full { IsPoolFull self.old.pool }
+        ensures made { IsRoomMade self.old.pool self.old.index self.old.moment self.new.pool self.new.index }
+        ensures room { (bucket : ℕ) → (i : Item) → HasNoRoom self.old.pool bucket self.old.moment i
+            → HasMadeRoom (live_marks self.old.marks self.old.moment) self.old.pool self.old.index bucket self.old.moment i self.new.pool self.new.index }
+        ensures moment { self.new.moment ≡ self.old.moment }
+    {
+        self.leave_expired();
+        if self.pool.give_back(&self.marks) == 0 {
+            self.evict();
+        }
+    }
+}

@@ -1,0 +1,93 @@
+//! How an item is written: into its bucket's tail or a free segment, over or behind the one that its key has.
+
+ghost use Rattle.std.specs.Prelude.{◌≡◌, ◌⊎◌, ◌<◌, None, false, IfSome, MatchResult};
+ghost use Rattle.std.specs.FinMap as map;
+ghost use Rattle.proto.specs.Sizes.{item_limit};
+ghost use Rattle.proto.specs.Cache.{has_arrived};
+ghost use Rattle.proto.specs.Buckets.{bucket_of, time_to_live};
+ghost use Rattle.segments.specs.Items.{IsStorable};
+ghost use Rattle.segments.specs.Shown.{item_of};
+ghost use Rattle.segments.specs.Pools.{bucket_count};
+ghost use Rattle.segments.specs.Changes.{HasNoRoom, IsAddedToTail, IsAddedToFree};
+ghost use Rattle.segments.specs.Marks.{IsWithin};
+ghost use Rattle.segcache.specs.Shown.{current};
+ghost use Rattle.segcache.specs.State.{IsSegmentedMap};
+ghost use Rattle.segcache.specs.Room.{IsPut, IsPutOver};
+ghost use Rattle.segcache.specs.Leaving.{marked_instead};
+ghost use Rattle.segcache.specs.Living.{live_marks, live_others};
+ghost use Rattle.segcache.specs.Forgetting.{PlacesItem};
+
+use crate::segment_map::SegmentMap;
+use segments::{ItemRef, LiveMarks, NoRoom, Place};
+
+/// Marks the place of an item in place of the one that its key had.
+fn mark_instead(marks: &mut LiveMarks, source: Option<Place>, place: Place)
+    requires source { IfSome source (IsWithin marks.old.sizes) }
+    requires place { IsWithin marks.old.sizes place }
+    ensures { marks.new ≡ marked_instead marks.old source place }
+{
+    match source {
+        None => marks.mark(place),
+        Some(source) => {
+            marks.unmark(source);
+            marks.mark(place);
+        }
+    }
+}
+
+impl SegmentMap {
+    /// Puts an item, in place of the one that its key has, into its bucket's tail or a free segment.
+    fn append(&mut self, bucket: usize, item: ItemRef) -> Result<Place, NoRoom>
+        requires bucket { bucket < bucket_count }
+        requires storable { IsStorable (item_limit self.old.pool.sizes) (item_of item) }
+        ensures appended { MatchResult result
+            (λ place. (IsAddedToTail self.old.pool bucket self.old.moment (item_of item.entry) self.new.pool place
+            ⊎ IsAddedToFree self.old.pool bucket self.old.moment (item_of item.entry) self.new.pool place)
+            × (current self.new.pool self.new.index ≡ map.insert (current self.old.pool self.old.index) item.entry.key.now place))
+            (λ _. HasNoRoom self.old.pool bucket self.old.moment (item_of item.entry) × (self.new ≡ self.old)) }
+        // for callers that read no field
+        ensures kept { IsSegmentedMap self.old }
+        ensures moment { self.new.moment ≡ self.old.moment }
+    {
+        let place = self.pool.append(bucket, self.moment, item)?;
+        let source = self.index.put(&self.pool, item.key, place);
+        mark_instead(&mut self.marks, source, place);
+        Ok(place)
+    }
+
+    /// Puts an item, of a key that has none, into the pool, and makes a segment free for it where it has no room.
+    fn put(&mut self, bucket: usize, item: ItemRef)
+        requires bucket { bucket < bucket_count }
+        requires storable { IsStorable (item_limit self.old.pool.sizes) (item_of item) }
+        requires absent { map.get (current self.old.pool self.old.index) item.key.now ≡ None }
+        requires waits { has_arrived item.deadline self.old.moment ≡ false }
+        requires of_bucket { bucket ≡ bucket_of (time_to_live item.deadline self.old.moment) }
+        ensures put { IsPut self.old.pool self.old.index self.old.moment (item_of item.entry) item.entry.deadline self.new.pool self.new.index }
+        ensures placed { PlacesItem (live_marks self.old.marks self.old.moment) self.old.pool self.old.index bucket self.old.moment
+            (item_of item.entry) self.new.pool self.new.index }
+        ensures moment { self.new.moment ≡ self.old.moment }
+    {
+        if self.append(bucket, item).is_err() {
+            self.free_segment();
+            let _ = self.append(bucket, item);
+        }
+    }
+
+    /// Puts an item into the pool in place of the one that its key has: over it by one search of the index where that
+    /// needs no free segment, and else behind it, when it has left and a segment is made free.
+    pub fn write_item(&mut self, bucket: usize, item: ItemRef)
+        requires bucket { bucket < bucket_count }
+        requires storable { IsStorable (item_limit self.old.pool.sizes) (item_of item) }
+        requires waits { has_arrived item.deadline self.old.moment ≡ false }
+        requires of_bucket { bucket ≡ bucket_of (time_to_live item.deadline self.old.moment) }
+        ensures put { IsPutOver self.old.pool self.old.index self.old.moment (item_of item.entry) item.entry.deadline self.new.pool self.new.index }
+        ensures placed { PlacesItem (live_others item.entry.key.now self.old.marks self.old.moment) self.old.pool self.old.index bucket
+            self.old.moment (item_of item.entry) self.new.pool self.new.index }
+        ensures moment { self.new.moment ≡ self.old.moment }
+    {
+        if self.append(bucket, item).is_err() {
+            self.leave_key(item.key);
+            self.put(bucket, item);
+        }
+    }
+}

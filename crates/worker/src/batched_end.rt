@@ -62,8 +62,7 @@ impl BatchedEnd {
         self.batch.outstanding()
     }
 
-    // Puts a request, or hands it back unchanged. Where storage has nothing else of this worker it is told at once, so that
-    // it begins while the worker reads on; else at the next flush. A hint of the key is left for it.
+    // Puts a request, or hands it back unchanged. Storage is told of it at the next flush. A hint of the key is left for it.
     pub(crate) fn post(&mut self, posted: Posted, storage: &StorageSignals) -> Result<(), Posted>
         requires { posted.number ≡ length self.old.sent + 1 }
         ensures { MatchResult result
@@ -73,12 +72,7 @@ impl BatchedEnd {
         if let Some(key) = posted.request.first_key() {
             storage.leave_hint(self.batch.worker(), posted.number - 1, key);
         }
-        let is_first = self.batch.outstanding() == self.batch.waiting();
-        self.batch.put(posted)?;
-        if is_first {
-            self.flush(storage);
-        }
-        Ok(())
+        self.batch.put(posted)
     }
 
     // Tells storage of all that was put, and unparks it.

@@ -7,7 +7,6 @@ use crate::ceasing::CeasingSessions;
 use crate::fault::NetFault;
 use crate::hand::{Hand, WAKER};
 use crate::streams::{Reading, Streams};
-use exchange::SpinPolicy;
 use mio::{Events, Poll};
 use std::alloc::Global;
 use std::net::Net;
@@ -17,12 +16,6 @@ use worker::{Gone, Port, PortEvent};
 
 /// Events of one poll.
 const EVENTS: usize = 256;
-
-/// So many idle calls in a row poll without waiting, although the worker may wait, where input has lately come within that
-/// time; and else so many.
-const LONG_ROW: u32 = 64;
-
-const SHORT_ROW: u32 = 1;
 
 /// While the worker may not wait, the sockets are looked at only at the last of each so many idle calls, so that a lone
 /// request may be answered before the first of these looks.
@@ -52,9 +45,6 @@ pub struct MioPort<R: Drop> {
     ceasing: CeasingSessions,
     // Idle calls in a row.
     quiet: u32,
-    // Whether the port has waited in this row.
-    has_waited: bool,
-    spin_policy: SpinPolicy,
 }
 
 impl<R: Wait + Clock + Net + Drop> MioPort<R> {
@@ -80,8 +70,6 @@ impl<R: Wait + Clock + Net + Drop> MioPort<R> {
             streams: Streams::new(alloc)?,
             ceasing: CeasingSessions::new(alloc),
             quiet: 0,
-            has_waited: false,
-            spin_policy: SpinPolicy::new(),
         })
     }
 }
@@ -98,7 +86,6 @@ impl<R: Wait + Clock + Drop> MioPort<R> {
             return PortEvent::Idle;
         }
         let millis = self.wait_millis(may_wait);
-        self.has_waited |= may_wait && millis > 0;
         self.look(millis);
         if let Some(event) = self.known_event(may_wait) {
             return event;
@@ -109,42 +96,13 @@ impl<R: Wait + Clock + Drop> MioPort<R> {
         PortEvent::Idle
     }
 
-    // How many idle calls in a row poll without waiting while the worker may wait.
-    fn row(&self) -> u32 {
-        if self.spin_policy.is_long() {
-            LONG_ROW
-        } else {
-            SHORT_ROW
-        }
-    }
-
-    // An event came: the next idle call is the first of a row.
-    fn end_row(&mut self)
-        ensures { self.new.streams ≡ self.old.streams }
-    {
-        if self.quiet == 0 {
-            return;
-        }
-        self.spin_policy.note(self.has_waited);
-        self.has_waited = false;
-        self.quiet = 0;
-    }
-
     // How long the next look at the sockets may wait.
     fn wait_millis(&self, may_wait: bool) -> u64 {
-        if !may_wait {
-            return if self.quiet < STALLED_CALLS {
-                0
-            } else {
-                STALLED_WAIT_MILLIS
-            };
-        }
-        if self.quiet < self.row() {
-            0
-        } else if self.ceasing.is_empty() {
-            WAIT_MILLIS
-        } else {
-            CEASING_WAIT_MILLIS
+        match may_wait {
+            true if self.ceasing.is_empty() => WAIT_MILLIS,
+            true => CEASING_WAIT_MILLIS,
+            false if self.quiet < STALLED_CALLS => 0,
+            false => STALLED_WAIT_MILLIS,
         }
     }
 
@@ -235,7 +193,7 @@ impl<R: Wait + Clock + Drop> Port for MioPort<R> {
         let event = self.next_event(may_wait);
         match &event {
             PortEvent::Idle => self.quiet = self.quiet.saturating_add(1),
-            _ => self.end_row(),
+            _ => self.quiet = 0,
         }
         event
     }

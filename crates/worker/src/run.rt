@@ -18,8 +18,8 @@ use session_book::{EndCause, MAX_POSTS, MAX_UNSETTLED};
 use std::alloc::Global;
 use std::sync::Wait;
 
-/// The most events that are taken in a turn.
-const EVENTS_A_TURN: usize = 8;
+/// The most events that are taken in a turn. Storage is told of their requests together, so it is woken once for them.
+const EVENTS_A_TURN: usize = 32;
 
 /// So many sessions whose peer accepted nothing are offered their output again in a turn.
 const SLOW_A_TURN: usize = 2;

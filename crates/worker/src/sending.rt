@@ -8,8 +8,7 @@ ghost use Rattle.worker.specs.Workers.{all_sent, TakesNone, TakesBack};
 
 use exchange::{Answered, Posted, StorageSignals, WorkerBatch};
 
-// Puts a request, or hands it back unchanged. Where storage has nothing else of this worker it is told at once, so that
-// it begins while the worker reads on; else at the next flush. A hint of the key is left for it.
+// Puts a request, or hands it back unchanged. Storage is told of it at the next flush. A hint of the key is left for it.
 pub(crate) fn post(
     batch: &mut WorkerBatch,
     posted: Posted,
@@ -24,12 +23,7 @@ pub(crate) fn post(
     if let Some(key) = posted.request.first_key() {
         storage.leave_hint(batch.worker(), posted.number - 1, key);
     }
-    let is_first = batch.outstanding() == batch.waiting();
-    batch.put(posted)?;
-    if is_first {
-        flush(batch, storage);
-    }
-    Ok(())
+    batch.put(posted)
 }
 
 // Tells storage of all that was put, and unparks it.

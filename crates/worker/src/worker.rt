@@ -156,7 +156,7 @@ impl<P: Port> Worker<P> {
         self.state.book.reads_on()
     }
 
-    // Posts the held request, if the gate lets it and there is room. Storage is told of it at the next flush, if not at once.
+    // Posts the held request, if the gate lets it and there is room. Storage is told of it at the next flush.
     pub(crate) fn post<G: Gate>(&mut self, gate: &G, storage: &StorageSignals) -> bool
         ensures goes_on { Continues P.told P.leads_to self.old self.new }
         ensures posted { result ≡ true → self.new.request ≡ None }

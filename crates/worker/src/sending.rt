@@ -6,7 +6,7 @@ ghost use Rattle.std.specs.Prelude.{◌≡◌, ◌+◌, ◌++◌, ◌∷◌, [],
 ghost use Rattle.exchange.specs.Ends.{CanPost};
 ghost use Rattle.worker.specs.Workers.{all_sent, TakesNone, TakesBack};
 
-use exchange::{Answered, Posted, StorageSignals, WorkerBatch};
+use exchange::{Answered, Posted, StorageSignals, WorkerBatch, WorkerEnd};
 
 // Puts a request, or hands it back unchanged. Where storage has nothing else of this worker it is told at once, so that
 // it begins while the worker reads on; else at the next flush. A hint of the key is left for it.
@@ -51,4 +51,12 @@ pub(crate) fn take_answer(batch: &mut WorkerBatch) -> Option<Answered>
         Some(answered) => Some(answered),
         None => batch.take(),
     }
+}
+
+// The end, with all that was put flushed.
+pub(crate) fn into_end(mut end: WorkerBatch) -> WorkerEnd
+    ensures { result ≡ all_sent end }
+{
+    end.flush();
+    end.into_end()
 }

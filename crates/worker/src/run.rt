@@ -10,6 +10,7 @@ ghost use Rattle.worker.specs.Reports.{IsReported, IsOver};
 use crate::gate::Gate;
 use crate::port::Port;
 use crate::report::WorkerReport;
+use crate::sending;
 use crate::state::WorkerState;
 use crate::worker::Worker;
 use crossbeam_utils::Backoff;
@@ -253,7 +254,7 @@ fn leave<P: Port>(worker: Worker<P>, storage: &StorageSignals) -> WorkerReport<P
     let Worker { state } = worker;
     let WorkerState {
         port,
-        mut batch,
+        batch,
         book: _,
         request: _,
         sessions,
@@ -262,8 +263,7 @@ fn leave<P: Port>(worker: Worker<P>, storage: &StorageSignals) -> WorkerReport<P
         ended: _,
         reply_buffers: _,
     } = state;
-    batch.flush();
-    let mut worker_end = batch.into_end();
+    let mut worker_end = sending::into_end(batch);
     worker_end.bye();
     storage.parking().unpark();
     WorkerReport {

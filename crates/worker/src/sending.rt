@@ -6,7 +6,7 @@ ghost use Rattle.std.specs.Prelude.{◌≡◌, ◌+◌, ◌++◌, ◌∷◌, [],
 ghost use Rattle.exchange.specs.Ends.{CanPost};
 ghost use Rattle.worker.specs.Workers.{all_sent, TakesNone, TakesBack};
 
-use exchange::{Answered, Posted, StorageSignals, WorkerBatch};
+use exchange::{Answered, Posted, StorageSignals, WorkerBatch, WorkerEnd};
 
 // Puts a request, or hands it back unchanged. Storage is told of it at the next flush. A hint of the key is left for it.
 pub(crate) fn post(
@@ -45,4 +45,12 @@ pub(crate) fn take_answer(batch: &mut WorkerBatch) -> Option<Answered>
         Some(answered) => Some(answered),
         None => batch.take(),
     }
+}
+
+// The end, with all that was put flushed.
+pub(crate) fn into_end(mut end: WorkerBatch) -> WorkerEnd
+    ensures { result ≡ all_sent end }
+{
+    end.flush();
+    end.into_end()
 }

@@ -1,7 +1,7 @@
 use Rattle.std.proofs.Common.{◌≡◌, length, true, refl, sym, ap, subst, ◌∙◌, arith}
 use Rattle.std.proofs.lemmas.List.{take_all}
 use Rattle.proto.specs.History.{asked_posted}
-use Rattle.exchange.specs.Ends.{WorkerView, WorkerBatchView}
+use Rattle.exchange.specs.Ends.{WorkerView}
 use Rattle.session_book.specs.declared.causes.EndCause.TheVariants.{Drained}
 use Rattle.session_book.specs.Book.{session_of}
 use Rattle.worker.specs.Workers.{end_of, IsStoryKnown, IsDrained, run_view}
@@ -15,8 +15,7 @@ returns-clause-reported g c =
     let w = c.worker.inside.state in let k = c.worker.invariant in
     let d = subst (λ v. IsDrained v) (sym c.worker.view_is) c.requires in
     let bye : c.bye.new.self ≡ record (end_of w) { said_bye = true } = c.bye.ensures
-    ∙ ap (λ (e : WorkerView). record e { said_bye = true }) (c.into_end-worker_end.ensures
-    ∙ ap (λ (b : WorkerBatchView). b.end) c.flush.ensures) in
+    ∙ ap (λ (e : WorkerView). record e { said_bye = true }) c.into_end-worker_end.ensures in
     let v = run_view story w in
     let all : asked_posted (end_of w).back ≡ (end_of w).sent = k.steady.back
     ∙ take_all (length (end_of w).back) (end_of w).sent (omega (arith, d.back)) in

@@ -80,7 +80,8 @@ impl Meeting {
     }
 }
 
-/// Each request 1 stays until all eight came, and each request 2 until the clock was asked.
+/// Each request 1 stays until all eight came. Request 2 is held until the clock was asked: a worker tells storage of its
+/// request 1 only once its turn goes on.
 impl Gate for Meeting {
     fn may_post(&self, worker: usize, number: u64) -> bool {
         if worker < 8 && number == 1 {
@@ -88,7 +89,7 @@ impl Gate for Meeting {
             self.stay(Wanted::AllFirst);
         } else if worker < 8 && number == 2 {
             self.second_came[worker].store(true, Ordering::SeqCst);
-            self.stay(Wanted::Asked);
+            return self.has(Wanted::Asked);
         }
         true
     }

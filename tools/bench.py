@@ -20,6 +20,7 @@ import statistics
 import subprocess
 import sys
 import tempfile
+import textwrap
 import time
 
 import misses
@@ -303,7 +304,7 @@ def speed_parts(bench, words):
 def taken(measure):
     """What was measured, below when and on what, and above what other machines took meanwhile."""
     head, before = machine(), processor_ticks()
-    parts = [[f"Taken {head}"], *measure()]
+    parts = [textwrap.wrap(f"Taken {head}", 100), *measure()]
     parts.append([f"Of all processors' time in that run {stolen_since(before):.0%} went to other machines of the host."])
     return "\n\n".join("\n".join(it) for it in parts)
 

@@ -3,5 +3,5 @@
 /// What `segcached --version` shows behind the program's name: its version, which stands here alone; the kit that it is
 /// proved with, by the line of `rt version`; and where the package says the rest.
 pub(crate) const VERSION: &str = "0.1.0
-proved with rattle-kit-13b logic dac8208d650f15bf
+proved with rattle-kit-13f logic dac8208d650f15bf
 the package's share/doc/segcached/PROVED has its commit and its proofs";

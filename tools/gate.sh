@@ -22,7 +22,7 @@ with_progress() {
     printf '%s\n' "$line"
     case $line in
       'rt: '*': its tests are proved') ;;
-      'rt: '*' proved') proved=$((proved + 1)) ;;
+      'rt: '*' proved' | 'rt: '*' is kept: '*) proved=$((proved + 1)) ;;
       'rt: '*': trying its must-fail edits'*) ;;
       *) continue ;;
     esac

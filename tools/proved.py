@@ -1,12 +1,11 @@
 #!/usr/bin/env python3
 """Writes and checks the record of what the built segcached was proved from: crates/segcached/out/PROVED.
 
-    tools/proved.py write [--log FILE]   after a proved build, or after `rt ci`, whose output FILE is
-    tools/proved.py check [PROGRAM]      ends with a line and status 1 where the program can't be packaged
+    tools/proved.py write --log FILE [--alone]   after the program was built by `rt ci`, whose output FILE is: of all crates, or of the program's alone
+    tools/proved.py check [PROGRAM]              ends with a line and status 1 where the program can't be packaged
 
 The record holds for one program, by its sha256, and for one state of the repository's files, by the sum that git gives
-them. Without a log, what the prover said of a crate is what was kept beside its proof; where nothing is kept,
-`rt check` says it again.
+them. Of a crate it has the prover's line, or rt's, where an earlier run on the machine proved it.
 """
 import argparse
 import hashlib
@@ -16,10 +15,11 @@ import subprocess
 import sys
 import tempfile
 
-from prove import TOP, is_kept, read_crates, with_those_below
-from verdicts import keep_verdict, kept_verdict, text_of, verdict_in
+from prove import NAME, PROGRAM, TOP, read_crates, with_those_below
 
-PROGRAM = f"{TOP}/crates/segcached/out/segcached"
+
+# What the record says of a run over the program's crates alone.
+ALONE = ", of the program's crates, with no tests and no wrong bodies"
 
 
 class Trouble(Exception):
@@ -55,52 +55,38 @@ def commit_of(files):
 
 
 def verdicts_of_log(path):
-    """By crate, what `rt ci` said of its proof from nothing, and behind them all its last line."""
+    """By crate, what `rt ci` said of its proof, and behind them all its last line."""
     verdicts, crate = {}, None
     with open(path, encoding="utf-8", errors="replace") as file:
         lines = file.read().splitlines()
     for line in lines:
-        if line.startswith("== "):
+        kept = re.match(r"rt: (\w+) is (kept: .*)", line)
+        if kept:
+            verdicts[kept[1]] = kept[2]
+        elif line.startswith("== "):
             crate = line[3:]
         elif line.startswith("logic=proved ") and crate:
             verdicts.setdefault(crate, line)
     return verdicts, lines[-1]
 
 
-def verdict_now(name):
-    """What the prover says of a crate whose proof is kept."""
-    folder = f"{TOP}/crates/{name}"
-    verdict = kept_verdict(folder)
-    if not verdict:
-        print(f"nothing was kept of what the prover said of {name}: it says it again", flush=True)
-        verdict = verdict_in(output_of("nice", "rt", "check", "--jobs", "1", folder=folder))
-        keep_verdict(folder, verdict)
-    return verdict
-
-
-def write(log):
+def write(log, alone):
     crates = read_crates()
-    below = with_those_below(crates, "segcached")
+    below = with_those_below(crates, NAME)
     names = [name for name in crates if name in below]
-    if log:
-        verdicts, gate = verdicts_of_log(log)
-    elif is_kept(crates, "segcached"):
-        verdicts, gate = {name: verdict_now(name) for name in names}, "not run over this build"
-    else:
-        raise Trouble("the program isn't built of the crates as they stand: run tools/build.sh")
+    verdicts, last = verdicts_of_log(log)
     lacking = [name for name in names if not verdicts.get(name)]
     if lacking:
         raise Trouble(f"{lacking[0]} isn't proved")
     files = sum_of_files()
-    functions = sum(int(re.search(r" functions=(\d+)", verdicts[name])[1]) for name in names)
     record = [
         output_of(PROGRAM, "--version").splitlines()[0],
         f"commit: {commit_of(files)}",
         f"files: {files}",
         f"kit: {output_of('rt', 'version')}",
         f"program: {sum_of_program(PROGRAM)}",
-        f"rt ci: {gate}",
-        f"proved: {functions} functions in {len(names)} crates",
+        f"rt ci: {last}{ALONE if alone else ''}",
+        f"proved: {len(names)} crates",
         "",
         *(f"{name}: {verdicts[name]}" for name in names),
     ]
@@ -109,7 +95,11 @@ def write(log):
 
 
 def check(program):
-    lines = text_of(f"{os.path.dirname(program)}/PROVED").splitlines()
+    try:
+        with open(f"{os.path.dirname(program)}/PROVED", encoding="utf-8") as file:
+            lines = file.read().splitlines()
+    except FileNotFoundError:
+        lines = []
     record = dict(line.split(": ", 1) for line in lines if ": " in line)
     if not record or not os.path.exists(program):
         raise Trouble("no program was built with proofs: run tools/build.sh")
@@ -122,11 +112,13 @@ def check(program):
 def main():
     parser = argparse.ArgumentParser(description="The record of what segcached was proved from.")
     kinds = parser.add_subparsers(dest="kind", required=True)
-    kinds.add_parser("write").add_argument("--log", metavar="FILE")
+    writing = kinds.add_parser("write")
+    writing.add_argument("--log", metavar="FILE", required=True)
+    writing.add_argument("--alone", action="store_true")
     kinds.add_parser("check").add_argument("program", nargs="?", default=PROGRAM)
     words = parser.parse_args()
     try:
-        write(words.log) if words.kind == "write" else check(words.program)
+        write(words.log, words.alone) if words.kind == "write" else check(words.program)
     except Trouble as trouble:
         sys.exit(f"segcached: {trouble}")
 

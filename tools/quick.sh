@@ -3,5 +3,5 @@
 # the program's replay. The gate alone (`make test`) is the verdict.
 set -eu
 cd "$(dirname "$0")/.."
-python3 tools/prove.py --all
+rt all check --jobs "$(python3 -c 'import sys; sys.path.insert(0, "tools"); import machine; print(machine.at_once())')"
 (cd crates/replay_tests && rt test)

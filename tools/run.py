@@ -158,7 +158,7 @@ def main():
         signal.signal(it, end)
     os.chdir(TOP)
     machine.stop_where_lacking(machine.lacks_kit())
-    is_kept = prove.is_kept(prove.read_crates(), "segcached")
+    is_kept = prove.is_kept()
     if not is_kept:
         machine.stop_where_lacking(machine.lacks_memory())
     show_script()

@@ -1,5 +1,5 @@
-"""Tests of what comes before and around the proofs: the order of the crates, what is kept, the minutes, and what `make run` says where
-something is missing. They prove nothing and take a few seconds.
+"""Tests of what comes before and around the proofs: what is kept, the minutes, and what `make run` says where something is missing.
+They prove nothing and take a few seconds.
 
     python3 -m pytest tools/tests/test_prove.py
 """
@@ -23,55 +23,18 @@ CRATES = {"base": [], "left": ["base"], "right": ["base"], "aside": ["base"], "t
 MINUTES = {"base": 2.0, "left": 5.0, "right": 1.0, "aside": 0.5, "top": 1.0}
 
 
-def started(proved, running=(), at_once=4, crates=CRATES, minutes=MINUTES):
-    ways = prove.ways_to_the_top(crates, minutes)
-    return prove.to_start(crates, ways, set(proved), dict.fromkeys(running), at_once)
+def test_the_longest_way_goes_through_what_is_left():
+    assert prove.longest_way(CRATES, MINUTES) == 8.0
+    assert prove.longest_way(CRATES, {name: MINUTES[name] for name in ("right", "aside", "top")}) == 2.0
+    assert prove.longest_way(CRATES, {}) == 0
 
 
-def names_of(chosen):
-    return [name for name, _, _ in chosen]
-
-
-def test_a_way_adds_up_the_longest_of_those_above(monkeypatch):
-    monkeypatch.setattr(prove, "MINUTES_ALONE", 0.25)
-    assert prove.ways_to_the_top(CRATES, MINUTES) == {"base": 8.75, "left": 6.5, "right": 2.5, "aside": 0.75, "top": 1.25}
-
-
-def test_a_crate_waits_for_those_below_it():
-    assert names_of(started([])) == ["base"]
-    assert names_of(started(["base", "left"], running=["aside"])) == ["right"]
-    assert names_of(started(["base", "left", "right"])) == ["top", "aside"]
-
-
-def test_the_longest_way_goes_first_and_the_others_yield():
-    assert started(["base"]) == [("left", 2, 0), ("right", 2, 10), ("aside", 2, 10)]
-
-
-def test_what_runs_already_makes_no_way_seem_short():
-    assert started(["base"], running=["left"]) == [("right", 2, 0), ("aside", 2, 10)]
-
-
-def test_no_more_are_proved_at_a_time_than_asked_for():
-    assert names_of(started(["base"], at_once=2)) == ["left", "right"]
-    assert names_of(started(["base"], running=["left"], at_once=2)) == ["right"]
-    assert started(["base"], at_once=1) == [("left", 1, 0)]
-
-
-def test_the_last_crate_yields_to_none():
-    assert started(["base", "left", "right", "top"]) == [("aside", 2, 0)]
-
-
-def test_crates_that_are_kept_count_as_proved():
-    left = {name: MINUTES[name] for name in ("right", "top")}
-    assert names_of(started([], minutes=left)) == ["right"]
-
-
-def test_each_crate_ends_behind_those_below_it(monkeypatch):
+def test_what_is_left_takes_its_longest_way_or_all_processors(monkeypatch):
+    monkeypatch.setattr(prove, "SHARE_USED", 1)
     monkeypatch.setattr(machine, "processors", lambda: 4)
-    ends = prove.expected_ends(CRATES, MINUTES, 4)
-    assert set(ends) == set(CRATES)
-    assert all(ends[below] < ends[name] for name, those in CRATES.items() for below in those)
-    assert prove.expected_ends(CRATES, MINUTES, 1)["top"] > ends["top"]
+    assert prove.minutes_left(CRATES, MINUTES) == 8.0
+    monkeypatch.setattr(machine, "processors", lambda: 1)
+    assert prove.minutes_left(CRATES, MINUTES) == 9.5
 
 
 def test_each_crate_of_the_repository_has_its_minutes():
@@ -87,63 +50,73 @@ def test_a_crate_that_was_never_measured_is_guessed_by_its_lines(monkeypatch):
 
 @pytest.fixture
 def repository(tmp_path, monkeypatch):
-    """A small repository whose crates are kept, all but their proofs."""
-    (tmp_path / "crates.txt").write_text("# what stands here\nlow:\nhigh: low bytes\n")
-    for name, root in (("low", "lib.rt"), ("high", "main.rt")):
-        (tmp_path / "crates" / name / "src").mkdir(parents=True)
+    """A small repository whose program is kept."""
+    (tmp_path / "crates.txt").write_text("# what stands here\nlow:\nhigh: low bytes\nlow_tests: low\n")
+    (tmp_path / "HANDLES").write_text("Handles allowed: none.\n")
+    for name, root in (("low", "lib.rt"), ("high", "main.rt"), ("low_tests", "lib.rt")):
+        for part in ("src", "must-fail", "out"):
+            (tmp_path / "crates" / name / part).mkdir(parents=True)
         (tmp_path / "crates" / name / "src" / root).write_text(f"// {name}\n")
-        (tmp_path / "crates" / name / "out" / "rlib").mkdir(parents=True)
-    (tmp_path / "crates" / "low" / "out" / "rlib" / "stamp").write_text("a stamp of rt's")
+        (tmp_path / "crates" / name / "must-fail" / "wrong.edit").write_text("file: src/lib.rt\n")
     (tmp_path / "crates" / "high" / "out" / "high").write_text("a program")
     monkeypatch.setattr(prove, "TOP", str(tmp_path))
-    crates = prove.read_crates()
-    for name in crates:
-        prove.Kept(crates).keep(name, name == "high")
+    monkeypatch.setattr(prove, "NAME", "high")
+    monkeypatch.setattr(prove, "PROGRAM", str(tmp_path / "crates" / "high" / "out" / "high"))
+    prove.keep()
     return tmp_path
 
 
 def test_what_is_kept_is_known(repository):
-    assert prove.read_crates() == {"low": [], "high": ["low"]}
-    assert prove.is_kept(prove.read_crates(), "high")
+    assert prove.read_crates() == {"low": [], "high": ["low"], "low_tests": ["low"]}
+    assert prove.is_kept()
 
 
-@pytest.mark.parametrize("path", ["low/src/lib.rt", "high/src/main.rt", "low/out/rlib/stamp", "high/out/high"])
+@pytest.mark.parametrize("path", ["low/src/lib.rt", "high/src/main.rt", "high/stdout", "high/out/high"])
 def test_a_change_is_seen(repository, path):
     (repository / "crates" / path).write_text("changed")
-    assert not prove.is_kept(prove.read_crates(), "high")
+    assert not prove.is_kept()
 
 
-@pytest.mark.parametrize("path", ["low/out/proved", "low/out/rlib/stamp", "high/out/high", "high/out/proved"])
+@pytest.mark.parametrize("path", ["low/must-fail/wrong.edit", "low_tests/src/lib.rt"])
+def test_what_the_program_does_not_stand_on_may_change(repository, path):
+    (repository / "crates" / path).write_text("changed")
+    assert prove.is_kept()
+
+
+@pytest.mark.parametrize("path", ["high/out/high", "high/out/high.kept"])
 def test_what_is_gone_is_seen(repository, path):
     (repository / "crates" / path).unlink()
-    assert not prove.is_kept(prove.read_crates(), "high")
+    assert not prove.is_kept()
 
 
 def test_a_new_file_and_another_kit_are_seen(repository, monkeypatch):
     (repository / "crates" / "low" / "specs").mkdir()
     (repository / "crates" / "low" / "specs" / "More.antt").write_text("")
-    assert not prove.is_kept(prove.read_crates(), "high")
+    assert not prove.is_kept()
     (repository / "crates" / "low" / "specs" / "More.antt").unlink()
-    assert prove.is_kept(prove.read_crates(), "high")
+    assert prove.is_kept()
     monkeypatch.setattr(machine, "kit", lambda: "another")
-    assert not prove.is_kept(prove.read_crates(), "high")
+    assert not prove.is_kept()
 
 
-def test_a_program_that_was_only_proved_is_not_built(repository):
-    crates = prove.read_crates()
-    prove.Kept(crates).keep("high", False)
-    assert prove.Kept(crates).is_kept("high") and not prove.is_kept(crates, "high")
+def test_the_folder_apart_has_no_tests_and_no_wrong_bodies(repository, tmp_path_factory):
+    folder = tmp_path_factory.mktemp("apart")
+    prove.copy_crates({"low", "high"}, folder)
+    found = sorted(str(path.relative_to(folder)) for path in folder.rglob("*") if path.is_file())
+    assert found == ["HANDLES", "crates.txt", "crates/high/src/main.rt", "crates/low/src/lib.rt"]
+    assert (folder / "crates.txt").read_text() == "low:\nhigh: low bytes\n"
 
 
-def test_what_a_killed_run_left_in_its_room_is_kept(repository, monkeypatch):
-    monkeypatch.setattr(prove, "ROOMS", str(repository / "rooms"))
-    modules = repository / "rooms" / "low" / "crates" / "low" / "out" / "incremental"
-    modules.mkdir(parents=True)
-    (modules / "a_module").write_text("")
-    (repository / "rooms" / "of_no_crate" / "crates" / "of_no_crate" / "out").mkdir(parents=True)
-    prove.clear_rooms()
-    assert (repository / "crates" / "low" / "out" / "incremental" / "a_module").exists()
-    assert os.listdir(repository / "rooms") == []
+def test_a_line_is_said_for_each_crate_that_rt_has_proved(capsys, tmp_path):
+    progress = prove.Progress(CRATES, set(CRATES))
+    lines = ["== base\n", "rt: base is kept: an earlier run proved it\n", "rt: left proved\n", "rt: right NOT PROVED\n"]
+    with open(tmp_path / "log", "w", encoding="utf-8") as log:
+        assert prove.follow(lines, log, progress) == ["right"]
+    assert (tmp_path / "log").read_text() == "".join(lines)
+    said = capsys.readouterr().out.splitlines()
+    assert re.match(r"   1 of 5  base +\(0:00, kept by an earlier run, ", said[1])
+    assert re.match(r"   2 of 5  left +\(0:00, ", said[2])
+    assert (progress.proved(), len(said)) == (2, 3)
 
 
 def test_the_minutes_are_read_as_they_were_written(tmp_path):

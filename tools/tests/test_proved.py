@@ -1,9 +1,8 @@
-"""tools/proved.py and tools/verdicts.py: what the record of the proofs takes from the gate's log, and from what was kept."""
+"""tools/proved.py: what the record of the proofs takes from the gate's log."""
 import subprocess
 
 import machine
 import proved
-import verdicts
 
 LOG = """\
 == low: its tests
@@ -17,7 +16,8 @@ rt: low proved
 fn high::main: not proved
 logic=not-proved functions=2
 rt: high NOT PROVED
-1 passed, 1 failed
+rt: middle is kept: an earlier run on this machine proved the same files over the same libraries
+2 passed, 1 failed
 """
 
 
@@ -25,19 +25,9 @@ def test_a_log_says_what_was_proved_of_each_crate_and_not_of_its_tests(tmp_path)
     (tmp_path / "log").write_text(LOG)
     found, last = proved.verdicts_of_log(tmp_path / "log")
     assert found["low"] == "logic=proved functions=7 sum=5f"
-    assert "high" not in found
-    assert last == "1 passed, 1 failed"
-
-
-def test_what_was_kept_holds_for_that_proof_alone(tmp_path):
-    stamp = tmp_path / "out" / "rlib" / "stamp"
-    stamp.parent.mkdir(parents=True)
-    stamp.write_text("a" * 64)
-    assert verdicts.kept_verdict(tmp_path) == ""
-    verdicts.keep_verdict(tmp_path, "logic=proved functions=7")
-    assert verdicts.kept_verdict(tmp_path) == "logic=proved functions=7"
-    stamp.write_text("b" * 64)
-    assert verdicts.kept_verdict(tmp_path) == ""
+    assert found["middle"].startswith("kept: an earlier run on this machine proved the same files")
+    assert set(found) == {"low", "middle"}
+    assert last == "2 passed, 1 failed"
 
 
 def test_the_program_names_its_version_and_the_kit_that_it_is_proved_with(program):

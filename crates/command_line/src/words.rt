@@ -20,7 +20,7 @@ use thiserror::Error;
 const MAX_ACCEPTED: u64 = 65_536;
 
 /// What `segcached replay` is told.
-#[derive(Debug, Drop, PartialEq, Eq)]
+#[derive(Drop)]
 pub struct Options {
     /// The path of the script.
     pub file: String,
@@ -41,7 +41,7 @@ pub struct Options {
 }
 
 /// What `segcached serve` is told.
-#[derive(Debug, Drop, PartialEq, Eq)]
+#[derive(Drop)]
 pub struct ServeOptions {
     /// The address: an IP address and a port.
     pub listen: String,
@@ -56,7 +56,7 @@ pub struct ServeOptions {
 }
 
 /// What the words ask for.
-#[derive(Debug, Drop)]
+#[derive(Drop)]
 pub enum Job {
     /// To print this text.
     Help(String),

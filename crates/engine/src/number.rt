@@ -33,7 +33,7 @@ pub fn number_of(value: &[u8]) -> Option<u64>
 }
 
 /// What is done to a number.
-#[derive(Clone, Copy, Debug)]
+#[derive(Clone, Copy)]
 pub enum Change {
     /// Adds, and begins again at 0 behind the greatest number.
     Add(u64),

@@ -8,7 +8,7 @@ use std::alloc::{AllocError, AllocFailed};
 use thiserror::Error;
 
 /// Why a group didn't run. No event was taken then, and no request was executed.
-#[derive(Clone, Copy, Debug, PartialEq, Eq, Error)]
+#[derive(Clone, Copy, Debug, Error)]
 pub enum GroupFault {
     /// The number of ports isn't 1 to 8.
     #[error("bad number of workers")]

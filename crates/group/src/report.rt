@@ -5,7 +5,7 @@ use proto::Geometry;
 use session_book::EndCause;
 
 /// What a group runs for.
-#[derive(Clone, Copy, Debug)]
+#[derive(Clone, Copy)]
 pub struct Config {
     /// The sizes of the store that the storage thread owns.
     pub geometry: Geometry,

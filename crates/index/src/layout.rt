@@ -8,7 +8,7 @@ use proto::Geometry;
 
 /// How many bits an offset takes, counted in eight bytes, and how many a place takes. What these leave of a number's four
 /// bytes is the tag's; where they leave less than nothing, numbers have eight bytes.
-#[derive(Clone, Copy, Debug)]
+#[derive(Clone, Copy)]
 pub struct Layout {
     pub offset_bits: u32,
     pub place_bits: u32,

@@ -14,7 +14,7 @@ use segments::Pool;
 use std::hash::FoldHasher;
 
 /// Slots that are known to be used: from the first one on, up to the end, which itself may be empty.
-#[derive(Clone, Copy, Debug)]
+#[derive(Clone, Copy)]
 struct Stretch {
     first: usize,
     end: usize,

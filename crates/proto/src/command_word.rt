@@ -5,7 +5,7 @@ ghost use Rattle.proto.specs.Heads.{word_of_command};
 ghost use Rattle.proto.specs.declared.command_word.CommandWord.{CommandWord};
 
 /// The command word of a storage line.
-#[derive(Clone, Copy, Debug, PartialEq, Eq)]
+#[derive(Clone, Copy)]
 pub enum Verb {
     Set,
     Add,
@@ -14,7 +14,7 @@ pub enum Verb {
 }
 
 /// The command words that begin no storage line.
-#[derive(Clone, Copy, Debug, PartialEq, Eq)]
+#[derive(Clone, Copy)]
 pub enum OtherWord {
     Get,
     Gets,
@@ -26,7 +26,7 @@ pub enum OtherWord {
 }
 
 /// A command word.
-#[derive(Clone, Copy, Debug, PartialEq, Eq)]
+#[derive(Clone, Copy)]
 pub enum CommandWord {
     Storage(Verb),
     Other(OtherWord),

@@ -3,7 +3,7 @@
 use crate::message::{Reply, Request};
 
 /// A request that a worker posts for one of its sessions.
-#[derive(Debug, Drop)]
+#[derive(Drop)]
 pub struct Posted {
     pub session: u64,
     /// The worker's number for it: 1, 2, 3 and so on over all its sessions.
@@ -12,7 +12,7 @@ pub struct Posted {
 }
 
 /// A request that was executed, with its moment in seconds and its reply.
-#[derive(Debug, Drop)]
+#[derive(Drop)]
 pub struct Answered {
     pub worker: usize,
     pub session: u64,

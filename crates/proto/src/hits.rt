@@ -15,7 +15,7 @@ use std::marker::Model;
 const HEADER: usize = 28;
 
 /// A live entry that a `get` or `gets` shows, lent.
-#[derive(Clone, Copy, Debug)]
+#[derive(Clone, Copy)]
 pub struct HitRef<'a> {
     pub key: &'a [u8],
     pub flags: u32,
@@ -35,7 +35,7 @@ impl<'a> HitRef<'a> {
 }
 
 /// Hits in the order of the keys asked, in one piece of memory.
-#[derive(Debug, Drop)]
+#[derive(Drop)]
 pub struct Hits {
     bytes: Vec<u8>,
 }
@@ -115,7 +115,7 @@ impl<'a> HitIter<'a> {
 }
 
 /// Puts hits one after the other into memory that was reserved for them.
-#[derive(Debug, Drop)]
+#[derive(Drop)]
 pub struct HitWriter {
     bytes: Vec<u8>,
     room: usize,

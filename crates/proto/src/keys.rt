@@ -14,7 +14,7 @@ use std::mem;
 
 /// Keys in the order asked, in one piece of memory: a space stands before each. Beside them they have the buffer that they
 /// were lent for their hits, of which no clause speaks.
-#[derive(Debug, Drop)]
+#[derive(Drop)]
 pub struct Keys {
     bytes: Vec<u8>,
     /// How many keys there are.

@@ -7,7 +7,7 @@ use std::marker::Model;
 
 /// An empty buffer, which may have memory. It travels with the keys of a `get`, and comes back with the hits: so memory
 /// is used again where it would be freed by one thread and taken by another.
-#[derive(Debug, Drop)]
+#[derive(Drop)]
 pub struct SpareBuffer {
     bytes: Vec<u8>,
 }

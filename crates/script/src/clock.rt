@@ -6,7 +6,7 @@ ghost use Rattle.script.specs.Clocks.{clock_at, answer_of};
 use std::marker::Model;
 
 /// A clock that goes on by the same number of seconds with each answer.
-#[derive(Clone, Copy, Debug)]
+#[derive(Clone, Copy)]
 pub struct ScriptClock {
     next: u64,
     tick: u64,

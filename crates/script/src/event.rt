@@ -3,7 +3,7 @@
 use bytes::Bytes;
 
 /// What the peer of a session does.
-#[derive(Debug, Drop)]
+#[derive(Drop)]
 pub enum ScriptEvent {
     /// The session begins.
     Open(u64),
@@ -14,7 +14,7 @@ pub enum ScriptEvent {
 }
 
 /// A line of a script: an event, and the worker at which it comes.
-#[derive(Debug, Drop)]
+#[derive(Drop)]
 pub struct ScriptLine {
     pub worker: u64,
     pub event: ScriptEvent,

@@ -4,7 +4,7 @@ use proto::NoMemory;
 use thiserror::Error;
 
 /// What is wrong with a line. The first of these that a line has is reported.
-#[derive(Clone, Copy, Debug, PartialEq, Eq, Error)]
+#[derive(Clone, Copy, Debug, Error)]
 pub enum LineFault {
     #[error("not a script line")]
     NotAScriptLine,
@@ -17,7 +17,7 @@ pub enum LineFault {
 }
 
 /// Why a script can't be read.
-#[derive(Clone, Copy, Debug, PartialEq, Eq, Error)]
+#[derive(Clone, Copy, Debug, Error)]
 pub enum ScriptFault {
     #[error("script too large")]
     TooLarge,

@@ -16,7 +16,7 @@ use proto::{ByteString, NoMemory};
 use std::alloc::Global;
 
 /// A session, and all bytes that it was given.
-#[derive(Debug, Drop)]
+#[derive(Drop)]
 pub struct SessionOutput {
     pub session: u64,
     pub output: ByteString,

@@ -65,7 +65,7 @@ fn answer_all<E: StorageEngine + Drop>(
 }
 
 /// A session: what it sent and wasn't read yet, and what it was answered.
-#[derive(Debug, Drop)]
+#[derive(Drop)]
 pub struct SequentialSession {
     pub number: u64,
     pub unread: Vec<u8>,

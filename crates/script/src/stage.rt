@@ -1,7 +1,7 @@
 //! What has become of a session.
 
 /// What has become of a session that was opened.
-#[derive(Clone, Copy, Debug)]
+#[derive(Clone, Copy)]
 pub enum Stage {
     Playing,
     Paused,

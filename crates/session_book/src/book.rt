@@ -7,11 +7,9 @@ ghost use Rattle.std.specs.Option.{option_and_then};
 
 use crate::causes::{EndCause, OpenFault, Received, Settled, Unsettled};
 use crate::limits::{MAX_POSTS, MAX_SESSIONS, MAX_UNSETTLED};
-use crate::load::Load;
 use crate::open_session::OpenSession;
-use crate::ready_queues::ReadyQueues;
 use crate::session::Session;
-use crate::spare_buffers::SpareBuffers;
+use crate::upkeep::Upkeep;
 use bytes::Bytes;
 use proto::{Answered, NoMemory, Request};
 use std::alloc::Global;
@@ -41,11 +39,7 @@ pub struct Book {
     greatest: u64,
     opened: u64,
     looks: u64,
-    load: Load,
-    ready: ReadyQueues,
-    inputs: SpareBuffers,
-    outputs: SpareBuffers,
-    reads_on: bool,
+    upkeep: Upkeep,
 }
 
 impl Model for Book {
@@ -99,11 +93,7 @@ impl Book {
             greatest: 0,
             opened: 0,
             looks: 0,
-            load: Load::new(),
-            ready: ReadyQueues::new(alloc),
-            inputs: SpareBuffers::new(alloc),
-            outputs: SpareBuffers::new(alloc),
-            reads_on: false,
+            upkeep: Upkeep::new(alloc),
         }
     }
 
@@ -124,7 +114,7 @@ impl Book {
         if session <= self.greatest || self.opened >= MAX_SESSIONS {
             return Err(OpenFault::Known);
         }
-        if self.ready.reserve(self.sessions.len() + 1).is_err() {
+        if self.upkeep.ready.reserve(self.sessions.len() + 1).is_err() {
             return Err(OpenFault::NoMemory);
         }
         match self.sessions.insert(session, OpenSession::new()) {
@@ -150,11 +140,7 @@ impl Book {
         let Some(state) = &mut open.state else {
             return Received::Refused;
         };
-        let received = state.receive(piece, &mut self.inputs);
-        if received == Received::Fed {
-            state.ask_later(session, &mut self.ready);
-        }
-        received
+        state.receive(session, piece, &mut self.upkeep)
     }
 
     /// Feeds the held piece of a session, if it fits by now.
@@ -167,11 +153,7 @@ impl Book {
         let Some(state) = &mut open.state else {
             return Ok(false);
         };
-        let fed = state.feed_held()?;
-        if fed {
-            state.ask_later(session, &mut self.ready);
-        }
-        Ok(fed)
+        state.feed_held(session, &mut self.upkeep)
     }
 
     /// The state of a session that is open and has had input.
@@ -212,18 +194,15 @@ impl Book {
             return Ok(None);
         };
         let Some(state) = &mut open.state else {
-            self.reads_on = false;
+            self.upkeep.reads_on = false;
             return Ok(None);
         };
         self.unsettled.reserve(1)?;
-        let before = state.out().len();
-        let read = state.next_ask(&mut self.looks);
-        self.load.output_changed(before, state.out().len());
-        self.reads_on = state.was_asked(session, &mut self.ready, &mut self.inputs);
+        let read = state.next_ask(session, &mut self.looks, &mut self.upkeep);
         let Some(request) = read? else {
             return Ok(None);
         };
-        self.load.asked(&request);
+        self.upkeep.load.asked(&request);
         self.posted += 1;
         let number = self.posted;
         self.unsettled.push_back(Unsettled { number, session })?;
@@ -243,22 +222,16 @@ impl Book {
             return Settled::Stranger;
         }
         self.unsettled.pop_front();
-        self.load.settled(&answered.request);
+        self.upkeep.load.settled(&answered.request);
         let Some(open) = self.sessions.get_mut(&answered.session) else {
             return Settled::Dropped;
         };
         let Some(state) = &mut open.state else {
             unreachable!()
         };
-        let before = state.out().len();
-        match state.settle(&answered.reply, &mut self.outputs) {
-            Ok(()) => {
-                self.load.output_changed(before, state.out().len());
-                state.give_later(answered.session, &mut self.ready);
-                Settled::Kept
-            }
+        match state.settle(answered, &mut self.upkeep) {
+            Ok(()) => Settled::Kept,
             Err(NoMemory) => {
-                self.load.output_changed(before, 0);
                 self.sessions.remove(&answered.session);
                 Settled::Starved
             }
@@ -292,7 +265,7 @@ impl Book {
                 finished: None,
             };
         };
-        let out = if state.is_worth_giving(&self.ready) {
+        let out = if state.is_worth_giving(&self.upkeep) {
             state.out()
         } else {
             &[]
@@ -315,9 +288,7 @@ impl Book {
         let Some(state) = &mut open.state else {
             return None;
         };
-        state.gave(n);
-        state.was_given(session, n, &mut self.ready, &mut self.outputs);
-        self.load.output_changed(n, 0);
+        state.gave(session, n, &mut self.upkeep);
         state.finished()
     }
 
@@ -333,7 +304,7 @@ impl Book {
         ensures { ChangesSession self.old self.new session None }
     {
         if let Some(open) = self.sessions.remove(&session) {
-            self.load.output_changed(open.waiting(), 0);
+            self.upkeep.load.output_changed(open.waiting(), 0);
         }
     }
 
@@ -345,57 +316,57 @@ impl Book {
             return;
         };
         if let Some(state) = &mut open.state {
-            state.ask_later(session, &mut self.ready);
+            state.ask_later(session, &mut self.upkeep);
         }
     }
 
     /// Whether the session that was asked last can be read further.
     pub fn reads_on(&self) -> bool {
-        self.reads_on
+        self.upkeep.reads_on
     }
 
     /// Takes out the next session whose held piece may fit.
     pub fn next_to_feed(&mut self) -> Option<u64>
         ensures { self.new ≡ self.old }
     {
-        self.ready.next_to_feed()
+        self.upkeep.ready.next_to_feed()
     }
 
     /// Takes out the next session that has input.
     pub fn next_to_ask(&mut self) -> Option<u64>
         ensures { self.new ≡ self.old }
     {
-        self.ready.next_to_ask()
+        self.upkeep.ready.next_to_ask()
     }
 
     /// Takes out the next session that may have output or have finished.
     pub fn next_to_give(&mut self) -> Option<u64>
         ensures { self.new ≡ self.old }
     {
-        self.ready.next_to_give()
+        self.upkeep.ready.next_to_give()
     }
 
     /// Takes out the next session whose peer accepted nothing when it was last offered some.
     pub fn next_to_give_slowly(&mut self) -> Option<u64>
         ensures { self.new ≡ self.old }
     {
-        self.ready.next_to_give_slowly()
+        self.upkeep.ready.next_to_give_slowly()
     }
 
     pub fn to_feed(&self) -> usize {
-        self.ready.to_feed()
+        self.upkeep.ready.to_feed()
     }
 
     pub fn to_ask(&self) -> usize {
-        self.ready.to_ask()
+        self.upkeep.ready.to_ask()
     }
 
     pub fn to_give(&self) -> usize {
-        self.ready.to_give()
+        self.upkeep.ready.to_give()
     }
 
     pub fn to_give_slowly(&self) -> usize {
-        self.ready.to_give_slowly()
+        self.upkeep.ready.to_give_slowly()
     }
 
     /// No session has anything to do.
@@ -409,7 +380,7 @@ impl Book {
     /// Whether more than 1,024 keys stand in unsettled requests, or more than 67,108,864 bytes of output wait, over all
     /// sessions. Its owner then has one request at a time unsettled.
     pub fn is_crowded(&self) -> bool {
-        self.load.is_above_limits()
+        self.upkeep.load.is_above_limits()
     }
 
     /// How often the parser was called; the count stays at the greatest number.

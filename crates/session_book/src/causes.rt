@@ -60,7 +60,7 @@ pub enum EndCause {
 }
 
 /// A request that was given with this number and has no reply yet.
-#[derive(Clone, Copy, Debug, PartialEq, Eq)]
+#[derive(Clone, Copy, PartialEq, Eq)]
 pub struct Unsettled {
     pub number: u64,
     pub session: u64,

@@ -13,6 +13,7 @@ mod pending_answer;
 mod ready_queues;
 mod session;
 mod spare_buffers;
+mod upkeep;
 
 pub use book::Book;
 pub use causes::{EndCause, OpenFault, Received, Settled};

@@ -10,7 +10,7 @@ use std::marker::Model;
 use std::snapshot::Snapshot;
 
 /// What of a message its answer depends on.
-#[derive(Clone, Copy, Debug, PartialEq, Eq)]
+#[derive(Clone, Copy)]
 pub enum Kind {
     Ask { with_cas: bool, quiet: bool },
     Wrong(WrongKind),

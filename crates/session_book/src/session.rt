@@ -11,10 +11,11 @@ use crate::buffer::Buffer;
 use crate::causes::{EndCause, FeedFault, Received};
 use crate::limits::{MAX_UNREAD, MAX_WAITING};
 use crate::pending_answer::PendingAnswer;
-use crate::ready_queues::{ReadyQueues, Tickets};
+use crate::ready_queues::Tickets;
 use crate::spare_buffers::SpareBuffers;
+use crate::upkeep::Upkeep;
 use bytes::Bytes;
-use proto::{Message, NextView, NoMemory, Reply, Request, next_view, to_message};
+use proto::{Answered, Message, NextView, NoMemory, Reply, Request, next_view, to_message};
 use std::alloc::Global;
 use std::collections::VecDeque;
 use std::marker::Model;
@@ -69,7 +70,7 @@ pub enum Read {
 }
 
 impl Session {
-    ghost use Rattle.session_book.specs.Session.{new_session, once_fed, IsInputFull, TakesPiece, FeedsHeld, gave};
+    ghost use Rattle.session_book.specs.Session.{new_session, once_fed, IsInputFull, TakesPiece, FeedsHeld};
     ghost use Rattle.session_book.specs.Session.{with_reply, finished_by, IsReady, Stops, ReadsOne, ReadsAsk};
 
     pub fn new(alloc: Global) -> Self
@@ -106,7 +107,7 @@ impl Session {
     }
 
     /// Feeds a piece, or holds it until it fits.
-    pub fn receive(&mut self, piece: Bytes, inputs: &mut SpareBuffers) -> Received
+    fn take_piece(&mut self, piece: Bytes, inputs: &mut SpareBuffers) -> Received
         ensures { TakesPiece self.old piece result self.new }
     {
         if self.held.is_some() {
@@ -124,7 +125,7 @@ impl Session {
     }
 
     /// Feeds the held piece, if it fits by now.
-    pub fn feed_held(&mut self) -> Result<bool, NoMemory>
+    fn take_held(&mut self) -> Result<bool, NoMemory>
         ensures { FeedsHeld self.old result self.new }
     {
         let Some(piece) = self.held.take() else {
@@ -151,7 +152,7 @@ impl Session {
     }
 
     /// Reads messages up to the next request, and counts the calls of the parser.
-    pub fn next_ask(&mut self, looks: &mut u64) -> Result<Option<Request>, NoMemory>
+    fn read_ask(&mut self, looks: &mut u64) -> Result<Option<Request>, NoMemory>
         ensures { ReadsAsk self.old looks.old result self.new looks.new }
     {
         let alloc = self.alloc;
@@ -200,7 +201,7 @@ impl Session {
 
     /// Gives the first request of the queue its reply. Where there is no memory for the bytes the session is of no
     /// further use.
-    pub fn settle(&mut self, reply: &Reply, outputs: &mut SpareBuffers) -> Result<(), NoMemory>
+    fn take_reply(&mut self, reply: &Reply, outputs: &mut SpareBuffers) -> Result<(), NoMemory>
         requires { 0 < length (asks self.old.queue) }
         ensures { OnOk result (self.new ≡ with_reply self.old reply.now) }
     {
@@ -220,13 +221,6 @@ impl Session {
         self.output.as_slice()
     }
 
-    pub fn gave(&mut self, n: usize)
-        requires { n ≤ length self.old.out }
-        ensures { self.new ≡ gave self.old n }
-    {
-        self.output.discard(n);
-    }
-
     pub fn finished(&self) -> Option<EndCause>
         ensures { result ≡ finished_by self.now }
     {
@@ -238,37 +232,93 @@ impl Session {
     }
 }
 
-/// What a session has to do next. No clause speaks of the ready queues.
+/// What a book does with a session, with the upkeep that belongs to it. No clause speaks of the upkeep.
 impl Session {
-    pub fn ask_later(&mut self, session: u64, ready: &mut ReadyQueues)
-        ensures { self.new ≡ self.old }
+    ghost use Rattle.session_book.specs.Session.{TakesPiece, FeedsHeld, ReadsAsk, with_reply, gave};
+
+    /// Feeds a piece that came, or holds it until it fits.
+    pub fn receive(&mut self, session: u64, piece: Bytes, upkeep: &mut Upkeep) -> Received
+        ensures { TakesPiece self.old piece result self.new }
     {
-        ready.ask_later(session, &mut self.tickets);
+        let received = self.take_piece(piece, &mut upkeep.inputs);
+        if received == Received::Fed {
+            self.ask_later(session, upkeep);
+        }
+        received
     }
 
-    pub fn give_later(&mut self, session: u64, ready: &mut ReadyQueues)
-        ensures { self.new ≡ self.old }
+    /// Feeds the held piece, if it fits by now.
+    pub fn feed_held(&mut self, session: u64, upkeep: &mut Upkeep) -> Result<bool, NoMemory>
+        ensures { FeedsHeld self.old result self.new }
     {
-        ready.give_later(session, &mut self.tickets);
+        let fed = self.take_held();
+        if matches!(fed, Ok(true)) {
+            self.ask_later(session, upkeep);
+        }
+        fed
     }
 
-    /// The session was asked: there may be room for its held piece, and it may have output. Whether it can be read further.
-    pub fn was_asked(
+    /// Reads messages up to the next request, and counts the calls of the parser.
+    pub fn next_ask(
         &mut self,
         session: u64,
-        ready: &mut ReadyQueues,
-        inputs: &mut SpareBuffers,
-    ) -> bool
+        looks: &mut u64,
+        upkeep: &mut Upkeep,
+    ) -> Result<Option<Request>, NoMemory>
+        ensures { ReadsAsk self.old looks.old result self.new looks.new }
+    {
+        let before = self.output.len();
+        let read = self.read_ask(looks);
+        upkeep.load.output_changed(before, self.output.len());
+        self.was_asked(session, upkeep);
+        read
+    }
+
+    /// Gives the first request of the queue its reply. Where there is no memory for the bytes the session is of no further
+    /// use.
+    pub fn settle(&mut self, answered: &Answered, upkeep: &mut Upkeep) -> Result<(), NoMemory>
+        requires { 0 < length (asks self.old.queue) }
+        ensures { OnOk result (self.new ≡ with_reply self.old answered.now.reply) }
+    {
+        let before = self.output.len();
+        let settled = self.take_reply(&answered.reply, &mut upkeep.outputs);
+        if settled.is_err() {
+            upkeep.load.output_changed(before, 0);
+        } else {
+            upkeep.load.output_changed(before, self.output.len());
+            upkeep.ready.give_later(answered.session, &mut self.tickets);
+        }
+        settled
+    }
+
+    /// So many bytes of the output were given.
+    pub fn gave(&mut self, session: u64, n: usize, upkeep: &mut Upkeep)
+        requires { n ≤ length self.old.out }
+        ensures { self.new ≡ gave self.old n }
+    {
+        self.output.discard(n);
+        upkeep.load.output_changed(n, 0);
+        self.was_given(session, n, upkeep);
+    }
+
+    pub fn ask_later(&mut self, session: u64, upkeep: &mut Upkeep)
         ensures { self.new ≡ self.old }
     {
-        inputs.take_back(&mut self.input);
+        upkeep.ready.ask_later(session, &mut self.tickets);
+    }
+
+    /// The session was asked: there may be room for its held piece, and it may have output; and it may be read further.
+    fn was_asked(&mut self, session: u64, upkeep: &mut Upkeep)
+        ensures { self.new ≡ self.old }
+    {
+        upkeep.inputs.take_back(&mut self.input);
         if self.held.is_some() && self.has_room() {
-            ready.feed_later(session, &mut self.tickets);
+            upkeep.ready.feed_later(session, &mut self.tickets);
         }
         if self.output.len() > 0 || self.ended.is_some() {
-            ready.give_later(session, &mut self.tickets);
+            upkeep.ready.give_later(session, &mut self.tickets);
         }
-        self.is_ready()
+        upkeep.reads_on = self.is_ready();
     }
 
     /// Whether it is worth feeding. A session that has ended drops what it is fed.
@@ -277,31 +327,25 @@ impl Session {
     }
 
     /// Of the bytes offered so many were accepted. A session that had too much output is asked again.
-    pub fn was_given(
-        &mut self,
-        session: u64,
-        accepted: usize,
-        ready: &mut ReadyQueues,
-        outputs: &mut SpareBuffers,
-    )
+    fn was_given(&mut self, session: u64, accepted: usize, upkeep: &mut Upkeep)
         ensures { self.new ≡ self.old }
     {
-        outputs.take_back(&mut self.output);
+        upkeep.outputs.take_back(&mut self.output);
         if self.output.len().saturating_add(accepted) > MAX_WAITING {
-            ready.ask_later(session, &mut self.tickets);
+            upkeep.ready.ask_later(session, &mut self.tickets);
         }
         if accepted == 0 {
-            ready.give_slowly(session, &mut self.tickets);
+            upkeep.ready.give_slowly(session, &mut self.tickets);
         } else if self.output.len() > 0 {
-            ready.give_later(session, &mut self.tickets);
+            upkeep.ready.give_later(session, &mut self.tickets);
         }
     }
 
     /// Whether the output is to be given now: little output waits for the answers that are outstanding, and for the
     /// input that is left to be read.
-    pub fn is_worth_giving(&self, ready: &ReadyQueues) -> bool {
+    pub fn is_worth_giving(&self, upkeep: &Upkeep) -> bool {
         self.output.len() >= WORTH_GIVING
-            || (self.queue.is_empty() && !ready.is_asking(&self.tickets))
+            || (self.queue.is_empty() && !upkeep.ready.is_asking(&self.tickets))
     }
 }
 

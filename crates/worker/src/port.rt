@@ -23,7 +23,7 @@ pub enum PortEvent {
 }
 
 /// The session's peer has gone.
-#[derive(Clone, Copy, Debug)]
+#[derive(Clone, Copy)]
 pub struct Gone;
 
 /// One entry of a port's list of events.

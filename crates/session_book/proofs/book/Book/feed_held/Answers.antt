@@ -19,27 +19,14 @@ returns-in_default-state c =
     (written_back c.self.inside.sessions (c.get_mut.follows.lender t) c.args.session s t
     (c.get_mut.follows.holds t) c.in-Some.ensures.value)
 
-pub returns-in_err-fed : goal.returns-in_err-fed
-returns-in_err-fed c =
-    let p = err_from_is_err_and c.from_residual.result c.from_residual.ensures.1 in
+pub returns : goal.returns
+returns c =
     let t = c.feed_held.new.self in
     let same : c.deref_mut.result.now ≡ c.in-Some.open.now = search rules in
-    rw p.1 (fed_again (Err p.0) _ _ c.args.self.now c.self.view_is c.args.session c.in-Some.open.now t t
+    fed_again c.feed_held.result _ _ c.args.self.now c.self.view_is c.args.session c.in-Some.open.now t t
     (sym c.in-Some.ensures.value)
     (written_only c.self.inside.sessions (c.get_mut.follows.lender t) _ _ _
     (c.get_mut.follows.holds t) c.in-Some.ensures.value)
-    refl (c.in_err-fed.ensures ∙ same) refl
-    (written_back c.self.inside.sessions (c.get_mut.follows.lender t) c.args.session c.in-Some.open.now t
-    (c.get_mut.follows.holds t) c.in-Some.ensures.value))
-
-pub returns-else-fed : goal.returns-else-fed
-returns-else-fed c =
-    let t = c.feed_held.new.self in
-    let same : c.deref_mut.result.now ≡ c.in-Some.open.now = search rules in
-    fed_again (Ok c.in_ok-fed.fed) _ _ c.args.self.now c.self.view_is c.args.session c.in-Some.open.now t t
-    (sym c.in-Some.ensures.value)
-    (written_only c.self.inside.sessions (c.get_mut.follows.lender t) _ _ _
-    (c.get_mut.follows.holds t) c.in-Some.ensures.value)
-    refl (subst (λ (x : SessionState). FeedsHeld x (Ok c.in_ok-fed.fed) t) same c.in_ok-fed.ensures) refl
+    refl (subst (λ (x : SessionState). FeedsHeld x c.feed_held.result t) same c.feed_held.ensures) refl
     (written_back c.self.inside.sessions (c.get_mut.follows.lender t) c.args.session c.in-Some.open.now t
     (c.get_mut.follows.holds t) c.in-Some.ensures.value)

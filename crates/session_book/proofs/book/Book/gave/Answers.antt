@@ -7,14 +7,13 @@ use Rattle.session_book.proofs.book.Book.gave.Goals as goal
 
 pub invariant_of-self-2 : goal.invariant_of-self-2
 invariant_of-self-2 c =
-    let kept : c.was_given.new.self ≡ c.gave.new.self = search rules in
     let same : c.deref_mut.result.now ≡ c.in-Some.open.now = search rules in
-    stays_unsettled _ _ c.args.session c.in-Some.open.now c.was_given.new.self c.self.invariant
+    stays_unsettled _ _ c.args.session c.in-Some.open.now c.gave.new.self c.self.invariant
     (sym c.in-Some.ensures.value)
-    (written_only c.self.inside.sessions (c.get_mut.follows.lender c.was_given.new.self) _ _ _
-    (c.get_mut.follows.holds c.was_given.new.self) c.in-Some.ensures.value)
-    refl refl (same_queue c.in-Some.open.now c.was_given.new.self
-    (ap (λ (s : SessionState). s.queue) (kept ∙ c.gave.ensures
+    (written_only c.self.inside.sessions (c.get_mut.follows.lender c.gave.new.self) _ _ _
+    (c.get_mut.follows.holds c.gave.new.self) c.in-Some.ensures.value)
+    refl refl (same_queue c.in-Some.open.now c.gave.new.self
+    (ap (λ (s : SessionState). s.queue) (c.gave.ensures
     ∙ ap (λ (s : SessionState). gave s c.args.n) same)))
 
 pub returns-in_default-state-clause-gave : goal.returns-in_default-state-clause-gave

@@ -48,44 +48,41 @@ returns-in_err-reserve-clause-open c =
 
 pub invariant_of-self-in_err-request : goal.invariant_of-self-in_err-request
 invariant_of-self-in_err-request c =
-    let kept : c.was_asked-self-inside.new.self ≡ c.next_ask-read.new.self = search rules in
     let same : c.deref_mut.result.now ≡ c.in-Some.open.now = search rules in
-    stays_unsettled _ _ c.args.session c.in-Some.open.now c.was_asked-self-inside.new.self c.self.invariant
+    stays_unsettled _ _ c.args.session c.in-Some.open.now c.next_ask-read.new.self c.self.invariant
     (sym c.in-Some.ensures.value)
-    (written_only c.self.inside.sessions (c.get_mut.follows.lender c.was_asked-self-inside.new.self) _ _ _
-    (c.get_mut.follows.holds c.was_asked-self-inside.new.self) c.in-Some.ensures.value)
+    (written_only c.self.inside.sessions (c.get_mut.follows.lender c.next_ask-read.new.self) _ _ _
+    (c.get_mut.follows.holds c.next_ask-read.new.self) c.in-Some.ensures.value)
     refl c.reserve.ensures.items
-    (λ asked. fits_unasked c.in-Some.open.now c.was_asked-self-inside.new.self c.self.inside.looks
+    (λ asked. fits_unasked c.in-Some.open.now c.next_ask-read.new.self c.self.inside.looks
     c.next_ask-read.new.looks
-    c.next_ask-read.result (rw (kept, ← same) c.next_ask-read.ensures)
+    c.next_ask-read.result (rw (← same) c.next_ask-read.ensures)
     (ap given_request c.in_err-request.was))
 
 pub invariant_of-self-in_default-2 : goal.invariant_of-self-in_default-2
 invariant_of-self-in_default-2 c =
-    let kept : c.was_asked-self-inside.new.self ≡ c.next_ask-read.new.self = search rules in
     let same : c.deref_mut.result.now ≡ c.in-Some.open.now = search rules in
-    stays_unsettled _ _ c.args.session c.in-Some.open.now c.was_asked-self-inside.new.self c.self.invariant
+    stays_unsettled _ _ c.args.session c.in-Some.open.now c.next_ask-read.new.self c.self.invariant
     (sym c.in-Some.ensures.value)
-    (written_only c.self.inside.sessions (c.get_mut.follows.lender c.was_asked-self-inside.new.self) _ _ _
-    (c.get_mut.follows.holds c.was_asked-self-inside.new.self) c.in-Some.ensures.value)
+    (written_only c.self.inside.sessions (c.get_mut.follows.lender c.next_ask-read.new.self) _ _ _
+    (c.get_mut.follows.holds c.next_ask-read.new.self) c.in-Some.ensures.value)
     refl c.reserve.ensures.items
-    (λ asked. fits_unasked c.in-Some.open.now c.was_asked-self-inside.new.self c.self.inside.looks
+    (λ asked. fits_unasked c.in-Some.open.now c.next_ask-read.new.self c.self.inside.looks
     c.next_ask-read.new.looks
-    c.next_ask-read.result (rw (kept, ← same) c.next_ask-read.ensures)
+    c.next_ask-read.result (rw (← same) c.next_ask-read.ensures)
     (ap given_request c.in_ok-request.was ∙ ap (λ (o : Option Request). given_request (Ok o)) c.in_default-2.is))
 
 pub invariant_of-self-2 : goal.invariant_of-self-2
 invariant_of-self-2 c =
-    let kept : c.was_asked-self-inside.new.self ≡ c.next_ask-read.new.self = search rules in
     let same : c.deref_mut.result.now ≡ c.in-Some.open.now = search rules in
     let given : Unsettled = record { number = c.self.inside.posted + 1; session = c.args.session } in
     let pushed : c.push_back.new.self.items ≡ c.reserve.new.self.items ++ given ∷ [] = search rules in
     asks_book _ _ c.args.session
-    (c.self.inside.posted + 1) c.in-Some.open.now c.was_asked-self-inside.new.self c.in-Some-2.request
+    (c.self.inside.posted + 1) c.in-Some.open.now c.next_ask-read.new.self c.in-Some-2.request
     c.next_ask-read.result
     c.self.inside.looks c.next_ask-read.new.looks c.self.invariant (sym c.in-Some.ensures.value)
-    (written_only c.self.inside.sessions (c.get_mut.follows.lender c.was_asked-self-inside.new.self) _ _ _
-    (c.get_mut.follows.holds c.was_asked-self-inside.new.self) c.in-Some.ensures.value)
+    (written_only c.self.inside.sessions (c.get_mut.follows.lender c.next_ask-read.new.self) _ _ _
+    (c.get_mut.follows.holds c.next_ask-read.new.self) c.in-Some.ensures.value)
     refl (pushed ∙ ap (λ (us : List Unsettled). us ++ given ∷ []) c.reserve.ensures.items)
     (c.in_ok-request.was ∙ ap (λ (o : Option Request). Ok o) c.in-Some-2.is)
-    (rw (kept, ← same) c.next_ask-read.ensures)
+    (rw (← same) c.next_ask-read.ensures)

@@ -28,31 +28,16 @@ returns-in_default-state c =
     (written_back c.self.inside.sessions (c.get_mut.follows.lender t) c.args.session c.in-Some.open.now t
     (c.get_mut.follows.holds t) c.in-Some.ensures.value)
 
-pub returns-then-eq : goal.returns-then-eq
-returns-then-eq c =
-    let kept : c.ask_later.new.self ≡ c.receive-received.new.self = search rules in
-    let t = c.ask_later.new.self in
+pub returns : goal.returns
+returns c =
+    let t = c.receive.new.self in
     let same : c.deref_mut.result.now ≡ c.in-Some.open.now = search rules in
-    received c.receive-received.result _ _ c.args.self.now c.self.view_is c.args.session c.args.piece c.in-Some.open.now
-    c.receive-received.new.self t
-    (sym c.in-Some.ensures.value)
-    (written_only c.self.inside.sessions (c.get_mut.follows.lender t) _ _ _
-    (c.get_mut.follows.holds t) c.in-Some.ensures.value)
-    refl (subst (λ (x : SessionState). TakesPiece x c.args.piece c.receive-received.result c.receive-received.new.self)
-    same c.receive-received.ensures) kept
-    (written_back c.self.inside.sessions (c.get_mut.follows.lender t) c.args.session c.in-Some.open.now t
-    (c.get_mut.follows.holds t) c.in-Some.ensures.value)
-
-pub returns-else-eq : goal.returns-else-eq
-returns-else-eq c =
-    let t = c.receive-received.new.self in
-    let same : c.deref_mut.result.now ≡ c.in-Some.open.now = search rules in
-    received c.receive-received.result _ _ c.args.self.now c.self.view_is c.args.session c.args.piece
+    received c.receive.result _ _ c.args.self.now c.self.view_is c.args.session c.args.piece
     c.in-Some.open.now t t
     (sym c.in-Some.ensures.value)
     (written_only c.self.inside.sessions (c.get_mut.follows.lender t) _ _ _
     (c.get_mut.follows.holds t) c.in-Some.ensures.value)
-    refl (subst (λ (x : SessionState). TakesPiece x c.args.piece c.receive-received.result t)
-    same c.receive-received.ensures) refl
+    refl (subst (λ (x : SessionState). TakesPiece x c.args.piece c.receive.result t)
+    same c.receive.ensures) refl
     (written_back c.self.inside.sessions (c.get_mut.follows.lender t) c.args.session c.in-Some.open.now t
     (c.get_mut.follows.holds t) c.in-Some.ensures.value)

@@ -45,15 +45,14 @@ settle-requires c =
 
 pub invariant_of-self-in-Ok : goal.invariant_of-self-in-Ok
 invariant_of-self-in-Ok c =
-    let kept : c.give_later.new.self ≡ c.settle.new.self = search rules in
     let same : c.deref_mut.result.now ≡ c.in-Some.open.now = search rules in
     let oldest : slice_get c.self.inside.unsettled.items 0 ≡ Some
     (record { number = c.args.answered.now.number; session = c.args.answered.now.session }) = search rules in
-    settles_kept _ _ c.args.answered.now.session c.args.answered.now.number c.in-Some.open.now c.give_later.new.self
+    settles_kept _ _ c.args.answered.now.session c.args.answered.now.number c.in-Some.open.now c.settle.new.self
     c.args.answered.now.reply c.self.invariant (sym c.in-Some.ensures.value)
-    (written_only c.self.inside.sessions (c.get_mut.follows.lender c.give_later.new.self) _ _ _
-    (c.get_mut.follows.holds c.give_later.new.self) c.in-Some.ensures.value)
-    refl oldest c.pop_front.ensures.rest (kept ∙ c.in-Ok.ensures
+    (written_only c.self.inside.sessions (c.get_mut.follows.lender c.settle.new.self) _ _ _
+    (c.get_mut.follows.holds c.settle.new.self) c.in-Some.ensures.value)
+    refl oldest c.pop_front.ensures.rest (c.in-Ok.ensures
     ∙ ap (λ (s : SessionState). with_reply s c.args.answered.now.reply) same)
 
 pub invariant_of-self-in-Err : goal.invariant_of-self-in-Err
@@ -72,13 +71,12 @@ invariant_of-self-in-Err c =
 
 pub returns-in-Ok : goal.returns-in-Ok
 returns-in-Ok c =
-    let kept : c.give_later.new.self ≡ c.settle.new.self = search rules in
     let same : c.deref_mut.result.now ≡ c.in-Some.open.now = search rules in
     let oldest : slice_get c.self.inside.unsettled.items 0 ≡ Some
     (record { number = c.args.answered.now.number; session = c.args.answered.now.session }) = search rules in
-    settles_reply _ _ _ c.args.answered.now c.in-Some.open.now c.give_later.new.self c.self.view_is c.self.invariant
+    settles_reply _ _ _ c.args.answered.now c.in-Some.open.now c.settle.new.self c.self.view_is c.self.invariant
     (sym c.in-Some.ensures.value)
-    (written_only c.self.inside.sessions (c.get_mut.follows.lender c.give_later.new.self) _ _ _
-    (c.get_mut.follows.holds c.give_later.new.self) c.in-Some.ensures.value)
-    oldest (rw c.pop_front.ensures.rest refl) (kept ∙ c.in-Ok.ensures
+    (written_only c.self.inside.sessions (c.get_mut.follows.lender c.settle.new.self) _ _ _
+    (c.get_mut.follows.holds c.settle.new.self) c.in-Some.ensures.value)
+    oldest (rw c.pop_front.ensures.rest refl) (c.in-Ok.ensures
     ∙ ap (λ (s : SessionState). with_reply s c.args.answered.now.reply) same)

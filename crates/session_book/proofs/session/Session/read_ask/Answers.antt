@@ -1,7 +1,7 @@
 use Rattle.std.proofs.Common.{arith}
 use Rattle.std.proofs.lemmas.Result.{err_from_is_err_and}
 use Rattle.session_book.proofs.Steps.{reads_refused, reads_none, reads_local, reads_ask, reads_stops}
-use Rattle.session_book.proofs.session.Session.next_ask.Goals as goal
+use Rattle.session_book.proofs.session.Session.read_ask.Goals as goal
 
 pub returns-in_err-read : goal.returns-in_err-read
 returns-in_err-read c =

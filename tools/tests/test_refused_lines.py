@@ -57,7 +57,7 @@ CASES = [
     (b"version\r\n", UNKNOWN),
     (b"verbosity 1\r\n", UNKNOWN),
     (b"GET a\r\n", UNKNOWN),
-    (b"ms a 2 T0\r\nhi\r\n", UNKNOWN),
+    (b"ms a 2 F0\r\nhi\r\n", UNKNOWN),
     (b"\r\n", UNKNOWN),
 ]
 COMMANDS = [b"get", b"gets", b"set", b"add", b"cas", b"delete", b"incr", b"flush_all"]

@@ -5,7 +5,7 @@ use lib.ListN.{get_elem?}
 use Rattle.atomic_table.specs.Seated.{TableId}
 use Rattle.queue_exchange.specs.Queues.{WorkerQueues, StorageQueues, IsEndOf, AreOfOne}
 use Rattle.exchange_runs.specs.Serving.{IsSameQueues}
-use Rattle.exchange_runs.specs.Ends.{IsSameEnd}
+use Rattle.exchange_runs.specs.Ends.{StaysAsItWas}
 
 -- it stands at the place 0
 at_zero : (e v : WorkerQueues) (i : ℕ) → get_elem? (e ∷ []) i ≡ some v → (i ≡ 0) × (e ≡ v)
@@ -21,11 +21,11 @@ one_end ends s e is h = subst (λ (l : List WorkerQueues). AreOfOne l s) (sym is
 }
 
 -- two steps keep what each of them keeps
-pub same_end : (a b c : WorkerQueues) → IsSameEnd a b → IsSameEnd b c → IsSameEnd a c
+pub same_end : (a b c : WorkerQueues) → StaysAsItWas a b → StaysAsItWas b c → StaysAsItWas a c
 same_end a b c x y = (y.0 ∙ x.0, y.1 ∙ x.1, y.2 ∙ x.2)
 
 -- so an end stays its worker's
-pub still_end : (v u : WorkerQueues) (s t : StorageQueues) → IsEndOf v s → IsSameEnd v u → IsSameQueues s t
+pub still_end : (v u : WorkerQueues) (s t : StorageQueues) → IsEndOf v s → StaysAsItWas v u → IsSameQueues s t
     → IsEndOf u t
 still_end v u s t h same queues = record {
   inside = subst (λ (z : ℕ × List TableId). z.0 < length z.1) (λ i. (sym same.2 i, sym queues.2 i)) h.inside;

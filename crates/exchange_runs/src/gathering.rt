@@ -4,7 +4,7 @@ ghost use Rattle.std.specs.Prelude.{◌≡◌, IfOk};
 ghost use Rattle.proto.specs.Sizes.{Sizes};
 ghost use Rattle.proto.specs.Cache.{empty_cache};
 ghost use Rattle.queue_exchange.specs.Queues.{AreQueuesMade, IsEndOf};
-ghost use Rattle.exchange_runs.specs.Ends.{IsSameEnd};
+ghost use Rattle.exchange_runs.specs.Ends.{StaysAsItWas};
 
 use crate::serving::{Served, serve_next};
 use engine::PlainStore;
@@ -27,7 +27,7 @@ fn made(alloc: Global) -> Result<(Vec<WorkerEnd>, StorageEnd, PlainStore), MakeF
 
 /// Posts requests until one is handed back, and says how many were sent.
 fn fill<R: Wait>(rt: &R, end: &mut WorkerEnd) -> u64
-    ensures { IsSameEnd end.old end.new }
+    ensures { StaysAsItWas end.old end.new }
 {
     for sent in 0..70 {
         let posted = Posted {
@@ -45,7 +45,7 @@ fn fill<R: Wait>(rt: &R, end: &mut WorkerEnd) -> u64
 
 /// The number of the next answer.
 fn number<R: Wait>(rt: &R, end: &mut WorkerEnd) -> Option<u64>
-    ensures { IsSameEnd end.old end.new }
+    ensures { StaysAsItWas end.old end.new }
 {
     let answered = end.take(rt)?;
     let number = answered.number;

@@ -1,7 +1,7 @@
 //! Sessions whose peers send no more, and may still read answers.
 
 ghost use Rattle.std.specs.Prelude.{◌≡◌, true, IfSome};
-ghost use Rattle.net.specs.Events.{is_open, KeepsSessions};
+ghost use Rattle.net.specs.Events.{has_session, KeepsSessions};
 
 use crate::streams::Streams;
 use std::alloc::{AllocError, Global};
@@ -101,7 +101,7 @@ impl CeasingSessions {
         owes_none: bool,
     ) -> Option<u64>
         ensures keeps { KeepsSessions streams.old streams.new }
-        ensures open { IfSome result (λ session. is_open streams.old session ≡ true) }
+        ensures open { IfSome result (λ session. has_session streams.old session ≡ true) }
     {
         for _ in 0..self.sessions.len() {
             let session = self.next_due(rt, owes_none)?;

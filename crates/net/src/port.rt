@@ -1,7 +1,7 @@
 //! A worker's port over the streams that its hand is given. It doesn't tell: no clause says what a socket delivers.
 
 ghost use Rattle.std.specs.Prelude.{◌≡◌, ◌≤◌, length, IfOk, OnErr, OnOk, MatchOption};
-ghost use Rattle.net.specs.Events.{IsNew, IsNextEvent, KeepsSessions, EndsSession};
+ghost use Rattle.net.specs.Events.{HasServedNone, IsNextEvent, KeepsSessions, ClosesSession};
 
 use crate::ceasing::CeasingSessions;
 use crate::fault::NetFault;
@@ -54,7 +54,7 @@ impl<R: Wait + Clock + Net + Drop> MioPort<R> {
     ///
     /// Poll, NoMemory.
     pub fn new(rt: R, alloc: Global, mut hand: Hand) -> Result<MioPort<R>, NetFault>
-        ensures { IfOk result (λ port. IsNew port.streams) }
+        ensures { IfOk result (λ port. HasServedNone port.streams) }
     {
         let Ok(poll) = Poll::new(&rt) else {
             return Err(NetFault::Poll);
@@ -201,7 +201,7 @@ impl<R: Wait + Clock + Drop> Port for MioPort<R> {
     fn give(&mut self, session: u64, bytes: &[u8]) -> Result<usize, Gone>
         ensures within { IfOk result (λ n. n ≤ length bytes.now) }
         ensures keeps { OnOk result (KeepsSessions self.old.streams self.new.streams) }
-        ensures ends { OnErr result (EndsSession session self.old.streams self.new.streams) }
+        ensures ends { OnErr result (ClosesSession session self.old.streams self.new.streams) }
     {
         let accepted = self.streams.write(session, bytes)?;
         if accepted > 0 {
@@ -224,7 +224,7 @@ impl<R: Wait + Clock + Drop> Port for MioPort<R> {
     }
 
     fn shut(&mut self, session: u64)
-        ensures ends { EndsSession session self.old.streams self.new.streams }
+        ensures ends { ClosesSession session self.old.streams self.new.streams }
     {
         self.streams.close(session);
     }

@@ -54,10 +54,10 @@ pub(crate) struct Streams {
 }
 
 impl Streams {
-    ghost use Rattle.net.specs.Events.{is_open, IsNew, NoneOpen, KeepsSessions, OpensSession, EndsSession, Reads};
+    ghost use Rattle.net.specs.Events.{has_session, HasServedNone, NoneOpen, KeepsSessions, OpensSession, ClosesSession, ReadsStream};
 
     pub(crate) fn new(alloc: Global) -> Result<Streams, AllocError>
-        ensures { IfOk result IsNew }
+        ensures { IfOk result HasServedNone }
     {
         Ok(Streams {
             alloc,
@@ -105,7 +105,7 @@ impl Streams {
     }
 
     pub(crate) fn close(&mut self, session: u64)
-        ensures { EndsSession session self.old self.new }
+        ensures { ClosesSession session self.old self.new }
     {
         let _ = self.open.remove(&session);
     }
@@ -153,7 +153,7 @@ impl Streams {
 
     // Reads once. A full read, or one of a peer that has closed, is followed by another.
     pub(crate) fn read(&mut self, session: u64) -> Reading
-        ensures { Reads session self.old result self.new }
+        ensures { ReadsStream session self.old result self.new }
     {
         let Some(open) = self.open.get_mut(&session) else {
             return Reading::Nothing;
@@ -194,7 +194,7 @@ impl Streams {
     // None where it isn't open any more.
     pub(crate) fn has_answers(&mut self, session: u64) -> Option<bool>
         ensures keeps { KeepsSessions self.old self.new }
-        ensures open { IfSome result (λ _. is_open self.old session ≡ true) }
+        ensures open { IfSome result (λ _. has_session self.old session ≡ true) }
     {
         let open = self.open.get_mut(&session)?;
         let has_answers = open.was_offered || open.is_blocked;
@@ -206,7 +206,7 @@ impl Streams {
     pub(crate) fn write(&mut self, session: u64, bytes: &[u8]) -> Result<usize, Gone>
         ensures within { IfOk result (λ n. n ≤ length bytes.now) }
         ensures keeps { OnOk result (KeepsSessions self.old self.new) }
-        ensures ends { OnErr result (EndsSession session self.old self.new) }
+        ensures ends { OnErr result (ClosesSession session self.old self.new) }
     {
         let Some(open) = self.open.get_mut(&session) else {
             return Err(Gone);

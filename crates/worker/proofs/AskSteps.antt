@@ -19,7 +19,7 @@ use Rattle.worker.specs.Ports.{PortStory}
 use Rattle.worker.specs.declared.state.WorkerState.{WorkerState}
 use Rattle.worker.specs.Sessions.{port_facts, RunView, facts, asked_by, AreFactsConsistent}
 use Rattle.worker.specs.EndCauses.{piece_of}
-use Rattle.worker.specs.Workers.{all_sent, end_of, posted_by, unsettled_post, IsNumbered, IsSteady, IsStoryKnown, run_view, IsWorkerServing}
+use Rattle.worker.specs.Workers.{once_flushed, end_of, posted_by, unsettled_post, IsNumbered, IsSteady, IsStoryKnown, run_view, IsWorkerServing}
 use Rattle.worker.proofs.Facts.{asked_here, asked_elsewhere}
 use Rattle.worker.proofs.SessionSteps.{not_both, runs, is_running, served_read}
 use Rattle.worker.proofs.RunViews.{facts_equal, change_at, at_other, at_same}
@@ -232,11 +232,11 @@ quiet_goes_on told old new t None o port end request sessions unopened strangers
 -- the held request is sent
 pub posted_goes_on : {P : Type 0} (told : P → Option PortStory) (old : WorkerState P) (p : Posted) (batch : WorkerBatchView)
     (request : Option Posted)
-    → old.request ≡ Some p → request ≡ None → all_sent batch ≡ record (end_of old) { sent = (end_of old).sent ++ p ∷ [] }
+    → old.request ≡ Some p → request ≡ None → once_flushed batch ≡ record (end_of old) { sent = (end_of old).sent ++ p ∷ [] }
     → IsWorkerServing told old
     → WorkerGoesOn told old (record old { batch = batch; request = request })
 posted_goes_on told old p batch request held taken sent h =
-    let w = end_of old in let end = all_sent batch in let new = record old { batch = batch; request = request } in
+    let w = end_of old in let end = once_flushed batch in let new = record old { batch = batch; request = request } in
     let all : posted_by end request ≡ posted_by w old.request =
     (λ i. posted_by (sent i) (taken i)) ∙ append-nil (w.sent ++ p ∷ [])
     ∙ (λ i. posted_by w (sym held i)) in

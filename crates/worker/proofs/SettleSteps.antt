@@ -26,7 +26,7 @@ use Rattle.worker.specs.declared.state.WorkerState.{WorkerState}
 use Rattle.worker.specs.Sessions.{PortFacts, port_facts, RunView, facts, asked_by, had_by, cause_of, AreFactsConsistent, IsSessionServed}
 use Rattle.worker.specs.Ports.{PortStory, then_told, has_ended, AcceptsOnlyOpen}
 use Rattle.worker.specs.EndCauses.{Rises, piece_of}
-use Rattle.worker.specs.Workers.{all_sent, end_of, posted_by, unsettled_post, IsNumbered, IsSteady, AreSessionsCounted, IsStoryKnown, run_view, IsWorkerServing}
+use Rattle.worker.specs.Workers.{once_flushed, end_of, posted_by, unsettled_post, IsNumbered, IsSteady, AreSessionsCounted, IsStoryKnown, run_view, IsWorkerServing}
 use Rattle.worker.specs.Workers.{TakesNone, TakesBack, Shuts}
 use Rattle.worker.proofs.Facts.{had_here, had_elsewhere}
 use Rattle.worker.proofs.SessionSteps.{runs, is_running, Stays, served_settled, closed_starved, dropped}
@@ -272,13 +272,13 @@ steady_still end end' request book k h =
 
 -- a worker whose end found no answer goes on
 pub none_taken_goes_on : {P : Type 0} (told : P → Option PortStory) (old : WorkerState P) (batch : WorkerBatchView)
-    → TakesNone (end_of old) (all_sent batch)
+    → TakesNone (end_of old) (once_flushed batch)
     → IsWorkerServing told old → WorkerGoesOn told old (record old { batch = batch })
 none_taken_goes_on told old batch k h =
     let new = record old { batch = batch } in
     steps_on told old new (λ story. story) (same_story (told old.port) (told old.port) refl) (record {
       same_end = k.same;
-      steady = steady_still (end_of old) (all_sent batch) old.request old.book k h.steady;
+      steady = steady_still (end_of old) (once_flushed batch) old.request old.book k h.steady;
       strangers = h.strangers;
       unopened = refl;
       ended = refl;
@@ -294,7 +294,7 @@ none_taken_goes_on told old batch k h =
 
 -- a worker whose end is the same once all that was put is flushed goes on
 pub flushed_goes_on : {P : Type 0} (told : P → Option PortStory) (old : WorkerState P) (batch : WorkerBatchView)
-    → all_sent batch ≡ end_of old
+    → once_flushed batch ≡ end_of old
     → IsWorkerServing told old → WorkerGoesOn told old (record old { batch = batch })
 flushed_goes_on told old batch same h = none_taken_goes_on told old batch (record {
   sent = ap (λ (w : WorkerView). w.sent) same;

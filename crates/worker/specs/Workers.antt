@@ -23,11 +23,11 @@ use Rattle.worker.specs.Sessions.{RunView, facts, AreFactsConsistent}
 use Rattle.worker.specs.EndCauses.{Rises, with_cause, piece_of}
 
 -- a worker's end as it is once all that was put is flushed: so what was put counts as sent
-abbrev pub all_sent : WorkerBatchView → WorkerView
-all_sent batch = (flushed batch).end
+abbrev pub once_flushed : WorkerBatchView → WorkerView
+once_flushed batch = (flushed batch).end
 
 abbrev pub end_of : {P : Type 0} → WorkerState P → WorkerView
-end_of w = all_sent w.batch
+end_of w = once_flushed w.batch
 
 -- the requests that were sent, and the one that is held
 abbrev pub posted_by : WorkerView → Option Posted → List Posted

@@ -4,7 +4,7 @@
 
 ghost use Rattle.std.specs.Prelude.{◌≡◌, ◌+◌, ◌++◌, ◌∷◌, [], length, MatchOption, MatchResult};
 ghost use Rattle.exchange.specs.Ends.{CanPost};
-ghost use Rattle.worker.specs.Workers.{all_sent, TakesNone, TakesBack};
+ghost use Rattle.worker.specs.Workers.{once_flushed, TakesNone, TakesBack};
 
 use exchange::{Answered, Posted, StorageSignals, WorkerBatch, WorkerEnd};
 
@@ -14,11 +14,11 @@ pub(crate) fn post(
     posted: Posted,
     storage: &StorageSignals,
 ) -> Result<(), Posted>
-    requires { posted.number ≡ length (all_sent batch.old).sent + 1 }
+    requires { posted.number ≡ length (once_flushed batch.old).sent + 1 }
     ensures { MatchResult result
-        (λ _. CanPost (all_sent batch.old)
-        × (all_sent batch.new ≡ record (all_sent batch.old) { sent = (all_sent batch.old).sent ++ posted ∷ [] }))
-        (λ p. (¬ (CanPost (all_sent batch.old))) × (p ≡ posted) × (all_sent batch.new ≡ all_sent batch.old)) }
+        (λ _. CanPost (once_flushed batch.old)
+        × (once_flushed batch.new ≡ record (once_flushed batch.old) { sent = (once_flushed batch.old).sent ++ posted ∷ [] }))
+        (λ p. (¬ (CanPost (once_flushed batch.old))) × (p ≡ posted) × (once_flushed batch.new ≡ once_flushed batch.old)) }
 {
     if let Some(key) = posted.request.first_key() {
         storage.leave_hint(batch.worker(), posted.number - 1, key);
@@ -28,7 +28,7 @@ pub(crate) fn post(
 
 // Tells storage of all that was put, and unparks it.
 pub(crate) fn flush(batch: &mut WorkerBatch, storage: &StorageSignals)
-    ensures { all_sent batch.new ≡ all_sent batch.old }
+    ensures { once_flushed batch.new ≡ once_flushed batch.old }
 {
     if batch.waiting() > 0 {
         batch.flush();
@@ -38,8 +38,8 @@ pub(crate) fn flush(batch: &mut WorkerBatch, storage: &StorageSignals)
 
 // The next answer: one that was seen before, or else one that is found by a look.
 pub(crate) fn take_answer(batch: &mut WorkerBatch) -> Option<Answered>
-    ensures { MatchOption result (TakesNone (all_sent batch.old) (all_sent batch.new))
-        (λ a. TakesBack (all_sent batch.old) (all_sent batch.new) a) }
+    ensures { MatchOption result (TakesNone (once_flushed batch.old) (once_flushed batch.new))
+        (λ a. TakesBack (once_flushed batch.old) (once_flushed batch.new) a) }
 {
     match batch.take_seen() {
         Some(answered) => Some(answered),
@@ -49,7 +49,7 @@ pub(crate) fn take_answer(batch: &mut WorkerBatch) -> Option<Answered>
 
 // The end, with all that was put flushed.
 pub(crate) fn into_end(mut end: WorkerBatch) -> WorkerEnd
-    ensures { result ≡ all_sent end }
+    ensures { result ≡ once_flushed end }
 {
     end.flush();
     end.into_end()

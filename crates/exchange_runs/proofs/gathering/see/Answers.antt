@@ -3,7 +3,7 @@ use mathlib.Core.Option.{some}
 use lib.ListN.{get_elem?}
 use Rattle.atomic_table.proofs.Lists.{at_last}
 use Rattle.queue_exchange.specs.Queues.{WorkerQueues, IsEndOf}
-use Rattle.exchange_runs.specs.Ends.{IsSameEnd}
+use Rattle.exchange_runs.specs.Ends.{StaysAsItWas}
 use Rattle.exchange_runs.proofs.One.{same_end, still_end}
 use Rattle.exchange_runs.proofs.gathering.see.Goals as goal
 
@@ -14,7 +14,7 @@ gathered-requires g c =
     let at = subst (λ (l : List WorkerQueues). get_elem? l (length rest) ≡ some e) (sym cut)
     (at_last rest e (length rest) refl) in
     let first : IsEndOf e c.in_ok-ends.storage = (c.in_ok-ends.ensures.1.new (length rest) e at).0 in
-    let same : IsSameEnd e c.fill-sent_then.new.end =
+    let same : StaysAsItWas e c.fill-sent_then.new.end =
     same_end e c.number-after.new.end c.fill-sent_then.new.end
     (same_end e c.number-answer.new.end c.number-after.new.end
     (same_end e c.number-before.new.end c.number-answer.new.end

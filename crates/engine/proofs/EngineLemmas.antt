@@ -111,7 +111,7 @@ asks_memory false true hits e = refl
 asks_memory false false hits e = e
 
 -- what was found stays, seen as a refusal of the cache
-denied : {M P : Type 0} (m : MapOf M P) (old new : Engine M) (found : Cache) (done : Outcome) (reply : Reply)
+pub denied : {M P : Type 0} (m : MapOf M P) (old new : Engine M) (found : Cache) (done : Outcome) (reply : Reply)
     → cache_in m.entries old ≡ found → IsDenied m old new done reply
     → IsRefused found done reply (cache_in m.entries new)
 denied m old new found done reply is d =

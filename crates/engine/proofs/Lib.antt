@@ -7,3 +7,4 @@ pub mod EngineLemmas
 pub mod KeepingLemmas
 pub mod ReachingLemmas
 pub mod PlainLemmas
+pub mod PlainSteps

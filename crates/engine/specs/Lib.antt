@@ -11,6 +11,6 @@ pub mod Showing
 pub mod Engines
 pub mod Reaching
 pub mod PlainEntries
-pub mod PlainState
 pub mod PlainWrites
+pub mod PlainState
 pub mod Plain

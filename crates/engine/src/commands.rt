@@ -1,17 +1,15 @@
 //! The commands, over any map of live entries.
 
-ghost use Rattle.std.specs.Prelude.{◌≡◌, ◌≢◌, ◌≤◌, None, false};
+ghost use Rattle.std.specs.Prelude.{◌≡◌, ◌≤◌, false};
 ghost use Rattle.std.specs.FinMap as map;
-ghost use Rattle.proto.specs.Cache.{Cache, found_at, has_arrived};
+ghost use Rattle.proto.specs.Cache.{found_at, has_arrived};
 ghost use Rattle.proto.specs.Commands.{write, put, take_out, change, flush, is_too_large, only_reply, hits_of, act};
 ghost use Rattle.proto.specs.Sizes.{item_limit};
-ghost use Rattle.proto.specs.Steps.{Step};
 ghost use Rattle.proto.specs.History.{max_moment};
 ghost use Rattle.engine.specs.Written.{MayBeWritten};
 ghost use Rattle.engine.specs.Shown.{entry_of};
 ghost use Rattle.engine.specs.Change.{changed_by};
-ghost use Rattle.engine.specs.Keeping.{StaysKept, KeepsAll};
-ghost use Rattle.engine.specs.Outcomes.{outcome_at, needs_memory};
+ghost use Rattle.engine.specs.Keeping.{StaysKept};
 
 use crate::deadline::{deadline_of, has_arrived};
 use crate::entry_ref::EntryRef;
@@ -19,47 +17,19 @@ use crate::hits::hits_of;
 use crate::live_map::LiveMap;
 use crate::number::{Change, number_of};
 use crate::size::is_too_large;
-use crate::storage_engine::StorageEngine;
 use itoa::Buffer;
 use proto::{Keys, Put, Reply, Request};
-use std::hash::FoldHasher;
 
 /// A cache over a map of live entries.
 #[derive(Drop)]
 pub struct Engine<M> {
-    map: M,
-    last_cas: u64,
-    pending: Option<u64>,
+    pub(crate) map: M,
+    pub(crate) last_cas: u64,
+    pub(crate) pending: Option<u64>,
 }
 
 impl<M: LiveMap> Engine<M> {
-    ghost use Rattle.engine.specs.Engines.{cache_in, Leaves, IsHandled};
-
-    /// An engine over a map that has given out this cas number last.
-    pub fn over(map: M, last_cas: u64) -> Self
-        ensures cache { cache_in M.entries result ≡ record { entries = M.entries map; last_cas = last_cas; pending = None } }
-        ensures map { result.map ≡ map }
-    {
-        Engine {
-            map,
-            last_cas,
-            pending: None,
-        }
-    }
-
-    /// The moment of the last request in seconds, 0 before the first one.
-    pub fn last_moment(&self) -> u64
-        ensures { result ≡ M.moment self.now.map }
-    {
-        self.map.last_moment()
-    }
-
-    /// The moment of a flush that is still to come.
-    pub fn pending(&self) -> Option<u64>
-        ensures { result ≡ (cache_in M.entries self.now).pending }
-    {
-        self.pending
-    }
+    ghost use Rattle.engine.specs.Engines.{cache_in, Leaves};
 
     /// Stores an entry with the next cas number.
     fn write(
@@ -159,7 +129,7 @@ impl<M: LiveMap> Engine<M> {
     }
 
     /// Time goes on to this moment, at which a pending flush may have come.
-    fn advance(&mut self, now: u64)
+    pub(crate) fn advance(&mut self, now: u64)
         requires not_before { M.moment self.old.map ≤ now }
         requires in_range { now ≤ max_moment }
         ensures cache { cache_in M.entries self.new ≡ found_at (cache_in M.entries self.old) now }
@@ -244,7 +214,7 @@ impl<M: LiveMap> Engine<M> {
     }
 
     /// Executes the request at the last moment.
-    fn execute(&mut self, request: &mut Request) -> Reply
+    pub(crate) fn execute(&mut self, request: &mut Request) -> Reply
         requires { M.moment self.old.map ≤ max_moment }
         ensures leaves { Leaves M.LiveMap self.old self.new (act (item_limit (M.sizes self.old.map)) (cache_in M.entries self.old) (M.moment self.old.map) request.old) result }
         ensures same { request.new ≡ request.old }
@@ -260,56 +230,5 @@ impl<M: LiveMap> Engine<M> {
             Request::Decr { key, amount } => self.change(key.as_slice(), Change::Subtract(*amount)),
             Request::FlushAll { delay } => self.flush(*delay),
         }
-    }
-
-    /// Executes the request at this moment, in seconds. The hits of a `get` stand in the room that it was lent.
-    pub fn execute_at(&mut self, now: u64, request: &mut Request) -> Reply
-        requires not_before { M.moment self.old.map ≤ now }
-        requires in_range { now ≤ max_moment }
-        ensures request { request.new ≡ request.old }
-
-        // what the map does beyond what any map does
-        ensures handled { IsHandled M.LiveMap self.old now request.old result self.new }
-        ensures step { Step (M.sizes self.old.map) (cache_in M.entries self.old) now request.old result (cache_in M.entries self.new) }
-        ensures sizes { M.sizes self.new.map ≡ M.sizes self.old.map }
-        ensures moment { M.moment self.new.map ≡ now }
-
-        // where memory was refused, what was found stays; and only what shows something needs any, or stores, where the map may refuse
-        ensures refused { result ≡ Reply.NoMemory → cache_in M.entries self.new ≡ found_at (cache_in M.entries self.old) now }
-        ensures succeeds { needs_memory M.may_refuse (outcome_at (M.sizes self.old.map) (cache_in M.entries self.old) now request.old) ≡ false → result ≢ Reply.NoMemory }
-
-        // nothing is forgotten while little is stored, and nothing with a deadline
-        ensures kept { KeepsAll (λ (engine : Engine M). M.sizes engine.map) (cache_in M.entries) (λ (engine : Engine M) items. M.keeps engine.map items) self.old now request.old result self.new }
-    {
-        self.advance(now);
-        self.execute(request)
-    }
-}
-
-impl<M: LiveMap> StorageEngine for Engine<M> {
-    ghost use Rattle.engine.specs.Engines.{cache_in};
-
-    ghost sizes = { λ s. M.sizes s.map };
-
-    ghost cache = { λ s. cache_in M.entries s };
-
-    ghost moment = { λ s. M.moment s.map };
-
-    ghost keeps = { λ s items. M.keeps s.map items };
-
-    fn last_moment(&self) -> u64 {
-        Engine::last_moment(self)
-    }
-
-    fn key_hasher(&self) -> FoldHasher {
-        self.map.key_hasher()
-    }
-
-    fn prefetch(&self, hash: u64) {
-        self.map.prefetch(hash);
-    }
-
-    fn handle(&mut self, now: u64, request: &mut Request) -> Reply {
-        self.execute_at(now, request)
     }
 }

@@ -11,13 +11,15 @@ mod live_map;
 mod number;
 mod plain_entry;
 mod plain_map;
-mod plain_store;
 mod size;
 mod storage_engine;
+mod store;
+mod store_map;
 
 pub use commands::Engine;
 pub use deadline::has_arrived;
 pub use entry_ref::EntryRef;
 pub use live_map::LiveMap;
-pub use plain_store::PlainStore;
+pub use plain_map::{PlainMap, PlainStore};
 pub use storage_engine::{MAX_MOMENT, StorageEngine};
+pub use store_map::StoreMap;

@@ -1,12 +1,11 @@
-//! A map that evicts nothing and gives each entry exactly the deadline that it asks for.
+//! A map that evicts nothing and gives each entry exactly the deadline that it asks for, and the cache over it.
 
 ghost use Rattle.std.specs.Prelude.{◌≡◌, ⊤, true};
-ghost use Rattle.proto.specs.Cache.{no_entries};
 ghost use Rattle.engine.specs.Shown.{entry_of};
 
 use crate::live_entries::LiveEntries;
 use crate::plain_entry::Entry;
-use crate::{EntryRef, LiveMap};
+use crate::{Engine, EntryRef, LiveMap, StoreMap};
 use proto::{ByteString, Geometry, NoMemory};
 use std::alloc::Global;
 use std::hash::FoldHasher;
@@ -19,20 +18,8 @@ pub struct PlainMap {
     live: LiveEntries,
 }
 
-impl PlainMap {
-    /// No entry, at the moment 0.
-    pub fn new(alloc: Global, geometry: Geometry) -> Self
-        ensures sizes { result.geometry ≡ geometry }
-        ensures entries { result.live.entries ≡ no_entries }
-        ensures moment { result.live.moment ≡ 0 }
-    {
-        PlainMap {
-            alloc,
-            geometry,
-            live: LiveEntries::new(alloc),
-        }
-    }
-}
+/// The plain cache.
+pub type PlainStore = Engine<PlainMap>;
 
 /// The entry, lent.
 fn lent(entry: &Entry) -> EntryRef<'_>
@@ -120,4 +107,23 @@ impl LiveMap for PlainMap {
     fn clear(&mut self) {
         self.live.clear();
     }
+}
+
+impl StoreMap for PlainMap {
+    ghost use Rattle.engine.specs.Plain.{HandlesPlainly};
+
+    ghost made = { λ sizes seed m. ⊤ };
+
+    ghost promises = { HandlesPlainly };
+
+    /// An empty map takes no memory, and hashes no key.
+    fn seeded(alloc: Global, geometry: Geometry, _seed: u64) -> Result<Self, NoMemory> {
+        Ok(PlainMap {
+            alloc,
+            geometry,
+            live: LiveEntries::new(alloc),
+        })
+    }
+
+    fn keep_promises() {}
 }

@@ -3,6 +3,7 @@
 ghost use Rattle.std.specs.Prelude.{◌≡◌, IfOk};
 ghost use Rattle.proto.specs.Sizes.{Sizes};
 ghost use Rattle.proto.specs.Cache.{empty_cache};
+ghost use Rattle.engine.specs.PlainState.{plain_sizes, plain_cache, plain_moment};
 ghost use Rattle.queue_exchange.specs.Queues.{AreQueuesMade, IsEndOf};
 ghost use Rattle.exchange_runs.specs.Ends.{StaysAsItWas};
 
@@ -16,13 +17,16 @@ use std::test::Fail;
 
 fn made(alloc: Global) -> Result<(Vec<WorkerEnd>, StorageEnd, PlainStore), MakeFault>
     ensures { IfOk result (λ r. (g : Sizes) × AreQueuesMade 1 g r.0.items r.1
-        × (r.2 ≡ record { sizes = g; cache = empty_cache 0; moment = 0 })) }
+        × (plain_sizes r.2 ≡ g) × (plain_cache r.2 ≡ empty_cache 0) × (plain_moment r.2 ≡ 0)) }
 {
     let Ok(geometry) = Geometry::new(4096, 8) else {
         return Err(MakeFault::BadCount);
     };
+    let Ok(store) = PlainStore::new(alloc, geometry) else {
+        return Err(MakeFault::NoMemory);
+    };
     let (ends, storage) = make(alloc, 1, geometry)?;
-    Ok((ends, storage, PlainStore::new(alloc, geometry)))
+    Ok((ends, storage, store))
 }
 
 /// Posts requests until one is handed back, and says how many were sent.

@@ -2,6 +2,7 @@
 
 ghost use Rattle.std.specs.Prelude.{◌≡◌};
 ghost use Rattle.proto.specs.Cache.{empty_cache};
+ghost use Rattle.engine.specs.PlainState.{plain_sizes, plain_cache, plain_moment};
 ghost use Rattle.storage_thread.specs.Serving.{IsUnused};
 ghost use Rattle.exchange_runs.specs.Serving.{HasTakenNothing};
 
@@ -70,8 +71,8 @@ fn play_lanes<R: Threads + Wait + time::Clock + Sync, C: Caller + Drop + Send>(
     players: Vec<CallingWorker<C>>,
     storage: exchange::StorageEnd,
 ) -> Run<C>
-    requires empty { (store.cache ≡ empty_cache 0) × (store.moment ≡ 0) }
-    requires sizes { store.sizes ≡ storage.geometry }
+    requires empty { (plain_cache store ≡ empty_cache 0) × (plain_moment store ≡ 0) }
+    requires sizes { plain_sizes store ≡ storage.geometry }
     requires unused { IsUnused storage }
 {
     let mut players = players;
@@ -103,7 +104,7 @@ pub fn run_lanes<R: Threads + Wait + time::Clock + Sync>(
     let signals = StorageSignals::new(alloc, FoldHasher::default(), workers).ok()?;
     Some(play_lanes(
         rt,
-        PlainStore::new(alloc, geometry),
+        PlainStore::new(alloc, geometry).ok()?,
         &signals,
         players,
         storage,
@@ -135,7 +136,7 @@ pub fn run_batches<R: Threads + Wait + time::Clock + Sync>(
     let signals = StorageSignals::new(alloc, FoldHasher::default(), workers).ok()?;
     Some(play_lanes(
         rt,
-        PlainStore::new(alloc, geometry),
+        PlainStore::new(alloc, geometry).ok()?,
         &signals,
         players,
         storage,
@@ -149,8 +150,8 @@ fn play_queues<R: Threads + Wait + time::Clock + Sync>(
     players: Vec<CallingWorker<queue_exchange::WorkerEnd>>,
     storage: StorageEnd,
 ) -> Run<queue_exchange::WorkerEnd>
-    requires empty { (store.cache ≡ empty_cache 0) × (store.moment ≡ 0) }
-    requires sizes { store.sizes ≡ storage.geometry }
+    requires empty { (plain_cache store ≡ empty_cache 0) × (plain_moment store ≡ 0) }
+    requires sizes { plain_sizes store ≡ storage.geometry }
     requires unused { HasTakenNothing storage }
 {
     let mut players = players;
@@ -180,5 +181,5 @@ pub fn run_queues<R: Threads + Wait + time::Clock + Sync>(
     let geometry = Geometry::new(4096, 8).ok()?;
     let (ends, storage) = queue_exchange::make(alloc, workers, geometry).ok()?;
     let players = players(alloc, ends, load).ok()?;
-    Some(play_queues(rt, PlainStore::new(alloc, geometry), players, storage))
+    Some(play_queues(rt, PlainStore::new(alloc, geometry).ok()?, players, storage))
 }

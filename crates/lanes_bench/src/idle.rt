@@ -21,7 +21,7 @@ pub fn wait<R: Threads + Wait + time::Clock + Sync>(
     let geometry = Geometry::new(4096, 8).ok()?;
     let (mut ends, storage) = make(alloc, 1, geometry).ok()?;
     let mut end = ends.pop()?;
-    let store = PlainStore::new(alloc, geometry);
+    let store = PlainStore::new(alloc, geometry).ok()?;
     let whole = StorageSignals::new(alloc, FoldHasher::default(), 1).ok()?;
     let signals = &whole;
     thread::join(

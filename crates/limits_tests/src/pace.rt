@@ -82,7 +82,7 @@ fn requests_after_pauses_are_answered_soon(rt: HostRuntime) -> Result<(), Fail> 
     };
     let geometry = Geometry::new(65_536, 64)?;
     let config = Config { geometry };
-    let store = PlainStore::new(alloc, geometry);
+    let store = PlainStore::new(alloc, geometry)?;
     let ports = vec![in alloc; port]?;
     let start = Instant::now(&rt)?;
     let report = run_group(&rt, alloc, ports, config, store, SteadyClock, &OpenGate)?;

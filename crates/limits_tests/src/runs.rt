@@ -76,7 +76,7 @@ struct Case<'a> {
 /// The plain program gives each session its output.
 fn check_straight<R: Abort>(rt: &R, alloc: Global, case: &Case) {
     let events = events_of(rt, alloc, case.script);
-    let store = PlainStore::new(alloc, case.geometry);
+    let store = PlainStore::new(alloc, case.geometry).expect(rt, "memory");
     let clock = ScriptClock::new(1000, 0);
     let given = replay_sequentially(alloc, store, clock, events.as_slice()).expect(rt, "memory");
     assert_eq!(*rt; given.len() as u64, case.sessions);

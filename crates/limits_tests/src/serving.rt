@@ -2,6 +2,7 @@
 
 ghost use Rattle.std.specs.Prelude.{◌≡◌, [], false, Some};
 ghost use Rattle.proto.specs.Cache.{empty_cache};
+ghost use Rattle.engine.specs.PlainState.{plain_sizes, plain_cache, plain_moment};
 ghost use Rattle.storage_thread.specs.Serving.{IsUnused};
 ghost use Rattle.worker.specs.Ports.{PortStory};
 
@@ -22,11 +23,13 @@ use worker::{Gate, Port, WorkerReport, run_worker};
 fn made<R: Abort>(rt: &R, alloc: Global, geometry: Geometry) -> (WorkerEnd, StorageEnd, PlainStore)
     ensures worker { (result.0.sent ≡ []) × (result.0.back ≡ []) × (result.0.said_bye ≡ false) }
     ensures storage { IsUnused result.1 }
-    ensures store { result.2 ≡ record { sizes = result.1.geometry; cache = empty_cache 0; moment = 0 } }
+    ensures sizes { plain_sizes result.2 ≡ result.1.geometry }
+    ensures store { (plain_cache result.2 ≡ empty_cache 0) × (plain_moment result.2 ≡ 0) }
 {
     let (mut ends, storage) = make(alloc, 1, geometry).expect(rt, "an exchange");
     let end = ends.pop().expect(rt, "an end");
-    (end, storage, PlainStore::new(alloc, geometry))
+    let store = PlainStore::new(alloc, geometry).expect(rt, "memory");
+    (end, storage, store)
 }
 
 /// Runs the worker to its end, and the storage thread.
@@ -51,8 +54,9 @@ where
     let child = thread::spawn(
         rt,
         move || -> StorageReport<SteadyClock>
-            requires { (store.cache ≡ empty_cache 0) × (store.moment ≡ 0) × (store.sizes ≡ storage_end.geometry)
-                × IsUnused storage_end }
+            requires empty { (plain_cache store ≡ empty_cache 0) × (plain_moment store ≡ 0) }
+            requires sizes { plain_sizes store ≡ storage_end.geometry }
+            requires unused { IsUnused storage_end }
         { run_storage(&handle, store, SteadyClock, storage_end, &of_storage) },
     )
     .expect(rt, "a thread");

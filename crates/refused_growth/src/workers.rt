@@ -67,8 +67,8 @@ impl Gate for OpenGate {
 fn made(alloc: Global) -> Option<(WorkerEnd, StorageEnd, Store)>
     ensures worker { IfSome result (λ r. (r.0.sent ≡ []) × (r.0.back ≡ []) × (r.0.said_bye ≡ false)) }
     ensures storage { IfSome result (λ r. IsUnused r.1) }
-    ensures sizes { IfSome result (λ r. sizes_in r.2.engine ≡ r.1.geometry) }
-    ensures store { IfSome result (λ r. (segmented_cache r.2.engine ≡ empty_cache 0) × (last_moment r.2.engine ≡ 0)) }
+    ensures sizes { IfSome result (λ r. sizes_in r.2 ≡ r.1.geometry) }
+    ensures store { IfSome result (λ r. (segmented_cache r.2 ≡ empty_cache 0) × (last_moment r.2 ≡ 0)) }
 {
     let Ok(geometry) = Geometry::new(65_536, 64) else {
         return None;
@@ -94,8 +94,8 @@ where
     let child = thread::spawn(
         rt,
         move || -> StorageReport<SteadyClock>
-            requires empty { (segmented_cache store.engine ≡ empty_cache 0) × (last_moment store.engine ≡ 0) }
-            requires sizes { sizes_in store.engine ≡ storage_end.geometry }
+            requires empty { (segmented_cache store ≡ empty_cache 0) × (last_moment store ≡ 0) }
+            requires sizes { sizes_in store ≡ storage_end.geometry }
             requires unused { IsUnused storage_end }
         { run_storage(&handle, store, SteadyClock, storage_end, &of_storage) },
     )

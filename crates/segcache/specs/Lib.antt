@@ -12,3 +12,4 @@ pub mod StoreState
 pub mod Merging
 pub mod Handling
 pub mod StayingFilled
+pub mod Promises

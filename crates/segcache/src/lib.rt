@@ -5,7 +5,10 @@
 mod freeing;
 mod leaving;
 mod segment_map;
-mod store;
 mod writing;
 
-pub use store::Store;
+use crate::segment_map::SegmentMap;
+use engine::Engine;
+
+/// The segmented cache.
+pub type Store = Engine<SegmentMap>;

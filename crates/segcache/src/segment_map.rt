@@ -1,18 +1,14 @@
 //! The map of live entries that stand in segments.
 
-ghost use Rattle.std.specs.Prelude.{◌≡◌, ◌≤◌, ◌<◌, ◌*◌, [], Some, None, false, IfOk, IfSome, IsSome, MatchOption};
+ghost use Rattle.std.specs.Prelude.{◌≡◌, ◌≤◌, ◌<◌, Some, None, false, IfSome, IsSome, MatchOption};
 ghost use Rattle.std.specs.FinMap as map;
-ghost use Rattle.std.specs.Int.{IsNextPowerOfTwo};
-ghost use Rattle.index.specs.Keys.{seeded};
-ghost use Rattle.index.specs.Sizing.{most_items};
-ghost use Rattle.proto.specs.Cache.{has_arrived, no_entries};
+ghost use Rattle.proto.specs.Cache.{has_arrived};
 ghost use Rattle.proto.specs.Buckets.{time_to_live};
 ghost use Rattle.segments.specs.Pools.{item_in, place_deadline};
 ghost use Rattle.engine.specs.Shown.{entry_of};
 ghost use Rattle.segcache.specs.Shown.{current, entry_at, shown_entries};
-ghost use Rattle.segcache.specs.Keeping.{KeepsStored};
 
-use engine::{EntryRef, LiveMap, has_arrived};
+use engine::{EntryRef, LiveMap, StoreMap, has_arrived};
 use index::{Index, layout_for, slots_for};
 use proto::{Geometry, NoMemory};
 use segments::{ItemRef, LiveMarks, Place, Pool, bucket_of};
@@ -67,24 +63,6 @@ fn entry_at<'a>(pool: &'a Pool, place: Place) -> EntryRef<'a>
 }
 
 impl SegmentMap {
-    /// No entry, at the moment 0. Keys are hashed with the seed.
-    pub fn new(alloc: Global, geometry: Geometry, seed: u64) -> Result<SegmentMap, NoMemory>
-        ensures sizes { IfOk result (λ m. m.pool.sizes ≡ geometry) }
-        ensures entries { IfOk result (λ m. shown_entries m.pool m.index m.moment ≡ no_entries) }
-        ensures moment { IfOk result (λ m. m.moment ≡ 0) }
-        ensures keeps { IfOk result (λ m. KeepsStored m []) }
-        ensures slots { IfOk result (λ m. IsNextPowerOfTwo (2 * most_items geometry) m.index.room) }
-        ensures seed { IfOk result (λ m. m.index.hasher ≡ seeded seed) }
-    {
-        Ok(SegmentMap {
-            pool: Pool::new(alloc, geometry)?,
-            index: Index::new(alloc, slots_for(geometry), layout_for(geometry), seed)?,
-            marks: LiveMarks::new(alloc, geometry)?,
-            moment: 0,
-            read_ahead: AtomicU64::new(0),
-        })
-    }
-
     /// The place of the key's item, where that is live.
     fn find(&self, key: &[u8]) -> Option<Place>
         ensures found { MatchOption result
@@ -187,4 +165,24 @@ impl LiveMap for SegmentMap {
     fn clear(&mut self) {
         self.leave_all();
     }
+}
+
+impl StoreMap for SegmentMap {
+    ghost use Rattle.segcache.specs.Promises.{IsMadeFor, PromisesSegments};
+
+    ghost made = { IsMadeFor };
+
+    ghost promises = { PromisesSegments };
+
+    fn seeded(alloc: Global, geometry: Geometry, seed: u64) -> Result<Self, NoMemory> {
+        Ok(SegmentMap {
+            pool: Pool::new(alloc, geometry)?,
+            index: Index::new(alloc, slots_for(geometry), layout_for(geometry), seed)?,
+            marks: LiveMarks::new(alloc, geometry)?,
+            moment: 0,
+            read_ahead: AtomicU64::new(0),
+        })
+    }
+
+    fn keep_promises() {}
 }

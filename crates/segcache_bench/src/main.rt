@@ -115,7 +115,7 @@ fn main(rt: HostRuntime) -> Result<()> {
     if let Some((geometry, value)) = sizes_asked(&rt) {
         let mut store = Store::new(alloc, geometry)?;
         run_steady(&rt, alloc, "segmented", &mut store, rounds, value)?;
-        let mut plain = PlainStore::new(alloc, geometry);
+        let mut plain = PlainStore::new(alloc, geometry)?;
         return run_steady(&rt, alloc, "plain", &mut plain, rounds, value);
     }
     let geometry = Geometry::new(65_536, 64)?;
@@ -130,7 +130,7 @@ fn main(rt: HostRuntime) -> Result<()> {
         &rt,
         alloc,
         "plain",
-        &mut PlainStore::new(alloc, geometry),
+        &mut PlainStore::new(alloc, geometry)?,
         rounds,
     )
 }

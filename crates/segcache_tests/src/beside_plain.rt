@@ -101,6 +101,6 @@ fn nothing_is_forgotten(rt: HostRuntime) -> Result<(), Fail> {
     let alloc = rt.alloc();
     let geometry = Geometry::new(16_384, 8)?;
     let mut segmented = Store::new(alloc, geometry)?;
-    let mut plain = PlainStore::new(alloc, geometry);
+    let mut plain = PlainStore::new(alloc, geometry)?;
     compare(&rt, alloc, &mut segmented, &mut plain)
 }

@@ -104,8 +104,8 @@ fn many_callers(rt: HostRuntime) -> Result<(), Fail> {
         &rt,
         promise,
         move || -> StorageReport<Count>
-            requires empty { (segmented_cache store.engine ≡ empty_cache 0) × (last_moment store.engine ≡ 0) }
-            requires sizes { sizes_in store.engine ≡ storage.geometry }
+            requires empty { (segmented_cache store ≡ empty_cache 0) × (last_moment store ≡ 0) }
+            requires sizes { sizes_in store ≡ storage.geometry }
             requires unused { IsUnused storage }
             ensures { IsSameExchange storage result.storage_end }
         { run_storage(&rt, store, clock, storage, &of_storage) },

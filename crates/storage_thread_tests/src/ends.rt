@@ -17,8 +17,8 @@ pub(crate) fn made(
     workers: usize,
 ) -> Result<(Vec<WorkerEnd>, StorageEnd, Store), MakeFault>
     ensures { IfOk result (λ r. (g : Sizes) × AreMade workers g r.0.items r.1
-        × (sizes_in r.2.engine ≡ g) × (segmented_cache r.2.engine ≡ empty_cache 0)
-        × (last_moment r.2.engine ≡ 0)) }
+        × (sizes_in r.2 ≡ g) × (segmented_cache r.2 ≡ empty_cache 0)
+        × (last_moment r.2 ≡ 0)) }
 {
     let geometry = match Geometry::new(4096, 8) {
         Ok(geometry) => geometry,

@@ -38,8 +38,8 @@ fn execute<S: StorageEngine>(store: &mut S, end: &mut StorageEnd, worker: usize,
 
 /// Executes and answers one request, and says whether there was one.
 fn serve_one(store: &mut Store, end: &mut StorageEnd) -> bool
-    requires reaches { Reaches end.old.geometry end.old.history (segmented_cache store.old.engine) (last_moment store.old.engine) }
-    requires sizes { sizes_in store.old.engine ≡ end.old.geometry }
+    requires reaches { Reaches end.old.geometry end.old.history (segmented_cache store.old) (last_moment store.old) }
+    requires sizes { sizes_in store.old ≡ end.old.geometry }
     requires shut { end.old.open_request ≡ None }
 {
     match end.next() {

@@ -1,7 +1,7 @@
 //! Random requests, which the store is to answer as the list does.
 
 use crate::list_cache::ListCache;
-use engine::PlainStore;
+use engine::{PlainStore, StorageEngine};
 use proto::{ByteString, Geometry, Keys, Message, NoMemory, Put, Request, Words, show};
 use std::alloc::{AllocError, Global};
 use std::test::Fail;
@@ -134,7 +134,7 @@ fn as_a_list(rt: HostRuntime) -> Result<(), Fail> {
     let geometry = Geometry::new(4096, 8)?;
     let mut random = Random(2_463_534_242);
     let mut now = 2_591_995;
-    let mut store = PlainStore::new(alloc, geometry);
+    let mut store = PlainStore::new(alloc, geometry)?;
     let mut list = ListCache::new(alloc, 512);
     let mut shown = 0u32;
     for turn in 0..5000 {

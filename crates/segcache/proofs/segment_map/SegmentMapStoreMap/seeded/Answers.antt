@@ -10,7 +10,7 @@ use Rattle.segcache.specs.State.{MapState}
 use Rattle.segcache.proofs.KeptEntries.{keeps_none}
 use Rattle.segcache.proofs.Showing.{shown_empty}
 use Rattle.segcache.proofs.Starting.{tied_start, past_start}
-use Rattle.segcache.proofs.segment_map.SegmentMap.new.Goals as goal
+use Rattle.segcache.proofs.segment_map.SegmentMapStoreMap.seeded.Goals as goal
 
 pub invariant_of-result : goal.invariant_of-result
 unfolding new_pool

@@ -1,6 +1,6 @@
 use Rattle.engine.proofs.EngineLemmas.{step_from_handled, refused_stays, none_refused, handled_by}
 use Rattle.engine.proofs.KeepingLemmas.{kept_from_handled}
-use Rattle.engine.proofs.commands.Engine.execute_at.Goals as goal
+use Rattle.engine.proofs.store.EngineStorageEngine.handle.Goals as goal
 
 pub returns-clause-handled : goal.returns-clause-handled
 returns-clause-handled g c =
@@ -8,6 +8,11 @@ returns-clause-handled g c =
     handled_by m c.args.self.now c.advance.new.self c.args.now c.args.request.now c.execute.result c.execute.new.self
     c.advance.ensures.cache c.advance.ensures.sizes c.advance.ensures.moment c.advance.ensures.alike
     c.advance.ensures.kept c.execute.ensures.leaves
+
+pub returns-clause-promised : goal.returns-clause-promised
+returns-clause-promised g c =
+    c.keep_promises.ensures c.args.self.now c.args.now c.args.request.now c.execute.result c.execute.new.self
+    (returns-clause-handled g c)
 
 pub returns-clause-step : goal.returns-clause-step
 returns-clause-step g c =

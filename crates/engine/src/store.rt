@@ -1,0 +1,131 @@
+//! An engine as a store: how it is made, and how it handles requests.
+
+ghost use Rattle.std.specs.Prelude.{◌≡◌, ◌≢◌, ◌≤◌, [], IfOk, false};
+ghost use Rattle.proto.specs.Cache.{empty_cache, found_at};
+ghost use Rattle.proto.specs.Steps.{Step};
+ghost use Rattle.proto.specs.History.{max_moment};
+ghost use Rattle.engine.specs.declared.store.TheConstants.{SEED};
+ghost use Rattle.engine.specs.Keeping.{KeepsAll};
+ghost use Rattle.engine.specs.Outcomes.{outcome_at, needs_memory};
+
+use crate::{Engine, LiveMap, StorageEngine, StoreMap};
+use proto::{Geometry, NoMemory, Reply, Request};
+use std::alloc::Global;
+use std::hash::FoldHasher;
+
+/// What is hashed before each key where no seed is handed in.
+const SEED: u64 = 0x9e37_79b9_7f4a_7c15;
+
+impl<M: StoreMap> Engine<M> {
+    ghost use Rattle.engine.specs.Engines.{cache_in};
+
+    /// An empty cache, at the moment 0.
+    pub fn new(alloc: Global, geometry: Geometry) -> Result<Self, NoMemory>
+        ensures sizes { IfOk result (λ s. M.sizes s.map ≡ geometry) }
+        ensures cache { IfOk result (λ s. cache_in M.entries s ≡ empty_cache 0) }
+        ensures moment { IfOk result (λ s. M.moment s.map ≡ 0) }
+        ensures keeps { IfOk result (λ s. M.keeps s.map []) }
+        ensures made { IfOk result (λ s. M.made geometry SEED s.map) }
+    {
+        Engine::starting(alloc, geometry, 0)
+    }
+
+    /// An empty cache that has given out this cas number last.
+    pub fn starting(alloc: Global, geometry: Geometry, last_cas: u64) -> Result<Self, NoMemory>
+        ensures sizes { IfOk result (λ s. M.sizes s.map ≡ geometry) }
+        ensures cache { IfOk result (λ s. cache_in M.entries s ≡ empty_cache last_cas) }
+        ensures moment { IfOk result (λ s. M.moment s.map ≡ 0) }
+        ensures keeps { IfOk result (λ s. M.keeps s.map []) }
+        ensures made { IfOk result (λ s. M.made geometry SEED s.map) }
+    {
+        Engine::seeded(alloc, geometry, last_cas, SEED)
+    }
+
+    /// An empty cache that has given out this cas number last, and hashes the seed before each key.
+    pub fn seeded(
+        alloc: Global,
+        geometry: Geometry,
+        last_cas: u64,
+        seed: u64,
+    ) -> Result<Self, NoMemory>
+        ensures sizes { IfOk result (λ s. M.sizes s.map ≡ geometry) }
+        ensures cache { IfOk result (λ s. cache_in M.entries s ≡ empty_cache last_cas) }
+        ensures moment { IfOk result (λ s. M.moment s.map ≡ 0) }
+        ensures keeps { IfOk result (λ s. M.keeps s.map []) }
+        ensures made { IfOk result (λ s. M.made geometry seed s.map) }
+    {
+        Ok(Engine {
+            map: M::seeded(alloc, geometry, seed)?,
+            last_cas,
+            pending: None,
+        })
+    }
+}
+
+impl<M: LiveMap> Engine<M> {
+    ghost use Rattle.engine.specs.Engines.{cache_in};
+
+    /// The moment of the last request in seconds, 0 before the first one.
+    pub fn last_moment(&self) -> u64
+        ensures { result ≡ M.moment self.now.map }
+    {
+        self.map.last_moment()
+    }
+
+    /// The moment of a flush that is still to come.
+    pub fn pending(&self) -> Option<u64>
+        ensures { result ≡ (cache_in M.entries self.now).pending }
+    {
+        self.pending
+    }
+}
+
+impl<M: StoreMap> StorageEngine for Engine<M> {
+    ghost use Rattle.engine.specs.Engines.{cache_in, IsHandled};
+
+    ghost sizes = { λ s. M.sizes s.map };
+
+    ghost cache = { λ s. cache_in M.entries s };
+
+    ghost moment = { λ s. M.moment s.map };
+
+    ghost keeps = { λ s items. M.keeps s.map items };
+
+    fn last_moment(&self) -> u64 {
+        Engine::last_moment(self)
+    }
+
+    fn key_hasher(&self) -> FoldHasher {
+        self.map.key_hasher()
+    }
+
+    fn prefetch(&self, hash: u64) {
+        self.map.prefetch(hash);
+    }
+
+    /// Executes the request at this moment, in seconds. The hits of a `get` stand in the room that it was lent.
+    fn handle(&mut self, now: u64, request: &mut Request) -> Reply
+        requires not_before { M.moment self.old.map ≤ now }
+        requires in_range { now ≤ max_moment }
+        ensures request { request.new ≡ request.old }
+
+        // what the map does beyond what any map does: step by step, and as the map promises it of whole requests
+        ensures handled { IsHandled M.LiveMap self.old now request.old result self.new }
+        ensures promised { M.promises self.old now request.old result self.new }
+        ensures step { Step (M.sizes self.old.map) (cache_in M.entries self.old) now request.old result (cache_in M.entries self.new) }
+        ensures sizes { M.sizes self.new.map ≡ M.sizes self.old.map }
+        ensures moment { M.moment self.new.map ≡ now }
+
+        // where memory was refused, what was found stays; and only what shows something needs any, or stores, where the map may refuse
+        ensures refused { result ≡ Reply.NoMemory → cache_in M.entries self.new ≡ found_at (cache_in M.entries self.old) now }
+        ensures succeeds { needs_memory M.may_refuse (outcome_at (M.sizes self.old.map) (cache_in M.entries self.old) now request.old) ≡ false → result ≢ Reply.NoMemory }
+
+        // nothing is forgotten while little is stored, and nothing with a deadline
+        ensures kept { KeepsAll (λ (engine : Engine M). M.sizes engine.map) (cache_in M.entries) (λ (engine : Engine M) items. M.keeps engine.map items) self.old now request.old result self.new }
+    {
+        // the law by which what was handled is `promised`
+        M::keep_promises();
+        self.advance(now);
+        self.execute(request)
+    }
+}

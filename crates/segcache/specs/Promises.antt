@@ -1,0 +1,26 @@
+-- What a store over segments promises beyond what any store does.
+use Rattle.std.specs.Prelude.{◌≡◌, ℕ, ◌*◌}
+use Rattle.std.specs.Int.{IsNextPowerOfTwo}
+use Rattle.index.specs.Keys.{seeded}
+use Rattle.index.specs.Sizing.{most_items}
+use Rattle.proto.specs.Sizes.{Sizes}
+use Rattle.proto.specs.declared.message.Request.{Request}
+use Rattle.proto.specs.declared.message.Reply.{Reply}
+use Rattle.engine.specs.declared.commands.Engine.{Engine}
+use Rattle.segcache.specs.declared.segment_map.SegmentMap.{SegmentMap}
+use Rattle.segcache.specs.State.{MapState}
+use Rattle.segcache.specs.Handling.{HandlesSegments}
+use Rattle.segcache.specs.StayingFilled.{StaysFilled}
+
+-- The index of a new map has memory for two slots for each item that segments of these sizes can hold, and hashes the
+-- seed before each key.
+pub record IsMadeFor (sizes : Sizes) (seed : ℕ) (new : MapState) : Type 0 where
+  pub slots : IsNextPowerOfTwo (2 * most_items sizes) new.index.room
+  pub seed_is : new.index.hasher ≡ seeded seed
+
+-- How room is made and what is forgotten, in which bucket an item stands, and which reads are counted; and nothing is
+-- forgotten where segments hold little.
+pub record PromisesSegments (before : Engine SegmentMap) (t : ℕ) (q : Request) (reply : Reply)
+    (after : Engine SegmentMap) : Type 0 where
+  pub segments : HandlesSegments before t q reply after
+  pub bounded : StaysFilled before t q reply after

@@ -1,7 +1,8 @@
 //! How many requests a lane holds, whose turn it is, and what is refused.
 
-ghost use Rattle.std.specs.Prelude.{◌≡◌, None};
+ghost use Rattle.std.specs.Prelude.{◌≡◌, None, IfOk};
 
+use crate::same::check_same;
 use exchange::{MakeFault, Posted, StorageEnd, Taken, WorkerEnd, make};
 use proto::{ByteString, Geometry, Request};
 use std::alloc::Global;
@@ -16,7 +17,20 @@ fn made(alloc: Global, workers: usize) -> Result<(Vec<WorkerEnd>, StorageEnd), M
     make(alloc, workers, geometry)
 }
 
-/// Whether it is the deletion with this number.
+/// The deletion with this number.
+fn deletion(alloc: Global, number: u64) -> Result<Posted, Fail>
+    ensures { IfOk result (λ p. p.number ≡ number) }
+{
+    let key = Vec::from_slice(alloc, b"key")?;
+    Ok(Posted {
+        session: 7,
+        number,
+        request: Request::Delete {
+            key: ByteString::from_vec(key),
+        },
+    })
+}
+
 fn is_deletion(posted: &Posted, number: u64) -> bool {
     match &posted.request {
         Request::Delete { key } => {
@@ -29,18 +43,13 @@ fn is_deletion(posted: &Posted, number: u64) -> bool {
 /// Posts a request of session 7, and says whether it was sent. One that is handed back is unchanged.
 fn ask(rt: &impl Abort, alloc: Global, end: &mut WorkerEnd) -> Result<bool, Fail> {
     let number = end.sent() + 1;
-    let key = Vec::from_slice(alloc, b"key")?;
-    let posted = Posted {
-        session: 7,
-        number,
-        request: Request::Delete {
-            key: ByteString::from_vec(key),
-        },
-    };
+    let posted = deletion(alloc, number)?;
     match end.post(posted) {
         Ok(()) => Ok(true),
         Err(back) => {
-            assert!(rt; is_deletion(&back, number));
+            let is_same = is_deletion(&back, number);
+            drop(back);
+            assert!(rt; is_same);
             Ok(false)
         }
     }
@@ -67,7 +76,7 @@ fn check_sent(
     wanted: bool,
 ) -> Result<(), Fail> {
     let is_sent = ask(rt, alloc, end)?;
-    assert_eq!(rt; is_sent, wanted);
+    check_same(rt, is_sent, wanted, "a request");
     Ok(())
 }
 
@@ -83,7 +92,7 @@ fn check_65th(rt: &impl Abort, alloc: Global, end: &mut WorkerEnd) -> Result<(),
     }
     check_sent(rt, alloc, end, false)?;
     assert!(rt; has_none(end));
-    assert_eq!(rt; (end.sent(), end.outstanding()), (64, 64));
+    check_same(rt, (end.sent(), end.outstanding()), (64, 64), "the end");
     Ok(())
 }
 
@@ -103,13 +112,13 @@ fn check_bye(
     storage: &mut StorageEnd,
 ) -> Result<(), Fail> {
     assert!(rt; !storage.is_open());
-    assert_eq!(rt; next_of(storage), None);
+    check_same(rt, next_of(storage), None, "the beginning");
     if !end.said_bye() && end.outstanding() == 0 {
         end.bye();
     }
     check_sent(rt, alloc, end, false)?;
     assert!(rt; !storage.is_open());
-    assert_eq!(rt; next_of(storage), Some((1, false)));
+    check_same(rt, next_of(storage), Some((1, false)), "the bye");
     Ok(())
 }
 
@@ -128,12 +137,12 @@ fn check_turns(
     ends: &mut [WorkerEnd],
     storage: &mut StorageEnd,
 ) -> Result<(), Fail> {
-    assert_eq!(rt; storage.workers(), 3);
+    check_same(rt, storage.workers(), 3, "workers");
     for end in ends {
         check_sent(rt, alloc, end, true)?;
     }
     assert!(rt; !storage.is_open());
-    assert_eq!(rt; next_of(storage), Some((0, true)));
+    check_same(rt, next_of(storage), Some((0, true)), "the first");
     assert!(rt; storage.is_open());
     Ok(())
 }
@@ -158,6 +167,6 @@ fn one_to_eight_workers(rt: HostRuntime) {
         } else {
             Err(MakeFault::BadCount)
         };
-        assert_eq!(rt; made_counts(rt.alloc(), workers), wanted);
+        check_same(&rt, made_counts(rt.alloc(), workers), wanted, workers);
     }
 }

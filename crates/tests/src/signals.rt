@@ -56,6 +56,6 @@ fn a_single_worker_leaves_none(rt: HostRuntime) -> Result<(), Fail> {
     let signals = StorageSignals::new(rt.alloc(), FoldHasher::default(), 1)?;
     assert!(rt; !signals.has_hints());
     signals.leave_hint(0, 0, b"alpha");
-    assert_eq!(rt; signals.hint(0, 0), 0);
+    check_same(&rt, signals.hint(0, 0), 0, "the hint");
     Ok(())
 }

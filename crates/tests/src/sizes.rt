@@ -30,13 +30,12 @@ fn check_sizes(rt: &impl Abort, rows: &[(u32, u32, bool)]) {
 fn sizes_are_within_their_limits(rt: HostRuntime) -> Result<(), Fail> {
     check_sizes(&rt, &SIZES);
     let geometry = Geometry::new(4096, 9)?;
-    assert_eq!(rt;
-        (
-            geometry.segment_size(),
-            geometry.segments(),
-            geometry.item_limit()
-        ),
-        (4096, 9, 512)
+    let sizes = (geometry.segment_size(), geometry.segments());
+    check_same(
+        &rt,
+        (sizes, geometry.item_limit()),
+        ((4096, 9), 512),
+        "4096 by 9",
     );
     Ok(())
 }

@@ -1,7 +1,7 @@
 //! Sessions are opened, fed, read and answered after a refusal.
 
 use bytes::Bytes;
-use proto::{Answered, Reply};
+use proto::{Answered, NoMemory, Reply, Request};
 use session_book::{Book, EndCause, OpenFault, Received, Settled};
 use std::alloc::Global;
 
@@ -34,45 +34,47 @@ fn feed(book: &mut Book) -> Option<()> {
     }
 }
 
-/// Asks for the next request, again where a growth was refused, and settles it with this reply.
-fn answer_next(book: &mut Book, reply: Reply) -> Option<Settled> {
-    let asked = match book.next_ask(1) {
-        Ok(asked) => asked,
-        Err(_) => book.next_ask(1).ok()?,
-    };
-    let (request, number) = asked?;
-    Some(book.settle(&Answered {
-        worker: 0,
-        session: 1,
-        number,
-        request,
-        moment: 1000,
-        reply,
-    }))
+/// Asks for the next request, again where a growth was refused.
+fn next_ask(book: &mut Book) -> Result<Option<(Request, u64)>, NoMemory> {
+    match book.next_ask(1) {
+        Ok(asked) => Ok(asked),
+        Err(_) => book.next_ask(1),
+    }
 }
 
-fn run(alloc: Global) -> Option<Course> {
-    let mut book = Book::new(alloc, 0);
-    open(&mut book)?;
-    feed(&mut book)?;
-    for reply in [Reply::Stored, Reply::Deleted] {
-        match answer_next(&mut book, reply)? {
-            Settled::Kept => {}
-            Settled::Starved => {
-                return if book.out(1).is_empty() {
-                    Some(Course::Starved)
-                } else {
-                    None
-                };
-            }
-            _ => return None,
-        }
+/// Settles the next request with this reply.
+fn answer_next(book: &mut Book, reply: Reply) -> Option<Settled> {
+    match next_ask(book) {
+        Ok(Some((request, number))) => Some(book.settle(&Answered {
+            worker: 0,
+            session: 1,
+            number,
+            request,
+            moment: 1000,
+            reply,
+        })),
+        _ => None,
     }
-    let read = match book.next_ask(1) {
-        Ok(asked) => asked,
-        Err(_) => book.next_ask(1).ok()?,
-    };
-    if read.is_some() || book.out(1) != OUTPUT {
+}
+
+/// Settles both requests, or the first one alone where it isn't kept.
+fn answer_both(book: &mut Book) -> Option<Settled> {
+    match answer_next(book, Reply::Stored)? {
+        Settled::Kept => answer_next(book, Reply::Deleted),
+        settled => Some(settled),
+    }
+}
+
+fn asks_no_more(book: &mut Book) -> bool {
+    match next_ask(book) {
+        Ok(asked) => asked.is_none(),
+        Err(_) => false,
+    }
+}
+
+/// The whole output is given, and then the session has ended.
+fn finish(book: &mut Book) -> Option<Course> {
+    if !asks_no_more(book) || book.out(1) != OUTPUT {
         return None;
     }
     book.gave(1, book.out(1).len());
@@ -80,6 +82,21 @@ fn run(alloc: Global) -> Option<Course> {
         Some(EndCause::Quit) => Some(Course::Answered),
         _ => None,
     }
+}
+
+fn play(book: &mut Book) -> Option<Course> {
+    open(book)?;
+    feed(book)?;
+    match answer_both(book)? {
+        Settled::Kept => finish(book),
+        Settled::Starved if book.out(1).is_empty() => Some(Course::Starved),
+        _ => None,
+    }
+}
+
+fn run(alloc: Global) -> Option<Course> {
+    let mut book = Book::new(alloc, 0);
+    play(&mut book)
 }
 
 /// A session is answered, or it is closed for want of memory and the next one is answered.

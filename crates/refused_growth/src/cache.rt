@@ -64,70 +64,99 @@ fn shown(alloc: Global, request: Request, reply: &Reply) -> Result<Vec<u8>, NoMe
     Ok(out)
 }
 
+/// What stands in the store; None inside where memory was refused.
+fn entries_once(alloc: Global, store: &mut Store, now: u64) -> Option<Option<Vec<u8>>> {
+    let Some(Message::Ask(mut request, _)) = read(alloc, ALL) else {
+        return None;
+    };
+    let reply = handle(store, now, &mut request)?;
+    if matches!(&reply, Reply::NoMemory) {
+        return Some(None);
+    }
+    Some(shown(alloc, request, &reply).ok())
+}
+
 /// What stands in the store, where it is shown at the first, the second or the third try.
 fn entries(alloc: Global, store: &mut Store, now: u64) -> Option<Vec<u8>> {
     for _ in 0..3 {
-        let Some(Message::Ask(mut request, _)) = read(alloc, ALL) else {
-            return None;
-        };
-        let reply = handle(store, now, &mut request)?;
-        if matches!(&reply, Reply::NoMemory) {
-            continue;
-        }
-        if let Ok(out) = shown(alloc, request, &reply) {
+        if let Some(out) = entries_once(alloc, store, now)? {
             return Some(out);
         }
     }
     None
 }
 
-/// The answer, where the request is executed at the first or the second try, and a refusal changes
+/// Whether the store has these entries, this flush to come and this moment.
+fn is_kept(
+    alloc: Global,
+    store: &mut Store,
+    now: u64,
+    before: &[u8],
+    pending: Option<u64>,
+) -> bool {
+    let Some(after) = entries(alloc, store, now) else {
+        return false;
+    };
+    let is_same = after.as_slice() == before;
+    drop(after);
+    is_same && store.pending() == pending && store.last_moment() == now
+}
+
+/// The reply, where the request is executed at the first or the second try, and a refusal changes
 /// nothing.
-fn answer(alloc: Global, store: &mut Store, now: u64, input: &[u8]) -> Option<Vec<u8>> {
+fn reply_to(alloc: Global, store: &mut Store, now: u64, request: &mut Request) -> Option<Reply> {
     let before = entries(alloc, store, now)?;
     let pending = store.pending();
-    let Message::Ask(mut request, _) = read(alloc, input)? else {
-        return None;
-    };
-    let mut reply = handle(store, now, &mut request)?;
-    if matches!(&reply, Reply::NoMemory) {
-        let after = entries(alloc, store, now)?;
-        let is_kept = after.as_slice() == before.as_slice()
-            && store.pending() == pending
-            && store.last_moment() == now;
-        if !is_kept {
-            return None;
-        }
-        reply = handle(store, now, &mut request)?;
+    let reply = handle(store, now, request)?;
+    if !matches!(&reply, Reply::NoMemory) {
+        return Some(reply);
     }
+    if is_kept(alloc, store, now, before.as_slice(), pending) {
+        handle(store, now, request)
+    } else {
+        None
+    }
+}
+
+/// The answer, where it is shown at the first or the second try.
+fn shown_again(alloc: Global, request: Request, reply: &Reply) -> Vec<u8> {
     let mut out = Vec::new(alloc);
     let message = Message::Ask(request, false);
     for _ in 0..2 {
-        if show(&message, Some(&reply), &mut out).is_ok() {
+        if show(&message, Some(reply), &mut out).is_ok() {
             break;
         }
     }
-    Some(out)
+    out
 }
 
-/// Writes the answers, and says whether the store was made and each answer given.
-pub fn is_repeatable<R: Print + AllocGlobal>(rt: &R) -> bool {
-    let Ok(geometry) = Geometry::new(4096, 8) else {
+fn answer_to(alloc: Global, store: &mut Store, now: u64, mut request: Request) -> Option<Vec<u8>> {
+    let reply = reply_to(alloc, store, now, &mut request)?;
+    Some(shown_again(alloc, request, &reply))
+}
+
+fn answer(alloc: Global, store: &mut Store, now: u64, input: &[u8]) -> Option<Vec<u8>> {
+    match read(alloc, input)? {
+        Message::Ask(request, _) => answer_to(alloc, store, now, request),
+        _ => None,
+    }
+}
+
+/// Writes the answer, and says whether it was given.
+fn is_answered<R: Print + AllocGlobal>(rt: &R, store: &mut Store, now: u64, input: &[u8]) -> bool {
+    let Some(out) = answer(rt.alloc(), store, now, input) else {
         return false;
     };
-    let Some(mut store) = make(rt.alloc(), geometry) else {
-        return false;
-    };
+    match str::from_utf8(out.as_slice()) {
+        Ok(text) => rt.print(text).is_ok(),
+        Err(_) => false,
+    }
+}
+
+fn are_answered<R: Print + AllocGlobal>(rt: &R, store: &mut Store, inputs: &[&[u8]]) -> bool {
     let mut now = 1000;
-    for input in INPUTS {
-        let out = answer(rt.alloc(), &mut store, now, input);
-        let Some(out) = out else {
-            return false;
-        };
-        let Ok(text) = str::from_utf8(out.as_slice()) else {
-            return false;
-        };
-        if rt.print(text).is_err() {
+    for input in inputs {
+        if !is_answered(rt, store, now, input) {
             return false;
         }
         if now < LAST_MOMENT {
@@ -135,4 +164,15 @@ pub fn is_repeatable<R: Print + AllocGlobal>(rt: &R) -> bool {
         }
     }
     true
+}
+
+/// Writes the answers, and says whether the store was made and each answer given.
+pub fn is_repeatable<R: Print + AllocGlobal>(rt: &R) -> bool {
+    let Ok(geometry) = Geometry::new(4096, 8) else {
+        return false;
+    };
+    match make(rt.alloc(), geometry) {
+        Some(mut store) => are_answered(rt, &mut store, &INPUTS),
+        None => false,
+    }
 }

@@ -81,15 +81,21 @@ fn made(alloc: Global) -> Option<(WorkerEnd, StorageEnd, Store)>
     Some((end, storage, store))
 }
 
+/// The signals of storage, for both threads.
+fn signals_of(alloc: Global) -> Option<(Arc<StorageSignals>, Arc<StorageSignals>)> {
+    let signals = StorageSignals::new(alloc, FoldHasher::default(), 2).ok()?;
+    let signals = Arc::new(alloc, signals).ok()?;
+    let of_storage = Arc::try_clone(&signals).ok()?;
+    Some((signals, of_storage))
+}
+
 /// The worker's report, where the exchange was made and the thread was started.
 fn run<R>(rt: &R, alloc: Global) -> Option<WorkerReport<QuietPort>>
 where
     R: Threads + Wait + time::Clock + Copy + Drop + Send + Sync + 'static,
 {
     let handle = *rt;
-    let signals = StorageSignals::new(alloc, FoldHasher::default(), 2).ok()?;
-    let signals = Arc::new(alloc, signals).ok()?;
-    let of_storage = Arc::try_clone(&signals).ok()?;
+    let (signals, of_storage) = signals_of(alloc)?;
     let (end, storage_end, store) = made(alloc)?;
     let child = thread::spawn(
         rt,

@@ -6,10 +6,12 @@ ghost use Rattle.segcache.specs.StoreState.{sizes_in, segmented_cache, last_mome
 ghost use Rattle.storage_thread.specs.Serving.{IsUnused, IsSameExchange};
 
 use crate::ends::{ask, made};
+use crate::same::check_same;
 use exchange::{StorageEnd, StorageSignals, WorkerEnd, gather};
 use segcache::Store;
 use std::alloc::Global;
 use std::hash::FoldHasher;
+use std::process::Abort;
 use std::snapshot::Snapshot;
 use std::sync::atomic::{AtomicU64, Ordering};
 use std::sync::{Arc, Wait};
@@ -45,6 +47,30 @@ impl Clock for Count {
     }
 }
 
+/// The number of the answer that is taken, if there is one; it is counted where it is one above the last.
+fn take(end: &mut WorkerEnd, last: u64, good: &AtomicU64) -> Option<u64>
+    ensures { (end.new.exchange ≡ end.old.exchange) × (end.new.worker ≡ end.old.worker) }
+{
+    let answered = end.take()?;
+    if answered.number.wrapping_sub(1) == last {
+        good.fetch_add(1, Ordering::SeqCst);
+    }
+    Some(answered.number)
+}
+
+/// Says bye, if all answers were taken and it wasn't said before.
+fn leave(end: &mut WorkerEnd) -> bool
+    ensures { (end.new.exchange ≡ end.old.exchange) × (end.new.worker ≡ end.old.worker) }
+{
+    if end.sent() < REQUESTS || end.outstanding() > 0 {
+        return false;
+    }
+    if !end.said_bye() {
+        end.bye();
+    }
+    true
+}
+
 /// Posts all requests, takes all answers and says bye. Counts the answers whose number is one above the last.
 fn call<R: Wait>(
     rt: &R,
@@ -61,19 +87,11 @@ fn call<R: Wait>(
             return;
         }
         signals.parking().unpark();
-        match end.take() {
-            Some(answered) => {
-                if answered.number.wrapping_sub(1) == last {
-                    good.fetch_add(1, Ordering::SeqCst);
-                }
-                last = answered.number;
-            }
+        match take(end, last, good) {
+            Some(number) => last = number,
             None => thread::yield_now(),
         }
-        if end.sent() >= REQUESTS && end.outstanding() == 0 {
-            if !end.said_bye() {
-                end.bye();
-            }
+        if leave(end) {
             signals.parking().unpark();
             return;
         }
@@ -90,13 +108,17 @@ impl Promise<StorageReport<Count>> for StorageStays {
     ghost kept_by = { λ p r. IsSameExchange p.0.value r.storage_end };
 }
 
+fn signals_of(rt: &impl Abort, alloc: Global) -> Arc<StorageSignals> {
+    let signals = StorageSignals::new(alloc, FoldHasher::default(), CALLERS).expect(rt, "memory");
+    Arc::new(alloc, signals).expect(rt, "memory")
+}
+
 #[test]
 fn many_callers(rt: HostRuntime) -> Result<(), Fail> {
     let alloc: Global = rt.alloc();
-    let signals = StorageSignals::new(alloc, FoldHasher::default(), CALLERS)?;
-    let signals = Arc::new(alloc, signals)?;
-    let of_storage = Arc::try_clone(&signals)?;
     let (mut ends, storage, store) = made(alloc, CALLERS)?;
+    let signals = signals_of(&rt, alloc);
+    let of_storage = Arc::try_clone(&signals).expect(&rt, "memory");
     let good = AtomicU64::new(0);
     let promise = StorageStays(Snapshot::of(&storage));
     let clock = Count { last: 0 };
@@ -109,17 +131,31 @@ fn many_callers(rt: HostRuntime) -> Result<(), Fail> {
             requires unused { IsUnused storage }
             ensures { IsSameExchange storage result.storage_end }
         { run_storage(&rt, store, clock, storage, &of_storage) },
-    )?;
+    )
+    .expect(&rt, "a thread");
     let ask = |_: usize, end: &mut WorkerEnd|
         ensures { (end.exit.now.exchange ≡ end.entry.now.exchange) × (end.exit.now.worker ≡ end.entry.now.worker) }
     { call(&rt, alloc, end, &good, &signals) };
     thread::for_each_mut(&rt, ends.as_mut_slice(), CALLERS, &ask);
     let report = child.join(&rt);
-    assert_eq!(rt; report.executed, 80_000);
-    assert_eq!(rt; report.clock.last, 80_000);
-    assert_eq!(rt; good.load(Ordering::SeqCst), 80_000);
+    let counts = (
+        report.executed,
+        report.clock.last,
+        good.load(Ordering::SeqCst),
+    );
+    check_same(&rt, counts, (80_000, 80_000, 80_000), "requests");
     let gathered = gather(ends, report.storage_end);
-    assert_eq!(rt; gathered.sent, [REQUESTS; 8]);
-    assert_eq!(rt; gathered.back, [REQUESTS; 8]);
+    check_same(
+        &rt,
+        gathered.sent.as_slice(),
+        [REQUESTS; 8].as_slice(),
+        "sent",
+    );
+    check_same(
+        &rt,
+        gathered.back.as_slice(),
+        [REQUESTS; 8].as_slice(),
+        "back",
+    );
     Ok(())
 }

@@ -6,10 +6,13 @@ ghost use Rattle.engine.specs.Reaching.{Reaches};
 ghost use Rattle.segcache.specs.StoreState.{sizes_in, segmented_cache, last_moment};
 
 use crate::ends::{ask, made};
+use crate::same::check_same;
 use engine::StorageEngine;
-use exchange::{Answered, Posted, StorageEnd, Taken};
+use exchange::{Answered, Posted, StorageEnd, Taken, WorkerEnd};
 use proto::Reply;
 use segcache::Store;
+use std::alloc::Global;
+use std::process::Abort;
 use std::test::Fail;
 
 /// Executes the open request at the store's last moment, and answers it.
@@ -51,33 +54,53 @@ fn serve_one(store: &mut Store, end: &mut StorageEnd) -> bool
     }
 }
 
+/// So many requests are sent, and the next one is handed back.
+fn check_sent(rt: &impl Abort, alloc: Global, end: &mut WorkerEnd, count: usize) {
+    for _ in 0..count {
+        check_same(rt, ask(alloc, end), Some(true), "one that has room");
+    }
+    check_same(rt, ask(alloc, end), Some(false), "one that has none");
+}
+
+fn is_first(answered: &Answered) -> bool {
+    answered.worker == 0
+        && answered.session == 7
+        && answered.number == 1
+        && matches!(&answered.reply, Reply::NotFound)
+}
+
+/// Takes the next answer, and says whether it is that to the first request.
+fn takes_first(end: &mut WorkerEnd) -> bool {
+    match end.take() {
+        Some(answered) => is_first(&answered),
+        None => false,
+    }
+}
+
+/// Takes the next answer, and says whether there was none.
+fn has_none(end: &mut WorkerEnd) -> bool {
+    end.take().is_none()
+}
+
+/// The answer to the first request is taken, and no other.
+fn check_taken(rt: &impl Abort, end: &mut WorkerEnd) {
+    assert!(rt; takes_first(end));
+    assert!(rt; has_none(end));
+}
+
 /// 64 requests are sent, and the next one is handed back. Once one of them was taken and answered and its answer taken, one
 /// more is sent, and the next is handed back.
 #[test]
 fn an_answer_makes_room(rt: HostRuntime) -> Result<(), Fail> {
     let alloc = rt.alloc();
     let (mut ends, mut storage, mut store) = made(alloc, 1)?;
-    let Some(mut end) = ends.pop() else {
+    let Some(end) = ends.last_mut() else {
         panic!(rt; "no end")
     };
-    for _ in 0..64 {
-        assert_eq!(rt; ask(alloc, &mut end), Some(true));
-    }
-    assert_eq!(rt; ask(alloc, &mut end), Some(false));
-    assert!(rt; end.take().is_none());
+    check_sent(&rt, alloc, end, 64);
+    assert!(rt; has_none(end));
     assert!(rt; serve_one(&mut store, &mut storage));
-    match end.take() {
-        Some(answered) => {
-            assert_eq!(rt;
-                (answered.worker, answered.session, answered.number),
-                (0, 7, 1)
-            );
-            assert!(rt; matches!(answered.reply, Reply::NotFound));
-        }
-        None => panic!(rt; "no answer"),
-    }
-    assert!(rt; end.take().is_none());
-    assert_eq!(rt; ask(alloc, &mut end), Some(true));
-    assert_eq!(rt; ask(alloc, &mut end), Some(false));
+    check_taken(&rt, end);
+    check_sent(&rt, alloc, end, 1);
     Ok(())
 }

@@ -7,3 +7,5 @@ mod callers;
 mod ends;
 #[cfg(test)]
 mod lane;
+#[cfg(test)]
+mod same;

@@ -1,12 +1,14 @@
 //! However the bytes are cut, and whenever answers come and output is given, what is given is the same.
 
 use crate::player::Player;
+use crate::same::check_same;
 use session_book::EndCause;
 use std::alloc::Global;
+use std::process::Abort;
 use std::test::Fail;
 
 /// A session's bytes, the value that a `get` of it finds under `a`, its output, and how it ends.
-#[derive(Drop)]
+#[derive(Clone, Copy)]
 struct Row {
     input: &'static str,
     found: Option<&'static str>,
@@ -88,43 +90,63 @@ fn finish(player: &mut Player, given: &mut Vec<u8>) -> Result<(), Fail> {
     Ok(())
 }
 
-/// What is given in all to the session of a row, and how it ends, in an order that the seed picks.
-fn output_of(alloc: Global, row: &Row, seed: u64) -> Result<(Vec<u8>, Option<EndCause>), Fail> {
-    let mut player = Player::new(alloc, row.found);
+/// Feeds, reads, settles or gives, as the number picks, and says what is left to feed.
+fn play_turn<'a>(
+    player: &mut Player,
+    given: &mut Vec<u8>,
+    rest: &'a [u8],
+    random: u64,
+) -> Result<&'a [u8], Fail> {
+    match (random >> 40) % 4 {
+        0 => return feed(player, rest, ((random >> 33) % 7) as usize),
+        1 => {
+            let _ = player.ask(7)?;
+        }
+        2 => {
+            let _ = player.settle(0)?;
+        }
+        _ => player.give(7, given)?,
+    }
+    Ok(rest)
+}
+
+/// Plays the session with this input, in an order that the seed picks, and keeps what is given in all.
+fn play(player: &mut Player, given: &mut Vec<u8>, input: &[u8], seed: u64) -> Result<(), Fail> {
     player.open(7)?;
-    let mut given = Vec::new(alloc);
-    let mut rest = row.input.as_bytes();
+    let mut rest = input;
     let mut random = seed;
     for _ in 0..60 {
         random = scrambled(random);
-        match (random >> 40) % 4 {
-            0 => rest = feed(&mut player, rest, ((random >> 33) % 7) as usize)?,
-            1 => {
-                let _ = player.ask(7)?;
-            }
-            2 => {
-                let _ = player.settle(0)?;
-            }
-            _ => player.give(7, &mut given)?,
+        rest = play_turn(player, given, rest, random)?;
+    }
+    let _ = feed(player, rest, usize::MAX)?;
+    finish(player, given)
+}
+
+fn check_row(rt: &impl Abort, alloc: Global, row: &Row, seed: u64) -> Result<(), Fail> {
+    let mut player = Player::new(alloc, row.found);
+    let mut given = Vec::new(alloc);
+    play(&mut player, &mut given, row.input.as_bytes(), seed)?;
+    let is_given = given.as_slice() == row.output.as_bytes();
+    check_same(
+        rt,
+        (is_given, player.finished(7)),
+        (true, row.ends),
+        (row.input, seed),
+    );
+    Ok(())
+}
+
+fn check_rows(rt: &impl Abort, alloc: Global, rows: &[Row]) -> Result<(), Fail> {
+    for row in rows {
+        for seed in 0..50 {
+            check_row(rt, alloc, row, seed)?;
         }
     }
-    let _ = feed(&mut player, rest, usize::MAX)?;
-    finish(&mut player, &mut given)?;
-    Ok((given, player.finished(7)))
+    Ok(())
 }
 
 #[test]
 fn cuttings_give_one_output(rt: HostRuntime) -> Result<(), Fail> {
-    for row in ROWS.iter() {
-        for seed in 0..50 {
-            let (given, ends) = output_of(rt.alloc(), row, seed)?;
-            assert!(rt;
-                given.as_slice() == row.output.as_bytes(),
-                "{} with the seed {seed}",
-                row.input
-            );
-            assert_eq!(rt; ends, row.ends);
-        }
-    }
-    Ok(())
+    check_rows(&rt, rt.alloc(), &ROWS)
 }

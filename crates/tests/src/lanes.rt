@@ -1,10 +1,12 @@
 //! How many requests a lane holds, whose turn it is, and what is refused.
 
-ghost use Rattle.std.specs.Prelude.{◌≡◌, None};
+ghost use Rattle.std.specs.Prelude.{◌≡◌, None, IfOk};
 
+use crate::same::check_same;
 use exchange::{MakeFault, Posted, StorageEnd, Taken, WorkerEnd, make};
 use proto::{ByteString, Geometry, Request};
 use std::alloc::Global;
+use std::process::Abort;
 use std::test::Fail;
 
 fn made(alloc: Global, workers: usize) -> Result<(Vec<WorkerEnd>, StorageEnd), MakeFault> {
@@ -15,28 +17,41 @@ fn made(alloc: Global, workers: usize) -> Result<(Vec<WorkerEnd>, StorageEnd), M
     make(alloc, workers, geometry)
 }
 
-/// Posts a request of session 7, and says whether it was sent. One that is handed back is unchanged.
-fn ask(alloc: Global, end: &mut WorkerEnd) -> Result<bool, Fail> {
-    let number = end.sent() + 1;
-    let posted = Posted {
+/// The deletion with this number.
+fn deletion(alloc: Global, number: u64) -> Result<Posted, Fail>
+    ensures { IfOk result (λ p. p.number ≡ number) }
+{
+    let key = Vec::from_slice(alloc, b"key")?;
+    Ok(Posted {
         session: 7,
         number,
         request: Request::Delete {
-            key: ByteString::from_vec(Vec::from_slice(alloc, b"key")?),
+            key: ByteString::from_vec(key),
         },
-    };
-    let Err(back) = end.post(posted) else {
-        return Ok(true);
-    };
-    match back.request {
-        Request::Delete { key } if back.session == 7 && back.number == number => {
-            if key.as_slice() == b"key".as_slice() {
-                Ok(false)
-            } else {
-                Err(Fail::new("another key came back"))
-            }
+    })
+}
+
+fn is_deletion(posted: &Posted, number: u64) -> bool {
+    match &posted.request {
+        Request::Delete { key } => {
+            posted.session == 7 && posted.number == number && key.as_slice() == b"key".as_slice()
         }
-        _ => Err(Fail::new("another request came back")),
+        _ => false,
+    }
+}
+
+/// Posts a request of session 7, and says whether it was sent. One that is handed back is unchanged.
+fn ask(rt: &impl Abort, alloc: Global, end: &mut WorkerEnd) -> Result<bool, Fail> {
+    let number = end.sent() + 1;
+    let posted = deletion(alloc, number)?;
+    match end.post(posted) {
+        Ok(()) => Ok(true),
+        Err(back) => {
+            let is_same = is_deletion(&back, number);
+            drop(back);
+            assert!(rt; is_same);
+            Ok(false)
+        }
     }
 }
 
@@ -54,67 +69,104 @@ fn next_of(storage: &mut StorageEnd) -> Option<(usize, bool)>
     }
 }
 
+fn check_sent(
+    rt: &impl Abort,
+    alloc: Global,
+    end: &mut WorkerEnd,
+    wanted: bool,
+) -> Result<(), Fail> {
+    let is_sent = ask(rt, alloc, end)?;
+    check_same(rt, is_sent, wanted, "a request");
+    Ok(())
+}
+
+/// Takes the next answer, and says whether there was none.
+fn has_none(end: &mut WorkerEnd) -> bool {
+    end.take().is_none()
+}
+
+fn check_65th(rt: &impl Abort, alloc: Global, end: &mut WorkerEnd) -> Result<(), Fail> {
+    assert!(rt; has_none(end));
+    for _ in 0..64 {
+        check_sent(rt, alloc, end, true)?;
+    }
+    check_sent(rt, alloc, end, false)?;
+    assert!(rt; has_none(end));
+    check_same(rt, (end.sent(), end.outstanding()), (64, 64), "the end");
+    Ok(())
+}
+
 #[test]
 fn the_65th_request_is_handed_back(rt: HostRuntime) -> Result<(), Fail> {
     let (mut ends, _storage) = made(rt.alloc(), 1)?;
-    let Some(mut end) = ends.pop() else {
+    let Some(end) = ends.last_mut() else {
         panic!(rt; "no end")
     };
-    assert!(rt; end.take().is_none());
-    for _ in 0..64 {
-        assert!(rt; ask(rt.alloc(), &mut end)?);
+    check_65th(&rt, rt.alloc(), end)
+}
+
+fn check_bye(
+    rt: &impl Abort,
+    alloc: Global,
+    end: &mut WorkerEnd,
+    storage: &mut StorageEnd,
+) -> Result<(), Fail> {
+    assert!(rt; !storage.is_open());
+    check_same(rt, next_of(storage), None, "the beginning");
+    if !end.said_bye() && end.outstanding() == 0 {
+        end.bye();
     }
-    assert!(rt; !ask(rt.alloc(), &mut end)?);
-    assert!(rt; end.take().is_none());
-    assert_eq!(rt; end.sent(), 64);
-    assert_eq!(rt; end.outstanding(), 64);
+    check_sent(rt, alloc, end, false)?;
+    assert!(rt; !storage.is_open());
+    check_same(rt, next_of(storage), Some((1, false)), "the bye");
     Ok(())
 }
 
 #[test]
 fn nothing_is_posted_after_bye(rt: HostRuntime) -> Result<(), Fail> {
     let (mut ends, mut storage) = made(rt.alloc(), 2)?;
-    let Some(mut end) = ends.pop() else {
+    let Some(end) = ends.last_mut() else {
         panic!(rt; "no end")
     };
-    assert!(rt; !storage.is_open());
-    assert_eq!(rt; next_of(&mut storage), None);
-    if !end.said_bye() && end.outstanding() == 0 {
-        end.bye();
+    check_bye(&rt, rt.alloc(), end, &mut storage)
+}
+
+fn check_turns(
+    rt: &impl Abort,
+    alloc: Global,
+    ends: &mut [WorkerEnd],
+    storage: &mut StorageEnd,
+) -> Result<(), Fail> {
+    check_same(rt, storage.workers(), 3, "workers");
+    for end in ends {
+        check_sent(rt, alloc, end, true)?;
     }
-    assert!(rt; !ask(rt.alloc(), &mut end)?);
     assert!(rt; !storage.is_open());
-    assert_eq!(rt; next_of(&mut storage), Some((1, false)));
+    check_same(rt, next_of(storage), Some((0, true)), "the first");
+    assert!(rt; storage.is_open());
     Ok(())
 }
 
 #[test]
 fn lanes_are_looked_at_in_turn(rt: HostRuntime) -> Result<(), Fail> {
     let (mut ends, mut storage) = made(rt.alloc(), 3)?;
-    assert_eq!(rt; storage.workers(), 3);
-    for end in ends.iter_mut() {
-        assert!(rt; ask(rt.alloc(), end)?);
-    }
-    assert!(rt; !storage.is_open());
-    assert_eq!(rt; next_of(&mut storage), Some((0, true)));
-    assert!(rt; storage.is_open());
-    Ok(())
+    check_turns(&rt, rt.alloc(), ends.as_mut_slice(), &mut storage)
+}
+
+/// How many ends of workers are made, and how many of them storage knows.
+fn made_counts(alloc: Global, workers: usize) -> Result<(usize, usize), MakeFault> {
+    let (ends, storage) = made(alloc, workers)?;
+    Ok((ends.len(), storage.workers()))
 }
 
 #[test]
-fn one_to_eight_workers(rt: HostRuntime) -> Result<(), Fail> {
+fn one_to_eight_workers(rt: HostRuntime) {
     for workers in 0..10 {
-        match made(rt.alloc(), workers) {
-            Ok((ends, storage)) => {
-                assert!(rt; 1 <= workers && workers <= 8);
-                assert_eq!(rt; ends.len(), workers);
-                assert_eq!(rt; storage.workers(), workers);
-            }
-            Err(fault) => {
-                assert_eq!(rt; fault, MakeFault::BadCount);
-                assert!(rt; workers == 0 || 8 < workers);
-            }
-        }
+        let wanted = if 1 <= workers && workers <= 8 {
+            Ok((workers, workers))
+        } else {
+            Err(MakeFault::BadCount)
+        };
+        check_same(&rt, made_counts(rt.alloc(), workers), wanted, workers);
     }
-    Ok(())
 }

@@ -16,6 +16,8 @@ mod player;
 #[cfg(test)]
 mod random;
 #[cfg(test)]
+mod same;
+#[cfg(test)]
 mod signals;
 #[cfg(test)]
 mod sizes;

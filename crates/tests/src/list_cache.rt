@@ -62,6 +62,15 @@ impl ListCache {
         }
     }
 
+    /// Drops what is over at the moment.
+    fn expire(&mut self, now: u64) {
+        if self.pending.is_some_and(|moment| moment <= now) {
+            self.entries.clear();
+            self.pending = None;
+        }
+        self.entries.retain(|entry| entry.deadline > now);
+    }
+
     /// The bytes that answer the request at the moment.
     pub fn answer(
         &mut self,
@@ -69,53 +78,98 @@ impl ListCache {
         now: u64,
         request: &Request,
     ) -> Result<Vec<u8>, AllocError> {
-        if self.pending.is_some_and(|moment| moment <= now) {
-            self.entries.clear();
-            self.pending = None;
-        }
-        self.entries.retain(|entry| entry.deadline > now);
+        self.expire(now);
         match request {
             Request::Get { keys, with_cas } => self.values(alloc, keys, *with_cas),
             Request::Set(put) => self.put(alloc, now, put, Condition::Always),
             Request::Add(put) => self.put(alloc, now, put, Condition::Missing),
             Request::Replace(put) => self.put(alloc, now, put, Condition::There),
             Request::Cas(put, cas) => self.put(alloc, now, put, Condition::SameCas(*cas)),
-            Request::Delete { key } => match self.place(key) {
-                Some(i) => {
-                    self.entries.remove(i);
-                    text_line(alloc, "DELETED")
-                }
-                None => text_line(alloc, "NOT_FOUND"),
-            },
+            Request::Delete { key } => text_line(alloc, self.delete(key)),
             Request::Incr { key, amount } => self.count(alloc, key, *amount, true),
             Request::Decr { key, amount } => self.count(alloc, key, *amount, false),
-            Request::FlushAll { delay: 0 } => {
-                self.entries.clear();
-                self.pending = None;
-                text_line(alloc, "OK")
-            }
-            Request::FlushAll { delay } => {
-                self.pending = Some(now.saturating_add(*delay));
-                text_line(alloc, "OK")
-            }
+            Request::FlushAll { delay } => text_line(alloc, self.flush(now, *delay)),
         }
     }
 
-    fn values(&self, alloc: Global, keys: &Keys, with_cas: bool) -> Result<Vec<u8>, AllocError> {
-        let mut out = Vec::new(alloc);
+    fn delete(&mut self, key: &ByteString) -> &'static str {
+        match self.place(key) {
+            Some(i) => {
+                self.entries.remove(i);
+                "DELETED"
+            }
+            None => "NOT_FOUND",
+        }
+    }
+
+    fn flush(&mut self, now: u64, delay: u64) -> &'static str {
+        if delay == 0 {
+            self.entries.clear();
+            self.pending = None;
+        } else {
+            self.pending = Some(now.saturating_add(delay));
+        }
+        "OK"
+    }
+
+    fn push_values(&self, out: &mut Vec<u8>, key: &[u8], with_cas: bool) -> Result<(), AllocError> {
+        for entry in &self.entries {
+            if entry.key.as_slice() == key {
+                push_value(out, entry, with_cas)?;
+            }
+        }
+        Ok(())
+    }
+
+    fn push_all(&self, out: &mut Vec<u8>, keys: &Keys, with_cas: bool) -> Result<(), AllocError> {
         let mut keys = keys.iter();
         for _ in 0..u64::MAX {
             let Some(key) = keys.next() else {
                 break;
             };
-            for entry in &self.entries {
-                if entry.key.as_slice() == key {
-                    push_value(&mut out, entry, with_cas)?;
-                }
-            }
+            self.push_values(out, key, with_cas)?;
         }
-        out.extend_from_slice(b"END\r\n")?;
+        out.extend_from_slice(b"END\r\n")
+    }
+
+    fn values(&self, alloc: Global, keys: &Keys, with_cas: bool) -> Result<Vec<u8>, AllocError> {
+        let mut out = Vec::new(alloc);
+        self.push_all(&mut out, keys, with_cas)?;
         Ok(out)
+    }
+
+    /// Why a put isn't stored, if it isn't.
+    fn refusal(&self, put: &Put, condition: Condition) -> Option<&'static str> {
+        let key = put.key.as_slice();
+        let bytes = key.len().saturating_add(put.value.as_slice().len());
+        let words = bytes.saturating_add(24).div_ceil(8);
+        if words > self.item_limit / 8 || key.is_empty() || key.len() > 250 {
+            return Some("SERVER_ERROR object too large for cache");
+        }
+        let there = match self.place(&put.key) {
+            Some(i) => Some(self.entries[i].cas),
+            None => None,
+        };
+        match (condition, there) {
+            (Condition::Missing, Some(_)) | (Condition::There, None) => Some("NOT_STORED"),
+            (Condition::SameCas(_), None) => Some("NOT_FOUND"),
+            (Condition::SameCas(asked), Some(cas)) if asked != cas => Some("EXISTS"),
+            _ => None,
+        }
+    }
+
+    fn push(&mut self, alloc: Global, put: &Put, deadline: u64) -> Result<(), AllocError> {
+        self.last_cas = self.last_cas.saturating_add(1);
+        let key = Vec::from_slice(alloc, put.key.as_slice())?;
+        let value = Vec::from_slice(alloc, put.value.as_slice())?;
+        self.entries.push(ListEntry {
+            key,
+            value,
+            flags: put.flags,
+            deadline,
+            cas: self.last_cas,
+        })?;
+        Ok(())
     }
 
     fn put(
@@ -125,53 +179,15 @@ impl ListCache {
         put: &Put,
         condition: Condition,
     ) -> Result<Vec<u8>, AllocError> {
-        let key = put.key.as_slice();
-        let value = put.value.as_slice();
-        let bytes = key.len().saturating_add(value.len()).saturating_add(24);
-        let words = if bytes % 8 == 0 {
-            bytes / 8
-        } else {
-            bytes / 8 + 1
-        };
-        if words > self.item_limit / 8 || key.is_empty() || key.len() > 250 {
-            return text_line(alloc, "SERVER_ERROR object too large for cache");
+        if let Some(refusal) = self.refusal(put, condition) {
+            return text_line(alloc, refusal);
         }
-        let place = self.place(&put.key);
-        let there = match place {
-            Some(i) => Some(self.entries[i].cas),
-            None => None,
-        };
-        match (condition, there) {
-            (Condition::Missing, Some(_)) | (Condition::There, None) => {
-                return text_line(alloc, "NOT_STORED");
-            }
-            (Condition::SameCas(_), None) => return text_line(alloc, "NOT_FOUND"),
-            (Condition::SameCas(asked), Some(cas)) if asked != cas => {
-                return text_line(alloc, "EXISTS");
-            }
-            _ => {}
-        }
-        let deadline = if put.exptime < 0 {
-            0
-        } else if put.exptime == 0 {
-            u64::MAX
-        } else if put.exptime <= 60 * 60 * 24 * 30 {
-            now.saturating_add(put.exptime.unsigned_abs())
-        } else {
-            put.exptime.unsigned_abs()
-        };
-        if let Some(i) = place {
+        if let Some(i) = self.place(&put.key) {
             self.entries.remove(i);
         }
+        let deadline = deadline_of(now, put.exptime);
         if deadline > now {
-            self.last_cas = self.last_cas.saturating_add(1);
-            self.entries.push(ListEntry {
-                key: Vec::from_slice(alloc, key)?,
-                value: Vec::from_slice(alloc, value)?,
-                flags: put.flags,
-                deadline,
-                cas: self.last_cas,
-            })?;
+            self.push(alloc, put, deadline)?;
         }
         text_line(alloc, "STORED")
     }
@@ -206,6 +222,19 @@ impl ListCache {
         entry.value = Vec::from_slice(alloc, text.as_bytes())?;
         entry.cas = self.last_cas;
         text_line(alloc, text)
+    }
+}
+
+/// When an entry is over that is put now.
+fn deadline_of(now: u64, exptime: i64) -> u64 {
+    if exptime < 0 {
+        0
+    } else if exptime == 0 {
+        u64::MAX
+    } else if exptime <= 60 * 60 * 24 * 30 {
+        now.saturating_add(exptime.unsigned_abs())
+    } else {
+        exptime.unsigned_abs()
     }
 }
 

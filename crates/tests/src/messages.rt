@@ -3,8 +3,10 @@
 ghost use Rattle.std.specs.Prelude.{◌≡◌, is_some};
 ghost use Rattle.proto.specs.Answers.{is_ask};
 
+use crate::player::push_hit;
+use crate::same::check_same;
 use proto::{
-    HitRef, HitWriter, Hits, Keys, Message, Next, NextView, NoMemory, Reply, Request, SpareBuffer,
+    HitWriter, Hits, Keys, Message, Next, NextView, NoMemory, Put, Reply, Request, SpareBuffer,
     next_message, next_view, show,
 };
 use std::alloc::{AllocError, Global};
@@ -129,16 +131,8 @@ enum Given {
 
 /// The one hit that a `get` of `a` shows.
 fn hit(alloc: Global) -> Result<Hits, NoMemory> {
-    let hit = HitRef {
-        key: b"a",
-        flags: 0,
-        value: b"x",
-        cas: u64::MAX,
-    };
-    let room = hit.room().ok_or(NoMemory)?;
     let mut hits = HitWriter::in_buffer(SpareBuffer::new(alloc));
-    hits.reserve(room)?;
-    hits.push(hit);
+    push_hit(&mut hits, "x", u64::MAX)?;
     Ok(hits.finish())
 }
 
@@ -161,13 +155,13 @@ fn reply_of(alloc: Global, given: Given) -> Result<Reply, NoMemory> {
 }
 
 /// The message that the whole input spells.
-fn whole(rt: &impl Abort, alloc: Global, input: &[u8]) -> Result<Option<Message>, Fail> {
+fn whole(rt: &impl Abort, alloc: Global, input: &[u8]) -> Result<Message, Fail> {
     match next_message(alloc, input)? {
         Next::Found(message, n) => {
-            assert_eq!(rt; n, input.len(), "the length at {input:?}");
-            Ok(Some(message))
+            check_same(rt, n, input.len(), input);
+            Ok(message)
         }
-        Next::More => Ok(None),
+        Next::More => Err(Fail::from("a message")),
     }
 }
 
@@ -180,11 +174,6 @@ fn shown(alloc: Global, message: &Message, reply: Option<&Reply>) -> Result<Vec<
     Ok(out)
 }
 
-/// The input is read, or answered, as these bytes.
-fn check_bytes(rt: &impl Abort, given: &[u8], wanted: &[u8], input: &[u8]) {
-    assert_eq!(rt; given, wanted, "at {input:?}");
-}
-
 /// The answer to a request that is given this reply.
 fn request_answer(alloc: Global, message: &Message, reply: &Reply) -> Result<Vec<u8>, Fail> {
     match message {
@@ -193,15 +182,28 @@ fn request_answer(alloc: Global, message: &Message, reply: &Reply) -> Result<Vec
     }
 }
 
+/// A request that is given this reply is answered so.
+fn check_reply(
+    rt: &impl Abort,
+    alloc: Global,
+    message: &Message,
+    given: Given,
+    wanted: &[u8],
+) -> Result<(), Fail> {
+    let reply = reply_of(alloc, given)?;
+    let out = request_answer(alloc, message, &reply);
+    drop(reply);
+    check_same(rt, out?.as_slice(), wanted, "a request");
+    Ok(())
+}
+
 fn check_request(rt: &impl Abort, alloc: Global, row: &(&[u8], Given, &[u8])) -> Result<(), Fail> {
     let (input, given, answer) = row;
-    let reply = reply_of(alloc, *given)?;
-    let message = whole(rt, alloc, input)?.ok_or("a message")?;
-    let out = request_answer(alloc, &message, &reply);
+    check_spelling(rt, alloc, input)?;
+    let message = whole(rt, alloc, input)?;
+    let checked = check_reply(rt, alloc, &message, *given, answer);
     drop(message);
-    drop(reply);
-    check_bytes(rt, out?.as_slice(), answer, input);
-    begins_with_nothing(rt, alloc, input)
+    checked
 }
 
 fn check_requests(
@@ -221,21 +223,34 @@ fn requests_are_read_and_answered(rt: HostRuntime) -> Result<(), Fail> {
 }
 
 /// The answer to a message that isn't a request.
-fn local_answer(alloc: Global, message: Message) -> Result<Vec<u8>, Fail> {
-    let out = match &message {
+fn local_answer(alloc: Global, message: &Message) -> Result<Vec<u8>, Fail> {
+    match message {
         Message::Ask(..) => Err(Fail::from("no request")),
-        Message::Wrong(_) | Message::Fatal(_) | Message::Quit => shown(alloc, &message, None),
-    };
-    drop(message);
-    out
+        Message::Wrong(_) | Message::Fatal(_) | Message::Quit => shown(alloc, message, None),
+    }
+}
+
+/// The message that isn't a request is answered so.
+fn check_local(
+    rt: &impl Abort,
+    alloc: Global,
+    message: &Message,
+    wanted: &[u8],
+) -> Result<(), Fail> {
+    let out = local_answer(alloc, message)?;
+    check_same(rt, out.as_slice(), wanted, "no request");
+    Ok(())
+}
+
+fn check_fault(rt: &impl Abort, alloc: Global, input: &[u8], answer: &[u8]) -> Result<(), Fail> {
+    check_spelling(rt, alloc, input)?;
+    let message = whole(rt, alloc, input)?;
+    check_local(rt, alloc, &message, answer)
 }
 
 fn check_faults(rt: &impl Abort, alloc: Global, rows: &[(&[u8], &[u8])]) -> Result<(), Fail> {
     for (input, answer) in rows {
-        let message = whole(rt, alloc, input)?.ok_or("a message")?;
-        let out = local_answer(alloc, message)?;
-        check_bytes(rt, out.as_slice(), answer, input);
-        begins_with_nothing(rt, alloc, input)?;
+        check_fault(rt, alloc, input, answer)?;
     }
     Ok(())
 }
@@ -245,12 +260,31 @@ fn faults_are_answered(rt: HostRuntime) -> Result<(), Fail> {
     check_faults(&rt, rt.alloc(), &FAULTS)
 }
 
-/// No shorter beginning of the input spells anything.
-fn begins_with_nothing(rt: &impl Abort, alloc: Global, input: &[u8]) -> Result<(), Fail> {
-    for n in 0..input.len() {
-        let begun = next_message(alloc, &input[..n])?;
-        assert!(rt; matches!(begun, Next::More), "{n} bytes of {input:?}");
+/// How long the message is that stands at the beginning of the input.
+fn message_length(alloc: Global, input: &[u8]) -> Result<Option<usize>, NoMemory> {
+    match next_message(alloc, input)? {
+        Next::Found(_, n) => Ok(Some(n)),
+        Next::More => Ok(None),
     }
+}
+
+/// The shortest beginning that spells a message, and how long that message is.
+fn first_spelled(alloc: Global, input: &[u8]) -> Result<Option<(usize, usize)>, NoMemory> {
+    for n in 0..input.len() {
+        if let Some(length) = message_length(alloc, &input[..n])? {
+            return Ok(Some((n, length)));
+        }
+    }
+    match message_length(alloc, input)? {
+        Some(length) => Ok(Some((input.len(), length))),
+        None => Ok(None),
+    }
+}
+
+/// The input spells a message, and no shorter beginning of it spells anything.
+fn check_spelling(rt: &impl Abort, alloc: Global, input: &[u8]) -> Result<(), Fail> {
+    let spelled = first_spelled(alloc, input)?;
+    check_same(rt, spelled, Some((input.len(), input.len())), input);
     Ok(())
 }
 
@@ -304,18 +338,15 @@ const SPELLINGS: [(&str, u8, usize, &str); 46] = [
     ("replace a 0 0 1\r\n", b'x', 1, "\r\n"),
 ];
 
-/// Each input spells a message, and no shorter beginning of it spells anything.
 fn check_spellings(
     rt: &impl Abort,
     alloc: Global,
     rows: &[(&str, u8, usize, &str)],
 ) -> Result<(), Fail> {
-    for (before, byte, times, behind) in rows {
-        let input = spelling(alloc, before, *byte, *times, behind)?;
-        let message = whole(rt, alloc, input.as_slice())?;
-        assert!(rt; message.is_some(), "at {before:?}");
-        drop(message);
-        begins_with_nothing(rt, alloc, input.as_slice())?;
+    for row in rows {
+        let mut input = Vec::new(alloc);
+        spell(&mut input, row)?;
+        check_spelling(rt, alloc, input.as_slice())?;
     }
     Ok(())
 }
@@ -326,25 +357,22 @@ fn no_shorter_beginning_spells(rt: HostRuntime) -> Result<(), Fail> {
 }
 
 /// Some text, a byte so many times, and further text.
-fn spelling(
-    alloc: Global,
-    before: &str,
-    byte: u8,
-    times: usize,
-    behind: &str,
-) -> Result<Vec<u8>, AllocError> {
-    let mut all = Vec::from_slice(alloc, before.as_bytes())?;
-    let middle = vec![in alloc; byte; times]?;
-    all.extend_from_slice(middle.as_slice())?;
-    all.extend_from_slice(behind.as_bytes())?;
-    Ok(all)
+fn spell(input: &mut Vec<u8>, row: &(&str, u8, usize, &str)) -> Result<(), AllocError> {
+    let (before, byte, times, behind) = row;
+    input.extend_from_slice(before.as_bytes())?;
+    for _ in 0..*times {
+        input.push(*byte)?;
+    }
+    input.extend_from_slice(behind.as_bytes())
 }
 
-/// As many letters `a`, and then these bytes.
-fn letters(alloc: Global, count: usize, behind: &[u8]) -> Result<Vec<u8>, AllocError> {
-    let mut line = vec![in alloc; b'a'; count]?;
-    line.extend_from_slice(behind)?;
-    Ok(line)
+/// The input's first 2,048 bytes are a line that is answered so.
+fn check_long(rt: &impl Abort, alloc: Global, input: &[u8], answer: &[u8]) -> Result<(), Fail> {
+    let Next::Found(message, n) = next_message(alloc, input)? else {
+        return Err(Fail::from("a message"));
+    };
+    check_same(rt, n, 2048, input);
+    check_local(rt, alloc, &message, answer)
 }
 
 /// What a line of so many letters with these bytes behind it is answered; 2,048 bytes are read of it.
@@ -352,87 +380,102 @@ fn check_long_line(
     rt: &impl Abort,
     alloc: Global,
     count: usize,
-    behind: &[u8],
+    behind: &str,
     answer: &[u8],
 ) -> Result<(), Fail> {
-    let input = letters(alloc, count, behind)?;
-    let Next::Found(message, n) = next_message(alloc, input.as_slice())? else {
-        return Err(Fail::from("a message"));
-    };
-    assert_eq!(rt; n, 2048, "{count} letters");
-    let out = local_answer(alloc, message)?;
-    check_bytes(rt, out.as_slice(), answer, input.as_slice());
-    Ok(())
+    let mut input = Vec::new(alloc);
+    spell(&mut input, &("", b'a', count, behind))?;
+    check_long(rt, alloc, input.as_slice(), answer)
 }
 
 #[test]
 fn lines_end_within_2048_bytes(rt: HostRuntime) -> Result<(), Fail> {
     let alloc = rt.alloc();
     let too_long = b"CLIENT_ERROR line too long\r\n";
-    check_long_line(&rt, alloc, 2046, b"\r\nget a\r\n", b"ERROR\r\n")?;
-    check_long_line(&rt, alloc, 2047, b"\r\n", too_long)?;
-    check_long_line(&rt, alloc, 2048, b"", too_long)
+    check_long_line(&rt, alloc, 2046, "\r\nget a\r\n", b"ERROR\r\n")?;
+    check_long_line(&rt, alloc, 2047, "\r\n", too_long)?;
+    check_long_line(&rt, alloc, 2048, "", too_long)
 }
 
-fn check_need(rt: &impl Abort, input: &[u8], most: usize) {
+/// How many bytes are needed, where the input spells no message.
+fn need_of(input: &[u8]) -> Option<usize> {
     match next_view(input) {
-        NextView::Found(..) => assert!(rt; false, "a message at {input:?}"),
-        NextView::More(need) => assert_eq!(rt; need, most, "at {input:?}"),
+        NextView::Found(..) => None,
+        NextView::More(need) => Some(need),
+    }
+}
+
+/// Inputs that are a beginning, and how many bytes are needed.
+const NEEDS: [(&[u8], usize); 6] = [
+    (b"", 1),
+    (b"get a", 6),
+    (b"set a 0 0 1\r", 13),
+    (b"set a 0 0 1\r\n", 16),
+    (b"set a 0 0 1\r\nx\r", 16),
+    (b"set a 0 0 100000\r\n", 100_020),
+];
+
+fn check_needs(rt: &impl Abort, rows: &[(&[u8], usize)]) {
+    for (input, need) in rows {
+        check_same(rt, need_of(input), Some(*need), *input);
     }
 }
 
 #[test]
 fn a_storage_line_says_how_much_is_needed(rt: HostRuntime) {
-    check_need(&rt, b"", 1);
-    check_need(&rt, b"get a", 6);
-    check_need(&rt, b"set a 0 0 1\r", 13);
-    check_need(&rt, b"set a 0 0 1\r\n", 16);
-    check_need(&rt, b"set a 0 0 1\r\nx\r", 16);
-    check_need(&rt, b"set a 0 0 100000\r\n", 100_020);
+    check_needs(&rt, &NEEDS);
 }
 
-fn check_cas(rt: &impl Abort, alloc: Global, request: Request) -> Result<(), Fail> {
-    let Request::Cas(put, unique) = request else {
-        return Err(Fail::from("a cas"));
-    };
-    assert_eq!(rt; (put.flags, put.exptime, unique), (7, -5, u64::MAX));
-    check_bytes(rt, put.key.as_slice(), b"key", b"cas");
-    check_bytes(rt, put.value.as_slice(), b"a\r\n", b"cas");
+fn check_cas(rt: &impl Abort, alloc: Global, put: &Put, unique: u64) -> Result<(), Fail> {
+    check_same(
+        rt,
+        (put.flags, put.exptime, unique),
+        (7, -5, u64::MAX),
+        "cas",
+    );
+    check_same(rt, put.key.as_slice(), b"key", "its key");
+    check_same(rt, put.value.as_slice(), b"a\r\n", "its value");
     let copy = put.key.try_clone(alloc)?.into_vec();
-    check_bytes(rt, copy.as_slice(), b"key", b"cas");
+    check_same(rt, copy.as_slice(), b"key", "a copy of its key");
     Ok(())
 }
 
 #[test]
 fn a_cas_is_read_whole(rt: HostRuntime) -> Result<(), Fail> {
     let input = b"cas key 7 -5 3 18446744073709551615\r\na\r\n\r\n";
-    match whole(&rt, rt.alloc(), input)? {
-        Some(Message::Ask(request, false)) => check_cas(&rt, rt.alloc(), request),
-        _ => Err(Fail::from("a request that isn't quiet")),
+    let message = whole(&rt, rt.alloc(), input)?;
+    match &message {
+        Message::Ask(Request::Cas(put, unique), false) => check_cas(&rt, rt.alloc(), put, *unique),
+        _ => Err(Fail::from("a cas that isn't quiet")),
     }
 }
 
-fn check_gets(rt: &impl Abort, alloc: Global, request: Request) -> Result<(), Fail> {
-    let Request::Get { keys, with_cas } = request else {
-        return Err(Fail::from("a gets"));
-    };
-    assert!(rt; with_cas);
-    let mut copy = Keys::new(alloc);
-    copy.push(b"a")?;
-    copy.push(b"noreply")?;
-    let (mut given, mut wanted) = (keys.iter(), copy.iter());
-    for _ in 0..3 {
-        assert_eq!(rt; given.next(), wanted.next());
+/// The keys `a` and `noreply`.
+fn push_keys(keys: &mut Keys) -> Result<(), NoMemory> {
+    keys.push(b"a")?;
+    keys.push(b"noreply")
+}
+
+fn check_keys(rt: &impl Abort, keys: &Keys, wanted: &Keys) {
+    let (mut given, mut copy) = (keys.iter(), wanted.iter());
+    for place in 0..3u64 {
+        check_same(rt, given.next(), copy.next(), place);
     }
-    assert!(rt; given.is_empty() && wanted.is_empty() && !copy.is_empty());
-    assert_eq!(rt; keys.len(), 2);
-    Ok(())
+    assert!(rt; given.is_empty() && copy.is_empty() && !wanted.is_empty());
+    check_same(rt, keys.len(), 2, "keys");
 }
 
 #[test]
 fn noreply_is_a_key_of_gets(rt: HostRuntime) -> Result<(), Fail> {
-    match whole(&rt, rt.alloc(), b"gets a noreply\r\n")? {
-        Some(Message::Ask(request, false)) => check_gets(&rt, rt.alloc(), request),
-        _ => Err(Fail::from("a request that isn't quiet")),
+    let mut wanted = Keys::new(rt.alloc());
+    push_keys(&mut wanted)?;
+    let message = whole(&rt, rt.alloc(), b"gets a noreply\r\n")?;
+    match &message {
+        Message::Ask(Request::Get { keys, with_cas }, false) => {
+            assert!(rt; *with_cas);
+            check_keys(&rt, keys, &wanted);
+            Ok(())
+        }
+        _ => Err(Fail::from("a gets that isn't quiet")),
     }
 }

@@ -55,9 +55,9 @@ impl Player {
         if place >= self.asked.len() {
             return Ok(None);
         }
-        let posted = self.asked.remove(place);
-        let reply = reply_to(self.alloc, &posted.request, self.found)?;
-        Ok(Some(self.book.settle(&answered(posted, reply))))
+        let reply = reply_to(self.alloc, &self.asked[place].request, self.found)?;
+        let answered = answered(self.asked.remove(place), reply);
+        Ok(Some(self.book.settle(&answered)))
     }
 
     pub fn has_output(&self, session: u64, output: &str) -> bool {
@@ -97,6 +97,19 @@ fn answered(posted: Posted, reply: Reply) -> Answered {
     }
 }
 
+/// Pushes the hit of `a` with this value.
+pub fn push_hit(hits: &mut HitWriter, value: &str, cas: u64) -> Result<(), NoMemory> {
+    let hit = HitRef {
+        key: b"a",
+        flags: 0,
+        value: value.as_bytes(),
+        cas,
+    };
+    hits.reserve(hit.room().ok_or(NoMemory)?)?;
+    hits.push(hit);
+    Ok(())
+}
+
 /// What a store replies in which `a` has this value: Stored to a write.
 fn reply_to(alloc: Global, request: &Request, found: Option<&str>) -> Result<Reply, NoMemory> {
     if !matches!(request, Request::Get { .. }) {
@@ -104,14 +117,7 @@ fn reply_to(alloc: Global, request: &Request, found: Option<&str>) -> Result<Rep
     }
     let mut hits = HitWriter::in_buffer(SpareBuffer::new(alloc));
     if let Some(value) = found {
-        let hit = HitRef {
-            key: b"a",
-            flags: 0,
-            value: value.as_bytes(),
-            cas: 1,
-        };
-        hits.reserve(hit.room().ok_or(NoMemory)?)?;
-        hits.push(hit);
+        push_hit(&mut hits, value, 1)?;
     }
     Ok(Reply::Values(hits.finish()))
 }

@@ -1,9 +1,11 @@
 //! Random requests, which the store is to answer as the list does.
 
 use crate::list_cache::ListCache;
+use crate::same::check_same;
 use engine::{PlainStore, StorageEngine};
 use proto::{ByteString, Geometry, Keys, Message, NoMemory, Put, Request, Words, show};
 use std::alloc::{AllocError, Global};
+use std::process::Abort;
 use std::test::Fail;
 
 /// A xorshift generator.
@@ -71,12 +73,31 @@ fn random_put(alloc: Global, random: &mut Random, now: u64) -> Result<Put, Alloc
     })
 }
 
-fn random_keys(alloc: Global, random: &mut Random) -> Result<Keys, NoMemory> {
-    let mut line = Vec::from_slice(alloc, b"get")?;
+fn push_random_key(
+    alloc: Global,
+    random: &mut Random,
+    line: &mut Vec<u8>,
+) -> Result<(), AllocError> {
+    let key = random_key(alloc, random)?;
+    line.push(b' ')?;
+    line.extend_from_slice(key.as_slice())
+}
+
+fn push_random_line(
+    alloc: Global,
+    random: &mut Random,
+    line: &mut Vec<u8>,
+) -> Result<(), AllocError> {
+    line.extend_from_slice(b"get")?;
     for _ in 0..random.below(4) {
-        line.push(b' ')?;
-        line.extend_from_slice(random_key(alloc, random)?.as_slice())?;
+        push_random_key(alloc, random, line)?;
     }
+    Ok(())
+}
+
+fn random_keys(alloc: Global, random: &mut Random) -> Result<Keys, NoMemory> {
+    let mut line = Vec::new(alloc);
+    push_random_line(alloc, random, &mut line)?;
     let mut words = Words::new(line.as_slice());
     let _ = words.next();
     Keys::from_words(alloc, words)
@@ -91,40 +112,114 @@ fn random_amount(random: &mut Random) -> u64 {
     }
 }
 
+fn random_get(alloc: Global, random: &mut Random) -> Result<Request, NoMemory> {
+    let keys = random_keys(alloc, random)?;
+    let with_cas = random.below(2) == 0;
+    Ok(Request::Get { keys, with_cas })
+}
+
+fn random_write(
+    alloc: Global,
+    random: &mut Random,
+    now: u64,
+    list: &ListCache,
+    pick: u64,
+) -> Result<Request, NoMemory> {
+    let put = random_put(alloc, random, now)?;
+    Ok(match pick {
+        5..=7 => Request::Set(put),
+        8..=9 => Request::Add(put),
+        10..=11 => Request::Replace(put),
+        _ => {
+            let cas = list.cas_at(&put.key).saturating_add(random.below(3) / 2);
+            Request::Cas(put, cas)
+        }
+    })
+}
+
+fn random_change(alloc: Global, random: &mut Random, pick: u64) -> Result<Request, NoMemory> {
+    let key = random_key(alloc, random)?;
+    if pick == 14 {
+        return Ok(Request::Delete { key });
+    }
+    let amount = random_amount(random);
+    if pick <= 16 {
+        Ok(Request::Incr { key, amount })
+    } else {
+        Ok(Request::Decr { key, amount })
+    }
+}
+
 fn random_request(
     alloc: Global,
     random: &mut Random,
     now: u64,
     list: &ListCache,
 ) -> Result<Request, NoMemory> {
-    Ok(match random.below(20) {
-        0..=4 => Request::Get {
-            keys: random_keys(alloc, random)?,
-            with_cas: random.below(2) == 0,
-        },
-        5..=7 => Request::Set(random_put(alloc, random, now)?),
-        8..=9 => Request::Add(random_put(alloc, random, now)?),
-        10..=11 => Request::Replace(random_put(alloc, random, now)?),
-        12..=13 => {
-            let put = random_put(alloc, random, now)?;
-            let cas = list.cas_at(&put.key).saturating_add(random.below(3) / 2);
-            Request::Cas(put, cas)
-        }
-        14 => Request::Delete {
-            key: random_key(alloc, random)?,
-        },
-        15..=16 => Request::Incr {
-            key: random_key(alloc, random)?,
-            amount: random_amount(random),
-        },
-        17..=18 => Request::Decr {
-            key: random_key(alloc, random)?,
-            amount: random_amount(random),
-        },
-        _ => Request::FlushAll {
+    match random.below(20) {
+        0..=4 => random_get(alloc, random),
+        pick @ 5..=13 => random_write(alloc, random, now, list, pick),
+        pick @ 14..=18 => random_change(alloc, random, pick),
+        _ => Ok(Request::FlushAll {
             delay: random.below(4),
-        },
-    })
+        }),
+    }
+}
+
+/// The store's answer.
+fn answer_of(
+    rt: &impl Abort,
+    alloc: Global,
+    store: &mut PlainStore,
+    now: u64,
+    mut request: Request,
+) -> Result<Vec<u8>, Fail> {
+    assert!(rt; store.last_moment() <= now && now < 3_000_000);
+    let reply = store.handle(now, &mut request);
+    let mut given = Vec::new(alloc);
+    show(&Message::Ask(request, false), Some(&reply), &mut given)?;
+    Ok(given)
+}
+
+/// The store answers a random request as the list does, and says whether a value is shown.
+fn check_turn(
+    rt: &impl Abort,
+    alloc: Global,
+    random: &mut Random,
+    store: &mut PlainStore,
+    list: &mut ListCache,
+    (turn, now): (u64, u64),
+) -> Result<bool, Fail> {
+    let request = random_request(alloc, random, now, list)?;
+    let wanted = list.answer(alloc, now, &request)?;
+    let given = answer_of(rt, alloc, store, now, request)?;
+    check_same(rt, given.as_slice(), wanted.as_slice(), turn);
+    check_same(
+        rt,
+        (store.last_moment(), store.pending()),
+        (now, list.pending),
+        turn,
+    );
+    Ok(wanted.starts_with(b"VALUE"))
+}
+
+fn check_turns(
+    rt: &impl Abort,
+    alloc: Global,
+    random: &mut Random,
+    store: &mut PlainStore,
+    list: &mut ListCache,
+) -> Result<(), Fail> {
+    let mut now = 2_591_995;
+    let mut shown = 0u32;
+    for turn in 0..5000 {
+        if check_turn(rt, alloc, random, store, list, (turn, now))? {
+            shown = shown.saturating_add(1);
+        }
+        now = now.saturating_add(random.below(6) / 4);
+    }
+    assert!(rt; shown > 200, "only {shown} answers show a value");
+    Ok(())
 }
 
 /// Some thousand requests, most of them at moments from the one on at which an absolute deadline begins.
@@ -133,29 +228,7 @@ fn as_a_list(rt: HostRuntime) -> Result<(), Fail> {
     let alloc = rt.alloc();
     let geometry = Geometry::new(4096, 8)?;
     let mut random = Random(2_463_534_242);
-    let mut now = 2_591_995;
     let mut store = PlainStore::new(alloc, geometry)?;
     let mut list = ListCache::new(alloc, 512);
-    let mut shown = 0u32;
-    for turn in 0..5000 {
-        let mut request = random_request(alloc, &mut random, now, &list)?;
-        let wanted = list.answer(alloc, now, &request)?;
-        assert!(rt; store.last_moment() <= now && now < 3_000_000);
-        let reply = store.handle(now, &mut request);
-        let mut given = Vec::new(alloc);
-        show(&Message::Ask(request, false), Some(&reply), &mut given)?;
-        assert_eq!(rt;
-            given.as_slice(),
-            wanted.as_slice(),
-            "at the request {turn}"
-        );
-        assert_eq!(rt; store.last_moment(), now);
-        assert_eq!(rt; store.pending(), list.pending);
-        if wanted.starts_with(b"VALUE") {
-            shown = shown.saturating_add(1);
-        }
-        now = now.saturating_add(random.below(6) / 4);
-    }
-    assert!(rt; shown > 200, "only {shown} answers show a value");
-    Ok(())
+    check_turns(&rt, alloc, &mut random, &mut store, &mut list)
 }

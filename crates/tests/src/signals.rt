@@ -1,7 +1,9 @@
 //! Tests of the hints that workers leave for the storage thread.
 
+use crate::same::check_same;
 use exchange::StorageSignals;
 use std::hash::{FoldHasher, Hasher};
+use std::process::Abort;
 use std::test::Fail;
 
 fn hash_of(key: &[u8]) -> u64 {
@@ -18,23 +20,34 @@ fn key(worker: usize, number: u64) -> [u8; 8] {
         .to_le_bytes()
 }
 
+fn leave(signals: &StorageSignals, worker: usize, number: u64) {
+    let key = key(worker, number);
+    signals.leave_hint(worker, number, &key);
+}
+
+fn check_hint(rt: &impl Abort, signals: &StorageSignals, worker: usize, number: u64) {
+    let key = key(worker, number);
+    let hash = hash_of(&key);
+    check_same(rt, signals.hint(worker, number), hash, (worker, number));
+}
+
+fn check_hints(rt: &impl Abort, signals: &StorageSignals) {
+    for place in 0..512u64 {
+        leave(signals, (place / 64) as usize, place % 64);
+    }
+    for place in 0..512u64 {
+        check_hint(rt, signals, (place / 64) as usize, place % 64);
+    }
+    leave(signals, 3, 64);
+    check_hint(rt, signals, 3, 64);
+    check_hint(rt, signals, 3, 1);
+}
+
 #[test]
 fn each_message_has_a_hint(rt: HostRuntime) -> Result<(), Fail> {
     let signals = StorageSignals::new(rt.alloc(), FoldHasher::default(), 2)?;
     assert!(rt; signals.has_hints());
-    for worker in 0..8 {
-        for number in 0..64 {
-            signals.leave_hint(worker, number, &key(worker, number));
-        }
-    }
-    for worker in 0..8 {
-        for number in 0..64 {
-            assert_eq!(rt; signals.hint(worker, number), hash_of(&key(worker, number)));
-        }
-    }
-    signals.leave_hint(3, 64, &key(3, 64));
-    assert_eq!(rt; signals.hint(3, 64), hash_of(&key(3, 64)));
-    assert_eq!(rt; signals.hint(3, 1), hash_of(&key(3, 1)));
+    check_hints(&rt, &signals);
     Ok(())
 }
 
@@ -43,6 +56,6 @@ fn a_single_worker_leaves_none(rt: HostRuntime) -> Result<(), Fail> {
     let signals = StorageSignals::new(rt.alloc(), FoldHasher::default(), 1)?;
     assert!(rt; !signals.has_hints());
     signals.leave_hint(0, 0, b"alpha");
-    assert_eq!(rt; signals.hint(0, 0), 0);
+    check_same(&rt, signals.hint(0, 0), 0, "the hint");
     Ok(())
 }

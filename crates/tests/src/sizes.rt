@@ -1,29 +1,41 @@
 //! The sizes of a cache at their limits.
 
+use crate::same::check_same;
 use proto::Geometry;
 use std::process::Abort;
 use std::test::Fail;
 
-fn check_sizes(rt: &impl Abort, sizes: &[(u32, u32)], good: bool) {
-    for (size, segments) in sizes {
-        let made = Geometry::new(*size, *segments);
-        assert_eq!(rt; made.is_ok(), good, "{size} by {segments}");
+/// The size of a segment, how many there are, and whether that is within the limits.
+const SIZES: [(u32, u32, bool); 10] = [
+    (4096, 8, true),
+    (1_048_576, 65_536, true),
+    (65_536, 64, true),
+    (4095, 8, false),
+    (2048, 8, false),
+    (4096, 7, false),
+    (0, 0, false),
+    (2_097_152, 8, false),
+    (65_536, 65_537, false),
+    (12_288, 8, false),
+];
+
+fn check_sizes(rt: &impl Abort, rows: &[(u32, u32, bool)]) {
+    for (size, segments, is_good) in rows {
+        let is_made = Geometry::new(*size, *segments).is_ok();
+        check_same(rt, is_made, *is_good, (*size, *segments));
     }
 }
 
 #[test]
 fn sizes_are_within_their_limits(rt: HostRuntime) -> Result<(), Fail> {
-    check_sizes(&rt, &[(4096, 8), (1_048_576, 65_536), (65_536, 64)], true);
-    check_sizes(&rt, &[(4095, 8), (2048, 8), (4096, 7), (0, 0)], false);
-    check_sizes(&rt, &[(2_097_152, 8), (65_536, 65_537), (12_288, 8)], false);
+    check_sizes(&rt, &SIZES);
     let geometry = Geometry::new(4096, 9)?;
-    assert_eq!(rt;
-        (
-            geometry.segment_size(),
-            geometry.segments(),
-            geometry.item_limit()
-        ),
-        (4096, 9, 512)
+    let sizes = (geometry.segment_size(), geometry.segments());
+    check_same(
+        &rt,
+        (sizes, geometry.item_limit()),
+        ((4096, 9), 512),
+        "4096 by 9",
     );
     Ok(())
 }

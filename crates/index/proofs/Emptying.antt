@@ -11,7 +11,7 @@ use Rattle.std.specs.declared.hash.FoldHasher.{FoldHasher}
 use Rattle.index.specs.Keys.{KeysOf, hash_of}
 use Rattle.index.proofs.Homes.{home_below}
 use Rattle.index.specs.Slots.{is_used, place_of, slot_at, used_in, empty_slot, distance, behind, AreUsedUpTo}
-use Rattle.index.specs.Table.{hashing, Hashing, AreIndexed}
+use Rattle.index.specs.Table.{hashing, Hashing, AreIndexed, IsSlotFound}
 use Rattle.index.specs.Closing.{IsWithout}
 use Rattle.index.proofs.Rounds.{distance_once, distance_itself, distance_below, distance_behind, behind_below, distance_add, distance_sum, distance_within}
 use Rattle.index.proofs.Rounds.{distance_apart}
@@ -19,7 +19,7 @@ use Rattle.index.proofs.Finding.{some_gap}
 use Rattle.index.proofs.Mapping.{Stands, removed_places, stands_once}
 
 -- true isn't false
-true_false : true ≡ false → ⊥
+pub true_false : true ≡ false → ⊥
 true_false e = cc
 
 -- a place that is found, but for the hole on its way, where it stands at or behind the slot that is looked at next
@@ -67,6 +67,23 @@ emptied_here slots at r = ap is_used (get_or-set_same slots at empty_slot empty_
 pub emptied_others : (slots : List Slot) (at x : ℕ) → x ≢ at
     → slot_at (slice_set slots at empty_slot) x ≡ slot_at slots x
 emptied_others slots at x differ = get_or-set_other slots at x empty_slot empty_slot differ
+
+-- a place that is found but for the hole is found where the hole is still used
+pub nearly : (h : Hashing) (keys : KeysOf) (row : List Slot) (hole next : ℕ) (key : List ℕ) → next < length row
+    → next ≢ hole → is_used (slot_at row hole) ≡ true
+    → IsNearlyFound h keys (length row) (slice_set row hole empty_slot) hole next next key
+    → IsSlotFound h keys row next key
+nearly h keys row hole next key r ahead used f =
+    let same = emptied_others row hole next ahead in
+    record {
+      of_key = ap (λ (s : Slot). keys (place_of s)) (sym same) ∙ f.of_key;
+      tag = ap (λ (s : Slot). s.tag) (sym same) ∙ f.tag;
+      up_to = λ x x_in lt.
+          elim (eqb_tells x hole) [
+            | inl y ↦ subst (λ (i : ℕ). is_used (slot_at row i) ≡ true) (sym y.1) used
+            | inr y ↦ ap is_used (sym (emptied_others row hole x y.1)) ∙ f.up_to x x_in y.1 lt
+          ];
+    }
 
 -- a used slot and an empty one aren't the same slot
 not_at : (slots : List Slot) (i at : ℕ) → is_used (slot_at slots i) ≡ true → is_used (slot_at slots at) ≡ false → i ≢ at

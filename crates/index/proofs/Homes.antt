@@ -1,8 +1,8 @@
 -- The homes of hashes where the row has one slot more.
 use Rattle.std.proofs.Common.{◌≡◌, ◌⊎◌, ℕ, zero, suc, ◌+◌, ◌-◌, ◌*◌, ◌/◌, ◌%◌, ◌^◌, ◌<◌, ◌≤◌, refl, sym, ap, ◌∙◌, inl, inr, arith, subst}
 use Rattle.std.specs.Prelude.{bit_and}
-use Rattle.std.proofs.Math.Nat.{pow-le-pow_right, pow-succ'}
-use Rattle.std.proofs.lemmas.Nat.{pow_pos, mod-mul-add, mod_below, div-add-mod', and_mask}
+use Rattle.std.proofs.Math.Nat.{pow-le-pow_right, pow-succ', add-mul-mod_self_left}
+use Rattle.std.proofs.lemmas.Nat.{pow_pos, pow-add, mod-mul-add, mod_below, div-add-mod', and_mask}
 use Rattle.std.proofs.lemmas.Bool.Decides.{leb_tells}
 use Rattle.index.specs.Keys.{round_from, round, home_of, split_home}
 
@@ -178,4 +178,41 @@ home_grown n h some =
               | inr q ↦ inl (omega (arith, p, q))
             ]
           ]
+    ]
+
+-- a number modulo a multiple of another one, and modulo that one
+mod_down : (h m w : ℕ) → h % (2 * (m * w)) % m ≡ h % m
+mod_down h m w =
+    let rest = h % (2 * (m * w)) in
+    let whole = div-add-mod' h (2 * (m * w)) in
+    let is : rest + m * (2 * w * (h / (2 * (m * w)))) ≡ h = omega (arith, whole) in
+    sym (add-mul-mod_self_left rest m (2 * w * (h / (2 * (m * w))))) ∙ ap (λ n. n % m) is
+
+-- a home has the lowest bits of its hash, where there are slots enough
+pub low_home : (n h b : ℕ) → 2 ^ b ≤ n → home_of n h % 2 ^ b ≡ h % 2 ^ b
+low_home n h b enough =
+    let some = pow_pos b in
+    let is = round_is n (omega (arith, some, enough)) in
+    let k = is.exponent in
+    let twice = doubled (round n) k is.power in
+    let next = is.next in
+    let within = is.within in
+    let less : b ≤ k =
+    elim (leb_tells b k) [
+      | inl y ↦ y.1
+      | inr y ↦
+          let le : 2 ^ suc k ≤ 2 ^ b = pow-le-pow_right (omega arith) (let q = y.1 in omega (arith, q)) in
+          absurd (omega (arith, le, enough, next, twice))
+    ] in
+    let sum : b + (k - b) ≡ k = omega (arith, less) in
+    let w : ℕ = 2 ^ (k - b) in
+    let m : ℕ = 2 ^ b in
+    let r : round n ≡ m * w = is.power ∙ ap (λ i. 2 ^ i) (sym sum) ∙ pow-add 2 b (k - b) in
+    let down : h % (2 * round n) % m ≡ h % m = ap (λ i. h % (2 * i) % m) r ∙ mod_down h m w in
+    elim (home_cases n h) [
+      | inl y ↦ ap (λ i. i % m) y.1 ∙ down
+      | inr y ↦
+          let home : ℕ = home_of n h in
+          let full : home + m * w ≡ h % (2 * round n) = omega (arith, y, within, r) in
+          sym (add-mul-mod_self_left home m w) ∙ ap (λ i. i % m) full ∙ down
     ]

@@ -3,6 +3,7 @@ pub mod Words
 pub mod InLayout
 pub mod Rows
 pub mod Rounds
+pub mod Nearest
 pub mod Finding
 pub mod Mapping
 pub mod Placing

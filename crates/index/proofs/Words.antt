@@ -1,7 +1,7 @@
 -- Slots that are kept in one number, and places that go into it.
-use Rattle.std.proofs.Common.{◌≡◌, ℕ, ◌+◌, ◌-◌, ◌*◌, ◌/◌, ◌%◌, ◌^◌, ◌<◌, ◌≤◌, refl, sym, ap, ◌∙◌, inl, inr, arith, subst}
+use Rattle.std.proofs.Common.{◌≡◌, ℕ, ◌+◌, ◌-◌, ◌*◌, ◌/◌, ◌%◌, ◌^◌, ◌<◌, ◌≤◌, true, refl, sym, ap, ◌∙◌, inl, inr, arith, subst}
 use Rattle.std.specs.Prelude.{nat_le, bit_and}
-use Rattle.std.proofs.Math.Nat.{mod-eq_of_lt, pow-le-pow_right}
+use Rattle.std.proofs.Math.Nat.{mod-eq_of_lt, pow-le-pow_right, div-le_self, min-le_left, min-le_right}
 use Rattle.std.proofs.lemmas.Nat.{pow_pos, pow-add, one_shl, and_mask, div-mul-add, mod-mul-add, mod_below, shr_below, mul-le, div_below}
 use Rattle.std.proofs.lemmas.Bool.{cases_Bool}
 use Rattle.std.proofs.lemmas.Bool.Decides.{leb_tells, eqb_tells}
@@ -9,7 +9,7 @@ use Rattle.segments.specs.declared.place.Place.{Place}
 use Rattle.index.specs.declared.slot.Slot.{Slot}
 use Rattle.index.specs.declared.layout.Layout.{Layout}
 use Rattle.index.specs.Slots.{slot_with}
-use Rattle.index.specs.Layouts.{IsLayout, IsInLayout, CanHold, word_limit, tag_of, slot_of, word_of}
+use Rattle.index.specs.Layouts.{IsLayout, IsInLayout, CanHold, word_limit, tag_shift, tag_of, home_bits, low_in, slot_of, word_of}
 
 -- a number is below 2^64 whatever the layout
 pub limit_whole : (l : Layout) → word_limit l ≤ 2 ^ 64
@@ -74,6 +74,34 @@ full_row x r j m e lt =
     let g : x + 1 - 1 ≡ x = less_one x in
     rw g (omega (arith, h, f, e))
 
+-- so many of a hash's lowest bits go into the bits beside a place
+home_bits_narrow : (l : Layout) → nat_le l.place_bits 32 ≡ true → home_bits l ≤ 32 - l.place_bits
+home_bits_narrow l e =
+    let half = min-le_left ((32 - l.place_bits) / 2) 3 in
+    rw e (omega (arith, half))
+
+-- and they are few
+pub home_bits_few : (l : Layout) → home_bits l ≤ 3
+home_bits_few l =
+    elim (cases_Bool (nat_le l.place_bits 32)) [
+      | inl y ↦ rw y (min-le_right ((32 - l.place_bits) / 2) 3)
+      | inr y ↦ rw y (omega arith)
+    ]
+
+-- the upper bits of a hash and some of its lowest ones, together so many as there is room for
+mixed : (upper low shift b j : ℕ) → upper < 2 ^ 32 → shift + j ≡ 32 → b ≤ j → low < 2 ^ b
+    → upper / 2 ^ (shift + b) * 2 ^ b + low < 2 ^ j
+mixed upper low shift b j lt sum few less =
+    let rest : j - b + (shift + b) ≡ 32 = omega (arith, sum, few) in
+    let high : upper / 2 ^ (shift + b) < 2 ^ (j - b) =
+    shr_below upper (j - b) (shift + b) (subst (λ n. upper < 2 ^ n) (sym rest) lt) in
+    let all : j - b + b ≡ j = omega (arith, few) in
+    let whole : 2 ^ j ≡ 2 ^ (j - b) * 2 ^ b = ap (λ n. 2 ^ n) (sym all) ∙ pow-add 2 (j - b) b in
+    let h : (upper / 2 ^ (shift + b) + 1) * 2 ^ b ≤ 2 ^ (j - b) * 2 ^ b =
+    mul-le (upper / 2 ^ (shift + b) + 1) (2 ^ b) (2 ^ (j - b)) (2 ^ b) (omega (arith, high)) (omega arith) in
+    let f : (upper / 2 ^ (shift + b) + 1) * 2 ^ b ≡ upper / 2 ^ (shift + b) * 2 ^ b + 2 ^ b = omega arith in
+    omega (arith, h, f, whole, less)
+
 -- the tag of a hash goes into the bits beside a place
 pub tag_room : (l : Layout) (hash : ℕ) → IsLayout l → hash < 2 ^ 64
     → (tag_of l hash - 1) * 2 ^ l.place_bits + 2 ^ l.place_bits ≤ word_limit l
@@ -81,25 +109,42 @@ unfolding tag_of
 tag_room l hash k lt =
     let upper : hash / 2 ^ 32 < 2 ^ 32 = div_below hash (2 ^ 32) (2 ^ 32) (omega arith) (omega (arith, lt)) in
     let most = k.places in
+    let b = home_bits l in
+    let low = mod_below hash (2 ^ b) (pow_pos b) in
     elim (leb_tells l.place_bits 32) [
       | inl y ↦
           let few = y.1 in
           let j = 32 - l.place_bits in
-          let sum : j + l.place_bits ≡ 32 = omega (arith, few) in
-          let whole : 2 ^ 32 ≡ 2 ^ j * 2 ^ l.place_bits = ap (λ n. 2 ^ n) (sym sum) ∙ pow-add 2 j l.place_bits in
-          let high : hash / 2 ^ 32 / 2 ^ l.place_bits < 2 ^ j =
-          shr_below (hash / 2 ^ 32) j l.place_bits (subst (λ n. hash / 2 ^ 32 < 2 ^ n) (sym sum) upper) in
-          rw y.0 (full_row (hash / 2 ^ 32 / 2 ^ l.place_bits) (2 ^ 32) j (2 ^ l.place_bits) whole high)
+          let sum : l.place_bits + j ≡ 32 = omega (arith, few) in
+          let whole : 2 ^ 32 ≡ 2 ^ j * 2 ^ l.place_bits =
+          ap (λ n. 2 ^ n) (let s : 32 ≡ j + l.place_bits = omega (arith, few) in s) ∙ pow-add 2 j l.place_bits in
+          let high = mixed (hash / 2 ^ 32) (hash % 2 ^ b) l.place_bits b j upper sum (home_bits_narrow l y.0) low in
+          let is : tag_shift l ≡ l.place_bits = rw y.0 refl in
+          let limit : word_limit l ≡ 2 ^ 32 = rw y.0 refl in
+          rw (is, limit)
+          (full_row (hash / 2 ^ 32 / 2 ^ (l.place_bits + b) * 2 ^ b + hash % 2 ^ b) (2 ^ 32) j (2 ^ l.place_bits) whole high)
       | inr y ↦
           let many = y.1 in
           let j = 64 - l.place_bits in
-          let sum : j + (l.place_bits - 32) ≡ 32 = omega (arith, many, most) in
-          let sum_whole : j + l.place_bits ≡ 64 = omega (arith, many, most) in
-          let whole : 2 ^ 64 ≡ 2 ^ j * 2 ^ l.place_bits = ap (λ n. 2 ^ n) (sym sum_whole) ∙ pow-add 2 j l.place_bits in
-          let high : hash / 2 ^ 32 / 2 ^ (l.place_bits - 32) < 2 ^ j =
-          shr_below (hash / 2 ^ 32) j (l.place_bits - 32) (subst (λ n. hash / 2 ^ 32 < 2 ^ n) (sym sum) upper) in
-          rw y.0 (full_row (hash / 2 ^ 32 / 2 ^ (l.place_bits - 32)) (2 ^ 64) j (2 ^ l.place_bits) whole high)
+          let sum : l.place_bits - 32 + j ≡ 32 = omega (arith, many, most) in
+          let whole : 2 ^ 64 ≡ 2 ^ j * 2 ^ l.place_bits =
+          ap (λ n. 2 ^ n) (let s : 64 ≡ j + l.place_bits = omega (arith, many, most) in s) ∙ pow-add 2 j l.place_bits in
+          let three = home_bits_few l in
+          let high = mixed (hash / 2 ^ 32) (hash % 2 ^ b) (l.place_bits - 32) b j upper sum (omega (arith, three, most)) low in
+          let is : tag_shift l ≡ l.place_bits - 32 = rw y.0 refl in
+          let limit : word_limit l ≡ 2 ^ 64 = rw y.0 refl in
+          rw (is, limit)
+          (full_row (hash / 2 ^ 32 / 2 ^ (l.place_bits - 32 + b) * 2 ^ b + hash % 2 ^ b) (2 ^ 64) j (2 ^ l.place_bits) whole high)
     ]
+
+-- the lowest bits of a hash, from its tag
+pub tag_low : (l : Layout) (hash : ℕ) → low_in l (tag_of l hash) ≡ hash % 2 ^ home_bits l
+unfolding tag_of low_in
+tag_low l hash =
+    let b = home_bits l in
+    let upper = hash / 2 ^ 32 / 2 ^ (tag_shift l + b) in
+    ap (λ n. n % 2 ^ b) (less_one (upper * 2 ^ b + hash % 2 ^ b))
+    ∙ mod-mul-add upper (2 ^ b) (hash % 2 ^ b) (mod_below hash (2 ^ b) (pow_pos b))
 
 -- tags are counted from 1
 pub some_tag : (l : Layout) (hash : ℕ) → 1 ≤ tag_of l hash
@@ -114,6 +159,19 @@ can_hold l hash place k lt inside = record { place = inside; some = some_tag l h
 -- a mask of so many ones leaves what is below
 pub low_bits : (n k : ℕ) → k < 64 → bit_and n (1 * 2 ^ k % 2 ^ 64 - 1) ≡ n % 2 ^ k
 low_bits n k lt = ap (λ m. bit_and n (m - 1)) (one_shl k 64 lt) ∙ and_mask n k
+
+-- the tag of a hash, as shifts and masks make it
+pub tag_said : (hash shift b : ℕ) → hash < 2 ^ 64 → b ≤ 3
+    → hash / 2 ^ 32 / 2 ^ (shift + b) * 2 ^ b % 2 ^ 64 + bit_and hash (1 * 2 ^ b % 2 ^ 64 - 1) + 1
+    ≡ hash / 2 ^ 32 / 2 ^ (shift + b) * 2 ^ b + hash % 2 ^ b + 1
+tag_said hash shift b lt few =
+    let upper : hash / 2 ^ 32 < 2 ^ 32 = div_below hash (2 ^ 32) (2 ^ 32) (omega arith) (omega (arith, lt)) in
+    let high : ℕ = hash / 2 ^ 32 / 2 ^ (shift + b) in
+    let le : high ≤ hash / 2 ^ 32 = div-le_self (hash / 2 ^ 32) (2 ^ (shift + b)) in
+    let eight : 2 ^ b ≤ 2 ^ 3 = pow-le-pow_right (omega arith) few in
+    let h : high * 2 ^ b ≤ 2 ^ 32 * 2 ^ 3 = mul-le high (2 ^ b) (2 ^ 32) (2 ^ 3) (omega (arith, le, upper)) eight in
+    let whole : high * 2 ^ b % 2 ^ 64 ≡ high * 2 ^ b = mod-eq_of_lt (omega (arith, h)) in
+    rw (whole, low_bits hash b (omega (arith, few))) refl
 
 -- an offset goes into four bytes
 pub offset_small : (n k : ℕ) → k ≤ 17 → 8 * (n % 2 ^ k) < 2 ^ 32

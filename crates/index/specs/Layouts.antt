@@ -1,5 +1,5 @@
 -- How a slot is kept in one number.
-use Rattle.std.specs.Prelude.{◌≡◌, ℕ, ◌+◌, ◌-◌, ◌*◌, ◌/◌, ◌%◌, ◌^◌, ◌<◌, ◌≤◌, List, map, nat_le, ◌==◌, if◌then◌else◌}
+use Rattle.std.specs.Prelude.{◌≡◌, ℕ, ◌+◌, ◌-◌, ◌*◌, ◌/◌, ◌%◌, ◌^◌, ◌<◌, ◌≤◌, List, map, nat_le, min, ◌==◌, if◌then◌else◌}
 use Rattle.proto.specs.Sizes.{Sizes}
 use Rattle.segments.specs.declared.place.Place.{Place}
 use Rattle.index.specs.declared.slot.Slot.{Slot}
@@ -20,9 +20,17 @@ word_limit l = if nat_le l.place_bits 32 then 2 ^ 32 else 2 ^ 64
 abbrev pub tag_shift : Layout → ℕ
 tag_shift l = if nat_le l.place_bits 32 then l.place_bits else l.place_bits - 32
 
--- the bits of a hash that stand in its slot, counted from 1
+-- how many of a hash's lowest bits stand in its slot: half of those beside a place, and three at most
+abbrev pub home_bits : Layout → ℕ
+home_bits l = if nat_le l.place_bits 32 then min ((32 - l.place_bits) / 2) 3 else 3
+
+-- the bits of a hash that stand in its slot, counted from 1: the upper ones, and then the lowest
 unfoldable pub tag_of : Layout → ℕ → ℕ
-tag_of l hash = hash / 2 ^ 32 / 2 ^ tag_shift l + 1
+tag_of l hash = hash / 2 ^ 32 / 2 ^ (tag_shift l + home_bits l) * 2 ^ home_bits l + hash % 2 ^ home_bits l + 1
+
+-- the lowest bits of the hash whose tag this is
+unfoldable pub low_in : Layout → ℕ → ℕ
+low_in l tag = (tag - 1) % 2 ^ home_bits l
 
 -- the slot that a number stands for: 0 for an empty one, else the tag, the segment, and the offset in steps of eight bytes
 unfoldable pub slot_of : Layout → ℕ → Slot

@@ -23,6 +23,7 @@ use segments::{Place, Pool};
 use std::alloc::Global;
 use std::hash::FoldHasher;
 use std::marker::Model;
+use std::sync::atomic::{AtomicU64, Ordering};
 
 /// The places of items by their keys, in a table whose memory was taken once. Its used part grows with the keys, and is
 /// never more than half full.
@@ -32,6 +33,8 @@ pub struct Index {
     hasher: FoldHasher,
     /// How many slots have a place.
     used: usize,
+    /// Some of what was read ahead, so that the reads aren't left out.
+    read_ahead: AtomicU64,
 }
 
 impl Model for Index {
@@ -70,6 +73,7 @@ impl Index {
             slots: Slots::new(alloc, count, layout)?,
             hasher: seeded(seed),
             used: 0,
+            read_ahead: AtomicU64::new(0),
         })
     }
 
@@ -88,6 +92,16 @@ impl Index {
         } else {
             0
         }
+    }
+
+    /// Reads the slots at which searches begin for keys with these hashes, all at once.
+    pub(crate) fn touch(&self, hashes: &[u64]) {
+        let mut read: u64 = 0;
+        for hash in hashes {
+            let home = home_of(self.slots.len(), *hash);
+            read = read.wrapping_add(self.slots.peek(home));
+        }
+        self.read_ahead.store(read, Ordering::Relaxed);
     }
 
     /// How many keys have a place.

@@ -1,7 +1,7 @@
 //! How a slot is kept in one number.
 
 ghost use Rattle.std.specs.Prelude.{◌≡◌, ◌<◌, ◌≤◌, ◌^◌, nat_le};
-ghost use Rattle.index.specs.Layouts.{IsLayout, IsLayoutOf, CanHold, word_limit, tag_shift, tag_of, slot_of, word_of};
+ghost use Rattle.index.specs.Layouts.{IsLayout, IsLayoutOf, CanHold, word_limit, tag_shift, home_bits, tag_of, low_in, slot_of, word_of};
 
 use crate::slot::{EMPTY, Slot};
 use proto::Geometry;
@@ -52,12 +52,28 @@ impl Layout {
     }
 
     fn tag_shift(self) -> u32
-        ensures { result ≡ tag_shift self }
+        requires { IsLayout self }
+        ensures value { result ≡ tag_shift self }
+        ensures few { result ≤ 32 }
     {
         if self.is_narrow() {
             self.place_bits
         } else {
             self.place_bits - 32
+        }
+    }
+
+    /// How many of a hash's lowest bits stand in a slot. They say most of what the key's home is: so keys of other homes
+    /// are told apart, and a gap is mostly closed without a look at keys. The other bits tell apart keys of one home.
+    pub fn home_bits(self) -> u32
+        requires { IsLayout self }
+        ensures value { result ≡ home_bits self }
+        ensures few { result ≤ 3 }
+    {
+        if self.is_narrow() {
+            ((32 - self.place_bits) / 2).min(3)
+        } else {
+            3
         }
     }
 
@@ -67,7 +83,19 @@ impl Layout {
         ensures value { result ≡ tag_of self hash }
         ensures some { 1 ≤ result }
     {
-        ((hash >> 32) >> self.tag_shift()) + 1
+        let bits = self.home_bits();
+        let upper = (hash >> 32) >> (self.tag_shift() + bits);
+        (upper << bits) + (hash & ((1u64 << bits) - 1)) + 1
+    }
+
+    /// The lowest bits of the hash whose tag this is.
+    pub fn low_in(self, tag: u64) -> u64
+        requires layout { IsLayout self }
+        requires some { 1 ≤ tag }
+        ensures value { result ≡ low_in self tag }
+        ensures below { result < 2 ^ home_bits self }
+    {
+        (tag - 1) & ((1u64 << self.home_bits()) - 1)
     }
 
     /// The tag of the slot that a number stands for, 0 where that is empty.

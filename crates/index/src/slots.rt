@@ -118,6 +118,11 @@ impl Slots {
         self.layout.tag_in(self.word(at))
     }
 
+    /// The number of a slot, or 0 where there is none.
+    pub fn peek(&self, at: usize) -> u64 {
+        if at < self.len() { self.word(at) } else { 0 }
+    }
+
     pub fn set(&mut self, at: usize, slot: Slot)
         requires at { at < length self.old.slots }
         requires slot { CanHold self.old.layout slot }

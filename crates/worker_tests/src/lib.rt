@@ -14,4 +14,6 @@ mod rows;
 #[cfg(test)]
 mod running;
 #[cfg(test)]
+mod same;
+#[cfg(test)]
 mod scripts;

@@ -154,9 +154,25 @@ where
     let report = run_worker(rt, alloc, port, end, &OpenGate, &signals);
     child.join(rt);
     assert!(*rt; report.port.is_served());
-    assert_eq!(*rt; report.port.was_shut, peer.wanted == 0);
+    assert!(*rt; report.port.was_shut == (peer.wanted == 0));
     assert!(*rt; report.port.waits_at_first);
     assert!(*rt; !report.port.waits_early);
+}
+
+/// Peers that send these bytes, are given so many, and take so many at once.
+fn check_rows<R>(rt: &R, alloc: Global, rows: &[(&[u8], usize, usize)])
+where
+    R: Abort + Threads + Wait + Clock + Copy + Drop + Send + Sync + 'static,
+{
+    for (input, wanted, accept) in rows {
+        let peer = Peer {
+            input,
+            wanted: *wanted,
+            accept: *accept,
+            slow_gives: 0,
+        };
+        check_served(rt, alloc, peer);
+    }
 }
 
 #[test]
@@ -171,18 +187,7 @@ fn an_open_session_is_served(rt: HostRuntime) {
         (b"quit\r\n", 0, usize::MAX),
         (b"get a\r\nquit\r\n", 0, usize::MAX),
     ];
-    for (input, wanted, accept) in rows {
-        check_served(
-            &rt,
-            alloc,
-            Peer {
-                input,
-                wanted,
-                accept,
-                slow_gives: 0,
-            },
-        );
-    }
+    check_rows(&rt, alloc, &rows);
 }
 
 #[test]

@@ -3,6 +3,7 @@
 use crate::gates::{OpenGate, RefusingGate};
 use crate::port::{Manners, TestPort};
 use crate::running::{Outcome, run};
+use crate::same::check_same;
 use crate::scripts::{Script, repeated};
 use session_book::EndCause;
 use std::alloc::Global;
@@ -115,13 +116,18 @@ fn a_long_pipeline_is_paused(rt: HostRuntime) {
     }
     let outcome = run_script(&rt, alloc, script, PLAIN);
     assert!(rt; outcome.port.pauses >= 1);
-    assert_eq!(rt; outcome.port.resumes, outcome.port.pauses);
-    assert_eq!(rt; outcome.executed, 60_000);
+    check_same(&rt, outcome.port.resumes, outcome.port.pauses, "resumes");
+    check_same(&rt, outcome.executed, 60_000, "executed");
     let output = outcome.given_to(&rt, alloc, 1);
     let expected = repeated(&rt, alloc, b"END\r\n", 60_000);
-    assert_eq!(rt; expected.len(), 300_000);
+    check_same(&rt, expected.len(), 300_000, "the expected bytes");
     assert!(rt; output.as_slice() == expected.as_slice());
-    assert_eq!(rt; outcome.cause_of(1), Some(EndCause::Drained));
+    check_same(
+        &rt,
+        outcome.cause_of(1),
+        Some(EndCause::Drained),
+        "the cause",
+    );
 }
 
 #[test]
@@ -142,11 +148,21 @@ fn long_messages_behind_a_full_input_are_fed(rt: HostRuntime) {
     }
     let outcome = run_script(&rt, alloc, script, PLAIN);
     assert!(rt; outcome.port.pauses >= 1);
-    assert_eq!(rt; outcome.port.resumes, outcome.port.pauses);
-    assert_eq!(rt; outcome.executed, 45_005);
+    check_same(&rt, outcome.port.resumes, outcome.port.pauses, "resumes");
+    check_same(&rt, outcome.executed, 45_005, "executed");
     // 45,000 times `END`, and five times that the object is too large for this store's segments
-    assert_eq!(rt; outcome.given_to(&rt, alloc, 1).len(), 225_205);
-    assert_eq!(rt; outcome.cause_of(1), Some(EndCause::Drained));
+    check_same(
+        &rt,
+        outcome.given_to(&rt, alloc, 1).len(),
+        225_205,
+        "the output",
+    );
+    check_same(
+        &rt,
+        outcome.cause_of(1),
+        Some(EndCause::Drained),
+        "the cause",
+    );
 }
 
 #[test]
@@ -161,9 +177,9 @@ fn a_slow_peer_is_given_all(rt: HostRuntime) {
     script.send(1, b"\r\n");
     script.send(1, gets.as_slice());
     let outcome = run_script(&rt, alloc, script, SLOW);
-    assert_eq!(rt; outcome.port.slow_gives_left(), 0);
+    check_same(&rt, outcome.port.slow_gives_left(), 0, "slow gives");
     let output = outcome.given_to(&rt, alloc, 1);
-    assert_eq!(rt; output.len(), 8_023_008);
+    check_same(&rt, output.len(), 8_023_008, "the output");
     assert!(rt; output.as_slice().starts_with(b"STORED\r\n"));
     let mut hit = repeated(&rt, alloc, b"VALUE a 0 8000\r\n", 1);
     hit.extend_from_slice(value.as_slice())
@@ -171,21 +187,34 @@ fn a_slow_peer_is_given_all(rt: HostRuntime) {
     hit.extend_from_slice(b"\r\nEND\r\n").expect(&rt, "memory");
     let hits = repeated(&rt, alloc, hit.as_slice(), 1000);
     assert!(rt; output.as_slice().ends_with(hits.as_slice()));
-    assert_eq!(rt; outcome.cause_of(1), Some(EndCause::Drained));
+    check_same(
+        &rt,
+        outcome.cause_of(1),
+        Some(EndCause::Drained),
+        "the cause",
+    );
+}
+
+/// A session that sends this is given that and shut with this cause, and nothing follows.
+fn check_ending<R>(rt: &R, alloc: Global, row: &(&[u8], &[u8], EndCause))
+where
+    R: Abort + Threads + Wait + Clock + Copy + Drop + Send + Sync + 'static,
+{
+    let (input, expected, cause) = row;
+    let mut script = Script::new(rt, alloc);
+    script.open(1);
+    script.send(1, input);
+    let outcome = run_script(rt, alloc, script, SLOW);
+    let output = outcome.given_to(rt, alloc, 1);
+    check_same(rt, output.as_slice(), *expected, *input);
+    check_same(rt, outcome.cause_of(1), Some(*cause), *input);
+    check_same(rt, outcome.is_shut_last(), true, *input);
 }
 
 #[test]
 fn nothing_follows_quit_or_a_fatal_line(rt: HostRuntime) {
-    let alloc: Global = rt.alloc();
-    for (input, expected, cause) in ENDINGS {
-        let mut script = Script::new(&rt, alloc);
-        script.open(1);
-        script.send(1, input);
-        let outcome = run_script(&rt, alloc, script, SLOW);
-        let output = outcome.given_to(&rt, alloc, 1);
-        assert_eq!(rt; output.as_slice(), expected);
-        assert_eq!(rt; outcome.cause_of(1), Some(cause));
-        assert!(rt; outcome.is_shut_last());
+    for row in &ENDINGS {
+        check_ending(&rt, rt.alloc(), row);
     }
 }
 
@@ -205,12 +234,17 @@ fn check_pieces<R: Abort + Drop>(
     cause: EndCause,
 ) {
     let first = outcome.given_to(rt, alloc, 1);
-    assert_eq!(rt; first.len(), given);
+    check_same(rt, first.len(), given, "the first");
     assert!(rt; FIRST_OUTPUT.starts_with(first.as_slice()));
-    assert_eq!(rt; outcome.cause_of(1), Some(cause));
+    check_same(rt, outcome.cause_of(1), Some(cause), "the cause");
     let second = outcome.given_to(rt, alloc, 2);
-    assert_eq!(rt; second.as_slice(), SECOND_OUTPUT);
-    assert_eq!(rt; outcome.cause_of(2), Some(EndCause::Drained));
+    check_same(rt, second.as_slice(), SECOND_OUTPUT, "the second");
+    check_same(
+        rt,
+        outcome.cause_of(2),
+        Some(EndCause::Drained),
+        "the second cause",
+    );
 }
 
 #[test]
@@ -259,11 +293,11 @@ fn a_held_request_is_posted_once(rt: HostRuntime) {
         TestPort::new(rt, alloc, script.steps, PLAIN),
         &gate,
     );
-    assert_eq!(rt; outcome.sent, 100);
-    assert_eq!(rt; outcome.executed, 100);
-    assert_eq!(rt; gate.told.load(Ordering::SeqCst), 100);
-    assert_eq!(rt; gate.answered.load(Ordering::SeqCst), 100);
-    assert_eq!(rt; gate.asked.load(Ordering::SeqCst), 400);
+    check_same(&rt, outcome.sent, 100, "sent");
+    check_same(&rt, outcome.executed, 100, "executed");
+    check_same(&rt, gate.told.load(Ordering::SeqCst), 100, "told");
+    check_same(&rt, gate.answered.load(Ordering::SeqCst), 100, "answered");
+    check_same(&rt, gate.asked.load(Ordering::SeqCst), 400, "asked");
     let output = outcome.given_to(&rt, alloc, 1);
     let expected = repeated(&rt, alloc, b"END\r\n", 100);
     assert!(rt; output.as_slice() == expected.as_slice());

@@ -1,7 +1,8 @@
 //! Where a book stops, and one step before.
 
+use crate::same::check_same;
 use bytes::Bytes;
-use proto::{Answered, HitRef, HitWriter, Reply, Request, SpareBuffer};
+use proto::{Answered, HitRef, HitWriter, NoMemory, Reply, Request, SpareBuffer};
 use session_book::{Book, Received, Settled};
 use std::alloc::Global;
 use std::process::Abort;
@@ -24,18 +25,36 @@ fn send_piece(alloc: Global, book: &mut Book, length: usize) -> Result<Received,
     Ok(book.receive(1, piece))
 }
 
+/// A row's pieces go to session 1.
+fn check_piece(
+    rt: &impl Abort,
+    alloc: Global,
+    book: &mut Book,
+    row: &(usize, usize, Received),
+) -> Result<(), Fail> {
+    let (held, length, wanted) = row;
+    book.open(1)?;
+    let first = send_piece(alloc, book, *held)?;
+    let second = send_piece(alloc, book, *length)?;
+    check_same(
+        rt,
+        (first, second),
+        (Received::Fed, *wanted),
+        (*held, *length),
+    );
+    Ok(())
+}
+
 fn check_pieces(
     rt: &impl Abort,
     alloc: Global,
     rows: &[(usize, usize, Received)],
 ) -> Result<(), Fail> {
-    for (held, length, wanted) in rows {
+    for row in rows {
         let mut book = Book::new(alloc, 0);
-        book.open(1)?;
-        let first = send_piece(alloc, &mut book, *held)?;
-        assert_eq!(rt; first, Received::Fed, "{held} bytes");
-        let second = send_piece(alloc, &mut book, *length)?;
-        assert_eq!(rt; second, *wanted, "{length} behind {held}");
+        let checked = check_piece(rt, alloc, &mut book, row);
+        drop(book);
+        checked?;
     }
     Ok(())
 }
@@ -67,19 +86,22 @@ fn answer(alloc: Global, book: &mut Book, number: u64, length: usize) -> Result<
     Ok(book.settle(&answered))
 }
 
-fn value_of(alloc: Global, length: usize) -> Result<Reply, Fail> {
-    let value = vec![in alloc; b'v'; length]?;
+fn push_hit(hits: &mut HitWriter, value: &[u8]) -> Result<(), NoMemory> {
     let hit = HitRef {
         key: b"a",
         flags: 0,
-        value: value.as_slice(),
+        value,
         cas: 1,
     };
+    hits.reserve(hit.room().ok_or(NoMemory)?)?;
+    hits.push(hit);
+    Ok(())
+}
+
+fn value_of(alloc: Global, length: usize) -> Result<Reply, Fail> {
+    let value = vec![in alloc; b'v'; length]?;
     let mut hits = HitWriter::in_buffer(SpareBuffer::new(alloc));
-    if let Some(room) = hit.room() {
-        hits.reserve(room)?;
-        hits.push(hit);
-    }
+    push_hit(&mut hits, value.as_slice())?;
     Ok(Reply::Values(hits.finish()))
 }
 
@@ -90,22 +112,34 @@ const OUTPUTS: [(usize, usize, bool); 3] = [
     (1_048_551, 1_048_577, false),
 ];
 
+fn check_output(
+    rt: &impl Abort,
+    alloc: Global,
+    book: &mut Book,
+    row: &(usize, usize, bool),
+) -> Result<(), Fail> {
+    let (length, waiting, is_read) = row;
+    book.open(1)?;
+    let asked = ask(book, 1)?;
+    let settled = answer(alloc, book, 1, *length)?;
+    let left = book.out(1).len();
+    let wanted = (Some(1), Settled::Kept, *waiting);
+    check_same(rt, (asked, settled, left), wanted, *length);
+    let is_asked = ask(book, 1)?.is_some();
+    check_same(rt, is_asked, *is_read, *waiting);
+    Ok(())
+}
+
 fn check_outputs(
     rt: &impl Abort,
     alloc: Global,
     rows: &[(usize, usize, bool)],
 ) -> Result<(), Fail> {
-    for (length, waiting, is_read) in rows {
+    for row in rows {
         let mut book = Book::new(alloc, 0);
-        book.open(1)?;
-        assert_eq!(rt; ask(&mut book, 1)?, Some(1));
-        assert_eq!(rt; answer(alloc, &mut book, 1, *length)?, Settled::Kept);
-        assert_eq!(rt; book.out(1).len(), *waiting);
-        assert_eq!(rt;
-            ask(&mut book, 1)?.is_some(),
-            *is_read,
-            "while {waiting} bytes wait"
-        );
+        let checked = check_output(rt, alloc, &mut book, row);
+        drop(book);
+        checked?;
     }
     Ok(())
 }
@@ -116,38 +150,46 @@ fn a_session_is_read_while_1_mib_waits(rt: HostRuntime) -> Result<(), Fail> {
 }
 
 /// The 64 requests of a session are answered with values of 131,000 bytes, and all wait.
-fn check_waiting(rt: &impl Abort, alloc: Global) -> Result<(), Fail> {
-    let mut book = Book::new(alloc, 0);
+fn check_waiting(rt: &impl Abort, alloc: Global, book: &mut Book) -> Result<(), Fail> {
     book.open(1)?;
     for number in 1..=64 {
-        assert_eq!(rt; ask(&mut book, 1)?, Some(number));
+        let asked = ask(book, 1)?;
+        check_same(rt, asked, Some(number), number);
     }
     for number in 1..=64 {
-        let settled = answer(alloc, &mut book, number, 131_000)?;
-        assert_eq!(rt; settled, Settled::Kept, "answer {number}");
+        let settled = answer(alloc, book, number, 131_000)?;
+        check_same(rt, settled, Settled::Kept, number);
     }
-    assert_eq!(rt; book.out(1).len(), 8_385_600);
+    check_same(rt, book.out(1).len(), 8_385_600, "the end");
     Ok(())
 }
 
 #[test]
 fn answers_are_kept_while_8_mb_wait(rt: HostRuntime) -> Result<(), Fail> {
-    check_waiting(&rt, rt.alloc())
+    let mut book = Book::new(rt.alloc(), 0);
+    check_waiting(&rt, rt.alloc(), &mut book)
 }
 
 /// How many requests are unsettled, over so many sessions, when no further one is given.
 const SESSIONS: [u64; 3] = [1, 2, 64];
 
+/// How many of 130 requests are given, where so many sessions send them.
+fn count_asked(book: &mut Book, sessions: u64) -> Result<u64, Fail> {
+    let mut asked = 0u64;
+    for turn in 0..130u64 {
+        let session = turn.min(sessions.saturating_sub(1)) + 1;
+        let _ = book.open(session);
+        asked = asked.saturating_add(u64::from(ask(book, session)?.is_some()));
+    }
+    Ok(asked)
+}
+
 fn check_unsettled(rt: &impl Abort, alloc: Global, rows: &[u64]) -> Result<(), Fail> {
     for sessions in rows {
         let mut book = Book::new(alloc, 0);
-        let mut asked = 0u64;
-        for turn in 0..130u64 {
-            let session = turn.min(sessions.saturating_sub(1)) + 1;
-            let _ = book.open(session);
-            asked = asked.saturating_add(u64::from(ask(&mut book, session)?.is_some()));
-        }
-        assert_eq!(rt; asked, 64, "over {sessions} sessions");
+        let asked = count_asked(&mut book, *sessions);
+        drop(book);
+        check_same(rt, asked?, 64, *sessions);
     }
     Ok(())
 }

@@ -1,5 +1,6 @@
 //! Which answers let request 2 of a worker pass a gate that holds two workers.
 
+use crate::same::check_same;
 use std::process::Abort;
 use worker::{Gate, HoldGate};
 
@@ -24,12 +25,13 @@ fn check_answers(rt: &impl Abort, rows: &[(usize, u64, usize, bool)]) {
         let gate = HoldGate::new();
         gate.answered(*worker, *number);
         let passed = gate.may_post(*other, 2);
-        assert_eq!(rt;
-            passed,
-            *passes,
-            "worker {other} after answer {number} of {worker}"
+        let is_spent = gate.spent();
+        check_same(
+            rt,
+            (passed, is_spent),
+            (*passes, false),
+            (*worker, *number, *other),
         );
-        assert!(rt; !gate.spent());
     }
 }
 

@@ -1,5 +1,6 @@
 //! Runs that are large in one way: each finds memory, in the plain program and over the exchange.
 
+use crate::same::check_same;
 use crate::serving::serve;
 use crate::talk::{Shape, Talk, script_of, talk_of};
 use engine::PlainStore;
@@ -79,13 +80,10 @@ fn check_straight<R: Abort>(rt: &R, alloc: Global, case: &Case) {
     let store = PlainStore::new(alloc, case.geometry).expect(rt, "memory");
     let clock = ScriptClock::new(1000, 0);
     let given = replay_sequentially(alloc, store, clock, events.as_slice()).expect(rt, "memory");
-    assert_eq!(*rt; given.len() as u64, case.sessions);
+    check_same(rt, given.len() as u64, case.sessions, "sessions");
     for session in given.as_slice() {
-        let number = session.session;
-        assert!(*rt;
-            session.output.as_slice() == case.output,
-            "session {number}"
-        );
+        let is_given = session.output.as_slice() == case.output;
+        check_same(rt, is_given, true, session.session);
     }
 }
 
@@ -109,14 +107,11 @@ where
 
 /// Each session of the case drained, and was given its output.
 fn check_report<R: Abort>(rt: &R, worker: &WorkerReport<ScriptPort>, case: &Case) {
-    assert_eq!(*rt; worker.unopened, 0);
-    assert_eq!(*rt; worker.sessions.len() as u64, case.sessions);
+    let counts = (worker.unopened, worker.sessions.len() as u64);
+    check_same(rt, counts, (0, case.sessions), "sessions");
     for (session, cause) in worker.sessions.as_slice() {
-        assert_eq!(*rt; *cause, EndCause::Drained, "session {session}");
-        assert!(*rt;
-            worker.port.given(*session) == case.output,
-            "session {session}"
-        );
+        let is_given = worker.port.given(*session) == case.output;
+        check_same(rt, (*cause, is_given), (EndCause::Drained, true), *session);
     }
 }
 

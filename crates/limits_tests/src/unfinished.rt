@@ -1,5 +1,6 @@
 //! How many requests a worker has on their way while much is unfinished, and afterwards.
 
+use crate::same::check_same;
 use crate::serving::serve;
 use crate::talk::{Shape, talk_of};
 use bytes::Bytes;
@@ -10,7 +11,6 @@ use std::collections::VecDeque;
 use std::process::Abort;
 use std::sync::Wait;
 use std::sync::atomic::{AtomicU64, Ordering};
-use std::test::Fail;
 use std::thread::Threads;
 use std::time::Clock;
 use worker::{Gate, Gone, Port, PortEvent};
@@ -206,7 +206,7 @@ const KEYS: [(usize, u64); 6] = [(1, 64), (16, 64), (17, 61), (512, 3), (513, 2)
 const LINES: [usize; 6] = [100, 100, 100, 10, 10, 8];
 
 /// Two pieces of lines with so many keys each, the second once all of the first was answered.
-fn check_keys<R>(rt: &R, alloc: Global, keys: usize, lines: usize, wanted: u64) -> Result<(), Fail>
+fn check_keys<R>(rt: &R, alloc: Global, keys: usize, lines: usize, wanted: u64)
 where
     R: Abort + Threads + Wait + Clock + Copy + Drop + Send + Sync + 'static,
 {
@@ -218,19 +218,17 @@ where
     steps.add(Step::UntilGiven(lines.saturating_mul(5)));
     steps.send(2, bytes.as_slice());
     let gate = CountingGate::new(1, (lines as u64).saturating_add(1));
-    let geometry = Geometry::new(65_536, 64)?;
+    let geometry = Geometry::new(65_536, 64).expect(rt, "a geometry");
     let report = serve(rt, alloc, geometry, StepPort::new(steps.steps), &gate);
-    assert_eq!(*rt; gate.most(), (wanted, wanted), "lines of {keys} keys");
-    assert_eq!(*rt; report.port.given, lines.saturating_mul(10));
-    Ok(())
+    check_same(rt, gate.most(), (wanted, wanted), keys);
+    check_same(rt, report.port.given, lines.saturating_mul(10), keys);
 }
 
 #[test]
-fn at_most_1024_keys_and_a_line_are_on_their_way(rt: HostRuntime) -> Result<(), Fail> {
+fn at_most_1024_keys_and_a_line_are_on_their_way(rt: HostRuntime) {
     for (place, (keys, wanted)) in KEYS.iter().enumerate() {
-        check_keys(&rt, rt.alloc(), *keys, LINES[place], *wanted)?;
+        check_keys(&rt, rt.alloc(), *keys, LINES[place], *wanted);
     }
-    Ok(())
 }
 
 /// How session 1 ends: it accepts its output, or its peer goes.
@@ -259,26 +257,13 @@ fn input_of<R: Abort>(rt: &R, alloc: Global, shape: Shape, misses: usize) -> Vec
     input
 }
 
-/// Session 2 sends 20 requests while the output of session 1 waits, and 20 more once it doesn't.
-fn check_output<R>(rt: &R, alloc: Global, row: &Row, ending: Ending) -> Result<(), Fail>
-where
-    R: Abort + Threads + Wait + Clock + Copy + Drop + Send + Sync + 'static,
-{
-    let (value, keys, misses, waiting, wanted) = *row;
-    let shape = Shape {
-        value,
-        keys,
-        lines: 1,
-    };
-    let burst = lines_of(rt, alloc, 20, 1);
-    let mut steps = Steps::new(rt, alloc);
-    steps.add(Step::Open(1));
-    steps.send(1, input_of(rt, alloc, shape, misses).as_slice());
-    steps.add(Step::UntilOffered(waiting));
-    steps.add(Step::Open(2));
-    steps.send(2, burst.as_slice());
-    steps.add(Step::UntilGiven(100));
-    let (cause, accepted) = match ending {
+/// How session 1 ends, and how many of the bytes that wait it accepts.
+fn add_ending<R: Abort + Copy + Drop>(
+    steps: &mut Steps<R>,
+    ending: Ending,
+    waiting: usize,
+) -> (EndCause, usize) {
+    match ending {
         Ending::Accepts => {
             steps.add(Step::LetAccept);
             steps.add(Step::UntilGiven(waiting.saturating_add(100)));
@@ -288,25 +273,46 @@ where
             steps.add(Step::Gone(1));
             (EndCause::Gone, 0)
         }
+    }
+}
+
+/// Session 2 sends 20 requests while the output of session 1 waits, and 20 more once it doesn't.
+fn check_output<R>(rt: &R, alloc: Global, row: &Row, ending: Ending)
+where
+    R: Abort + Threads + Wait + Clock + Copy + Drop + Send + Sync + 'static,
+{
+    let (value, keys, misses, waiting, wanted) = *row;
+    let shape = Shape {
+        value,
+        keys,
+        lines: 1,
     };
+    let input = input_of(rt, alloc, shape, misses);
+    let burst = lines_of(rt, alloc, 20, 1);
+    let mut steps = Steps::new(rt, alloc);
+    steps.add(Step::Open(1));
+    steps.send(1, input.as_slice());
+    steps.add(Step::UntilOffered(waiting));
+    steps.add(Step::Open(2));
+    steps.send(2, burst.as_slice());
+    steps.add(Step::UntilGiven(100));
+    let (cause, accepted) = add_ending(&mut steps, ending, waiting);
     steps.send(2, burst.as_slice());
     let first = (misses as u64).saturating_add(3);
     let gate = CountingGate::new(first, first.saturating_add(20));
-    let geometry = Geometry::new(1_048_576, 8)?;
+    let geometry = Geometry::new(1_048_576, 8).expect(rt, "a geometry");
     let report = serve(rt, alloc, geometry, StepPort::new(steps.steps), &gate);
-    assert_eq!(*rt; gate.most(), (wanted, 20), "while {waiting} bytes wait");
-    assert_eq!(*rt; report.port.offered, waiting);
-    assert_eq!(*rt; report.port.given, accepted.saturating_add(200));
+    check_same(rt, gate.most(), (wanted, 20), waiting);
+    let counts = (report.port.offered, report.port.given);
+    check_same(rt, counts, (waiting, accepted.saturating_add(200)), waiting);
     let causes = [(1, cause), (2, EndCause::Drained)];
-    assert_eq!(*rt; report.sessions.as_slice(), causes.as_slice());
-    Ok(())
+    check_same(rt, report.sessions.as_slice(), causes.as_slice(), waiting);
 }
 
 #[test]
-fn above_64_mib_of_output_one_request_at_a_time_goes_on(rt: HostRuntime) -> Result<(), Fail> {
+fn above_64_mib_of_output_one_request_at_a_time_goes_on(rt: HostRuntime) {
     for row in &OUTPUTS {
-        check_output(&rt, rt.alloc(), row, Ending::Accepts)?;
-        check_output(&rt, rt.alloc(), row, Ending::Goes)?;
+        check_output(&rt, rt.alloc(), row, Ending::Accepts);
+        check_output(&rt, rt.alloc(), row, Ending::Goes);
     }
-    Ok(())
 }

@@ -1,8 +1,13 @@
 //! What is kept and what is forgotten where eight segments of 4,096 bytes are full: each holds eight items of these sizes.
 
-use crate::common::{expected, line};
-use std::alloc::Global;
+use crate::common::check_session;
+use std::alloc::{AllocError, Global};
+use std::fmt::Debug;
+use std::process::Abort;
+use std::sync::Wait;
 use std::test::Fail;
+use std::thread::Threads;
+use std::time;
 
 /// So many keys are written, the first one is read so often before the 65th write, and then all are read.
 #[derive(Clone, Copy)]
@@ -13,29 +18,86 @@ struct Run {
     forgotten: (u32, u32),
 }
 
-fn input(alloc: Global, run: Run, value: &str) -> Result<String, Fail> {
-    let mut text = String::new(alloc);
-    for key in 1..=run.writes {
-        if key == 65 {
-            for _ in 0..run.reads {
-                text.push_str("get k001\r\n")?;
-            }
-        }
-        text.push_str(format!(in alloc; "set k{key:03} 0 0 476\r\n{value}\r\n")?.as_str())?;
-    }
-    for key in 1..=run.writes {
-        text.push_str(format!(in alloc; "get k{key:03}\r\n")?.as_str())?;
-    }
-    Ok(text)
+const RUNS: [Run; 5] = [
+    Run {
+        writes: 64,
+        reads: 0,
+        forgotten: (0, 0),
+    },
+    Run {
+        writes: 65,
+        reads: 0,
+        forgotten: (1, 24),
+    },
+    Run {
+        writes: 65,
+        reads: 1,
+        forgotten: (2, 25),
+    },
+    Run {
+        writes: 89,
+        reads: 0,
+        forgotten: (1, 48),
+    },
+    Run {
+        writes: 89,
+        reads: 2,
+        forgotten: (2, 49),
+    },
+];
+
+/// Adds what stands before a key, the key and what stands behind it.
+fn push_key(
+    alloc: Global,
+    text: &mut String,
+    before: &str,
+    key: u32,
+    behind: &str,
+) -> Result<(), AllocError> {
+    let line = format!(in alloc; "{before}k{key:03}{behind}")?;
+    text.push_str(line.as_str())?;
+    Ok(())
 }
 
-fn output(alloc: Global, run: Run, value: &str) -> Result<String, Fail> {
-    let mut text = String::new(alloc);
-    let first = format!(in alloc; "VALUE k001 0 476\r\n{value}\r\nEND\r\n")?;
+/// Adds the value and the end of its line.
+fn push_value(text: &mut String, value: &str) -> Result<(), AllocError> {
+    text.push_str(value)?;
+    text.push_str("\r\n")?;
+    Ok(())
+}
+
+fn push_times(text: &mut String, piece: &str, times: u32) -> Result<(), AllocError> {
+    for _ in 0..times {
+        text.push_str(piece)?;
+    }
+    Ok(())
+}
+
+fn push_input(alloc: Global, text: &mut String, run: Run, value: &str) -> Result<(), AllocError> {
+    for key in 1..=run.writes {
+        if key == 65 {
+            push_times(text, "get k001\r\n", run.reads)?;
+        }
+        push_key(alloc, text, "set ", key, " 0 0 476\r\n")?;
+        push_value(text, value)?;
+    }
+    for key in 1..=run.writes {
+        push_key(alloc, text, "get ", key, "\r\n")?;
+    }
+    Ok(())
+}
+
+fn push_hit(alloc: Global, text: &mut String, key: u32, value: &str) -> Result<(), AllocError> {
+    push_key(alloc, text, "VALUE ", key, " 0 476\r\n")?;
+    push_value(text, value)
+}
+
+fn push_output(alloc: Global, text: &mut String, run: Run, value: &str) -> Result<(), AllocError> {
     for key in 1..=run.writes {
         if key == 65 {
             for _ in 0..run.reads {
-                text.push_str(first.as_str())?;
+                push_hit(alloc, text, 1, value)?;
+                text.push_str("END\r\n")?;
             }
         }
         text.push_str("STORED\r\n")?;
@@ -43,44 +105,78 @@ fn output(alloc: Global, run: Run, value: &str) -> Result<String, Fail> {
     let (from, to) = run.forgotten;
     for key in 1..=run.writes {
         if key < from || key > to {
-            text.push_str(format!(in alloc; "VALUE k{key:03} 0 476\r\n{value}\r\n")?.as_str())?;
+            push_hit(alloc, text, key, value)?;
         }
         text.push_str("END\r\n")?;
     }
-    Ok(text)
+    Ok(())
+}
+
+/// One session sends this text and is given that one, over eight segments.
+fn check_texts<H: Abort + Threads + Wait + time::Clock + Sync, P: Copy + Debug>(
+    rt: &H,
+    alloc: Global,
+    input: &str,
+    output: &str,
+    place: P,
+) -> Result<(), Fail> {
+    let words = "--segment-size 4096 --segments 8";
+    check_session(rt, alloc, words, input.as_bytes(), output.as_bytes(), place)
+}
+
+fn check_run<H: Abort + Threads + Wait + time::Clock + Sync>(
+    rt: &H,
+    alloc: Global,
+    run: Run,
+    value: &str,
+) -> Result<(), Fail> {
+    let mut input = String::new(alloc);
+    push_input(alloc, &mut input, run, value)?;
+    let mut output = String::new(alloc);
+    push_output(alloc, &mut output, run, value)?;
+    check_texts(
+        rt,
+        alloc,
+        input.as_str(),
+        output.as_str(),
+        (run.writes, run.reads),
+    )
+}
+
+fn check_runs<H: Abort + Threads + Wait + time::Clock + Sync>(
+    rt: &H,
+    alloc: Global,
+    runs: &[Run],
+    value: &str,
+) -> Result<(), Fail> {
+    for run in runs {
+        check_run(rt, alloc, *run, value)?;
+    }
+    Ok(())
 }
 
 #[test]
 fn merges_keep_what_was_read(rt: HostRuntime) -> Result<(), Fail> {
     let alloc = rt.alloc();
-    let value = String::from_utf8(Vec::from_elem(alloc, b'v', 476)?)?;
-    let runs = [
-        (64, 0, (0, 0)),
-        (65, 0, (1, 24)),
-        (65, 1, (2, 25)),
-        (89, 0, (1, 48)),
-        (89, 2, (2, 49)),
-    ];
-    for (writes, reads, forgotten) in runs {
-        let run = Run {
-            writes,
-            reads,
-            forgotten,
-        };
-        let input = input(alloc, run, value.as_str())?;
-        let output = output(alloc, run, value.as_str())?;
-        assert_eq!(rt;
-            line(
-                &rt,
-                alloc,
-                "--segment-size 4096 --segments 8",
-                input.as_bytes()
-            )?
-            .as_str(),
-            expected(alloc, output.as_bytes())?.as_str(),
-            "{writes} writes, {reads} reads"
-        );
+    let mut value = String::new(alloc);
+    push_times(&mut value, "v", 476)?;
+    check_runs(&rt, alloc, &RUNS, value.as_str())
+}
+
+/// Eight times its number of seconds is a key's life.
+fn push_lives(alloc: Global, input: &mut String, output: &mut String) -> Result<(), AllocError> {
+    for key in 1..=9u32 {
+        let life = key * 8;
+        let line = format!(in alloc; "set k{key} 0 {life} 1\r\nx\r\n")?;
+        input.push_str(line.as_str())?;
+        output.push_str("STORED\r\n")?;
     }
+    input.push_str("get k1 k2 k3 k4 k5 k6 k7 k8 k9\r\n")?;
+    for key in 2..=9u32 {
+        let line = format!(in alloc; "VALUE k{key} 0 1\r\nx\r\n")?;
+        output.push_str(line.as_str())?;
+    }
+    output.push_str("END\r\n")?;
     Ok(())
 }
 
@@ -90,25 +186,6 @@ fn the_segment_opened_first_is_cleared(rt: HostRuntime) -> Result<(), Fail> {
     let alloc = rt.alloc();
     let mut input = String::new(alloc);
     let mut output = String::new(alloc);
-    for key in 1..=9u32 {
-        let life = key * 8;
-        input.push_str(format!(in alloc; "set k{key} 0 {life} 1\r\nx\r\n")?.as_str())?;
-        output.push_str("STORED\r\n")?;
-    }
-    input.push_str("get k1 k2 k3 k4 k5 k6 k7 k8 k9\r\n")?;
-    for key in 2..=9u32 {
-        output.push_str(format!(in alloc; "VALUE k{key} 0 1\r\nx\r\n")?.as_str())?;
-    }
-    output.push_str("END\r\n")?;
-    assert_eq!(rt;
-        line(
-            &rt,
-            alloc,
-            "--segment-size 4096 --segments 8",
-            input.as_bytes()
-        )?
-        .as_str(),
-        expected(alloc, output.as_bytes())?.as_str()
-    );
-    Ok(())
+    push_lives(alloc, &mut input, &mut output)?;
+    check_texts(&rt, alloc, input.as_str(), output.as_str(), "nine lives")
 }

@@ -1,10 +1,15 @@
 //! Faults of files, and of the geometry.
 
-use crate::common::options;
-use command_line::geometry_of;
+use crate::common::{check_same, options};
+use command_line::{Options, geometry_of};
 use replay::{Fault, cannot_read, replay};
+use std::alloc::Global;
 use std::io::{self, ErrorKind, Read, Write};
+use std::process::Abort;
+use std::sync::Wait;
 use std::test::Fail;
+use std::thread::Threads;
+use std::time;
 
 /// Gives some bytes, and then fails.
 #[derive(Drop)]
@@ -37,43 +42,57 @@ impl Write for Failing {
     }
 }
 
+fn check_fault(rt: &impl Abort, alloc: Global, fault: &Fault, wanted: &str) -> Result<(), Fail> {
+    let text = fault.to_string(alloc)?;
+    check_same(rt, text.as_str(), wanted, "a fault");
+    Ok(())
+}
+
+/// A script that can't be read to its end prints nothing.
+fn check_reading<H: Abort + Threads + Wait + time::Clock + Sync>(
+    rt: &H,
+    alloc: Global,
+    given: &Options,
+) -> Result<(), Fail> {
+    let geometry = geometry_of(given.segment_size, given.segments).ok_or("geometry")?;
+    let mut out = Vec::new(alloc);
+    let replayed = replay(rt, alloc, given, geometry, Failing { left: 3 }, &mut out);
+    check_same(rt, out.as_slice(), b"".as_slice(), "the output");
+    match &replayed {
+        Ok(()) => Err("read".into()),
+        Err(fault) => check_fault(rt, alloc, fault, "fault: cannot read script"),
+    }
+}
+
+fn check_writing<H: Abort + Threads + Wait + time::Clock + Sync>(
+    rt: &H,
+    alloc: Global,
+    given: &Options,
+) -> Result<(), Fail> {
+    let geometry = geometry_of(given.segment_size, given.segments).ok_or("geometry")?;
+    let script = b"open 0 1\n".as_slice();
+    let mut out = Failing { left: 3 };
+    match &replay(rt, alloc, given, geometry, script, &mut out) {
+        Ok(()) => Err("write".into()),
+        Err(fault) => check_fault(rt, alloc, fault, "fault: cannot write"),
+    }
+}
+
+fn check_opening(rt: &impl Abort, alloc: Global) -> Result<(), Fail> {
+    let mut lines = options(alloc, "")?;
+    lines.file = String::from_str(alloc, "a\nb")?;
+    let fault = cannot_read(alloc, &lines, &ErrorKind::NotFound.into());
+    check_fault(rt, alloc, &fault, "fault: cannot read a\\nb")
+}
+
 #[test]
 fn faults_of_files(rt: HostRuntime) -> Result<(), Fail> {
     let alloc = rt.alloc();
     let given = options(alloc, "")?;
-    let mut out = Vec::new(alloc);
-    let geometry = geometry_of(given.segment_size, given.segments).ok_or("geometry")?;
-    let fault = replay(&rt, alloc, &given, geometry, Failing { left: 3 }, &mut out)
-        .err()
-        .ok_or("read")?;
-    assert_eq!(rt;
-        fault.to_string(alloc)?.as_str(),
-        "fault: cannot read script"
-    );
-    assert_eq!(rt; out.as_slice(), b"".as_slice());
-    let fault = replay(
-        &rt,
-        alloc,
-        &given,
-        geometry,
-        b"open 0 1\n".as_slice(),
-        &mut Failing { left: 3 },
-    )
-    .err()
-    .ok_or("write")?;
-    assert_eq!(rt; fault.to_string(alloc)?.as_str(), "fault: cannot write");
-    let mut lines = options(alloc, "")?;
-    lines.file = String::from_str(alloc, "a\nb")?;
-    let fault = cannot_read(alloc, &lines, &ErrorKind::NotFound.into());
-    assert_eq!(rt;
-        fault.to_string(alloc)?.as_str(),
-        "fault: cannot read a\\nb"
-    );
+    check_reading(&rt, alloc, &given)?;
+    check_writing(&rt, alloc, &given)?;
+    check_opening(&rt, alloc)?;
     let odd = options(alloc, "--segment-size 5000")?;
     assert!(rt; geometry_of(odd.segment_size, odd.segments).is_none());
-    assert_eq!(rt;
-        Fault::BadGeometry.to_string(alloc)?.as_str(),
-        "fault: bad geometry"
-    );
-    Ok(())
+    check_fault(&rt, alloc, &Fault::BadGeometry, "fault: bad geometry")
 }

@@ -1,6 +1,6 @@
 //! Faults of scripts.
 
-use crate::common::{options, printed};
+use crate::common::{check_same, options, printed};
 use std::alloc::Global;
 use std::process::Abort;
 use std::sync::Wait;
@@ -19,6 +19,18 @@ fn fault_of<H: Threads + Wait + time::Clock + Sync>(
     Ok(fault.to_string(alloc)?)
 }
 
+fn check_fault<H: Abort + Threads + Wait + time::Clock + Sync>(
+    rt: &H,
+    alloc: Global,
+    text: &str,
+    script: &[u8],
+    place: &str,
+) -> Result<(), Fail> {
+    let fault = fault_of(rt, alloc, script)?;
+    check_same(rt, fault.as_str(), text, place);
+    Ok(())
+}
+
 fn check_faults<H: Abort + Threads + Wait + time::Clock + Sync>(
     rt: &H,
     alloc: Global,
@@ -26,8 +38,7 @@ fn check_faults<H: Abort + Threads + Wait + time::Clock + Sync>(
     scripts: &[&str],
 ) -> Result<(), Fail> {
     for script in scripts {
-        let fault = fault_of(rt, alloc, script.as_bytes())?;
-        assert_eq!(rt; fault.as_str(), text, "{script:?}");
+        check_fault(rt, alloc, text, script.as_bytes(), script)?;
     }
     Ok(())
 }
@@ -107,10 +118,9 @@ fn sessions_not_open(rt: HostRuntime) -> Result<(), Fail> {
 fn scripts_at_their_limit(rt: HostRuntime) -> Result<(), Fail> {
     let alloc = rt.alloc();
     let longest = vec![in alloc; b'\n'; 16_777_216]?;
-    let fault = fault_of(&rt, alloc, longest.as_slice())?;
-    assert_eq!(rt; fault.as_str(), "fault: line 1: not a script line");
+    let empty = "fault: line 1: not a script line";
+    check_fault(&rt, alloc, empty, longest.as_slice(), "the longest")?;
     let too_long = vec![in alloc; b'\n'; 16_777_217]?;
-    let fault = fault_of(&rt, alloc, too_long.as_slice())?;
-    assert_eq!(rt; fault.as_str(), "fault: script too large");
-    Ok(())
+    let too_large = "fault: script too large";
+    check_fault(&rt, alloc, too_large, too_long.as_slice(), "too long")
 }

@@ -1,93 +1,141 @@
 //! The words of the program.
 
-use crate::common::options;
-use command_line::{Job, WordsFault, parse_words, unreadable_words};
-use std::alloc::Global;
+use crate::common::{check_same, options, push_words};
+use command_line::{Job, Options, WordsFault, parse_words, unreadable_words};
+use std::alloc::{AllocError, Global};
 use std::io::{self, ErrorKind};
 use std::process::Abort;
 use std::test::Fail;
 
-/// The job of some words.
-fn job(alloc: Global, words: &str) -> Result<Job, WordsFault> {
-    let mut all = Vec::new(alloc);
-    for word in words.split_whitespace() {
-        all.push(String::from_str(alloc, word)?)
-            .map_err(|_| WordsFault::NoMemory)?;
+fn name_of_fault(fault: &WordsFault) -> &'static str {
+    match fault {
+        WordsFault::BadWords(_) => "bad words",
+        WordsFault::NoMemory => "no memory",
     }
-    parse_words(alloc, all.as_slice())
+}
+
+fn name_of(job: &Result<Job, WordsFault>) -> &'static str {
+    match job {
+        Ok(Job::Help(_)) => "help",
+        Ok(Job::Replay(_) | Job::Serve(_)) => "a run",
+        Err(fault) => name_of_fault(fault),
+    }
+}
+
+/// What some words ask for, or why for nothing.
+fn job_of(alloc: Global, words: &str) -> Result<&'static str, AllocError> {
+    let mut all = Vec::new(alloc);
+    push_words(alloc, &mut all, words)?;
+    let job = parse_words(alloc, all.as_slice());
+    Ok(name_of(&job))
+}
+
+fn check_jobs(
+    rt: &impl Abort,
+    alloc: Global,
+    rows: &[&str],
+    wanted: &str,
+) -> Result<(), AllocError> {
+    for words in rows {
+        let job = job_of(alloc, words)?;
+        check_same(rt, job, wanted, *words);
+    }
+    Ok(())
+}
+
+const SHOWN: [&str; 6] = [
+    "--help",
+    "-h",
+    "help",
+    "replay --help",
+    "help replay",
+    "--version",
+];
+
+const BAD: [&str; 18] = [
+    "",
+    "replay",
+    "replay a b",
+    "serve",
+    "replay a --segment-size 4095",
+    "replay a --segment-size 1048577",
+    "replay a --segments 7",
+    "replay a --segments 65537",
+    "replay a --now -1",
+    "replay a --tick 18446744073709551616",
+    "replay a --now x",
+    "replay a --nothing",
+    "replay a --workers 0",
+    "replay a --workers 9",
+    "replay a --accept 0",
+    "replay a --accept 65537",
+    "replay a --fail-give 0",
+    "replay a --fail-give x",
+];
+
+/// Words, and in this order: the size of a segment, how many there are, the moment, the tick, how many workers run, how
+/// much is accepted at once, and which give fails.
+const OPTIONS: [(&str, [u64; 7]); 4] = [
+    ("", [65_536, 64, 1000, 0, 1, 0, 0]),
+    (
+        "--tick 18446744073709551615 --now 0 --segments 8 --segment-size 1048576",
+        [1_048_576, 8, 0, 18_446_744_073_709_551_615, 1, 0, 0],
+    ),
+    (
+        "--workers 8 --accept 65536 --fail-give 1",
+        [65_536, 64, 1000, 0, 8, 65_536, 1],
+    ),
+    (
+        "--segments 65536 --segment-size 4096",
+        [4096, 65_536, 1000, 0, 1, 0, 0],
+    ),
+];
+
+fn numbers_of(options: &Options) -> [u64; 7] {
+    [
+        options.segment_size,
+        options.segments,
+        options.now,
+        options.tick,
+        options.workers,
+        options.accept,
+        options.fail_give,
+    ]
+}
+
+fn check_options(rt: &impl Abort, alloc: Global, rows: &[(&str, [u64; 7])]) -> Result<(), Fail> {
+    for (words, wanted) in rows {
+        let given = options(alloc, words)?;
+        check_same(rt, given.file.as_str(), "script", *words);
+        check_same(rt, numbers_of(&given), *wanted, *words);
+    }
+    Ok(())
+}
+
+/// What words that can't be read come to.
+fn unreadable(alloc: Global, kind: ErrorKind) -> &'static str {
+    let error: io::Error = kind.into();
+    let fault = unreadable_words(alloc, &error);
+    name_of_fault(&fault)
 }
 
 #[test]
 fn words(rt: HostRuntime) -> Result<(), Fail> {
     let alloc = rt.alloc();
-    let defaults = options(alloc, "")?;
-    assert_eq!(rt; (defaults.segment_size, defaults.segments), (65536, 64));
-    assert_eq!(rt; (defaults.now, defaults.tick), (1000, 0));
-    assert_eq!(rt;
-        (defaults.workers, defaults.accept, defaults.fail_give),
-        (1, 0, 0)
+    check_options(&rt, alloc, &OPTIONS)?;
+    check_jobs(&rt, alloc, &SHOWN, "help")?;
+    check_jobs(&rt, alloc, &BAD, "bad words")?;
+    check_same(
+        &rt,
+        unreadable(alloc, ErrorKind::InvalidData),
+        "bad words",
+        "bytes",
     );
-    assert_eq!(rt; defaults.file.as_str(), "script");
-    let given = options(
-        alloc,
-        "--tick 18446744073709551615 --now 0 --segments 8 --segment-size 1048576",
-    )?;
-    assert_eq!(rt; (given.segment_size, given.segments), (1_048_576, 8));
-    assert_eq!(rt; (given.now, given.tick), (0, 18_446_744_073_709_551_615));
-    let group = options(alloc, "--workers 8 --accept 65536 --fail-give 1")?;
-    assert_eq!(rt;
-        (group.workers, group.accept, group.fail_give),
-        (8, 65536, 1)
+    check_same(
+        &rt,
+        unreadable(alloc, ErrorKind::OutOfMemory),
+        "no memory",
+        "bytes",
     );
-    let most = options(alloc, "--segments 65536 --segment-size 4096")?;
-    assert_eq!(rt; (most.segment_size, most.segments), (4096, 65536));
-    let shown = [
-        "--help",
-        "-h",
-        "help",
-        "replay --help",
-        "help replay",
-        "--version",
-    ];
-    for words in shown {
-        assert!(rt; matches!(job(alloc, words), Ok(Job::Help(_))), "{words}");
-    }
-    let error: io::Error = ErrorKind::InvalidData.into();
-    assert!(rt; matches!(unreadable_words(alloc, &error), WordsFault::BadWords(_)));
-    let error: io::Error = ErrorKind::OutOfMemory.into();
-    assert!(rt; matches!(unreadable_words(alloc, &error), WordsFault::NoMemory));
-    let bad = [
-        "",
-        "replay",
-        "replay a b",
-        "serve",
-        "replay a --segment-size 4095",
-        "replay a --segment-size 1048577",
-        "replay a --segments 7",
-        "replay a --segments 65537",
-        "replay a --now -1",
-        "replay a --tick 18446744073709551616",
-        "replay a --now x",
-        "replay a --nothing",
-    ];
-    check_bad(&rt, alloc, &bad)?;
-    let bad = [
-        "replay a --workers 0",
-        "replay a --workers 9",
-        "replay a --accept 0",
-        "replay a --accept 65537",
-        "replay a --fail-give 0",
-        "replay a --fail-give x",
-    ];
-    check_bad(&rt, alloc, &bad)
-}
-
-fn check_bad(rt: &impl Abort, alloc: Global, bad: &[&str]) -> Result<(), Fail> {
-    for words in bad {
-        assert!(rt;
-            matches!(job(alloc, words), Err(WordsFault::BadWords(_))),
-            "{words}"
-        );
-    }
     Ok(())
 }

@@ -1,5 +1,6 @@
 //! The table of buckets.
 
+use crate::run::check;
 use segments::bucket_of;
 use std::process::Abort;
 
@@ -23,7 +24,7 @@ const ROWS: [(u64, usize); 14] = [
 
 fn check_rows(rt: &impl Abort, rows: &[(u64, usize)]) {
     for (ttl, bucket) in rows {
-        assert_eq!(rt; bucket_of(Some(*ttl)), *bucket, "at {ttl}");
+        check(rt, bucket_of(Some(*ttl)) == *bucket, "the bucket", *bucket);
     }
 }
 

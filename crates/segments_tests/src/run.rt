@@ -46,6 +46,11 @@ pub struct Run {
     clears: usize,
 }
 
+/// This holds, or it is said what doesn't, and at which write or number. Its proof, with that of the text, is made once.
+pub fn check(rt: &impl Abort, holds: bool, what: &str, place: usize) {
+    assert!(rt; holds, "{what} at {place}");
+}
+
 fn digit(n: usize) -> u8 {
     b'0' + (n % 10) as u8
 }
@@ -154,11 +159,11 @@ impl Run {
 
     /// A write is there as it was written.
     fn check_write(&self, rt: &impl Abort, alloc: Global, write: usize) -> Result<(), Fail> {
-        let item = self.item(write).ok_or("gone")?;
         let value = value_of(alloc, write, self.value_length)?;
-        assert!(rt; item.cas == write as u64, "cas number of {write}");
-        assert!(rt; item.key == key_of(write).as_slice(), "key of {write}");
-        assert!(rt; item.value == value.as_slice(), "value of {write}");
+        let item = self.item(write).ok_or("gone")?;
+        check(rt, item.cas == write as u64, "cas number", write);
+        check(rt, item.key == key_of(write).as_slice(), "key", write);
+        check(rt, item.value == value.as_slice(), "value", write);
         Ok(())
     }
 
@@ -173,7 +178,7 @@ impl Run {
             if (one.0 <= n && n <= one.1) || (other.0 <= n && n <= other.1) {
                 self.check_write(rt, alloc, n)?;
             } else {
-                assert!(rt; !self.has(n), "write {n} is there");
+                check(rt, !self.has(n), "a forgotten item", n);
             }
         }
         Ok(())
@@ -195,8 +200,8 @@ impl Run {
         let mut offset: u32 = 0;
         let mut expected = first;
         while let Some((place, item)) = walk.next() {
-            assert!(rt; place == Place { segment, offset }, "place of {expected}");
-            assert!(rt; item.cas == expected as u64, "{expected} expected");
+            check(rt, place == Place { segment, offset }, "place", expected);
+            check(rt, item.cas == expected as u64, "cas number", expected);
             offset = offset.wrapping_add(size_of(item));
             expected = if expected == first {
                 second
@@ -204,7 +209,7 @@ impl Run {
                 expected.wrapping_add(1)
             };
         }
-        assert!(rt; expected == last.wrapping_add(1), "{expected} is missing");
+        check(rt, expected == last.wrapping_add(1), "the end", expected);
         Ok(())
     }
 
@@ -231,33 +236,43 @@ impl Run {
             Step::Hits(a, b, c, d) => self.check_hits(rt, alloc, (a, b), (c, d))?,
             Step::Segment(first, second, last) => self.check_segment(rt, first, second, last)?,
             Step::Reads(write, reads) => {
-                assert!(rt;
-                    self.item(write).ok_or("gone")?.reads == reads,
-                    "reads of {write}"
-                )
+                let item = self.item(write).ok_or("gone")?;
+                check(rt, item.reads == reads, "reads", write);
             }
             Step::Deadline(write, deadline) => {
-                assert!(rt;
-                    self.item(write).ok_or("gone")?.deadline == deadline,
-                    "deadline of {write}"
-                )
+                let item = self.item(write).ok_or("gone")?;
+                check(rt, item.deadline == deadline, "deadline", write);
             }
-            Step::Empty(count) => assert!(rt; self.empty_segments() == count, "empty segments"),
+            Step::Empty(count) => check(
+                rt,
+                self.empty_segments() == count,
+                "empty segments",
+                count,
+            ),
             Step::Made(given_back, merges, clears) => {
-                assert!(rt; self.given_back == given_back, "segments given back");
-                assert!(rt; self.merges == merges, "merges");
-                assert!(rt; self.clears == clears, "clears");
+                check(
+                    rt,
+                    self.given_back == given_back,
+                    "segments given back",
+                    given_back,
+                );
+                check(rt, self.merges == merges, "merges", merges);
+                check(rt, self.clears == clears, "clears", clears);
             }
         }
         Ok(())
     }
 }
 
-/// Plays the steps on eight segments of 4,096 bytes.
-pub fn play(rt: &impl Abort, alloc: Global, steps: &[Step]) -> Result<(), Fail> {
-    let mut run = Run::new(alloc)?;
+fn play_all(rt: &impl Abort, alloc: Global, run: &mut Run, steps: &[Step]) -> Result<(), Fail> {
     for step in steps {
         run.play_step(rt, alloc, *step)?;
     }
     Ok(())
+}
+
+/// Plays the steps on eight segments of 4,096 bytes.
+pub fn play(rt: &impl Abort, alloc: Global, steps: &[Step]) -> Result<(), Fail> {
+    let mut run = Run::new(alloc)?;
+    play_all(rt, alloc, &mut run, steps)
 }

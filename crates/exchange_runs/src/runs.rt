@@ -1,6 +1,6 @@
 //! A run through one exchange: a thread for each worker, and one for storage over the plain store.
 
-ghost use Rattle.std.specs.Prelude.{◌≡◌};
+ghost use Rattle.std.specs.Prelude.{◌≡◌, IfSome};
 ghost use Rattle.proto.specs.Cache.{empty_cache};
 ghost use Rattle.engine.specs.PlainState.{plain_sizes, plain_cache, plain_moment};
 ghost use Rattle.storage_thread.specs.Serving.{IsUnused};
@@ -91,6 +91,21 @@ fn play_lanes<R: Threads + Wait + time::Clock + Sync, C: Caller + Drop + Send>(
     Run { players, elapsed }
 }
 
+/// The ends of lanes, and an empty store.
+fn opened(
+    alloc: Global,
+    workers: usize,
+) -> Option<(Vec<exchange::WorkerEnd>, exchange::StorageEnd, PlainStore)>
+    ensures unused { IfSome result (λ r. IsUnused r.1) }
+    ensures empty { IfSome result (λ r. (plain_cache r.2 ≡ empty_cache 0) × (plain_moment r.2 ≡ 0)) }
+    ensures sizes { IfSome result (λ r. plain_sizes r.2 ≡ r.1.geometry) }
+{
+    let geometry = Geometry::new(4096, 8).ok()?;
+    let (ends, storage) = exchange::make(alloc, workers, geometry).ok()?;
+    let store = PlainStore::new(alloc, geometry).ok()?;
+    Some((ends, storage, store))
+}
+
 /// The load through the lanes, each request posted by itself. None where memory is wanting.
 pub fn run_lanes<R: Threads + Wait + time::Clock + Sync>(
     rt: &R,
@@ -98,17 +113,10 @@ pub fn run_lanes<R: Threads + Wait + time::Clock + Sync>(
     workers: usize,
     load: Workload,
 ) -> Option<Run<exchange::WorkerEnd>> {
-    let geometry = Geometry::new(4096, 8).ok()?;
-    let (ends, storage) = exchange::make(alloc, workers, geometry).ok()?;
+    let (ends, storage, store) = opened(alloc, workers)?;
     let players = players(alloc, ends, load).ok()?;
     let signals = StorageSignals::new(alloc, FoldHasher::default(), workers).ok()?;
-    Some(play_lanes(
-        rt,
-        PlainStore::new(alloc, geometry).ok()?,
-        &signals,
-        players,
-        storage,
-    ))
+    Some(play_lanes(rt, store, &signals, players, storage))
 }
 
 fn batched(
@@ -129,18 +137,11 @@ pub fn run_batches<R: Threads + Wait + time::Clock + Sync>(
     workers: usize,
     load: Workload,
 ) -> Option<Run<exchange::WorkerBatch>> {
-    let geometry = Geometry::new(4096, 8).ok()?;
-    let (ends, storage) = exchange::make(alloc, workers, geometry).ok()?;
+    let (ends, storage, store) = opened(alloc, workers)?;
     let ends = batched(alloc, ends).ok()?;
     let players = players(alloc, ends, load).ok()?;
     let signals = StorageSignals::new(alloc, FoldHasher::default(), workers).ok()?;
-    Some(play_lanes(
-        rt,
-        PlainStore::new(alloc, geometry).ok()?,
-        &signals,
-        players,
-        storage,
-    ))
+    Some(play_lanes(rt, store, &signals, players, storage))
 }
 
 // The players, each in a thread, beside the storage loop of the queues.

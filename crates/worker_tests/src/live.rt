@@ -3,6 +3,7 @@
 
 ghost use Rattle.std.specs.Prelude.{◌≡◌, None};
 ghost use Rattle.proto.specs.Cache.{empty_cache};
+ghost use Rattle.engine.specs.PlainState.{plain_sizes, plain_cache, plain_moment};
 ghost use Rattle.storage_thread.specs.Serving.{IsUnused};
 
 use crate::gates::OpenGate;
@@ -146,8 +147,8 @@ where
     let child = thread::spawn(
         rt,
         move || -> StorageReport<SteadyClock>
-            requires { (store.cache ≡ empty_cache 0) × (store.moment ≡ 0) × (store.sizes ≡ storage_end.geometry)
-                × IsUnused storage_end }
+            requires { (plain_cache store ≡ empty_cache 0) × (plain_moment store ≡ 0)
+                × (plain_sizes store ≡ storage_end.geometry) × IsUnused storage_end }
         { run_storage(&handle, store, SteadyClock, storage_end, &of_storage) },
     )
     .expect(rt, "a thread");

@@ -147,8 +147,9 @@ where
     let child = thread::spawn(
         rt,
         move || -> StorageReport<SteadyClock>
-            requires { (plain_cache store ≡ empty_cache 0) × (plain_moment store ≡ 0)
-                × (plain_sizes store ≡ storage_end.geometry) × IsUnused storage_end }
+            requires empty { (plain_cache store ≡ empty_cache 0) × (plain_moment store ≡ 0) }
+            requires sizes { plain_sizes store ≡ storage_end.geometry }
+            requires unused { IsUnused storage_end }
         { run_storage(&handle, store, SteadyClock, storage_end, &of_storage) },
     )
     .expect(rt, "a thread");

@@ -11,4 +11,4 @@ mod runs;
 mod serving;
 
 pub use caller::{CallingWorker, Workload};
-pub use runs::{Run, Stopped, run_batches, run_lanes, run_queues};
+pub use runs::{Run, Stopped, opened, run_batches, run_lanes, run_queues};

@@ -91,8 +91,8 @@ fn play_lanes<R: Threads + Wait + time::Clock + Sync, C: Caller + Drop + Send>(
     Run { players, elapsed }
 }
 
-/// The ends of lanes, and an empty store.
-fn opened(
+/// The ends of lanes, and an empty store. None where memory is wanting.
+pub fn opened(
     alloc: Global,
     workers: usize,
 ) -> Option<(Vec<exchange::WorkerEnd>, exchange::StorageEnd, PlainStore)>

@@ -26,7 +26,7 @@ def test_a_log_says_what_was_proved_of_each_crate_and_not_of_its_tests(tmp_path)
     found, last = proved.verdicts_of_log(tmp_path / "log")
     assert found["low"] == "logic=proved functions=7 sum=5f"
     assert found["middle"].startswith("kept: an earlier run on this machine proved the same files")
-    assert set(found) == {"low", "middle"}
+    assert "high" not in found
     assert last == "2 passed, 1 failed"
 
 

@@ -3,6 +3,7 @@
 #![tactic(auto)]
 
 mod gathering;
+mod idle_turns;
 mod messages;
 mod opening;
 mod parking_word;
@@ -17,6 +18,7 @@ mod worker;
 mod worker_batch;
 
 pub use gathering::{Gathered, gather};
+pub use idle_turns::IdleTurns;
 pub use messages::Taken;
 pub use opening::{MakeFault, make};
 pub use parking_word::ParkingWord;

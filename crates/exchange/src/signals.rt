@@ -1,4 +1,4 @@
-//! What workers leave for the storage thread beside their lanes.
+//! What workers and the storage thread leave for each other beside their lanes.
 
 use crate::ParkingWord;
 use proto::{MAX_WORKERS, WINDOW};
@@ -9,12 +9,13 @@ use std::sync::atomic::{AtomicU64, Ordering};
 /// The hints of a worker: one for each request that may be on its way.
 const HINTS: usize = WINDOW as usize;
 
-/// The word that the storage thread parks on, and a row of hints: the hashes of the keys that the requests on their way
-/// begin with. By these storage reads ahead what it will look up. No answer rests on a hint: one that is missing, or of
-/// another request, costs time alone.
+/// The words that the storage thread and the workers park on, and a row of hints: the hashes of the keys that the requests on
+/// their way begin with. By these storage reads ahead what it will look up. No answer rests on a hint: one that is missing, or
+/// of another request, costs time alone.
 #[derive(Drop)]
 pub struct StorageSignals {
     parking: ParkingWord,
+    workers: Vec<ParkingWord>,
     hasher: FoldHasher,
     hints: Vec<AtomicU64>,
 }
@@ -27,6 +28,10 @@ impl StorageSignals {
         hasher: FoldHasher,
         workers: usize,
     ) -> Result<StorageSignals, AllocError> {
+        let mut words = Vec::with_capacity(alloc, workers)?;
+        for _ in 0..workers {
+            words.push(ParkingWord::new())?;
+        }
         let count = if workers > 1 { MAX_WORKERS * HINTS } else { 0 };
         let mut hints = Vec::with_capacity(alloc, count)?;
         for _ in 0..count {
@@ -34,6 +39,7 @@ impl StorageSignals {
         }
         Ok(StorageSignals {
             parking: ParkingWord::new(),
+            workers: words,
             hasher,
             hints,
         })
@@ -42,6 +48,11 @@ impl StorageSignals {
     /// The word that the storage thread parks on.
     pub fn parking(&self) -> &ParkingWord {
         &self.parking
+    }
+
+    /// The word that the worker of this number parks on, while it waits for answers.
+    pub fn worker_parking(&self, worker: usize) -> Option<&ParkingWord> {
+        self.workers.get(worker)
     }
 
     /// The worker is about to post its message of this number, a request that begins with the key. Messages are counted

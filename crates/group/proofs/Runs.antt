@@ -13,7 +13,7 @@ use Rattle.exchange.specs.Ends.{WorkerView, StorageView, AreMade, AreTogether, A
 use Rattle.exchange.proofs.Lists.{at_below, at_some}
 use Rattle.storage_thread.specs.Serving.{IsTimed}
 use Rattle.storage_thread.specs.declared.serving.StorageReport.{StorageReport}
-use Rattle.worker.specs.Ports.{PortStory}
+use Rattle.worker_port.specs.Ports.{PortStory}
 use Rattle.worker.specs.declared.report.WorkerReport.{WorkerReport}
 use Rattle.worker.specs.Reports.{IsReported, IsSessionAnswered}
 use Rattle.group.specs.declared.report.GroupReport.{GroupReport}

@@ -11,8 +11,8 @@ use Rattle.exchange.specs.declared.gathering.Gathered.{Gathered}
 use Rattle.session_book.specs.declared.causes.EndCause.{EndCause}
 use Rattle.storage_thread.specs.Keeping.{MayForgetNothing}
 use Rattle.storage_thread.specs.Serving.{IsTimed}
-use Rattle.worker.specs.declared.port.PortRecord.{PortRecord}
-use Rattle.worker.specs.Ports.{PortStory, fed, given, was_opened, was_shut, has_ended, AcceptsOnlyOpen}
+use Rattle.worker_port.specs.declared.events.PortRecord.{PortRecord}
+use Rattle.worker_port.specs.Ports.{PortStory, fed, given, was_opened, was_shut, has_ended, AcceptsOnlyOpen}
 use Rattle.worker.specs.Sessions.{cause_of}
 use Rattle.worker.specs.EndCauses.{Rises}
 use Rattle.worker.specs.Workers.{AreSessionsCounted}

@@ -9,7 +9,7 @@ use Rattle.exchange.specs.Ends.{WorkerView, StorageView, new_worker_view, new_st
 use Rattle.storage_thread.specs.Keeping.{MayForgetNothing}
 use Rattle.storage_thread.specs.Serving.{IsTimed, IsSameExchange}
 use Rattle.storage_thread.specs.declared.serving.StorageReport.{StorageReport}
-use Rattle.worker.specs.Ports.{PortStory}
+use Rattle.worker_port.specs.Ports.{PortStory}
 use Rattle.worker.specs.declared.report.WorkerReport.{WorkerReport}
 use Rattle.worker.specs.Reports.{IsReported, IsOver}
 use Rattle.group.specs.declared.start.Finished.{Finished}

@@ -19,7 +19,8 @@ use std::sync::{OnceLock, Wait};
 use std::thread;
 use std::thread::{Scope, Threads};
 use storage_thread::{Clock, StorageReport};
-use worker::{Gate, Port, WorkerReport};
+use worker::{Gate, WorkerReport};
+use worker_port::Port;
 
 /// Parts the reports: what the group says of each worker, and the ends. The lists have room for them.
 fn part<P: Port>(

@@ -16,7 +16,8 @@ use std::snapshot::Snapshot;
 use std::sync::{OnceLock, OnceToken, Wait};
 use std::thread::{Promise, PromisedHandle, Scope, Threads};
 use storage_thread::{Clock, StorageReport, run_storage};
-use worker::{Gate, Port, WorkerReport, run_worker};
+use worker::{Gate, WorkerReport, run_worker};
+use worker_port::Port;
 
 /// What a worker's thread promises: what it leaves of the port and the end that it was given, if it was told to begin.
 #[derive(Drop)]

@@ -4,7 +4,7 @@ use bytes::Bytes;
 use std::alloc::Global;
 use std::sync::atomic::{AtomicU64, Ordering};
 use storage_thread::Clock;
-use worker::{Gone, Port, PortEvent};
+use worker_port::{Gone, Port, PortEvent};
 
 /// How often the ports and the clock of a run were asked.
 #[derive(Drop)]

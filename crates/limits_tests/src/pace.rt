@@ -1,15 +1,20 @@
-//! Requests that come one at a time, each a while after the one before was answered, when the storage thread has parked:
-//! a worker that doesn't wake it is seen.
+//! Requests that come one at a time: a worker that doesn't wake a storage thread that has parked is seen, and storage that
+//! doesn't wake a worker that has.
 
 use crate::runs::SteadyClock;
 use bytes::Bytes;
 use engine::PlainStore;
 use group::{Config, run_group};
 use proto::Geometry;
+use std::alloc::Global;
+use std::sync::Wait;
 use std::test::Fail;
 use std::thread;
+use std::thread::Threads;
 use std::time::{Clock, Duration, Instant};
-use worker::{Gone, OpenGate, Port, PortEvent};
+use storage_thread::Clock as Moments;
+use worker::OpenGate;
+use worker_port::{Gone, Port, PortEvent};
 
 /// How many requests come.
 const REQUESTS: usize = 200;
@@ -17,13 +22,40 @@ const REQUESTS: usize = 200;
 /// What each of them is answered.
 const ANSWER: &[u8] = b"END\r\n";
 
-/// The pause before each, in milliseconds. A storage thread that isn't woken sleeps for some 100.
+/// The pause before each request, or in the midst of it, in milliseconds. A thread that isn't woken sleeps for some 100.
 const PAUSE_MILLIS: u64 = 2;
 
-/// Opens session 1, sends it a request a while after the one before was answered, and ends behind the last answer.
+/// So long all of them may take.
+const MOST_SECONDS: u64 = 5;
+
+/// It is 1000 at all times, and takes a while to say so.
+#[derive(Drop)]
+struct SlowClock<R: Drop> {
+    rt: R,
+}
+
+impl<R: Clock + Drop> Moments for SlowClock<R> {
+    ghost use Rattle.std.specs.Prelude.{⊤, None};
+
+    ghost told = { λ _. None };
+
+    ghost leads_to = { λ _ _. ⊤ };
+
+    ghost leads_reflexive = { λ _. tt };
+
+    ghost leads_transitive = { λ _ _ _ _ _. tt };
+
+    fn now(&mut self) -> u64 {
+        thread::sleep(&self.rt, Duration::from_millis(PAUSE_MILLIS));
+        1000
+    }
+}
+
+/// Opens session 1, sends it a request so long after the one before was answered, and ends behind the last answer.
 #[derive(Drop)]
 struct OneAtATime<R: Drop> {
     rt: R,
+    pause_millis: u64,
     is_open: bool,
     has_ended: bool,
     sent: usize,
@@ -47,7 +79,7 @@ impl<R: Clock + Drop> Port for OneAtATime<R> {
         }
         if self.sent < REQUESTS {
             self.sent = self.sent.saturating_add(1);
-            thread::sleep(&self.rt, Duration::from_millis(PAUSE_MILLIS));
+            thread::sleep(&self.rt, Duration::from_millis(self.pause_millis));
             return PortEvent::Data(1, Bytes::from_static(b"get a\r\n"));
         }
         self.has_ended = true;
@@ -70,11 +102,16 @@ impl<R: Clock + Drop> Port for OneAtATime<R> {
     ghost leads_transitive = { λ _ _ _ _ _. tt };
 }
 
-#[test]
-fn requests_after_pauses_are_answered_soon(rt: HostRuntime) -> Result<(), Fail> {
-    let alloc = rt.alloc();
+// Runs a group over the requests, and gives how many were executed and how long that took.
+fn run<R: Threads + Wait + Clock + Sync + Send + Copy + Drop, C: Moments + Send>(
+    rt: &R,
+    alloc: Global,
+    pause_millis: u64,
+    clock: C,
+) -> Result<(u64, Duration), Fail> {
     let port = OneAtATime {
-        rt,
+        rt: *rt,
+        pause_millis,
         is_open: false,
         has_ended: false,
         sent: 0,
@@ -84,9 +121,25 @@ fn requests_after_pauses_are_answered_soon(rt: HostRuntime) -> Result<(), Fail> 
     let config = Config { geometry };
     let store = PlainStore::new(alloc, geometry)?;
     let ports = vec![in alloc; port]?;
-    let start = Instant::now(&rt)?;
-    let report = run_group(&rt, alloc, ports, config, store, SteadyClock, &OpenGate)?;
-    assert!(rt; start.elapsed(&rt)? < Duration::from_secs(5));
-    assert_eq!(rt; report.executed, REQUESTS as u64);
+    let start = Instant::now(rt)?;
+    let report = run_group(rt, alloc, ports, config, store, clock, &OpenGate)?;
+    Ok((report.executed, start.elapsed(rt)?))
+}
+
+// Storage has parked when a request comes.
+#[test]
+fn requests_after_pauses_are_answered_soon(rt: HostRuntime) -> Result<(), Fail> {
+    let (executed, took) = run(&rt, rt.alloc(), PAUSE_MILLIS, SteadyClock)?;
+    assert!(rt; took < Duration::from_secs(MOST_SECONDS));
+    assert_eq!(rt; executed, REQUESTS as u64);
+    Ok(())
+}
+
+// The worker has parked when its answer comes.
+#[test]
+fn answers_of_a_slow_storage_are_taken_soon(rt: HostRuntime) -> Result<(), Fail> {
+    let (executed, took) = run(&rt, rt.alloc(), 0, SlowClock { rt })?;
+    assert!(rt; took < Duration::from_secs(MOST_SECONDS));
+    assert_eq!(rt; executed, REQUESTS as u64);
     Ok(())
 }

@@ -1,7 +1,7 @@
 //! What a port plays while its first session is paused.
 
 ghost use Rattle.std.specs.Prelude.{◌≡◌, []};
-ghost use Rattle.worker.specs.Ports.{IsOpenIn};
+ghost use Rattle.worker_port.specs.Ports.{IsOpenIn};
 ghost use Rattle.script.specs.States.{story_told};
 
 use bytes::Bytes;
@@ -9,7 +9,7 @@ use script::{ScriptEvent, ScriptPort};
 use std::alloc::Global;
 use std::process::Abort;
 use std::test::Fail;
-use worker::{Port, PortEvent};
+use worker_port::{Port, PortEvent};
 
 fn is_next(rt: &impl Abort, port: &mut ScriptPort, wanted: &str) {
     let event = port.next(false);

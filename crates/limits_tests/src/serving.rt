@@ -4,7 +4,7 @@ ghost use Rattle.std.specs.Prelude.{◌≡◌, [], false, Some};
 ghost use Rattle.proto.specs.Cache.{empty_cache};
 ghost use Rattle.engine.specs.PlainState.{plain_sizes, plain_cache, plain_moment};
 ghost use Rattle.storage_thread.specs.Serving.{IsUnused};
-ghost use Rattle.worker.specs.Ports.{PortStory};
+ghost use Rattle.worker_port.specs.Ports.{PortStory};
 
 use crate::runs::SteadyClock;
 use engine::PlainStore;
@@ -17,7 +17,8 @@ use std::sync::{Arc, Wait};
 use std::thread::Threads;
 use std::{thread, time};
 use storage_thread::{StorageReport, run_storage};
-use worker::{Gate, Port, WorkerReport, run_worker};
+use worker::{Gate, WorkerReport, run_worker};
+use worker_port::Port;
 
 /// The ends of an exchange of one worker, and an empty store.
 fn made<R: Abort>(rt: &R, alloc: Global, geometry: Geometry) -> (WorkerEnd, StorageEnd, PlainStore)

@@ -13,7 +13,8 @@ use std::sync::Wait;
 use std::sync::atomic::{AtomicU64, Ordering};
 use std::thread::Threads;
 use std::time::Clock;
-use worker::{Gate, Gone, Port, PortEvent};
+use worker::Gate;
+use worker_port::{Gone, Port, PortEvent};
 
 /// The most bytes of one piece.
 const MAX_PIECE: usize = 16_384;

@@ -3,8 +3,8 @@ use Rattle.std.specs.Prelude.{◌≡◌, ℕ, ◌+◌, ◌<◌, ◌≤◌, Bool,
 use Rattle.std.specs.Prelude.{IsTrue, cond}
 use Rattle.std.specs.Map.{lookup}
 use Rattle.std.specs.Bool.{nat_eq}
-use Rattle.worker.specs.declared.port.PortEvent.{PortEvent}
-use Rattle.worker.specs.declared.port.PortEvent.TheVariants.{Opened, Data, Gone, Idle, Ended}
+use Rattle.worker_port.specs.declared.events.PortEvent.{PortEvent}
+use Rattle.worker_port.specs.declared.events.PortEvent.TheVariants.{Opened, Data, Gone, Idle, Ended}
 use Rattle.net.specs.declared.streams.Streams.{Streams}
 use Rattle.net.specs.declared.streams.Reading.{Reading}
 use Rattle.net.specs.declared.streams.Reading.TheVariants as read

@@ -12,7 +12,7 @@ use std::alloc::Global;
 use std::net::Net;
 use std::sync::Wait;
 use std::time::{Clock, Duration};
-use worker::{Gone, Port, PortEvent};
+use worker_port::{Gone, Port, PortEvent};
 
 /// Events of one poll.
 const EVENTS: usize = 256;

@@ -8,7 +8,7 @@ use mio::{Events, Interest, Poll, Token};
 use std::alloc::{AllocError, Global};
 use std::collections::{HashMap, VecDeque};
 use std::io::{ErrorKind, Read, Write};
-use worker::{Gone, MAX_PIECE};
+use worker_port::{Gone, MAX_PIECE};
 
 /// The most sessions of a port that are open at a time.
 const OPEN_SESSIONS: usize = 1024;

@@ -8,7 +8,7 @@ use std::process::Abort;
 use std::sync::Wait;
 use std::thread;
 use std::time::Clock;
-use worker::{Port, PortEvent};
+use worker_port::{Port, PortEvent};
 
 /// So often a port is asked until it has to have ended.
 const CALLS: usize = 100_000;

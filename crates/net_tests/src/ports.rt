@@ -7,7 +7,7 @@ use std::net::{Net, Shutdown, TcpStream};
 use std::process::Abort;
 use std::sync::Wait;
 use std::time::Clock;
-use worker::{Port, PortEvent};
+use worker_port::{Port, PortEvent};
 
 /// So often a port is asked for an event that has to come.
 const CALLS: usize = 100_000_000;

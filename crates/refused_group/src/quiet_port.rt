@@ -3,7 +3,7 @@
 use bytes::Bytes;
 use std::sync::atomic::{AtomicU64, Ordering};
 use storage_thread::Clock;
-use worker::{Gone, Port, PortEvent};
+use worker_port::{Gone, Port, PortEvent};
 
 /// The most bytes that are kept of what is given.
 const ROOM: usize = 64;

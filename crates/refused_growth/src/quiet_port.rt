@@ -1,7 +1,7 @@
 //! A port of two sessions that takes no memory.
 
 use bytes::Bytes;
-use worker::{Gone, Port, PortEvent};
+use worker_port::{Gone, Port, PortEvent};
 
 /// The most bytes that are kept of a session's output.
 const ROOM: usize = 128;

@@ -9,7 +9,7 @@ use Rattle.script.specs.PortSessions.{ScriptSessionState, numbers}
 use Rattle.script.specs.States.{PortState, story_of, story_told}
 use Rattle.script.specs.PortEvents.{is_playable}
 use Rattle.script.proofs.EventLemmas.{bool_cases}
-use Rattle.worker.specs.Ports.{PortStory}
+use Rattle.worker_port.specs.Ports.{PortStory}
 use Rattle.group.specs.declared.report.GroupWorker.{GroupWorker}
 use Rattle.group.specs.Threads.{AreEach, IsSilent}
 use Rattle.std.specs.List.{All}

@@ -7,8 +7,8 @@ use Rattle.proto.specs.Sizes.{Sizes}
 use Rattle.script.specs.declared.event.ScriptEvent.{ScriptEvent}
 use Rattle.script.specs.Clocks.{ClockState}
 use Rattle.script.specs.Scripts.{Workers, AreEventsOf}
-use Rattle.worker.specs.declared.port.PortRecord.{PortRecord}
-use Rattle.worker.specs.Ports.{given}
+use Rattle.worker_port.specs.declared.events.PortRecord.{PortRecord}
+use Rattle.worker_port.specs.Ports.{given}
 use Rattle.script.specs.declared.recording_clock.RecordingClock.{RecordingClock}
 use Rattle.script.specs.Readings.{readings_in_order}
 use Rattle.script.specs.ClockLeading.{GivesAnswers}

@@ -12,10 +12,10 @@ use Rattle.script.specs.declared.event.ScriptEvent.{ScriptEvent}
 use Rattle.script.specs.declared.event.ScriptEvent.TheVariants.{Open, Send, Gone}
 use Rattle.script.specs.Events.{open_after, sent, sent_by, goes_by_event, goes_in_script}
 use Rattle.script.specs.Events as script
-use Rattle.worker.specs.declared.port.PortRecord.{PortRecord}
-use Rattle.worker.specs.declared.port.PortRecord.TheVariants as was
-use Rattle.worker.specs.Ports.{fed, fed_by, has_gone, is_leaving}
-use Rattle.worker.proofs.Facts.{any_more, any_no}
+use Rattle.worker_port.specs.declared.events.PortRecord.{PortRecord}
+use Rattle.worker_port.specs.declared.events.PortRecord.TheVariants as was
+use Rattle.worker_port.specs.Ports.{fed, fed_by, has_gone, is_leaving}
+use Rattle.worker_port.proofs.Facts.{any_more, any_no}
 use Rattle.script.specs.PortEvents.{event_session, events_without, send_after, plays_from}
 use Rattle.script.specs.Records.{opened, opened_by}
 use Rattle.script.specs.Following.{Follows, MayGo}

@@ -3,7 +3,7 @@ use Rattle.std.proofs.Common.{◌≡◌, ◌≢◌, ℕ, true, false, not, List,
 use Rattle.std.specs.List.{All}
 use Rattle.std.proofs.lemmas.List.Elements.{recursion_from_All}
 use Rattle.script.specs.declared.event.ScriptEvent.{ScriptEvent}
-use Rattle.worker.specs.Sessions.{port_facts}
+use Rattle.worker_port.specs.PortFacts.{port_facts}
 use Rattle.script.specs.declared.player.Player.{Player}
 use Rattle.script.specs.declared.stage.Stage.{Stage}
 use Rattle.script.specs.PortEvents.{event_session}

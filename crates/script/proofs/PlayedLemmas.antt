@@ -1,8 +1,8 @@
 -- What a port's list says of its script, by what holds of the port.
 use Rattle.std.proofs.Common.{◌≡◌, ◌∙◌, true, false, ◌||◌, [], ◌++◌, append-nil, Option, Some, None, refl, sym, ap}
 use Rattle.script.specs.Events as script
-use Rattle.worker.specs.Ports.{fed, has_ended}
-use Rattle.worker.specs.Sessions.{PortFacts, port_facts}
+use Rattle.worker_port.specs.Ports.{fed, has_ended}
+use Rattle.worker_port.specs.PortFacts.{PortFacts, port_facts}
 use Rattle.script.specs.declared.player.Player.{Player}
 use Rattle.script.specs.PortEvents.{is_playable}
 use Rattle.script.specs.Remaining.{in_order}

@@ -8,12 +8,12 @@ use Rattle.std.proofs.lemmas.List.{take-append-drop}
 use Rattle.std.proofs.lemmas.List.Elements.{filter-append, filter_map-append}
 use Rattle.script.specs.declared.event.ScriptEvent.{ScriptEvent}
 use Rattle.script.specs.Events as script
-use Rattle.worker.specs.declared.port.PortRecord.{PortRecord}
-use Rattle.worker.specs.declared.port.PortRecord.TheVariants as was
-use Rattle.worker.specs.Ports.{has_ended}
-use Rattle.worker.specs.Ports as list
-use Rattle.worker.specs.Sessions.{PortFacts, port_facts}
-use Rattle.worker.proofs.Facts.{about, elsewhere, gone_here, shut_here, accepted_here}
+use Rattle.worker_port.specs.declared.events.PortRecord.{PortRecord}
+use Rattle.worker_port.specs.declared.events.PortRecord.TheVariants as was
+use Rattle.worker_port.specs.Ports.{has_ended}
+use Rattle.worker_port.specs.Ports as list
+use Rattle.worker_port.specs.PortFacts.{PortFacts, port_facts}
+use Rattle.worker_port.proofs.Facts.{about, elsewhere, gone_here, shut_here, accepted_here}
 use Rattle.script.specs.declared.player.Player.{Player}
 use Rattle.script.specs.declared.stage.Stage.{Stage}
 use Rattle.script.specs.declared.stage.Stage.TheVariants.{Closed}

@@ -9,14 +9,14 @@ use Rattle.std.proofs.lemmas.List.Elements.{filter-append}
 use Rattle.script.specs.declared.event.ScriptEvent.{ScriptEvent}
 use Rattle.script.specs.declared.event.ScriptEvent.TheVariants.{Open, Send, Gone}
 use Rattle.script.specs.Events.{open_after, goes_in_script}
-use Rattle.worker.specs.declared.port.PortRecord.{PortRecord}
-use Rattle.worker.specs.declared.port.PortRecord.TheVariants as was
-use Rattle.worker.specs.declared.port.PortEvent.TheVariants as event
-use Rattle.worker.specs.Ports.{has_ended, was_opened}
-use Rattle.worker.specs.Ports as list
-use Rattle.worker.specs.Sessions.{PortFacts, port_facts}
-use Rattle.worker.proofs.Facts.{opened_here, fed_here}
-use Rattle.worker.proofs.RunViews.{ended_same}
+use Rattle.worker_port.specs.declared.events.PortRecord.{PortRecord}
+use Rattle.worker_port.specs.declared.events.PortRecord.TheVariants as was
+use Rattle.worker_port.specs.declared.events.PortEvent.TheVariants as event
+use Rattle.worker_port.specs.Ports.{has_ended, was_opened}
+use Rattle.worker_port.specs.Ports as list
+use Rattle.worker_port.specs.PortFacts.{PortFacts, port_facts}
+use Rattle.worker_port.proofs.Facts.{opened_here, fed_here}
+use Rattle.worker_port.proofs.Lists.{ended_same}
 use Rattle.script.specs.declared.player.Player.{Player}
 use Rattle.script.specs.declared.stage.Stage.TheVariants.{Playing, Paused, Closed}
 use Rattle.script.specs.declared.stage.Stage.{Stage}

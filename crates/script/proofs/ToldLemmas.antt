@@ -2,15 +2,15 @@
 use Rattle.std.proofs.Common.{◌≡◌, ◌≢◌, ℕ, ◌==◌, Bool, true, false, true≢false, not, ◌&&◌, ◌||◌, cond, eq-eqb, ne_eqb}
 use Rattle.std.proofs.Common.{List, [], ◌∷◌, ◌++◌, take, refl, sym}
 use Rattle.std.proofs.Common.{ap, subst, ◌∙◌, Option, Some, None, option_map, Result, Ok, Err}
-use Rattle.worker.specs.declared.port.PortRecord.TheVariants as was
-use Rattle.worker.specs.declared.port.PortEvent.{PortEvent}
-use Rattle.worker.specs.declared.port.PortEvent.TheVariants as event
-use Rattle.worker.specs.declared.port.Gone.{Gone}
-use Rattle.worker.specs.Ports.{PortStory, then_told, event_records, give_records, are_end_of, IsOpenIn, MayCome}
-use Rattle.worker.specs.Ports.{is_open}
+use Rattle.worker_port.specs.declared.events.PortRecord.TheVariants as was
+use Rattle.worker_port.specs.declared.events.PortEvent.{PortEvent}
+use Rattle.worker_port.specs.declared.events.PortEvent.TheVariants as event
+use Rattle.worker_port.specs.declared.events.Gone.{Gone}
+use Rattle.worker_port.specs.Ports.{PortStory, then_told, event_records, give_records, are_end_of, IsOpenIn, MayCome}
+use Rattle.worker_port.specs.Ports.{is_open}
 use Rattle.script.specs.PortEvents.{is_playable}
 use Rattle.script.specs.States.{PortState, is_held, story_of, story_told, Gives, DropsSession}
-use Rattle.worker.specs.Sessions.{PortFacts, port_facts}
+use Rattle.worker_port.specs.PortFacts.{PortFacts, port_facts}
 use Rattle.script.specs.declared.player.Player.{Player}
 use Rattle.script.specs.PortSessions.{ScriptSessionState, is_some_and, is_closed}
 use Rattle.script.specs.PortSessions as in_table

@@ -3,8 +3,8 @@ use Rattle.std.specs.Prelude.{◌≡◌, ℕ, ◌⊎◌, Bool, true, false, List
 use Rattle.exchange.specs.Beginnings.{StartsWith}
 use Rattle.script.specs.declared.event.ScriptEvent.{ScriptEvent}
 use Rattle.script.specs.Events as script
-use Rattle.worker.specs.declared.port.PortRecord.{PortRecord}
-use Rattle.worker.specs.Ports.{fed, has_gone, was_shut, has_ended}
+use Rattle.worker_port.specs.declared.events.PortRecord.{PortRecord}
+use Rattle.worker_port.specs.Ports.{fed, has_gone, was_shut, has_ended}
 use Rattle.script.specs.Records.{opened}
 
 -- a session's peer may go: the script says it, or a `give` can fail

@@ -3,13 +3,13 @@ use Rattle.std.specs.Prelude.{◌≡◌, ℕ, ◌<◌, ◌≤◌, ◌⊎◌, Boo
 use Rattle.std.specs.Prelude.{Option, Some, None, Result}
 use Rattle.std.specs.List.{AllByRecursion}
 use Rattle.script.specs.declared.event.ScriptEvent.{ScriptEvent}
-use Rattle.worker.specs.declared.port.PortRecord.{PortRecord}
-use Rattle.worker.specs.declared.port.PortRecord.TheVariants as was
-use Rattle.worker.specs.declared.port.PortEvent.{PortEvent}
-use Rattle.worker.specs.declared.port.Gone.{Gone}
-use Rattle.worker.specs.Ports.{has_ended}
-use Rattle.worker.specs.Ports as list
-use Rattle.worker.specs.Sessions.{PortFacts, port_facts}
+use Rattle.worker_port.specs.declared.events.PortRecord.{PortRecord}
+use Rattle.worker_port.specs.declared.events.PortRecord.TheVariants as was
+use Rattle.worker_port.specs.declared.events.PortEvent.{PortEvent}
+use Rattle.worker_port.specs.declared.events.Gone.{Gone}
+use Rattle.worker_port.specs.Ports.{has_ended}
+use Rattle.worker_port.specs.Ports as list
+use Rattle.worker_port.specs.PortFacts.{PortFacts, port_facts}
 use Rattle.script.specs.declared.player.Player.{Player}
 use Rattle.script.specs.PortEvents.{event_session, plays_from, is_playable}
 use Rattle.script.specs.Remaining.{in_order}

@@ -1,7 +1,7 @@
 -- The list of a port's events.
 use Rattle.std.specs.Prelude.{ℕ, List, [], ◌∷◌, ◌++◌, filter_map, Option, Some, None}
-use Rattle.worker.specs.declared.port.PortRecord.{PortRecord}
-use Rattle.worker.specs.declared.port.PortRecord.TheVariants as was
+use Rattle.worker_port.specs.declared.events.PortRecord.{PortRecord}
+use Rattle.worker_port.specs.declared.events.PortRecord.TheVariants as was
 use Rattle.script.specs.declared.records.Entries.{Entries}
 use Rattle.script.specs.declared.records.Entries.TheBlock as entries
 

@@ -6,11 +6,11 @@ use Rattle.std.proofs.Common.{refl, ◌∙◌}
 use Rattle.std.specs.List.{AllByRecursion}
 use Rattle.script.specs.declared.event.ScriptEvent.{ScriptEvent}
 use Rattle.script.specs.declared.event.ScriptEvent.TheVariants as script
-use Rattle.worker.specs.declared.port.PortEvent.{PortEvent}
-use Rattle.worker.specs.declared.port.PortEvent.TheVariants as event
-use Rattle.worker.specs.declared.port.PortRecord.{PortRecord}
-use Rattle.worker.specs.declared.port.Gone.{Gone}
-use Rattle.worker.specs.Ports.{PortStory}
+use Rattle.worker_port.specs.declared.events.PortEvent.{PortEvent}
+use Rattle.worker_port.specs.declared.events.PortEvent.TheVariants as event
+use Rattle.worker_port.specs.declared.events.PortRecord.{PortRecord}
+use Rattle.worker_port.specs.declared.events.Gone.{Gone}
+use Rattle.worker_port.specs.Ports.{PortStory}
 use Rattle.script.specs.PortEvents.{event_session, events_without, send_after, is_playable}
 use Rattle.script.specs.PortSessions.{ScriptSessionState, is_paused}
 

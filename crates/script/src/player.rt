@@ -13,7 +13,7 @@ ghost use Rattle.script.specs.Players.{is_left, is_ready, events_left, NoneReady
 ghost use Rattle.script.specs.Players.{IsPlayerConsistent, IsFirst, IsCausedAt, Played};
 ghost use Rattle.script.specs.Players.{RecordsClose, EndsSession, Keeps, SamePlayer, CountsOffer, GivesAs};
 ghost use Rattle.script.specs.States.{IsNewPort, CountsGive, SetsHeld, most_accepted};
-ghost use Rattle.worker.specs.Ports.{given};
+ghost use Rattle.worker_port.specs.Ports.{given};
 
 use crate::ScriptEvent;
 use crate::records::Records;
@@ -23,7 +23,7 @@ use crate::stage::Stage;
 use bytes::Bytes;
 use std::alloc::{AllocError, Global};
 use std::snapshot::Snapshot;
-use worker::{Gone, MAX_PIECE, PortEvent, PortRecord};
+use worker_port::{Gone, MAX_PIECE, PortEvent, PortRecord};
 
 #[derive(Drop)]
 pub(crate) struct Player {

@@ -2,8 +2,8 @@
 
 ghost use Rattle.std.specs.Prelude.{◌≡◌, ℕ, ◌++◌, [], ◌∷◌, ◌≤◌, ◌↔◌, ◌||◌, nat_lt, length, true, false, IfOk, option_map, Some};
 ghost use Rattle.script.specs.Events.{IsPlayable};
-ghost use Rattle.worker.specs.declared.port.PortRecord.TheVariants.{Shut};
-ghost use Rattle.worker.specs.Ports.{PortStory, then_told, with_pause, event_records, give_records, IsOpenIn, MayCome, given};
+ghost use Rattle.worker_port.specs.declared.events.PortRecord.TheVariants.{Shut};
+ghost use Rattle.worker_port.specs.Ports.{PortStory, then_told, with_pause, event_records, give_records, IsOpenIn, MayCome, given};
 ghost use Rattle.script.specs.PortEvents.{is_playable};
 ghost use Rattle.script.specs.PortSessions.{numbers};
 ghost use Rattle.script.specs.Records.{opened};
@@ -17,7 +17,7 @@ use crate::sessions::ScriptSession;
 use crate::stage::Stage;
 use std::alloc::Global;
 use std::marker::Model;
-use worker::{Gone, Port, PortEvent, PortRecord};
+use worker_port::{Gone, Port, PortEvent, PortRecord};
 
 /// Plays the events of a script in order, and keeps what each session is given.
 ///

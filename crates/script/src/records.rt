@@ -5,7 +5,7 @@ ghost use Rattle.script.specs.Records.{listed};
 
 use std::marker::Model;
 use std::snapshot::Snapshot;
-use worker::PortRecord;
+use worker_port::PortRecord;
 
 /// The entries that were written. Only the last one has bytes; those before it are for clauses alone.
 #[derive(Drop)]
@@ -31,7 +31,7 @@ pub(crate) struct Records {
 
 impl Model for Records {
     ghost use Rattle.std.specs.Prelude.{List};
-    ghost use Rattle.worker.specs.declared.port.PortRecord.{PortRecord};
+    ghost use Rattle.worker_port.specs.declared.events.PortRecord.{PortRecord};
     ghost use Rattle.script.specs.Records.{listed};
 
     ghost Value = { List PortRecord };

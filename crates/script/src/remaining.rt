@@ -12,7 +12,7 @@ use crate::ScriptEvent;
 use bytes::Bytes;
 use std::collections::VecDeque;
 use std::marker::Model;
-use worker::MAX_PIECE;
+use worker_port::MAX_PIECE;
 
 /// The session that an event is of.
 pub(crate) fn event_session(event: &ScriptEvent) -> u64

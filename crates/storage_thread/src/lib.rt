@@ -2,8 +2,8 @@
 //! them.
 #![tactic(auto)]
 
+mod answered_worker;
 mod clock;
-mod idle;
 mod reading_ahead;
 mod serving;
 mod unix_clock;

@@ -9,15 +9,18 @@ ghost use Rattle.storage_thread.specs.Serving.{AsksClock, IsTimed, taken_as, Sai
 ghost use Rattle.storage_thread.specs.Serving.{GetsNone, GetsMessage, AnswersOpenRequest};
 ghost use Rattle.storage_thread.specs.Keeping.{LeadsKeeping, MayForgetNothing};
 
+use crate::answered_worker::AnsweredWorker;
 use crate::clock::Clock;
-use crate::idle::IdleTurns;
 use crate::reading_ahead::ReadAhead;
 use engine::{MAX_MOMENT, StorageEngine};
-use exchange::{Answered, Posted, StorageBatch, StorageEnd, StorageSignals, Taken};
+use exchange::{Answered, IdleTurns, Posted, StorageBatch, StorageEnd, StorageSignals, Taken};
 use std::sync::Wait;
 
 /// The workers are told of their answers at least at each so many.
 const ANSWERS_A_FLUSH: u64 = 8;
+
+/// So often it spins in a row before it parks: for two microseconds.
+const IDLE_TURNS: u32 = 10;
 
 /// What the storage thread leaves.
 #[derive(Drop)]
@@ -67,27 +70,46 @@ fn execute<S: StorageEngine, C: Clock>(
     end.answer_later(answered);
 }
 
-// Tells the workers of all answers, where the last one was an eighth.
-fn tell_eighth(end: &mut StorageBatch, executed: u64)
+// Tells the workers of all answers, and unparks the one that was answered last.
+fn tell(end: &mut StorageBatch, answered: &mut AnsweredWorker, signals: &StorageSignals)
+    ensures end { end.new.end ≡ end.old.end }
+    ensures told { end.new.told ≡ end.old.end.history }
+{
+    end.flush_answers();
+    answered.unpark(signals);
+}
+
+// The same, where the last answer was an eighth.
+fn tell_eighth(
+    end: &mut StorageBatch,
+    executed: u64,
+    answered: &mut AnsweredWorker,
+    signals: &StorageSignals,
+)
     ensures { end.new.end ≡ end.old.end }
 {
     if executed % ANSWERS_A_FLUSH == 0 {
-        end.flush_answers();
+        tell(end, answered, signals);
     }
 }
 
 // The next message among those that the last look at the lanes named. Where none is left, the workers are told of all
 // answers, and then the lanes are looked at.
-fn take_next(end: &mut StorageBatch, executed: u64) -> Option<Taken>
+fn take_next(
+    end: &mut StorageBatch,
+    executed: u64,
+    answered: &mut AnsweredWorker,
+    signals: &StorageSignals,
+) -> Option<Taken>
     requires { end.old.end.open_request ≡ None }
     ensures taken { MatchOption result (GetsNone end.old.end end.new.end) (GetsMessage end.old.end end.new.end) }
     ensures told { IfNone result (end.new.told ≡ end.new.end.history) }
 {
-    tell_eighth(end, executed);
+    tell_eighth(end, executed, answered, signals);
     if let Some(taken) = end.next_seen() {
         return Some(taken);
     }
-    end.flush_answers();
+    tell(end, answered, signals);
     end.next()
 }
 
@@ -131,21 +153,23 @@ pub fn run_storage<R: Wait, S: StorageEngine + Drop, C: Clock>(
     let mut end = storage_end.batched();
     let mut executed = 0u64;
     let mut left = end.workers();
-    let mut idle = IdleTurns::new();
+    let mut idle = IdleTurns::new(IDLE_TURNS);
     let mut ahead = ReadAhead::new();
+    let mut answered = AnsweredWorker::none();
     for _ in rt.forever() {
         if left == 0 {
-            end.flush_answers();
+            tell(&mut end, &mut answered, signals);
             return StorageReport {
                 clock,
                 storage_end: end.into_end(),
                 executed,
             };
         }
-        match take_next(&mut end, executed) {
+        match take_next(&mut end, executed, &mut answered, signals) {
             Some(Taken::Asked { worker, posted }) => {
                 ahead.note_taken(&store, &end, signals);
                 execute(&mut store, &mut clock, &mut end, worker, posted);
+                answered.note(worker, signals);
                 executed = executed.saturating_add(1);
                 idle.reset(signals.parking());
             }

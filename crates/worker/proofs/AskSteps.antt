@@ -15,9 +15,10 @@ use Rattle.exchange.specs.Ends.{WorkerView, WorkerBatchView}
 use Rattle.session_book.specs.declared.causes.Unsettled.{Unsettled}
 use Rattle.session_book.specs.Session.{SessionState, ReadsOn}
 use Rattle.session_book.specs.Book.{BookState, session_of, NextAsk, held_of, GivesNone, given_in, OnlyAt, unsettled_of as unsettled_at}
-use Rattle.worker.specs.Ports.{PortStory}
+use Rattle.worker_port.specs.Ports.{PortStory}
 use Rattle.worker.specs.declared.state.WorkerState.{WorkerState}
-use Rattle.worker.specs.Sessions.{port_facts, RunView, facts, asked_by, AreFactsConsistent}
+use Rattle.worker.specs.Sessions.{RunView, facts, asked_by, AreFactsConsistent}
+use Rattle.worker_port.specs.PortFacts.{port_facts}
 use Rattle.worker.specs.EndCauses.{piece_of}
 use Rattle.worker.specs.Workers.{once_flushed, end_of, posted_by, unsettled_post, IsNumbered, IsSteady, IsStoryKnown, run_view, IsWorkerServing}
 use Rattle.worker.proofs.Facts.{asked_here, asked_elsewhere}

@@ -10,16 +10,18 @@ use Rattle.session_book.specs.declared.causes.EndCause.TheVariants as causes
 use Rattle.session_book.specs.Session.{SessionState, IsInputFull, once_fed, held_fed, gave}
 use Rattle.proto.proofs.Options.{some_is}
 use Rattle.session_book.specs.Book.{BookState, session_of, out_of, held_of, OnlyAt, ChangesOpen}
-use Rattle.worker.specs.declared.port.PortRecord.{PortRecord}
-use Rattle.worker.specs.declared.port.PortRecord.TheVariants as was
+use Rattle.worker_port.specs.declared.events.PortRecord.{PortRecord}
+use Rattle.worker_port.specs.declared.events.PortRecord.TheVariants as was
 use Rattle.worker.specs.declared.state.WorkerState.{WorkerState}
-use Rattle.worker.specs.Ports.{PortStory, then_told, with_pause, is_open, give_records, has_ended, opened_count, AcceptsOnlyOpen}
-use Rattle.worker.specs.Sessions.{port_facts, RunView, facts, AreFactsConsistent, IsSessionServed}
+use Rattle.worker_port.specs.Ports.{PortStory, then_told, with_pause, is_open, give_records, has_ended, opened_count, AcceptsOnlyOpen}
+use Rattle.worker.specs.Sessions.{RunView, facts, AreFactsConsistent, IsSessionServed}
+use Rattle.worker_port.specs.PortFacts.{port_facts}
 use Rattle.worker.specs.EndCauses.{Rises, piece_of}
 use Rattle.worker.specs.Workers.{end_of, posted_by, IsSteady, AreSessionsCounted, IsStoryKnown, run_view, IsWorkerServing, Closes, LeavesWorker}
-use Rattle.worker.proofs.Facts.{elsewhere, accepted_here}
+use Rattle.worker_port.proofs.Facts.{elsewhere, accepted_here}
 use Rattle.worker.proofs.SessionSteps.{runs, served_fed, served_holding, served_gave}
-use Rattle.worker.proofs.RunViews.{facts_equal, change_at, at_other, at_same, ended_same, count_same, accepts_more}
+use Rattle.worker.proofs.RunViews.{facts_equal, change_at, at_other, at_same}
+use Rattle.worker_port.proofs.Lists.{ended_same, count_same, accepts_more}
 use Rattle.worker.proofs.StoryLaws.{paused_but, paused_elsewhere}
 use Rattle.worker.proofs.PieceLaws.{pieces_at}
 use Rattle.worker.proofs.WorkerSteps.{WorkerGoesOn, StoryFacts, steps_on, closes_in, steady_same, steady_closed, same_end}

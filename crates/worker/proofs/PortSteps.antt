@@ -11,19 +11,21 @@ use Rattle.session_book.specs.declared.causes.EndCause.{EndCause}
 use Rattle.session_book.specs.declared.causes.EndCause.TheVariants as causes
 use Rattle.session_book.specs.Session.{SessionState, new_session, once_fed, holding, finished_by}
 use Rattle.session_book.specs.Book.{BookState, session_of, held_of}
-use Rattle.worker.specs.declared.port.PortRecord.{PortRecord}
-use Rattle.worker.specs.declared.port.PortRecord.TheVariants as was
+use Rattle.worker_port.specs.declared.events.PortRecord.{PortRecord}
+use Rattle.worker_port.specs.declared.events.PortRecord.TheVariants as was
 use Rattle.worker.specs.declared.state.WorkerState.{WorkerState}
-use Rattle.worker.specs.Ports.{PortStory, then_told, with_pause, IsOpenIn, is_open, was_opened, has_ended, AcceptsOnlyOpen}
-use Rattle.worker.specs.Sessions.{PortFacts, port_facts, RunView, facts, cause_of, AreFactsConsistent}
+use Rattle.worker_port.specs.Ports.{PortStory, then_told, with_pause, IsOpenIn, is_open, was_opened, has_ended, AcceptsOnlyOpen}
+use Rattle.worker.specs.Sessions.{RunView, facts, cause_of, AreFactsConsistent}
+use Rattle.worker_port.specs.PortFacts.{PortFacts, port_facts}
 use Rattle.worker.specs.EndCauses.{Rises, piece_of}
 use Rattle.worker.specs.Workers.{end_of, posted_by, IsSteady, AreSessionsCounted, IsStoryKnown, run_view, IsWorkerServing, Closes, Shuts, LeavesWorker}
 use Rattle.worker.specs.Workers.{HandlesData, feeds, holds, shuts, drops, Admits, Refuses, SameRest}
 use Rattle.worker.proofs.EndCauseLemmas.{rises_more, rises_with, length-with, cause_more, cause_new}
-use Rattle.worker.proofs.Facts.{elsewhere, opened_here, fed_here, shut_here}
+use Rattle.worker_port.proofs.Facts.{elsewhere, opened_here, fed_here, shut_here}
 use Rattle.worker.proofs.SessionSteps.{Stays, served_came, closed_no_memory, runs, runs_at_port, untouched, is_running, is_unopened, served_new}
 use Rattle.worker.proofs.SessionSteps.{opened_if_placed}
-use Rattle.worker.proofs.RunViews.{facts_equal, change_at, at_other, at_same, ended_same, ended_now, count_same, count_more, accepts_more, ClosesIn}
+use Rattle.worker.proofs.RunViews.{facts_equal, change_at, at_other, at_same, ClosesIn}
+use Rattle.worker_port.proofs.Lists.{ended_same, ended_now, count_same, count_more, accepts_more}
 use Rattle.worker.proofs.RunViews.{shuts_here, close_all, apart_shut}
 use Rattle.worker.proofs.StoryLaws.{told_before, two_calls, paused_elsewhere, paused_kept, paused_but, paused_more, resumed_holds_none}
 use Rattle.worker.proofs.PieceLaws.{pieces_at, pieces_kept, fed_piece}

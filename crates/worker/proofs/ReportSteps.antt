@@ -20,7 +20,7 @@ use Rattle.session_book.specs.declared.causes.EndCause.{EndCause}
 use Rattle.session_book.specs.declared.causes.EndCause.TheVariants as causes
 use Rattle.session_book.specs.Session.{SessionState, left, ended_by, finished_by, Stops, ended, waiting, no_message}
 use Rattle.session_book.specs.Book.{session_of, held_of}
-use Rattle.worker.specs.Ports.{fed, given}
+use Rattle.worker_port.specs.Ports.{fed, given}
 use Rattle.worker.specs.Sessions.{SessionFacts, RunView, facts, asked_by, had_by, cause_of, IsKnownAs, IsReportedAs, IsClosed, IsRunning, IsSessionServed}
 use Rattle.worker.specs.Sessions.{BeginsWith}
 use Rattle.worker.specs.Workers.{IsEmptied, IsStoryKnown}

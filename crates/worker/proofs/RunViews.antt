@@ -1,17 +1,14 @@
 -- What changes at one session leaves what is known of the others.
-use Rattle.std.proofs.Common.{◌≡◌, ◌≢◌, ℕ, ◌+◌, ◌==◌, true, false, cond, eq-eqb, ne_eqb}
-use Rattle.std.proofs.Common.{List, [], ◌∷◌, ◌++◌, refl, sym, ap, subst, ◌∙◌, append-nil}
-use Rattle.std.proofs.Common.{append_assoc, arith, Some, None}
-use Rattle.std.specs.List.{sum_by}
-use Rattle.std.proofs.lemmas.List.Sums.{sum_by-append}
+use Rattle.std.proofs.Common.{◌≡◌, ◌≢◌, ℕ, ◌==◌, true, false, cond, eq-eqb, ne_eqb}
+use Rattle.std.proofs.Common.{List, [], ◌∷◌, ◌++◌, refl, sym, ap, subst, ◌∙◌, Some, None}
 use Rattle.session_book.specs.declared.causes.EndCause.{EndCause}
 use Rattle.session_book.specs.Book.{session_of}
-use Rattle.worker.specs.declared.port.PortRecord.{PortRecord}
-use Rattle.worker.specs.declared.port.PortRecord.TheVariants.{Opened, Gone, Ended, Shut}
-use Rattle.worker.specs.Ports.{has_ended, is_end, opened_count, opens, IsProper, AreProperAfter, AcceptsOnlyOpen}
-use Rattle.worker.specs.Sessions.{PortFacts, port_facts, SessionFacts, asked_by, had_by, cause_of, RunView, facts, AreFactsConsistent, IsClosed}
+use Rattle.worker_port.specs.declared.events.PortRecord.{PortRecord}
+use Rattle.worker_port.specs.declared.events.PortRecord.TheVariants.{Gone, Shut}
+use Rattle.worker.specs.Sessions.{SessionFacts, asked_by, had_by, cause_of, RunView, facts, AreFactsConsistent, IsClosed}
+use Rattle.worker_port.specs.PortFacts.{PortFacts, port_facts}
 use Rattle.worker.specs.EndCauses.{with_cause}
-use Rattle.worker.proofs.Facts.{about, elsewhere, shut_here, gone_here, any_no, any_yes}
+use Rattle.worker_port.proofs.Facts.{about, elsewhere, shut_here, gone_here}
 use Rattle.worker.proofs.EndCauseLemmas.{cause_apart, cause_here}
 use Rattle.worker.proofs.SessionSteps.{Stays, is_closed}
 use Rattle.proto.proofs.CountLemmas.{either_way}
@@ -34,40 +31,6 @@ at_other t s x y ne = ap (λ b. cond b x y) (ne_eqb s t (λ e. ne (sym e)))
 -- and its own value at that number
 pub at_same : {A : Type 0} (t : ℕ) (x y : A) → cond (t == t) x y ≡ x
 at_same t x y = ap (λ b. cond b x y) (eq-eqb t t refl)
-
--- ---- the list as a whole
-
--- an entry that isn't the end leaves whether the port has ended
-pub ended_same : (l : List PortRecord) (x : PortRecord) → is_end x ≡ false → has_ended (l ++ x ∷ []) ≡ has_ended l
-ended_same l x e = any_no is_end l x e
-
--- behind the end the port has ended
-pub ended_now : (l : List PortRecord) → has_ended (l ++ Ended ∷ []) ≡ true
-ended_now l = any_yes is_end l Ended refl
-
--- an entry that opens nothing leaves how many sessions were opened
-pub count_same : (l : List PortRecord) (x : PortRecord) → opens x ≡ false → opened_count (l ++ x ∷ []) ≡ opened_count l
-count_same l x e = let h = sum_by-append (λ (y : PortRecord). cond (opens y) 1 0) l (x ∷ []) in
-    let k : sum_by (λ (y : PortRecord). cond (opens y) 1 0) (x ∷ []) ≡ 0 = ap (λ b. 0 + cond b 1 0) e in
-    omega (arith, h, k)
-
--- an entry that opens a session counts one more
-pub count_more : (l : List PortRecord) (t : ℕ) → opened_count (l ++ Opened t ∷ []) ≡ opened_count l + 1
-count_more l t = let h = sum_by-append (λ (y : PortRecord). cond (opens y) 1 0) l (Opened t ∷ []) in omega (arith, h)
-
--- behind proper entries one may come that is proper after all that stand before it
-proper_after : (before l : List PortRecord) (x : PortRecord) → AreProperAfter before l → IsProper (before ++ l) x
-    → AreProperAfter before (l ++ x ∷ [])
-proper_after before [] x h k = (subst (λ y. IsProper y x) (append-nil before) k, tt)
-proper_after before (y ∷ l) x h k = (
-  h.0,
-  proper_after (before ++ y ∷ []) l x h.1 (subst (λ z. IsProper z x) (sym (append_assoc before (y ∷ []) l)) k),
-)
-
--- where bytes were accepted for open sessions only, they are so behind one more proper entry
-pub accepts_more : (l : List PortRecord) (x : PortRecord) → AcceptsOnlyOpen l → IsProper l x
-    → AcceptsOnlyOpen (l ++ x ∷ [])
-accepts_more l x h k = proper_after [] l x h k
 
 -- ---- a session is closed
 

@@ -20,18 +20,20 @@ use Rattle.session_book.specs.declared.causes.EndCause.TheVariants as causes
 use Rattle.session_book.specs.declared.causes.Unsettled.{Unsettled}
 use Rattle.session_book.specs.Session.{SessionState, with_reply}
 use Rattle.session_book.specs.Book.{BookState, session_of, held_of, IsOldest, SettlesOldest, SettlesReply}
-use Rattle.worker.specs.declared.port.PortRecord.{PortRecord}
-use Rattle.worker.specs.declared.port.PortRecord.TheVariants as was
+use Rattle.worker_port.specs.declared.events.PortRecord.{PortRecord}
+use Rattle.worker_port.specs.declared.events.PortRecord.TheVariants as was
 use Rattle.worker.specs.declared.state.WorkerState.{WorkerState}
-use Rattle.worker.specs.Sessions.{PortFacts, port_facts, RunView, facts, asked_by, had_by, cause_of, AreFactsConsistent, IsSessionServed}
-use Rattle.worker.specs.Ports.{PortStory, then_told, has_ended, AcceptsOnlyOpen}
+use Rattle.worker.specs.Sessions.{RunView, facts, asked_by, had_by, cause_of, AreFactsConsistent, IsSessionServed}
+use Rattle.worker_port.specs.PortFacts.{PortFacts, port_facts}
+use Rattle.worker_port.specs.Ports.{PortStory, then_told, has_ended, AcceptsOnlyOpen}
 use Rattle.worker.specs.EndCauses.{Rises, piece_of}
 use Rattle.worker.specs.Workers.{once_flushed, end_of, posted_by, unsettled_post, IsNumbered, IsSteady, AreSessionsCounted, IsStoryKnown, run_view, IsWorkerServing}
 use Rattle.worker.specs.Workers.{TakesNone, TakesBack, Shuts}
 use Rattle.worker.proofs.Facts.{had_here, had_elsewhere}
 use Rattle.worker.proofs.SessionSteps.{runs, is_running, Stays, served_settled, closed_starved, dropped}
 use Rattle.worker.proofs.EndCauseLemmas.{rises_with, length-with}
-use Rattle.worker.proofs.RunViews.{facts_equal, change_at, at_other, at_same, ended_same, count_same, accepts_more, ClosesIn, close_all, shuts_here, apart_shut}
+use Rattle.worker.proofs.RunViews.{facts_equal, change_at, at_other, at_same, ClosesIn, close_all, shuts_here, apart_shut}
+use Rattle.worker_port.proofs.Lists.{ended_same, count_same, accepts_more}
 use Rattle.worker.proofs.StoryLaws.{same_story, paused_kept, paused_but, paused_elsewhere}
 use Rattle.worker.proofs.PieceLaws.{pieces_kept, pieces_gone}
 use Rattle.worker.proofs.WorkerSteps.{WorkerGoesOn, steps_on, steady_closed, same_end, closes_in}

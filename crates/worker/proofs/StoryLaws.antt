@@ -4,11 +4,11 @@ use Rattle.std.proofs.Common.{take, refl, sym, ap, ◌∙◌, Option, Some}
 use Rattle.std.proofs.Common.{None, is_some, Ok}
 use Rattle.std.specs.Option.{option_map}
 use Rattle.proto.proofs.Options.{some_is}
-use Rattle.worker.specs.declared.port.PortRecord.{PortRecord}
-use Rattle.worker.specs.declared.port.PortRecord.TheVariants as was
-use Rattle.worker.specs.Ports.{PortStory, are_end_of, then_told, give_records}
+use Rattle.worker_port.specs.declared.events.PortRecord.{PortRecord}
+use Rattle.worker_port.specs.declared.events.PortRecord.TheVariants as was
+use Rattle.worker_port.specs.Ports.{PortStory, are_end_of, then_told, give_records}
 use Rattle.worker.specs.Workers.{ArePaused}
-use Rattle.worker.proofs.Facts.{about}
+use Rattle.worker_port.proofs.Facts.{about}
 use Rattle.worker.proofs.RunViews.{at_other}
 use Rattle.proto.proofs.CountLemmas.{either_way}
 

@@ -9,22 +9,24 @@ use Rattle.session_book.specs.declared.causes.EndCause.{EndCause}
 use Rattle.session_book.specs.declared.causes.EndCause.TheVariants as causes
 use Rattle.session_book.specs.Session.{SessionState, once_fed, holding}
 use Rattle.session_book.specs.Book.{BookState, session_of}
-use Rattle.worker.specs.declared.port.PortRecord.{PortRecord}
-use Rattle.worker.specs.declared.port.PortRecord.TheVariants as was
+use Rattle.worker_port.specs.declared.events.PortRecord.{PortRecord}
+use Rattle.worker_port.specs.declared.events.PortRecord.TheVariants as was
 use Rattle.worker.specs.declared.state.WorkerState.{WorkerState}
-use Rattle.worker.specs.Ports.{PortStory, then_told, IsOpenIn, is_open, was_opened, has_gone, was_shut, has_ended, opened_count, IsProper, AcceptsOnlyOpen}
-use Rattle.worker.specs.Sessions.{PortFacts, port_facts, SessionFacts, RunView, facts, asked_by, had_by, cause_of, AreFactsConsistent, IsSessionServed}
+use Rattle.worker_port.specs.Ports.{PortStory, then_told, IsOpenIn, is_open, was_opened, has_gone, was_shut, has_ended, opened_count, IsProper, AcceptsOnlyOpen}
+use Rattle.worker.specs.Sessions.{SessionFacts, RunView, facts, asked_by, had_by, cause_of, AreFactsConsistent, IsSessionServed}
+use Rattle.worker_port.specs.PortFacts.{PortFacts, port_facts}
 use Rattle.worker.specs.Sessions.{IsClosed}
 use Rattle.worker.specs.EndCauses.{Rises, piece_of}
 use Rattle.worker.specs.Workers.{end_of, posted_by, IsSteady, AreSessionsCounted, IsStoryKnown, run_view, ArePaused, IsWorkerServing, IsSameEnd}
 use Rattle.worker.specs.Workers.{Continues, Closes, Shuts}
 use Rattle.worker.proofs.EndCauseLemmas.{rises_with, length-with}
-use Rattle.worker.proofs.Facts.{about, elsewhere, fed_here}
+use Rattle.worker_port.proofs.Facts.{about, elsewhere, fed_here}
 use Rattle.worker.proofs.SessionSteps.{Runs, runs, runs_at_port, is_running, closed_gone, closed_no_memory, closed_finished, served_came, served_fed}
 use Rattle.worker.proofs.SessionSteps.{served_holding}
 use Rattle.worker.proofs.StoryLaws.{told_before, tells_as, paused_but, paused_elsewhere}
 use Rattle.worker.proofs.PieceLaws.{pieces_at}
-use Rattle.worker.proofs.RunViews.{facts_equal, change_at, at_other, at_same, ended_same, count_same, accepts_more, ClosesIn, shuts_here, goes_here, stays}
+use Rattle.worker.proofs.RunViews.{facts_equal, change_at, at_other, at_same, ClosesIn, shuts_here, goes_here, stays}
+use Rattle.worker_port.proofs.Lists.{ended_same, count_same, accepts_more}
 use Rattle.worker.proofs.RunViews.{close_all, apart_shut, apart_gone}
 
 -- a worker went on, and still serves

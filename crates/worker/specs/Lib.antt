@@ -1,4 +1,3 @@
-pub mod Ports
 pub mod Sessions
 pub mod EndCauses
 pub mod Workers

@@ -11,8 +11,8 @@ use Rattle.exchange.specs.Ends.{WorkerView}
 use Rattle.session_book.specs.declared.causes.EndCause.{EndCause}
 use Rattle.session_book.specs.declared.causes.EndCause.TheVariants as causes
 use Rattle.session_book.specs.Session.{ended_by}
-use Rattle.worker.specs.declared.port.PortRecord.{PortRecord}
-use Rattle.worker.specs.Ports.{fed, given, was_opened, has_gone, was_shut, has_ended, AcceptsOnlyOpen}
+use Rattle.worker_port.specs.declared.events.PortRecord.{PortRecord}
+use Rattle.worker_port.specs.Ports.{fed, given, was_opened, has_gone, was_shut, has_ended, AcceptsOnlyOpen}
 use Rattle.worker.specs.Sessions.{cause_of}
 use Rattle.worker.specs.EndCauses.{Rises}
 use Rattle.worker.specs.Workers.{AreSessionsCounted}

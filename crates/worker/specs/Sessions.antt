@@ -15,26 +15,8 @@ use Rattle.session_book.specs.declared.causes.EndCause.TheVariants as causes
 use Rattle.session_book.specs.Session.{SessionState, ended_by}
 use Rattle.session_book.specs.Book.{BookState, session_of}
 use Rattle.session_book.specs.Accounts.{HasRead, HasSaid}
-use Rattle.worker.specs.declared.port.PortRecord.{PortRecord}
-use Rattle.worker.specs.Ports.{fed, given, was_opened, has_gone, was_shut}
-
--- what the port's list says of a session
-pub record PortFacts : Type 0 where
-  pub opened : Bool
-  pub gone : Bool
-  pub shut : Bool
-  pub fed : List ℕ
-  pub given : List ℕ
-
-abbrev pub port_facts : List PortRecord → ℕ → PortFacts
-port_facts events s =
-    record {
-      opened = was_opened s events;
-      gone = has_gone s events;
-      shut = was_shut s events;
-      fed = fed s events;
-      given = given s events;
-    }
+use Rattle.worker_port.specs.declared.events.PortRecord.{PortRecord}
+use Rattle.worker_port.specs.PortFacts.{PortFacts, port_facts}
 
 -- the requests that were posted for a session
 abbrev pub asked_by : List Posted → ℕ → List Request

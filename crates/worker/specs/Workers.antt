@@ -15,10 +15,10 @@ use Rattle.session_book.specs.declared.causes.Unsettled.{Unsettled}
 use Rattle.session_book.specs.declared.causes.EndCause.TheVariants as causes
 use Rattle.session_book.specs.Session.{SessionState, new_session, once_fed, holding, finished_by, Stops}
 use Rattle.session_book.specs.Book.{BookState, session_of, ChangesSession, OnlyAt, GivesNone}
-use Rattle.worker.specs.declared.port.PortRecord.{PortRecord}
-use Rattle.worker.specs.declared.port.PortRecord.TheVariants as was
+use Rattle.worker_port.specs.declared.events.PortRecord.{PortRecord}
+use Rattle.worker_port.specs.declared.events.PortRecord.TheVariants as was
 use Rattle.worker.specs.declared.state.WorkerState.{WorkerState}
-use Rattle.worker.specs.Ports.{PortStory, then_told, with_pause, has_ended, opened_count, AcceptsOnlyOpen}
+use Rattle.worker_port.specs.Ports.{PortStory, then_told, with_pause, has_ended, opened_count, AcceptsOnlyOpen}
 use Rattle.worker.specs.Sessions.{RunView, facts, AreFactsConsistent}
 use Rattle.worker.specs.EndCauses.{Rises, with_cause, piece_of}
 

@@ -4,20 +4,20 @@ ghost use Rattle.std.specs.Prelude.{◌≡◌, ◌<◌, [], true, false, is_some
 ghost use Rattle.session_book.specs.Session.{SessionState};
 ghost use Rattle.session_book.specs.Book.{session_of};
 ghost use Rattle.worker.specs.Workers.{end_of, Continues, IsStill, IsEmptied, IsDrained};
-ghost use Rattle.worker.specs.Ports.{PortStory};
+ghost use Rattle.worker_port.specs.Ports.{PortStory};
 ghost use Rattle.worker.specs.Reports.{IsReported, IsOver};
 
 use crate::gate::Gate;
-use crate::port::Port;
 use crate::report::WorkerReport;
 use crate::sending;
 use crate::state::WorkerState;
+use crate::waiting::Waiting;
 use crate::worker::Worker;
-use crossbeam_utils::Backoff;
 use exchange::{StorageSignals, WorkerEnd};
 use session_book::{EndCause, MAX_POSTS, MAX_UNSETTLED};
 use std::alloc::Global;
 use std::sync::Wait;
+use worker_port::Port;
 
 /// The most events that are taken in a turn. Storage is told of their requests together, so it is woken once for them.
 const EVENTS_A_TURN: usize = 32;
@@ -228,15 +228,16 @@ pub fn run_worker<P: Port, G: Gate, R: Wait>(
     ensures reported { (story : PortStory) → P.told result.port ≡ Some story
         → IsReported story.events result.worker_end result.sessions.items result.unopened }
 {
+    let parking = storage.worker_parking(worker_end.worker());
     let mut worker = Worker::new(alloc, port, worker_end);
-    let backoff = Backoff::new();
+    let mut waiting = Waiting::new();
     for _ in rt.forever() {
         if take_turn(&mut worker, gate, storage) {
-            backoff.reset();
+            waiting.reset(parking);
         } else if has_drained(&mut worker) {
             return leave(worker, storage);
         } else {
-            backoff.snooze();
+            waiting.turn(rt, worker.state.outstanding() > 0, parking);
         }
     }
     unreachable!()

@@ -3,16 +3,16 @@
 ghost use Rattle.std.specs.Prelude.{◌≡◌, ◌≤◌, ◌+◌, ◌⊎◌, Some, None, IsSome, [], length};
 ghost use Rattle.session_book.specs.Book.{session_of};
 ghost use Rattle.worker.specs.EndCauses.{piece_of};
-ghost use Rattle.worker.specs.Ports.{PortStory, IsOpenIn};
+ghost use Rattle.worker_port.specs.Ports.{PortStory, IsOpenIn};
 ghost use Rattle.worker.specs.Workers.{end_of, Closes, Shuts, Admits, Refuses, SameRest, HandlesData};
 
 use crate::end_causes::set_cause;
-use crate::port::Port;
 use crate::reply_buffers::ReplyBuffers;
 use bytes::Bytes;
 use exchange::WorkerBatch;
 use proto::Posted;
 use session_book::{Book, EndCause, Received};
+use worker_port::Port;
 
 /// What a worker holds. While it takes a step, these parts needn't agree.
 #[derive(Drop)]

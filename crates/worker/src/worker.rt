@@ -3,12 +3,11 @@
 ghost use Rattle.std.specs.Prelude.{◌≡◌, true, false, Some, None, []};
 ghost use Rattle.session_book.specs.Session.{SessionState, finished_by};
 ghost use Rattle.session_book.specs.Book.{session_of};
-ghost use Rattle.worker.specs.Ports.{PortStory};
+ghost use Rattle.worker_port.specs.Ports.{PortStory};
 ghost use Rattle.worker.specs.Workers.{end_of, Continues, IsQuiet};
 ghost use Rattle.std.specs.Option.{option_and_then};
 
 use crate::gate::Gate;
-use crate::port::{Gone, Port, PortEvent};
 use crate::reply_buffers::ReplyBuffers;
 use crate::sending;
 use crate::state::WorkerState;
@@ -17,6 +16,7 @@ use proto::Posted;
 use session_book::{Book, EndCause, MAX_UNSETTLED, Settled};
 use std::alloc::Global;
 use std::marker::Model;
+use worker_port::{Gone, Port, PortEvent};
 
 /// A worker. Contracts see it as its state, of which all parts agree between its steps, with the port's story too where the
 /// port tells it.

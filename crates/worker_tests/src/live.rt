@@ -20,7 +20,8 @@ use std::thread;
 use std::thread::Threads;
 use std::time::Clock;
 use storage_thread::{StorageReport, run_storage};
-use worker::{Gone, Port, PortEvent, run_worker};
+use worker::run_worker;
+use worker_port::{Gone, Port, PortEvent};
 
 /// The most bytes of one piece.
 const MAX_PIECE: usize = 16_384;

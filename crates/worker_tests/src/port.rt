@@ -8,7 +8,7 @@ use bytes::Bytes;
 use std::alloc::Global;
 use std::collections::VecDeque;
 use std::process::Abort;
-use worker::{Gone, Port, PortEvent, PortRecord};
+use worker_port::{Gone, Port, PortEvent, PortRecord};
 
 /// The most bytes of one piece.
 const MAX_PIECE: usize = 16_384;

@@ -1,9 +1,9 @@
 //! What a port's records say of a session.
 
 ghost use Rattle.std.specs.Prelude.{◌≡◌, ℕ, ◌<◌, ◌≤◌, true};
-ghost use Rattle.worker.specs.Ports.{is_open, was_opened, has_ended};
+ghost use Rattle.worker_port.specs.Ports.{is_open, was_opened, has_ended};
 
-use worker::PortRecord;
+use worker_port::PortRecord;
 
 /// Whether the session was opened, and is neither gone nor shut.
 pub(crate) fn is_open_in(records: &[PortRecord], session: u64) -> bool

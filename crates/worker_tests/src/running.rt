@@ -17,7 +17,8 @@ use std::sync::{Arc, Wait};
 use std::thread::Threads;
 use std::{thread, time};
 use storage_thread::{Clock, StorageReport, run_storage};
-use worker::{Gate, PortRecord, run_worker};
+use worker::{Gate, run_worker};
+use worker_port::PortRecord;
 
 /// It is 1000 at all times.
 #[derive(Drop)]

@@ -2,7 +2,7 @@ use Rattle.std.proofs.Common.{rules, ◌≡◌, ◌<◌, ◌≤◌, ℕ, List, �
 use Rattle.std.proofs.lemmas.List.{take_all}
 use Rattle.std.specs.Prelude.{flat_map, slice_index_or}
 use Rattle.std.specs.Io.KnownBytes.{Appends}
-use Rattle.worker.specs.Ports.{given}
+use Rattle.worker_port.specs.Ports.{given}
 use Rattle.script.specs.PortSessions.{ScriptSessionState}
 use Rattle.replay.specs.Printed.{printed_line}
 use Rattle.replay.proofs.Lines.{over_numbers, one_more}

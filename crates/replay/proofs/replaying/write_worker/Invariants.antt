@@ -1,7 +1,7 @@
 use Rattle.std.proofs.Common.{◌≡◌, take}
 use Rattle.std.specs.Prelude.{flat_map}
 use Rattle.std.specs.Io.KnownBytes.{Appends}
-use Rattle.worker.specs.Ports.{given}
+use Rattle.worker_port.specs.Ports.{given}
 use Rattle.script.specs.Records.{opened}
 use Rattle.script.specs.PortSessions.{ScriptSessionState, numbers}
 use Rattle.replay.specs.Printed.{printed_line}

@@ -1,6 +1,6 @@
 use Rattle.std.proofs.Common.{rules, arith, ℕ, ◌<◌, All, sym, ap, subst, ◌∙◌}
 use Rattle.proto.specs.declared.history.Posted.{Posted}
-use Rattle.exchange.specs.Ends.{StorageView, StorageBatchView}
+use Rattle.exchange.specs.Ends.{StorageView}
 use Rattle.storage_thread.specs.Serving.{SaidBye}
 use Rattle.storage_thread.specs.Keeping.{LeadsKeeping, MayForgetNothing}
 use Rattle.storage_thread.proofs.Kept.{none_forgotten}
@@ -34,18 +34,18 @@ loop-preserved-in-Some-Asked g c = let i = c.loop.invariant in
 
 pub returns-then-left-eq0-clause-bye : goal.returns-then-left-eq0-clause-bye
 returns-then-left-eq0-clause-bye g c = let i = c.loop.invariant in let all = i.4 in
-    let same = c.into_end.ensures ∙ ap (λ (z : StorageBatchView). z.end) c.flush_answers.ensures in
+    let same = c.into_end.ensures ∙ c.tell.ensures.end in
     subst SaidBye (sym same) (all_said _ _ _ _ i.2 (search rules))
 
 pub returns-then-left-eq0-clause-inside : goal.returns-then-left-eq0-clause-inside
 returns-then-left-eq0-clause-inside g c = let i = c.loop.invariant in
-    let same = c.into_end.ensures ∙ ap (λ (z : StorageBatchView). z.end) c.flush_answers.ensures in
+    let same = c.into_end.ensures ∙ c.tell.ensures.end in
     subst (λ (z : StorageView). All (λ e. e.worker < c.args.storage_end.workers) z.history) (sym same)
     (subst (λ n. All (λ e. e.worker < n) c.loop.end.end.history) i.2.same.1 i.2.known)
 
 pub returns-then-left-eq0-clause-bounded : goal.returns-then-left-eq0-clause-bounded
 returns-then-left-eq0-clause-bounded g c start = let i = c.loop.invariant in
-    let same = c.into_end.ensures ∙ ap (λ (z : StorageBatchView). z.end) c.flush_answers.ensures in
+    let same = c.into_end.ensures ∙ c.tell.ensures.end in
     subst (λ (z : StorageView). MayForgetNothing c.args.storage_end.geometry z.history) (sym same)
     (subst (λ sizes. MayForgetNothing sizes c.loop.end.end.history) i.2.same.2
     (none_forgotten c.loop.end.end.geometry c.loop.end.end.history _ _ (i.8 start)))

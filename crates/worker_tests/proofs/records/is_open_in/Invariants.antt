@@ -1,5 +1,5 @@
 use Rattle.std.proofs.Common.{◌≡◌, take}
-use Rattle.worker.specs.Ports.{was_opened, has_gone, was_shut}
+use Rattle.worker_port.specs.Ports.{was_opened, has_gone, was_shut}
 use Rattle.worker_tests.proofs.records.is_open_in.Given as goal
 
 abbrev pub invariant-loop-entry : goal.invariant-loop-entry

@@ -1,5 +1,5 @@
 use Rattle.std.proofs.Common.{◌≡◌, ℕ, ◌≤◌, take, true}
-use Rattle.worker.specs.Ports.{was_opened}
+use Rattle.worker_port.specs.Ports.{was_opened}
 use Rattle.worker_tests.proofs.records.newest_in.Given as goal
 
 abbrev pub invariant-loop-entry : goal.invariant-loop-entry

@@ -1,11 +1,11 @@
 use Rattle.std.proofs.Common.{◌≡◌, ◌≢◌, ℕ, false, [], ◌∷◌, ◌++◌, refl, subst, sym, ◌∙◌, ap, not, true≢false, ne_eqb}
 use Rattle.std.proofs.Common.{⊎_elim}
-use Rattle.worker.specs.declared.port.PortRecord.{PortRecord}
-use Rattle.worker.specs.declared.port.PortRecord.TheVariants as was
-use Rattle.worker.specs.Ports.{has_ended, is_end, fed_by, is_leaving}
-use Rattle.worker.specs.Sessions.{port_facts}
-use Rattle.worker.proofs.Facts.{about}
-use Rattle.worker.proofs.RunViews.{ended_same}
+use Rattle.worker_port.specs.declared.events.PortRecord.{PortRecord}
+use Rattle.worker_port.specs.declared.events.PortRecord.TheVariants as was
+use Rattle.worker_port.specs.Ports.{has_ended, is_end, fed_by, is_leaving}
+use Rattle.worker_port.specs.PortFacts.{port_facts}
+use Rattle.worker_port.proofs.Facts.{about}
+use Rattle.worker_port.proofs.Lists.{ended_same}
 use Rattle.script.specs.declared.stage.Stage.TheVariants.{Closed}
 use Rattle.script.specs.PortSessions.{ScriptSessionState, newest, last_from, session_entry, is_session_open}
 use Rattle.script.specs.PortSessions.{is_some_and, is_closed, was_closed, is_waiting}

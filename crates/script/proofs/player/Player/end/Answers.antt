@@ -1,10 +1,10 @@
 use Rattle.std.proofs.Common.{◌≡◌, List, [], ◌∷◌, ◌++◌, refl, subst, sym, ◌∙◌, ap}
-use Rattle.worker.specs.declared.port.PortRecord.{PortRecord}
-use Rattle.worker.specs.declared.port.PortRecord.TheVariants as was
-use Rattle.worker.specs.Ports.{has_ended}
-use Rattle.worker.specs.Sessions.{port_facts}
-use Rattle.worker.proofs.Facts.{elsewhere}
-use Rattle.worker.proofs.RunViews.{ended_now}
+use Rattle.worker_port.specs.declared.events.PortRecord.{PortRecord}
+use Rattle.worker_port.specs.declared.events.PortRecord.TheVariants as was
+use Rattle.worker_port.specs.Ports.{has_ended}
+use Rattle.worker_port.specs.PortFacts.{port_facts}
+use Rattle.worker_port.proofs.Facts.{elsewhere}
+use Rattle.worker_port.proofs.Lists.{ended_now}
 use Rattle.script.specs.Remaining.{in_order}
 use Rattle.script.specs.PortSessions.{session_entry, was_closed}
 use Rattle.script.specs.Players.{Agrees, events_left}

@@ -1,7 +1,7 @@
 use Rattle.std.proofs.Common.{true≢false, refl, sym, ap, ◌∙◌}
 use Rattle.script.specs.declared.event.ScriptEvent.TheVariants.{Gone}
 use Rattle.script.specs.declared.player.Player.{Player}
-use Rattle.worker.specs.declared.port.PortRecord.TheVariants as was
+use Rattle.worker_port.specs.declared.events.PortRecord.TheVariants as was
 use Rattle.script.specs.Remaining.{RemainingState}
 use Rattle.script.specs.PortSessions.{is_session_open}
 use Rattle.script.specs.Players.{RecordsClose}

@@ -1,8 +1,8 @@
 use Rattle.std.proofs.Common.{◌≡◌, ℕ, List, [], ◌∷◌, ◌++◌, refl, sym, ◌∙◌, ap, not, ne_eqb}
-use Rattle.worker.specs.declared.port.PortRecord.{PortRecord}
-use Rattle.worker.specs.declared.port.PortRecord.TheVariants as was
-use Rattle.worker.specs.Ports.{has_ended}
-use Rattle.worker.proofs.RunViews.{ended_same}
+use Rattle.worker_port.specs.declared.events.PortRecord.{PortRecord}
+use Rattle.worker_port.specs.declared.events.PortRecord.TheVariants as was
+use Rattle.worker_port.specs.Ports.{has_ended}
+use Rattle.worker_port.proofs.Lists.{ended_same}
 use Rattle.script.specs.PortSessions.{ScriptSessionState, newest, last_from, is_session_open, is_closed, is_waiting}
 use Rattle.script.specs.PortSessions.{was_closed, with_output, AcceptsAt}
 use Rattle.script.specs.Remaining.{in_order}

@@ -1,6 +1,6 @@
 use Rattle.std.proofs.Common.{ℕ, List, [], ◌∷◌, ◌++◌, refl, sym, subst, ◌∙◌}
-use Rattle.worker.specs.declared.port.PortRecord.TheVariants as was
-use Rattle.worker.specs.declared.port.PortEvent.TheVariants as event
+use Rattle.worker_port.specs.declared.events.PortRecord.TheVariants as was
+use Rattle.worker_port.specs.declared.events.PortEvent.TheVariants as event
 use Rattle.script.specs.Players.{player_state, TellsNext}
 use Rattle.script.proofs.StepLemmas.{SendsTo, send_consistent, send_told}
 use Rattle.script.proofs.player.Player.send.Goals as goal

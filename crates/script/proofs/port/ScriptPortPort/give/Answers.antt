@@ -1,5 +1,5 @@
 use Rattle.std.proofs.Common.{◌++◌, ap, ◌∙◌, subst}
-use Rattle.worker.specs.Ports.{give_records}
+use Rattle.worker_port.specs.Ports.{give_records}
 use Rattle.script.specs.States.{PortState, Gives}
 use Rattle.script.specs.Players.{player_state}
 use Rattle.script.proofs.ToldLemmas.{open_in_table, told_give}

@@ -1,5 +1,5 @@
 use Rattle.std.proofs.Common.{[], ◌∷◌, ◌++◌, ap, ◌∙◌, subst}
-use Rattle.worker.specs.declared.port.PortRecord.TheVariants.{Shut}
+use Rattle.worker_port.specs.declared.events.PortRecord.TheVariants.{Shut}
 use Rattle.script.specs.States.{PortState, DropsSession}
 use Rattle.script.specs.Players.{player_state}
 use Rattle.script.proofs.ToldLemmas.{open_in_table, told_shut}

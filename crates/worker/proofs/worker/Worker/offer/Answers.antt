@@ -2,7 +2,7 @@ use Rattle.std.proofs.Common.{ℕ, List, ◌++◌, refl, sym, ap, ◌∙◌, Ok}
 use Rattle.std.specs.Option.{option_map}
 use Rattle.session_book.specs.Session.{SessionState, gave}
 use Rattle.session_book.specs.Book.{BookState, session_of}
-use Rattle.worker.specs.Ports.{then_told, give_records}
+use Rattle.worker_port.specs.Ports.{then_told, give_records}
 use Rattle.worker.specs.EndCauses.{piece_of}
 use Rattle.worker.specs.Workers.{run_view}
 use Rattle.worker.proofs.StoryLaws.{paused_kept, paused_given}

@@ -1,6 +1,6 @@
 use Rattle.std.proofs.Common.{◌≡◌, [], ap, sym, ◌∙◌, Option}
 use Rattle.std.specs.Option.{option_map_or}
-use Rattle.worker.specs.Ports.{PortStory, was_opened, has_ended}
+use Rattle.worker_port.specs.Ports.{PortStory, was_opened, has_ended}
 use Rattle.worker_tests.proofs.port.TestPortPort.next.Goals as goal
 
 pub returns-else-not-is_new_in-clause-may : goal.returns-else-not-is_new_in-clause-may

@@ -1,31 +1,31 @@
 //! What a thread does in a turn in which nothing came.
 
-use exchange::ParkingWord;
+use crate::ParkingWord;
 use std::hint;
 use std::sync::Wait;
 use std::time::Duration;
 
-/// How often an idle turn spins: with the look at the lanes it takes some 200 nanoseconds.
+/// How often an idle turn spins: with the look for work it takes some 200 nanoseconds.
 const SPINS_A_TURN: u32 = 4;
 
-/// After so many idle turns in a row the thread parks.
-const TURNS_A_ROW: u32 = 10;
-
-/// A thread that was forgotten looks for messages again after so long.
+/// A thread that was forgotten looks for work again after so long.
 const LONGEST_PARK_MILLIS: u64 = 100;
 
-/// Idle turns in a row: the thread spins for two microseconds, and then parks until a worker has posted. So an idle thread
-/// costs nothing. It never yields: on a machine whose processors are all busy a thread that yields waits for its turn behind all
+/// Idle turns in a row: the thread spins in so many of them, and then parks until it is unparked. So an idle thread costs
+/// nothing. It never yields: on a machine whose processors are all busy a thread that yields waits for its turn behind all
 /// others, while one that was woken goes before them.
 #[derive(Drop)]
 pub struct IdleTurns {
+    most: u32,
     turns: u32,
     announced: bool,
 }
 
 impl IdleTurns {
-    pub fn new() -> IdleTurns {
+    /// Behind so many turns that spin the thread parks.
+    pub fn new(most: u32) -> IdleTurns {
         IdleTurns {
+            most,
             turns: 0,
             announced: false,
         }
@@ -40,13 +40,13 @@ impl IdleTurns {
         self.turns = 0;
     }
 
-    /// One idle turn. The messages are looked for between two turns, also between the one that announces a park and the
-    /// one that parks.
+    /// One idle turn. Work is looked for between two turns, also between the one that announces a park and the one that
+    /// parks.
     pub fn turn<R: Wait>(&mut self, rt: &R, parking: &ParkingWord) {
         if self.announced {
             parking.park(rt, Duration::from_millis(LONGEST_PARK_MILLIS));
             self.announced = false;
-        } else if self.turns >= TURNS_A_ROW {
+        } else if self.turns >= self.most {
             parking.announce();
             self.announced = true;
         } else {

@@ -120,7 +120,8 @@ fn run<R: Threads + Wait + Clock + Sync + Send + Copy + Drop, C: Moments + Send>
     let geometry = Geometry::new(65_536, 64)?;
     let config = Config { geometry };
     let store = PlainStore::new(alloc, geometry)?;
-    let ports = vec![in alloc; port]?;
+    let mut ports = Vec::with_capacity(alloc, 1)?;
+    ports.push(port)?;
     let start = Instant::now(rt)?;
     let report = run_group(rt, alloc, ports, config, store, clock, &OpenGate)?;
     Ok((report.executed, start.elapsed(rt)?))

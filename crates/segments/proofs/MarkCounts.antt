@@ -1,5 +1,5 @@
 -- How many marks are set.
-use Rattle.std.proofs.Common.{◌≡◌, ℕ, zero, suc, ◌+◌, ◌-◌, ◌<◌, ◌≤◌, Bool, true, false, List, [], ◌∷◌, length, get_or, refl, sym, ◌∙◌, arith, add-one}
+use Rattle.std.proofs.Common.{◌≡◌, ℕ, zero, suc, ◌+◌, ◌-◌, ◌<◌, ◌≤◌, Bool, true, false, List, [], ◌∷◌, length, get_or, refl, sym, ◌∙◌, ap, arith, add-one}
 use Rattle.std.specs.Prelude.{if◌then◌else◌, replicate}
 use Rattle.std.proofs.Math.ListN.{set}
 use Rattle.std.proofs.lemmas.Bool.{false≢true}
@@ -29,6 +29,12 @@ marked_set (x ∷ bs) (suc n) b lt =
 pub marked_none : (n : ℕ) → marked (replicate n false) ≡ 0
 marked_none zero = refl
 marked_none (suc n) = let r = marked_none n in omega arith
+
+-- where none is counted, none is set
+pub none_marked : (bs : List Bool) → marked bs ≡ 0 → bs ≡ replicate (length bs) false
+none_marked [] e = refl
+none_marked (true ∷ bs) e = absurd (omega (arith, e))
+none_marked (false ∷ bs) e = ap (false ∷◌) (none_marked bs (omega (arith, e)))
 
 -- where one is set, at least one is counted
 pub marked_at : (bs : List Bool) (k : ℕ) → get_or bs k false ≡ true → 1 ≤ marked bs

@@ -85,11 +85,13 @@ impl Row {
         self.count -= 1;
     }
 
-    /// Takes all marks away.
+    /// Takes all marks away; where none is set nothing is written.
     pub fn clear(&mut self)
         ensures { self.new ≡ replicate (length self.old) false }
     {
-        self.count = 0;
-        self.marks.fill(false);
+        if self.count > 0 {
+            self.count = 0;
+            self.marks.fill(false);
+        }
     }
 }

@@ -7,7 +7,33 @@ use bytes::Bytes;
 use proto::{Answered, Hits, Reply, Request};
 use session_book::{Book, Received, Settled};
 use std::alloc::Global;
-use std::time::Instant;
+use std::fmt;
+use std::io::{Eprint, Print};
+use std::time::{Clock, Instant};
+
+/// How many sessions are open at the same time where many requests come over few of them.
+const FEW: u64 = 1000;
+
+/// What a book is to do.
+#[derive(Clone, Copy)]
+enum Work {
+    /// So many sessions, open at the same time, with one request each.
+    Sessions(u64),
+    /// So many requests, over few sessions that are open at the same time, one of each in turn.
+    Asks(u64),
+    /// One session with so many such pieces unread.
+    Pieces(u64, &'static str),
+}
+
+impl fmt::Display for Work {
+    fn fmt<W: fmt::Write>(&self, f: &mut fmt::Formatter<W>) -> fmt::Result {
+        match self {
+            Work::Sessions(count) => write!(f, "{count} sessions"),
+            Work::Asks(count) => write!(f, "{count} requests of {FEW} sessions"),
+            Work::Pieces(count, piece) => write!(f, "{count} times {piece:?}"),
+        }
+    }
+}
 
 /// Sends a piece, which is to fit.
 fn send(book: &mut Book, session: u64, piece: Bytes) -> Result<()> {
@@ -50,68 +76,76 @@ fn finish(alloc: Global, book: &mut Book, session: u64) -> Result<usize> {
     Ok(given.saturating_add(n))
 }
 
-/// So many sessions, open at the same time, with one request each.
-fn many_sessions(alloc: Global, sessions: u64) -> Result<usize> {
-    let mut book = Book::new(alloc, 0);
+/// Opens sessions 1 to so many.
+fn open(book: &mut Book, sessions: u64) -> Result<()> {
     for session in 0..sessions {
         book.open(session + 1)?;
     }
+    Ok(())
+}
+
+/// Sends a request, and finishes the session.
+fn ask(alloc: Global, book: &mut Book, session: u64) -> Result<usize> {
+    send(book, session, Bytes::from_static(b"get a\r\n"))?;
+    finish(alloc, book, session)
+}
+
+fn many_sessions(alloc: Global, book: &mut Book, sessions: u64) -> Result<usize> {
+    open(book, sessions)?;
     let mut given: usize = 0;
     for session in 0..sessions {
-        send(&mut book, session + 1, Bytes::from_static(b"get a\r\n"))?;
-        given = given.saturating_add(finish(alloc, &mut book, session + 1)?);
+        given = given.saturating_add(ask(alloc, book, session + 1)?);
         book.close(session + 1);
     }
     Ok(given)
 }
 
-/// So many requests, over sessions that are open at the same time, one of each in turn.
-fn many_requests(alloc: Global, sessions: u64, requests: u64) -> Result<usize> {
-    let mut book = Book::new(alloc, 0);
-    for session in 0..sessions {
-        book.open(session + 1)?;
-    }
+fn many_requests(alloc: Global, book: &mut Book, requests: u64) -> Result<usize> {
+    open(book, FEW)?;
     let mut given: usize = 0;
     for request in 0..requests {
-        let session = request % sessions.max(1) + 1;
-        send(&mut book, session, Bytes::from_static(b"get a\r\n"))?;
-        given = given.saturating_add(finish(alloc, &mut book, session)?);
+        given = given.saturating_add(ask(alloc, book, request % FEW + 1)?);
     }
     Ok(given)
 }
 
-/// One session with so many pieces unread.
-fn long_input(alloc: Global, piece: &[u8], pieces: u64) -> Result<usize> {
-    let mut book = Book::new(alloc, 0);
+fn long_input(alloc: Global, book: &mut Book, pieces: u64, piece: &str) -> Result<usize> {
     book.open(1)?;
     for _ in 0..pieces {
-        send(&mut book, 1, Bytes::copy_from_slice(alloc, piece)?)?;
+        send(book, 1, Bytes::copy_from_slice(alloc, piece.as_bytes())?)?;
     }
-    finish(alloc, &mut book, 1)
+    finish(alloc, book, 1)
+}
+
+/// Does the work in a new book, and says how many bytes were given.
+fn run(alloc: Global, work: Work) -> Result<usize> {
+    let mut book = Book::new(alloc, 0);
+    match work {
+        Work::Sessions(count) => many_sessions(alloc, &mut book, count),
+        Work::Asks(count) => many_requests(alloc, &mut book, count),
+        Work::Pieces(count, piece) => long_input(alloc, &mut book, count, piece),
+    }
+}
+
+/// Does the work, and writes how many bytes were given, and how long it took.
+fn measure<R: Print + Eprint + Clock>(rt: &R, alloc: Global, work: Work) -> Result<()> {
+    let start = Instant::now(rt)?;
+    let given = run(alloc, work)?;
+    let time = start.elapsed(rt)?;
+    println!(rt; "{work}: {given} bytes given")?;
+    eprintln!(rt; "{work}: {time:?}")?;
+    Ok(())
 }
 
 fn main(rt: HostRuntime) -> Result<()> {
-    let alloc = rt.alloc();
     for factor in [1, 4] {
-        let start = Instant::now(&rt)?;
-        let given = many_sessions(alloc, 10_000 * factor)?;
-        let time = start.elapsed(&rt)?;
-        println!(rt; "{} sessions: {given} bytes given", 10_000 * factor)?;
-        eprintln!(rt; "{} sessions: {time:?}", 10_000 * factor)?;
-        let start = Instant::now(&rt)?;
-        let given = many_requests(alloc, 1000, 25_000 * factor)?;
-        let time = start.elapsed(&rt)?;
-        println!(rt;
-            "{} requests of 1000 sessions: {given} bytes given",
-            25_000 * factor
-        )?;
-        eprintln!(rt; "{} requests of 1000 sessions: {time:?}", 25_000 * factor)?;
-        for piece in ["get a\r\n", "foo\r\n"] {
-            let start = Instant::now(&rt)?;
-            let given = long_input(alloc, piece.as_bytes(), 9_362 * factor)?;
-            let time = start.elapsed(&rt)?;
-            println!(rt; "{} times {piece:?}: {given} bytes given", 9_362 * factor)?;
-            eprintln!(rt; "{} times {piece:?}: {time:?}", 9_362 * factor)?;
+        for work in [
+            Work::Sessions(10_000 * factor),
+            Work::Asks(25_000 * factor),
+            Work::Pieces(9_362 * factor, "get a\r\n"),
+            Work::Pieces(9_362 * factor, "foo\r\n"),
+        ] {
+            measure(&rt, rt.alloc(), work)?;
         }
     }
     Ok(())

@@ -5,6 +5,7 @@ use proto::{Answered, ByteString, Keys, NoMemory, Posted, Put, Request, Words, s
 use std::alloc::{AllocError, Global};
 use std::sync::Wait;
 use std::thread;
+use std::time::{Clock, Duration};
 
 /// The calls of a worker's end, of the lanes and of the queues.
 pub trait Caller {
@@ -113,6 +114,8 @@ pub struct Workload {
     /// Whether they are of all kinds, over keys of the worker's own, and the answers are kept; else they delete a key
     /// that isn't there.
     pub kept: bool,
+    /// How long each worker waits before its first request.
+    pub pause: Duration,
 }
 
 /// A worker with its end, and the answers that it was given, as bytes.
@@ -206,7 +209,10 @@ impl<C: Caller + Drop> CallingWorker<C> {
 
     /// Posts all requests, takes the answers and says bye. Where memory is wanting the answers kept so far are dropped.
     /// The storage thread may park on the word.
-    pub(crate) fn play<R: Wait>(&mut self, rt: &R, storage: &ParkingWord) {
+    pub(crate) fn play<R: Wait + Clock>(&mut self, rt: &R, storage: &ParkingWord) {
+        if !self.load.pause.is_zero() {
+            thread::sleep(rt, self.load.pause);
+        }
         for _ in rt.forever() {
             let (sent, outstanding) = self.end.counts();
             if sent >= self.load.each && outstanding == 0 {

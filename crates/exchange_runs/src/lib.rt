@@ -1,14 +1,11 @@
 //! The same requests through the exchange by lanes, singly and in batches, and through the one by queues, over the
-//! plain store: for measurements of them beside each other, and for tests, of the window of the one by queues too.
+//! plain store: for measurements of them beside each other, and for tests.
 #![tactic(auto)]
 
 mod caller;
-#[cfg(test)]
-mod comparison;
-#[cfg(test)]
-mod gathering;
 mod runs;
 mod serving;
 
 pub use caller::{CallingWorker, Workload};
-pub use runs::{Run, Stopped, opened, run_batches, run_lanes, run_queues};
+pub use runs::{Run, run_lanes, run_queues, time_batches, time_lanes, time_queues};
+pub use serving::{Served, serve_next};

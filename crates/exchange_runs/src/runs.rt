@@ -22,7 +22,7 @@ use storage_thread::{Clock, run_storage};
 
 /// A clock that stands still: it answers 0 always.
 #[derive(Drop)]
-pub struct Stopped;
+struct Stopped;
 
 impl Clock for Stopped {
     ghost use Rattle.std.specs.Prelude.{⊤, None};
@@ -63,19 +63,21 @@ fn players<C: Caller + Drop>(
     Ok(players)
 }
 
-// The players, each in a thread, beside the storage thread's loop over an empty store.
+// A player for each end, each in a thread, beside the storage thread's loop over an empty store.
 fn play_lanes<R: Threads + Wait + time::Clock + Sync, C: Caller + Drop + Send>(
     rt: &R,
+    alloc: Global,
     store: PlainStore,
     signals: &StorageSignals,
-    players: Vec<CallingWorker<C>>,
     storage: exchange::StorageEnd,
-) -> Run<C>
+    ends: Vec<C>,
+    load: Workload,
+) -> Option<Run<C>>
     requires empty { (plain_cache store ≡ empty_cache 0) × (plain_moment store ≡ 0) }
     requires sizes { plain_sizes store ≡ storage.geometry }
     requires unused { IsUnused storage }
 {
-    let mut players = players;
+    let mut players = players(alloc, ends, load).ok()?;
     let start = Instant::now(rt).ok();
     thread::join(
         rt,
@@ -88,11 +90,11 @@ fn play_lanes<R: Threads + Wait + time::Clock + Sync, C: Caller + Drop + Send>(
         ),
     );
     let elapsed = elapsed(rt, start);
-    Run { players, elapsed }
+    Some(Run { players, elapsed })
 }
 
-/// The ends of lanes, and an empty store. None where memory is wanting.
-pub fn opened(
+// The ends of lanes, and an empty store. None where memory is wanting.
+fn opened(
     alloc: Global,
     workers: usize,
 ) -> Option<(Vec<exchange::WorkerEnd>, exchange::StorageEnd, PlainStore)>
@@ -101,8 +103,8 @@ pub fn opened(
     ensures sizes { IfSome result (λ r. plain_sizes r.2 ≡ r.1.geometry) }
 {
     let geometry = Geometry::new(4096, 8).ok()?;
-    let (ends, storage) = exchange::make(alloc, workers, geometry).ok()?;
     let store = PlainStore::new(alloc, geometry).ok()?;
+    let (ends, storage) = exchange::make(alloc, workers, geometry).ok()?;
     Some((ends, storage, store))
 }
 
@@ -113,10 +115,9 @@ pub fn run_lanes<R: Threads + Wait + time::Clock + Sync>(
     workers: usize,
     load: Workload,
 ) -> Option<Run<exchange::WorkerEnd>> {
-    let (ends, storage, store) = opened(alloc, workers)?;
-    let players = players(alloc, ends, load).ok()?;
     let signals = StorageSignals::new(alloc, FoldHasher::default(), workers).ok()?;
-    Some(play_lanes(rt, store, &signals, players, storage))
+    let (ends, storage, store) = opened(alloc, workers)?;
+    play_lanes(rt, alloc, store, &signals, storage, ends, load)
 }
 
 fn batched(
@@ -130,32 +131,33 @@ fn batched(
     Ok(batches)
 }
 
-/// The load through the lanes, the requests sent in batches. None where memory is wanting.
-pub fn run_batches<R: Threads + Wait + time::Clock + Sync>(
+// The load through the lanes, the requests sent in batches. None where memory is wanting.
+fn run_batches<R: Threads + Wait + time::Clock + Sync>(
     rt: &R,
     alloc: Global,
     workers: usize,
     load: Workload,
 ) -> Option<Run<exchange::WorkerBatch>> {
+    let signals = StorageSignals::new(alloc, FoldHasher::default(), workers).ok()?;
     let (ends, storage, store) = opened(alloc, workers)?;
     let ends = batched(alloc, ends).ok()?;
-    let players = players(alloc, ends, load).ok()?;
-    let signals = StorageSignals::new(alloc, FoldHasher::default(), workers).ok()?;
-    Some(play_lanes(rt, store, &signals, players, storage))
+    play_lanes(rt, alloc, store, &signals, storage, ends, load)
 }
 
-// The players, each in a thread, beside the storage loop of the queues.
+// A player for each end, each in a thread, beside the storage loop of the queues.
 fn play_queues<R: Threads + Wait + time::Clock + Sync>(
     rt: &R,
+    alloc: Global,
     store: PlainStore,
-    players: Vec<CallingWorker<queue_exchange::WorkerEnd>>,
     storage: StorageEnd,
-) -> Run<queue_exchange::WorkerEnd>
+    ends: Vec<queue_exchange::WorkerEnd>,
+    load: Workload,
+) -> Option<Run<queue_exchange::WorkerEnd>>
     requires empty { (plain_cache store ≡ empty_cache 0) × (plain_moment store ≡ 0) }
     requires sizes { plain_sizes store ≡ storage.geometry }
     requires unused { HasTakenNothing storage }
 {
-    let mut players = players;
+    let mut players = players(alloc, ends, load).ok()?;
     let start = Instant::now(rt).ok();
     let parking = ParkingWord::new();
     thread::join(
@@ -169,7 +171,7 @@ fn play_queues<R: Threads + Wait + time::Clock + Sync>(
         ),
     );
     let elapsed = elapsed(rt, start);
-    Run { players, elapsed }
+    Some(Run { players, elapsed })
 }
 
 /// The load through the queues. None where memory is wanting.
@@ -180,7 +182,44 @@ pub fn run_queues<R: Threads + Wait + time::Clock + Sync>(
     load: Workload,
 ) -> Option<Run<queue_exchange::WorkerEnd>> {
     let geometry = Geometry::new(4096, 8).ok()?;
+    let store = PlainStore::new(alloc, geometry).ok()?;
     let (ends, storage) = queue_exchange::make(alloc, workers, geometry).ok()?;
-    let players = players(alloc, ends, load).ok()?;
-    Some(play_queues(rt, PlainStore::new(alloc, geometry).ok()?, players, storage))
+    play_queues(rt, alloc, store, storage, ends, load)
+}
+
+fn time_of<C: Caller + Drop>(run: Option<Run<C>>) -> Option<Duration> {
+    match run {
+        Some(run) => run.elapsed,
+        None => None,
+    }
+}
+
+/// How long the load takes through the lanes. None where memory is wanting, or the clock doesn't say.
+pub fn time_lanes<R: Threads + Wait + time::Clock + Sync>(
+    rt: &R,
+    alloc: Global,
+    workers: usize,
+    load: Workload,
+) -> Option<Duration> {
+    time_of(run_lanes(rt, alloc, workers, load))
+}
+
+/// How long it takes through the lanes in batches.
+pub fn time_batches<R: Threads + Wait + time::Clock + Sync>(
+    rt: &R,
+    alloc: Global,
+    workers: usize,
+    load: Workload,
+) -> Option<Duration> {
+    time_of(run_batches(rt, alloc, workers, load))
+}
+
+/// How long it takes through the queues.
+pub fn time_queues<R: Threads + Wait + time::Clock + Sync>(
+    rt: &R,
+    alloc: Global,
+    workers: usize,
+    load: Workload,
+) -> Option<Duration> {
+    time_of(run_queues(rt, alloc, workers, load))
 }

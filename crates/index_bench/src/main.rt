@@ -25,6 +25,28 @@ struct Load {
     segments: u32,
 }
 
+/// Items that nearly fill their segments, and far fewer than go into them.
+const LOADS: [Load; 3] = [
+    Load {
+        count: 31_000,
+        value_length: 96,
+        segment_size: 65_536,
+        segments: 64,
+    },
+    Load {
+        count: 131_000,
+        value_length: 0,
+        segment_size: 65_536,
+        segments: 64,
+    },
+    Load {
+        count: 100_000,
+        value_length: 96,
+        segment_size: 1_048_576,
+        segments: 512,
+    },
+];
+
 /// How many of the items each call did, and how long they took.
 #[derive(Clone, Copy)]
 struct Timed {
@@ -185,8 +207,8 @@ fn found_of(shelf: &Shelf, numbers: &[u64]) -> u64 {
     found
 }
 
-fn shelf_of(alloc: Global, load: Load) -> Result<Shelf> {
-    let geometry = Geometry::new(load.segment_size, load.segments)?;
+fn shelf_of(alloc: Global, segment_size: u32, segments: u32) -> Result<Shelf> {
+    let geometry = Geometry::new(segment_size, segments)?;
     Ok(Shelf::new(alloc, geometry, SEED)?)
 }
 
@@ -252,26 +274,29 @@ fn longest<R: Eprint + Clock>(rt: &R, shelf: &mut Shelf, value: &[u8], count: u6
 
 fn run<R: Print + Eprint + Clock>(rt: &R, alloc: Global, load: Load, rounds: u64) -> Result<()> {
     let value = value_of(alloc, load.value_length)?;
-    let mut shelf = shelf_of(alloc, load)?;
+    let mut shelf = shelf_of(alloc, load.segment_size, load.segments)?;
     write_and_find(rt, &mut shelf, &value, load.count, rounds)
 }
 
 fn run_longest<R: Eprint + Clock>(rt: &R, alloc: Global, load: Load) -> Result<()> {
     let value = value_of(alloc, load.value_length)?;
-    let mut shelf = shelf_of(alloc, load)?;
+    let mut shelf = shelf_of(alloc, load.segment_size, load.segments)?;
     longest(rt, &mut shelf, &value, load.count)
 }
 
-/// Times writes and look-ups of so many keys that meet in few slots.
-fn run_neighbours<R: Print + Eprint + Clock>(rt: &R, alloc: Global, count: usize) -> Result<()> {
-    let numbers = neighbours(alloc, count)?;
-    let mut shelf = shelf_of(alloc, load_of(0, 0, 1_048_576, 16))?;
+/// Times writes of the keys of these numbers into an empty shelf, and look-ups of them.
+fn write_and_find_of<R: Print + Eprint + Clock>(
+    rt: &R,
+    shelf: &mut Shelf,
+    numbers: &[u64],
+) -> Result<()> {
     let start = Instant::now(rt)?;
-    let put = fill_with(&mut shelf, &numbers);
+    let put = fill_with(shelf, numbers);
     let put_time = start.elapsed(rt)?;
     let start = Instant::now(rt)?;
-    let found = found_of(&shelf, &numbers);
+    let found = found_of(shelf, numbers);
     let find_time = start.elapsed(rt)?;
+    let count = numbers.len();
     println!(rt; "{count} keys of neighbouring homes: put {put}, found {found}")?;
     eprintln!(rt;
         "{count} keys of neighbouring homes, tenths of ns: append and insert {}, hit {}",
@@ -281,27 +306,16 @@ fn run_neighbours<R: Print + Eprint + Clock>(rt: &R, alloc: Global, count: usize
     Ok(())
 }
 
-fn load_of(count: u64, value_length: usize, segment_size: u32, segments: u32) -> Load {
-    Load {
-        count,
-        value_length,
-        segment_size,
-        segments,
-    }
-}
-
-/// Items that nearly fill their segments, and far fewer than go into them.
-fn loads() -> [Load; 3] {
-    [
-        load_of(31_000, 96, 65_536, 64),
-        load_of(131_000, 0, 65_536, 64),
-        load_of(100_000, 96, 1_048_576, 512),
-    ]
+/// Times writes and look-ups of so many keys that meet in few slots.
+fn run_neighbours<R: Print + Eprint + Clock>(rt: &R, alloc: Global, count: usize) -> Result<()> {
+    let numbers = neighbours(alloc, count)?;
+    let mut shelf = shelf_of(alloc, 1_048_576, 16)?;
+    write_and_find_of(rt, &mut shelf, &numbers)
 }
 
 fn main(rt: HostRuntime) -> Result<()> {
     let rounds = number(&rt).unwrap_or(1000);
-    for load in loads() {
+    for load in LOADS {
         run(&rt, rt.alloc(), load, rounds)?;
         run_longest(&rt, rt.alloc(), load)?;
     }

@@ -5,15 +5,13 @@
 
 ghost use Rattle.std.specs.Prelude.{◌<◌};
 
-mod idle;
-
-use exchange_runs::{Workload, run_batches, run_lanes, run_queues};
+use exchange_runs::{Workload, time_batches, time_lanes, time_queues};
+use std::env;
 use std::process::ExitCode;
 use std::rt::Env;
 use std::sync::Wait;
 use std::thread::Threads;
-use std::time::Duration;
-use std::{env, time};
+use std::time::{Clock, Duration};
 
 /// The requests of a run, of all workers together, where no other number is given: a short run, which shows that
 /// all are handed over.
@@ -43,7 +41,7 @@ fn per_second(requests: u64, elapsed: Option<Duration>) -> u64 {
 
 /// Measures the lanes with single requests and with batches, and the queues, for so many requests of all workers
 /// together.
-fn measure<R: Threads + Wait + time::Clock + Sync + AllocGlobal>(
+fn measure<R: Threads + Wait + Clock + Sync + AllocGlobal>(
     rt: &R,
     requests: u64,
     workers: usize,
@@ -55,20 +53,36 @@ fn measure<R: Threads + Wait + time::Clock + Sync + AllocGlobal>(
         each: requests / workers as u64,
         window,
         kept: false,
+        pause: Duration::ZERO,
     };
-    let lanes = run_lanes(rt, rt.alloc(), workers, load).and_then(|run| run.elapsed);
-    let batches = run_batches(rt, rt.alloc(), workers, load).and_then(|run| run.elapsed);
-    let queues = run_queues(rt, rt.alloc(), workers, load).and_then(|run| run.elapsed);
     (
-        per_second(requests, lanes),
-        per_second(requests, batches),
-        per_second(requests, queues),
+        per_second(requests, time_lanes(rt, rt.alloc(), workers, load)),
+        per_second(requests, time_batches(rt, rt.alloc(), workers, load)),
+        per_second(requests, time_queues(rt, rt.alloc(), workers, load)),
     )
 }
 
+/// Lets the storage thread wait so many seconds for a worker that posts nothing.
+fn idle<R: Threads + Wait + Clock + Sync + AllocGlobal>(rt: &R, seconds: u64) {
+    let load = Workload {
+        each: 0,
+        window: 1,
+        kept: false,
+        pause: Duration::from_secs(seconds),
+    };
+    let _ = time_lanes(rt, rt.alloc(), 1, load);
+}
+
+fn is_idle<R: Env + AllocGlobal>(rt: &R) -> bool {
+    match word(rt, 1) {
+        Some(word) => word.as_str() == "idle",
+        None => false,
+    }
+}
+
 fn main(rt: HostRuntime) -> ExitCode {
-    if word(&rt, 1).is_some_and(|word| word.as_str() == "idle") {
-        let _ = idle::wait(&rt, rt.alloc(), number(&rt, 2).unwrap_or(1));
+    if is_idle(&rt) {
+        idle(&rt, number(&rt, 2).unwrap_or(1));
         return ExitCode::SUCCESS;
     }
     let requests = number(&rt, 1).unwrap_or(FEW);

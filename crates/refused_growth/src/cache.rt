@@ -1,8 +1,9 @@
 //! A store is made after a refusal. Where memory is refused, it keeps its entries, its cas counter, its pending flush and
 //! its moment, and executes the request when it is asked again.
 
+use crate::protocol::read_request;
 use engine::StorageEngine;
-use proto::{Geometry, Message, Next, NoMemory, Reply, Request, next_message, show};
+use proto::{Geometry, Message, NoMemory, Reply, Request, show};
 use segcache::Store;
 use std::alloc::Global;
 
@@ -31,16 +32,6 @@ const ALL: &[u8] = b"gets a b c d e n\r\n";
 /// The moment of the last request, which is later for each of them by one.
 const LAST_MOMENT: u64 = 2000;
 
-/// The message, where it is read at the first or the second try.
-pub fn read(alloc: Global, input: &[u8]) -> Option<Message> {
-    for _ in 0..2 {
-        if let Ok(Next::Found(message, _)) = next_message(alloc, input) {
-            return Some(message);
-        }
-    }
-    None
-}
-
 /// The store, where it is made at the first or the second try.
 fn make(alloc: Global, geometry: Geometry) -> Option<Store> {
     for _ in 0..2 {
@@ -66,14 +57,11 @@ fn shown(alloc: Global, request: Request, reply: &Reply) -> Result<Vec<u8>, NoMe
 
 /// What stands in the store; None inside where memory was refused.
 fn entries_once(alloc: Global, store: &mut Store, now: u64) -> Option<Option<Vec<u8>>> {
-    let Some(Message::Ask(mut request, _)) = read(alloc, ALL) else {
-        return None;
-    };
-    let reply = handle(store, now, &mut request)?;
-    if matches!(&reply, Reply::NoMemory) {
-        return Some(None);
+    let mut request = read_request(alloc, ALL)?;
+    match handle(store, now, &mut request)? {
+        Reply::NoMemory => Some(None),
+        reply => Some(shown(alloc, request, &reply).ok()),
     }
-    Some(shown(alloc, request, &reply).ok())
 }
 
 /// What stands in the store, where it is shown at the first, the second or the third try.
@@ -102,20 +90,30 @@ fn is_kept(
     is_same && store.pending() == pending && store.last_moment() == now
 }
 
+/// The reply, where the request is executed at the first try, or at the second one while the store is kept.
+fn handled(
+    alloc: Global,
+    store: &mut Store,
+    now: u64,
+    request: &mut Request,
+    before: &[u8],
+) -> Option<Reply> {
+    let pending = store.pending();
+    match handle(store, now, request)? {
+        Reply::NoMemory => {}
+        reply => return Some(reply),
+    }
+    if !is_kept(alloc, store, now, before, pending) {
+        return None;
+    }
+    handle(store, now, request)
+}
+
 /// The reply, where the request is executed at the first or the second try, and a refusal changes
 /// nothing.
 fn reply_to(alloc: Global, store: &mut Store, now: u64, request: &mut Request) -> Option<Reply> {
     let before = entries(alloc, store, now)?;
-    let pending = store.pending();
-    let reply = handle(store, now, request)?;
-    if !matches!(&reply, Reply::NoMemory) {
-        return Some(reply);
-    }
-    if is_kept(alloc, store, now, before.as_slice(), pending) {
-        handle(store, now, request)
-    } else {
-        None
-    }
+    handled(alloc, store, now, request, before.as_slice())
 }
 
 /// The answer, where it is shown at the first or the second try.
@@ -130,16 +128,10 @@ fn shown_again(alloc: Global, request: Request, reply: &Reply) -> Vec<u8> {
     out
 }
 
-fn answer_to(alloc: Global, store: &mut Store, now: u64, mut request: Request) -> Option<Vec<u8>> {
+fn answer(alloc: Global, store: &mut Store, now: u64, input: &[u8]) -> Option<Vec<u8>> {
+    let mut request = read_request(alloc, input)?;
     let reply = reply_to(alloc, store, now, &mut request)?;
     Some(shown_again(alloc, request, &reply))
-}
-
-fn answer(alloc: Global, store: &mut Store, now: u64, input: &[u8]) -> Option<Vec<u8>> {
-    match read(alloc, input)? {
-        Message::Ask(request, _) => answer_to(alloc, store, now, request),
-        _ => None,
-    }
 }
 
 /// Writes the answer, and says whether it was given.

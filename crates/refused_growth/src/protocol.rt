@@ -3,7 +3,7 @@
 ghost use Rattle.std.specs.Prelude.{◌≡◌, true};
 ghost use Rattle.proto.specs.Answers.{is_ask};
 
-use proto::{Message, Next, Reply, next_message, show};
+use proto::{Message, Next, Reply, Request, next_message, show};
 use std::alloc::Global;
 
 /// A request of each form that is copied, and what the reply Stored makes of it.
@@ -25,6 +25,14 @@ fn read(alloc: Global, input: &[u8]) -> Option<Message> {
     None
 }
 
+/// The request, where it is read so.
+pub fn read_request(alloc: Global, input: &[u8]) -> Option<Request> {
+    match read(alloc, input) {
+        Some(Message::Ask(request, _)) => Some(request),
+        _ => None,
+    }
+}
+
 /// Whether the answer is appended at the first or the second try, and a refusal leaves what was there.
 fn is_shown(message: &Message, out: &mut Vec<u8>) -> bool
     requires { is_ask message.now ≡ true }
@@ -42,16 +50,20 @@ fn is_shown(message: &Message, out: &mut Vec<u8>) -> bool
 }
 
 fn check_input(alloc: Global, input: &[u8]) -> bool {
-    let Some(message) = read(alloc, input) else {
-        return false;
-    };
-    let Message::Ask(request, quiet) = message else {
-        return false;
-    };
-    let mut out = Vec::new(alloc);
-    is_shown(&Message::Ask(request, quiet), &mut out)
+    match read(alloc, input) {
+        Some(Message::Ask(request, quiet)) => {
+            let mut out = Vec::new(alloc);
+            is_shown(&Message::Ask(request, quiet), &mut out)
+        }
+        _ => false,
+    }
 }
 
 pub fn is_repeatable(alloc: Global) -> bool {
-    INPUTS.iter().all(|input| check_input(alloc, input))
+    for input in &INPUTS {
+        if !check_input(alloc, input) {
+            return false;
+        }
+    }
+    true
 }

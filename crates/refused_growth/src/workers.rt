@@ -13,10 +13,10 @@ use session_book::EndCause;
 use std::alloc::Global;
 use std::hash::FoldHasher;
 use std::sync::{Arc, Wait};
-use std::thread::Threads;
+use std::thread::{JoinHandle, Threads};
 use std::{thread, time};
 use storage_thread::{Clock, StorageReport, run_storage};
-use worker::{Gate, WorkerReport, run_worker};
+use worker::{OpenGate, WorkerReport, run_worker};
 
 const INPUTS: [&[u8]; 2] = [
     b"set a 0 0 1\r\nx\r\nget a\r\nfoo\r\n",
@@ -52,17 +52,6 @@ impl Clock for SteadyClock {
     }
 }
 
-/// Always lets pass.
-struct OpenGate;
-
-impl Gate for OpenGate {
-    fn may_post(&self, _worker: usize, _number: u64) -> bool {
-        true
-    }
-
-    fn answered(&self, _worker: usize, _number: u64) {}
-}
-
 /// The ends of an exchange of one worker, and an empty store.
 fn made(alloc: Global) -> Option<(WorkerEnd, StorageEnd, Store)>
     ensures worker { IfSome result (λ r. (r.0.sent ≡ []) × (r.0.back ≡ []) × (r.0.said_bye ≡ false)) }
@@ -89,23 +78,39 @@ fn signals_of(alloc: Global) -> Option<(Arc<StorageSignals>, Arc<StorageSignals>
     Some((signals, of_storage))
 }
 
-/// The worker's report, where the exchange was made and the thread was started.
-fn run<R>(rt: &R, alloc: Global) -> Option<WorkerReport<QuietPort>>
+/// The storage thread, where it was started.
+fn started<R>(
+    rt: &R,
+    store: Store,
+    storage_end: StorageEnd,
+    signals: Arc<StorageSignals>,
+) -> Option<JoinHandle<StorageReport<SteadyClock>>>
 where
     R: Threads + Wait + time::Clock + Copy + Drop + Send + Sync + 'static,
+    requires empty { (segmented_cache store ≡ empty_cache 0) × (last_moment store ≡ 0) }
+    requires sizes { sizes_in store ≡ storage_end.geometry }
+    requires unused { IsUnused storage_end }
 {
     let handle = *rt;
-    let (signals, of_storage) = signals_of(alloc)?;
-    let (end, storage_end, store) = made(alloc)?;
-    let child = thread::spawn(
+    thread::spawn(
         rt,
         move || -> StorageReport<SteadyClock>
             requires empty { (segmented_cache store ≡ empty_cache 0) × (last_moment store ≡ 0) }
             requires sizes { sizes_in store ≡ storage_end.geometry }
             requires unused { IsUnused storage_end }
-        { run_storage(&handle, store, SteadyClock, storage_end, &of_storage) },
+        { run_storage(&handle, store, SteadyClock, storage_end, &signals) },
     )
-    .ok()?;
+    .ok()
+}
+
+/// The worker's report, where the exchange was made and the thread was started.
+fn run<R>(rt: &R, alloc: Global) -> Option<WorkerReport<QuietPort>>
+where
+    R: Threads + Wait + time::Clock + Copy + Drop + Send + Sync + 'static,
+{
+    let (signals, of_storage) = signals_of(alloc)?;
+    let (end, storage_end, store) = made(alloc)?;
+    let child = started(rt, store, storage_end, of_storage)?;
     let report = run_worker(rt, alloc, QuietPort::new(INPUTS), end, &OpenGate, &signals);
     child.join(rt);
     Some(report)
@@ -120,11 +125,21 @@ fn cause_of(sessions: &[(u64, EndCause)], session: u64) -> Option<EndCause> {
     None
 }
 
+/// Whether one of these begins with the output.
+fn is_beginning(output: &[u8], outputs: &[&[u8]]) -> bool {
+    for whole in outputs {
+        if whole.starts_with(output) {
+            return true;
+        }
+    }
+    false
+}
+
 /// Whether the output is one of these, or the beginning of one where the session was named as shut for want of memory.
 fn is_allowed(cause: Option<EndCause>, output: &[u8], outputs: &[&[u8]]) -> bool {
     match cause {
-        Some(EndCause::Drained) => outputs.iter().any(|whole| *whole == output),
-        Some(EndCause::NoMemory) => outputs.iter().any(|whole| whole.starts_with(output)),
+        Some(EndCause::Drained) => outputs.contains(&output),
+        Some(EndCause::NoMemory) => is_beginning(output, outputs),
         Some(_) => false,
         None => output.is_empty(),
     }

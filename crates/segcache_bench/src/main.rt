@@ -12,7 +12,7 @@ use crate::requests::{SMALL, gets, sets};
 use crate::steady::run_steady;
 use anyhow::Result;
 use engine::{PlainStore, StorageEngine};
-use proto::{Geometry, Reply, Request, SpareBuffer};
+use proto::{Geometry, NoMemory, Reply, Request, SpareBuffer};
 use segcache::Store;
 use std::alloc::Global;
 use std::env;
@@ -46,6 +46,25 @@ fn did_something(reply: &Reply) -> bool {
     }
 }
 
+/// Sends a request with the memory that is lent to it, and says whether it stored or showed an item. The memory of the
+/// hits is lent to the next.
+fn send_one<E: StorageEngine>(
+    store: &mut E,
+    request: &mut Request,
+    spare: &mut Option<SpareBuffer>,
+) -> bool {
+    if store.last_moment() > 0 {
+        return false;
+    }
+    if let Some(lent) = spare.take() {
+        let _ = request.lend_buffer(lent);
+    }
+    let reply = store.handle(0, request);
+    let is_done = did_something(&reply);
+    *spare = reply.into_buffer();
+    is_done
+}
+
 /// Sends so many of the requests, over and over, and counts those that stored or showed an item. The memory of the hits
 /// goes round, as between a worker and the storage thread.
 fn send<E: StorageEngine>(store: &mut E, requests: &mut [Request], rounds: u64) -> u64 {
@@ -53,20 +72,11 @@ fn send<E: StorageEngine>(store: &mut E, requests: &mut [Request], rounds: u64) 
     let mut spare: Option<SpareBuffer> = None;
     let count = (requests.len() as u64).max(1);
     for sent in 0..rounds {
-        let Some(request) = requests.get_mut((sent % count) as usize) else {
-            return done;
+        let is_done = match requests.get_mut((sent % count) as usize) {
+            Some(request) => send_one(store, request, &mut spare),
+            None => false,
         };
-        if store.last_moment() > 0 {
-            return done;
-        }
-        if let Some(lent) = spare.take() {
-            let _ = request.lend_buffer(lent);
-        }
-        let reply = store.handle(0, request);
-        if did_something(&reply) {
-            done = done.wrapping_add(1);
-        }
-        spare = reply.into_buffer();
+        done = done.wrapping_add(u64::from(is_done));
     }
     done
 }
@@ -91,6 +101,44 @@ fn measure<E: StorageEngine, R: Print + Eprint + Clock>(
     Ok(())
 }
 
+/// The requests of a run: sets of few keys, gets of them and of others that aren't there, and sets of many keys.
+#[derive(Drop)]
+struct Prepared {
+    few: Vec<Request>,
+    found: Vec<Request>,
+    missing: Vec<Request>,
+    many: Vec<Request>,
+}
+
+fn made(alloc: Global) -> Result<Prepared, NoMemory> {
+    let few = sets(alloc, 0, FEW, SMALL)?;
+    let found = gets(alloc, 0, FEW)?;
+    let missing = gets(alloc, MANY, FEW)?;
+    let many = sets(alloc, 0, MANY, SMALL)?;
+    Ok(Prepared {
+        few,
+        found,
+        missing,
+        many,
+    })
+}
+
+/// Fills the store with the few keys, and measures requests of each kind.
+fn measure_all<E: StorageEngine, R: Print + Eprint + Clock>(
+    rt: &R,
+    name: &str,
+    store: &mut E,
+    requests: &mut Prepared,
+    rounds: u64,
+) -> Result<()> {
+    let few = requests.few.as_mut_slice();
+    println!(rt; "{name}: {} filled", send(store, few, FEW))?;
+    measure(rt, "get, found", store, requests.found.as_mut_slice(), rounds)?;
+    measure(rt, "get, missing", store, requests.missing.as_mut_slice(), rounds)?;
+    measure(rt, "set, in place", store, requests.few.as_mut_slice(), rounds)?;
+    measure(rt, "set, of many keys", store, requests.many.as_mut_slice(), rounds)
+}
+
 fn run<E: StorageEngine, R: Print + Eprint + Clock>(
     rt: &R,
     alloc: Global,
@@ -98,39 +146,61 @@ fn run<E: StorageEngine, R: Print + Eprint + Clock>(
     store: &mut E,
     rounds: u64,
 ) -> Result<()> {
-    let mut few = sets(alloc, 0, FEW, SMALL)?;
-    let mut found = gets(alloc, 0, FEW)?;
-    let mut missing = gets(alloc, MANY, FEW)?;
-    let mut many = sets(alloc, 0, MANY, SMALL)?;
-    println!(rt; "{name}: {} filled", send(store, few.as_mut_slice(), FEW))?;
-    measure(rt, "get, found", store, found.as_mut_slice(), rounds)?;
-    measure(rt, "get, missing", store, missing.as_mut_slice(), rounds)?;
-    measure(rt, "set, in place", store, few.as_mut_slice(), rounds)?;
-    measure(rt, "set, of many keys", store, many.as_mut_slice(), rounds)
+    let mut requests = made(alloc)?;
+    measure_all(rt, name, store, &mut requests, rounds)
+}
+
+fn run_segmented<R: Print + Eprint + Clock>(
+    rt: &R,
+    alloc: Global,
+    geometry: Geometry,
+    rounds: u64,
+) -> Result<()> {
+    let mut store = Store::new(alloc, geometry)?;
+    run(rt, alloc, "segmented", &mut store, rounds)
+}
+
+fn run_plain<R: Print + Eprint + Clock>(
+    rt: &R,
+    alloc: Global,
+    geometry: Geometry,
+    rounds: u64,
+) -> Result<()> {
+    let mut store = PlainStore::new(alloc, geometry)?;
+    run(rt, alloc, "plain", &mut store, rounds)
+}
+
+fn run_plain_steady<R: Print + Eprint + Clock>(
+    rt: &R,
+    alloc: Global,
+    geometry: Geometry,
+    count: u64,
+    length: usize,
+) -> Result<()> {
+    let mut store = PlainStore::new(alloc, geometry)?;
+    run_steady(rt, alloc, "plain", &mut store, count, length)
+}
+
+/// Runs in the segmented store, and, beside what that one holds, in the plain one.
+fn run_both_steady<R: Print + Eprint + Clock>(
+    rt: &R,
+    alloc: Global,
+    geometry: Geometry,
+    count: u64,
+    length: usize,
+) -> Result<()> {
+    let mut store = Store::new(alloc, geometry)?;
+    run_steady(rt, alloc, "segmented", &mut store, count, length)?;
+    run_plain_steady(rt, alloc, geometry, count, length)
 }
 
 fn main(rt: HostRuntime) -> Result<()> {
     let alloc = rt.alloc();
     let rounds = number(&rt, 1).unwrap_or(1000);
     if let Some((geometry, value)) = sizes_asked(&rt) {
-        let mut store = Store::new(alloc, geometry)?;
-        run_steady(&rt, alloc, "segmented", &mut store, rounds, value)?;
-        let mut plain = PlainStore::new(alloc, geometry)?;
-        return run_steady(&rt, alloc, "plain", &mut plain, rounds, value);
+        return run_both_steady(&rt, alloc, geometry, rounds, value);
     }
     let geometry = Geometry::new(65_536, 64)?;
-    run(
-        &rt,
-        alloc,
-        "segmented",
-        &mut Store::new(alloc, geometry)?,
-        rounds,
-    )?;
-    run(
-        &rt,
-        alloc,
-        "plain",
-        &mut PlainStore::new(alloc, geometry)?,
-        rounds,
-    )
+    run_segmented(&rt, alloc, geometry, rounds)?;
+    run_plain(&rt, alloc, geometry, rounds)
 }

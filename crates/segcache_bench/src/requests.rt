@@ -1,7 +1,7 @@
 //! Requests of the numbered keys.
 
 use proto::{ByteString, Keys, NoMemory, Put, Request, Words};
-use std::alloc::Global;
+use std::alloc::{AllocError, Global};
 
 /// How many bytes a small value has.
 pub const SMALL: usize = 100;
@@ -16,30 +16,65 @@ fn key_of(n: u64) -> [u8; 8] {
     key
 }
 
+fn copied(alloc: Global, bytes: &[u8]) -> Result<ByteString, AllocError> {
+    Ok(ByteString::from_vec(Vec::from_slice(alloc, bytes)?))
+}
+
+/// A set of the key of a number.
+fn set(alloc: Global, n: u64, value: &[u8]) -> Result<Request, NoMemory> {
+    let key = copied(alloc, &key_of(n))?;
+    Ok(Request::Set(Put {
+        key,
+        flags: 0,
+        exptime: 0,
+        value: copied(alloc, value)?,
+    }))
+}
+
+/// A get of the key of a number.
+fn get(alloc: Global, n: u64) -> Result<Request, NoMemory> {
+    Ok(Request::Get {
+        keys: Keys::from_words(alloc, Words::new(&key_of(n)))?,
+        with_cas: false,
+    })
+}
+
+fn push_sets(
+    requests: &mut Vec<Request>,
+    alloc: Global,
+    from: u64,
+    count: u64,
+    value: &[u8],
+) -> Result<(), NoMemory> {
+    for n in 0..count {
+        requests.push(set(alloc, from.wrapping_add(n), value)?)?;
+    }
+    Ok(())
+}
+
+fn push_gets(
+    requests: &mut Vec<Request>,
+    alloc: Global,
+    from: u64,
+    count: u64,
+) -> Result<(), NoMemory> {
+    for n in 0..count {
+        requests.push(get(alloc, from.wrapping_add(n))?)?;
+    }
+    Ok(())
+}
+
 /// A set of each key from a number on, to a value of so many bytes.
 pub fn sets(alloc: Global, from: u64, count: u64, length: usize) -> Result<Vec<Request>, NoMemory> {
     let value = vec![in alloc; b'v'; length]?;
     let mut requests = Vec::with_capacity(alloc, count as usize)?;
-    for n in 0..count {
-        requests.push(Request::Set(Put {
-            key: ByteString::from_vec(Vec::from_slice(alloc, &key_of(from.wrapping_add(n)))?),
-            flags: 0,
-            exptime: 0,
-            value: ByteString::from_vec(Vec::from_slice(alloc, &value)?),
-        }))?;
-    }
+    push_sets(&mut requests, alloc, from, count, &value)?;
     Ok(requests)
 }
 
 /// A get of each key from a number on.
 pub fn gets(alloc: Global, from: u64, count: u64) -> Result<Vec<Request>, NoMemory> {
     let mut requests = Vec::with_capacity(alloc, count as usize)?;
-    for n in 0..count {
-        let key = key_of(from.wrapping_add(n));
-        requests.push(Request::Get {
-            keys: Keys::from_words(alloc, Words::new(&key))?,
-            with_cas: false,
-        })?;
-    }
+    push_gets(&mut requests, alloc, from, count)?;
     Ok(requests)
 }

@@ -19,6 +19,21 @@ struct Times {
     longest: Duration,
 }
 
+const NONE: Times = Times {
+    done: 0,
+    all: Duration::ZERO,
+    longest: Duration::ZERO,
+};
+
+/// Sends a request, and says whether it did what it asked.
+fn is_done<E: StorageEngine>(store: &mut E, request: &mut Request) -> bool {
+    if store.last_moment() > 0 {
+        return false;
+    }
+    let reply = store.handle(0, request);
+    matches!(&reply, Reply::Stored | Reply::Flushed)
+}
+
 /// Sends the requests, and times each.
 fn time_each<E: StorageEngine, R: Clock>(
     rt: &R,
@@ -29,21 +44,28 @@ fn time_each<E: StorageEngine, R: Clock>(
     let mut times = before;
     let mut last = Instant::now(rt)?;
     for request in requests {
-        if store.last_moment() > 0 {
-            return Ok(times);
-        }
-        let reply = store.handle(0, request);
+        let is_done = is_done(store, request);
         let now = Instant::now(rt)?;
         let time = now.saturating_duration_since(last);
         last = now;
-        match reply {
-            Reply::Stored | Reply::Flushed => times.done = times.done.wrapping_add(1),
-            _ => {}
-        }
+        times.done = times.done.wrapping_add(u64::from(is_done));
         times.all = times.all.saturating_add(time);
         times.longest = times.longest.max(time);
     }
     Ok(times)
+}
+
+/// Makes sets of the keys of a batch, and times each.
+fn time_batch<E: StorageEngine, R: Clock>(
+    rt: &R,
+    alloc: Global,
+    store: &mut E,
+    first: u64,
+    length: usize,
+    before: Times,
+) -> Result<Times> {
+    let mut requests = sets(alloc, first, BATCH, length)?;
+    time_each(rt, store, requests.as_mut_slice(), before)
 }
 
 /// Sets so many keys from a number on, and writes how many were stored, the time of each, and the longest one.
@@ -56,15 +78,10 @@ fn set_many<E: StorageEngine, R: Print + Eprint + Clock>(
     length: usize,
 ) -> Result<()> {
     let (from, count) = keys;
-    let mut times = Times {
-        done: 0,
-        all: Duration::ZERO,
-        longest: Duration::ZERO,
-    };
+    let mut times = NONE;
     for batch in 0..count / BATCH {
         let first = from.wrapping_add(batch.wrapping_mul(BATCH));
-        let mut requests = sets(alloc, first, BATCH, length)?;
-        times = time_each(rt, store, requests.as_mut_slice(), times)?;
+        times = time_batch(rt, alloc, store, first, length, times)?;
     }
     println!(rt; "{name}: {} stored", times.done)?;
     eprintln!(rt;
@@ -73,6 +90,11 @@ fn set_many<E: StorageEngine, R: Print + Eprint + Clock>(
         times.longest.as_micros(),
     )?;
     Ok(())
+}
+
+fn time_flush<E: StorageEngine, R: Clock>(rt: &R, store: &mut E) -> Result<Times> {
+    let mut flush = [Request::FlushAll { delay: 0 }];
+    time_each(rt, store, &mut flush, NONE)
 }
 
 /// Sets so many keys, then as many others, and flushes the store.
@@ -88,13 +110,7 @@ pub fn run_steady<E: StorageEngine, R: Print + Eprint + Clock>(
     eprintln!(rt; "{name}")?;
     set_many(rt, alloc, "first sets", store, (0, count), length)?;
     set_many(rt, alloc, "further sets", store, (count, count), length)?;
-    let mut flush = [Request::FlushAll { delay: 0 }];
-    let none = Times {
-        done: 0,
-        all: Duration::ZERO,
-        longest: Duration::ZERO,
-    };
-    let times = time_each(rt, store, &mut flush, none)?;
+    let times = time_flush(rt, store)?;
     println!(rt; "flush_all: {} done", times.done)?;
     eprintln!(rt; "flush_all: {} us", times.longest.as_micros())?;
     Ok(())

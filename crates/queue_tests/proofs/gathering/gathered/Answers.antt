@@ -1,6 +1,6 @@
 use Rattle.std.proofs.Common.{[], ◌∷◌, ◌++◌, ap, ◌∙◌}
-use Rattle.exchange_runs.proofs.One.{one_end}
-use Rattle.exchange_runs.proofs.gathering.gathered.Goals as goal
+use Rattle.queue_tests.proofs.One.{one_end}
+use Rattle.queue_tests.proofs.gathering.gathered.Goals as goal
 
 pub gather-requires : goal.gather-requires
 gather-requires c = one_end _ c.args.storage c.args.end

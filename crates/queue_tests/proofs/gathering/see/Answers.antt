@@ -3,9 +3,9 @@ use mathlib.Core.Option.{some}
 use lib.ListN.{get_elem?}
 use Rattle.atomic_table.proofs.Lists.{at_last}
 use Rattle.queue_exchange.specs.Queues.{WorkerQueues, IsEndOf}
-use Rattle.exchange_runs.specs.Ends.{StaysAsItWas}
-use Rattle.exchange_runs.proofs.One.{same_end, still_end}
-use Rattle.exchange_runs.proofs.gathering.see.Goals as goal
+use Rattle.queue_tests.specs.Ends.{StaysAsItWas}
+use Rattle.queue_tests.proofs.One.{same_end, still_end}
+use Rattle.queue_tests.proofs.gathering.see.Goals as goal
 
 pub gathered-requires : goal.gathered-requires
 gathered-requires g c =

@@ -5,7 +5,7 @@ use lib.ListN.{get_elem?}
 use Rattle.atomic_table.specs.Seated.{TableId}
 use Rattle.queue_exchange.specs.Queues.{WorkerQueues, StorageQueues, IsEndOf, AreOfOne}
 use Rattle.exchange_runs.specs.Serving.{IsSameQueues}
-use Rattle.exchange_runs.specs.Ends.{StaysAsItWas}
+use Rattle.queue_tests.specs.Ends.{StaysAsItWas}
 
 -- it stands at the place 0
 at_zero : (e v : WorkerQueues) (i : ℕ) → get_elem? (e ∷ []) i ≡ some v → (i ≡ 0) × (e ≡ v)

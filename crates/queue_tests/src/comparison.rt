@@ -1,9 +1,9 @@
 //! The same requests through the lanes and through the queues.
 
-use crate::caller::{CallingWorker, Workload};
-use crate::runs::{run_lanes, run_queues};
+use exchange_runs::{CallingWorker, Workload, run_lanes, run_queues};
 use std::process::Abort;
 use std::test::Fail;
+use std::time::Duration;
 
 /// The requests of each run, of all workers together: 16,000 in all, each way.
 const REQUESTS: u64 = 2_000;
@@ -28,6 +28,7 @@ fn both_give_each_worker_the_same_answers(rt: HostRuntime) -> Result<(), Fail> {
             each: REQUESTS / workers as u64,
             window: 64,
             kept: true,
+            pause: Duration::ZERO,
         };
         let lanes = run_lanes(&rt, rt.alloc(), workers, load);
         let queues = run_queues(&rt, rt.alloc(), workers, load);

@@ -5,9 +5,9 @@ ghost use Rattle.proto.specs.Sizes.{Sizes};
 ghost use Rattle.proto.specs.Cache.{empty_cache};
 ghost use Rattle.engine.specs.PlainState.{plain_sizes, plain_cache, plain_moment};
 ghost use Rattle.queue_exchange.specs.Queues.{AreQueuesMade, IsEndOf};
-ghost use Rattle.exchange_runs.specs.Ends.{StaysAsItWas};
+ghost use Rattle.queue_tests.specs.Ends.{StaysAsItWas};
 
-use crate::serving::{Served, serve_next};
+use exchange_runs::{Served, serve_next};
 use engine::PlainStore;
 use proto::{Geometry, Posted, Request};
 use queue_exchange::{Gathered, MakeFault, StorageEnd, WorkerEnd, gather, make};

@@ -1,0 +1,7 @@
+//! Tests of the exchange by queues: the window, and the same requests through it and through the lanes.
+#![tactic(auto)]
+
+#[cfg(test)]
+mod comparison;
+#[cfg(test)]
+mod gathering;

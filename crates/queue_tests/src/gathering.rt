@@ -7,8 +7,8 @@ ghost use Rattle.engine.specs.PlainState.{plain_sizes, plain_cache, plain_moment
 ghost use Rattle.queue_exchange.specs.Queues.{AreQueuesMade, IsEndOf};
 ghost use Rattle.queue_tests.specs.Ends.{StaysAsItWas};
 
-use exchange_runs::{Served, serve_next};
 use engine::PlainStore;
+use exchange_runs::{Served, serve_next};
 use proto::{Geometry, Posted, Request};
 use queue_exchange::{Gathered, MakeFault, StorageEnd, WorkerEnd, gather, make};
 use std::alloc::{AllocError, Global};

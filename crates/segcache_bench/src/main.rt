@@ -133,10 +133,34 @@ fn measure_all<E: StorageEngine, R: Print + Eprint + Clock>(
 ) -> Result<()> {
     let few = requests.few.as_mut_slice();
     println!(rt; "{name}: {} filled", send(store, few, FEW))?;
-    measure(rt, "get, found", store, requests.found.as_mut_slice(), rounds)?;
-    measure(rt, "get, missing", store, requests.missing.as_mut_slice(), rounds)?;
-    measure(rt, "set, in place", store, requests.few.as_mut_slice(), rounds)?;
-    measure(rt, "set, of many keys", store, requests.many.as_mut_slice(), rounds)
+    measure(
+        rt,
+        "get, found",
+        store,
+        requests.found.as_mut_slice(),
+        rounds,
+    )?;
+    measure(
+        rt,
+        "get, missing",
+        store,
+        requests.missing.as_mut_slice(),
+        rounds,
+    )?;
+    measure(
+        rt,
+        "set, in place",
+        store,
+        requests.few.as_mut_slice(),
+        rounds,
+    )?;
+    measure(
+        rt,
+        "set, of many keys",
+        store,
+        requests.many.as_mut_slice(),
+        rounds,
+    )
 }
 
 fn run<E: StorageEngine, R: Print + Eprint + Clock>(
@@ -150,57 +174,56 @@ fn run<E: StorageEngine, R: Print + Eprint + Clock>(
     measure_all(rt, name, store, &mut requests, rounds)
 }
 
-fn run_segmented<R: Print + Eprint + Clock>(
-    rt: &R,
-    alloc: Global,
-    geometry: Geometry,
-    rounds: u64,
-) -> Result<()> {
-    let mut store = Store::new(alloc, geometry)?;
-    run(rt, alloc, "segmented", &mut store, rounds)
-}
-
+/// Runs in the plain store: steadily where values of a length are asked for.
 fn run_plain<R: Print + Eprint + Clock>(
     rt: &R,
     alloc: Global,
     geometry: Geometry,
     rounds: u64,
+    length: Option<usize>,
 ) -> Result<()> {
     let mut store = PlainStore::new(alloc, geometry)?;
-    run(rt, alloc, "plain", &mut store, rounds)
+    match length {
+        Some(length) => run_steady(rt, alloc, "plain", &mut store, rounds, length),
+        None => run(rt, alloc, "plain", &mut store, rounds),
+    }
 }
 
-fn run_plain_steady<R: Print + Eprint + Clock>(
-    rt: &R,
-    alloc: Global,
-    geometry: Geometry,
-    count: u64,
-    length: usize,
-) -> Result<()> {
-    let mut store = PlainStore::new(alloc, geometry)?;
-    run_steady(rt, alloc, "plain", &mut store, count, length)
-}
-
-/// Runs in the segmented store, and, beside what that one holds, in the plain one.
+/// Runs steadily in the segmented store, and, beside what that one holds, in the plain one.
 fn run_both_steady<R: Print + Eprint + Clock>(
     rt: &R,
     alloc: Global,
     geometry: Geometry,
-    count: u64,
+    store: &mut Store,
+    rounds: u64,
     length: usize,
 ) -> Result<()> {
+    run_steady(rt, alloc, "segmented", store, rounds, length)?;
+    run_plain(rt, alloc, geometry, rounds, Some(length))
+}
+
+/// Runs in the segmented store: steadily where values of a length are asked for, and then in the plain one too.
+fn run_segmented<R: Print + Eprint + Clock>(
+    rt: &R,
+    alloc: Global,
+    geometry: Geometry,
+    rounds: u64,
+    length: Option<usize>,
+) -> Result<()> {
     let mut store = Store::new(alloc, geometry)?;
-    run_steady(rt, alloc, "segmented", &mut store, count, length)?;
-    run_plain_steady(rt, alloc, geometry, count, length)
+    match length {
+        Some(length) => run_both_steady(rt, alloc, geometry, &mut store, rounds, length),
+        None => run(rt, alloc, "segmented", &mut store, rounds),
+    }
 }
 
 fn main(rt: HostRuntime) -> Result<()> {
     let alloc = rt.alloc();
     let rounds = number(&rt, 1).unwrap_or(1000);
-    if let Some((geometry, value)) = sizes_asked(&rt) {
-        return run_both_steady(&rt, alloc, geometry, rounds, value);
+    if let Some((geometry, length)) = sizes_asked(&rt) {
+        return run_segmented(&rt, alloc, geometry, rounds, Some(length));
     }
     let geometry = Geometry::new(65_536, 64)?;
-    run_segmented(&rt, alloc, geometry, rounds)?;
-    run_plain(&rt, alloc, geometry, rounds)
+    run_segmented(&rt, alloc, geometry, rounds, None)?;
+    run_plain(&rt, alloc, geometry, rounds, None)
 }

@@ -1,6 +1,7 @@
 //! The same requests through the lanes and through the queues.
 
-use exchange_runs::{CallingWorker, Workload, run_lanes, run_queues};
+use crate::same::check_same;
+use exchange_runs::{CallingWorker, Run, Workload, run_lanes, run_queues};
 use std::process::Abort;
 use std::test::Fail;
 use std::time::Duration;
@@ -15,10 +16,25 @@ fn check_worker(
     queue: &CallingWorker<queue_exchange::WorkerEnd>,
     each: u64,
 ) {
-    assert_eq!(rt; lane.counts(), (each, 0));
-    assert_eq!(rt; queue.counts(), (each, 0));
-    assert!(rt; lane.answers().len() as u64 >= each);
-    assert!(rt; lane.answers() == queue.answers());
+    check_same(rt, lane.counts(), (each, 0), "counts of a lane");
+    check_same(rt, queue.counts(), (each, 0), "counts of queues");
+    let is_answered = lane.answers().len() as u64 >= each;
+    check_same(rt, is_answered, true, "an answer to each");
+    check_same(rt, lane.answers() == queue.answers(), true, "the answers");
+}
+
+fn check_runs(
+    rt: &impl Abort,
+    lanes: &Run<exchange::WorkerEnd>,
+    queues: &Run<queue_exchange::WorkerEnd>,
+    workers: usize,
+    each: u64,
+) {
+    check_same(rt, lanes.players.len(), workers, "players of lanes");
+    check_same(rt, queues.players.len(), workers, "players of queues");
+    for (lane, queue) in lanes.players.iter().zip(queues.players.iter()) {
+        check_worker(rt, lane, queue, each);
+    }
 }
 
 #[test]
@@ -32,13 +48,9 @@ fn both_give_each_worker_the_same_answers(rt: HostRuntime) -> Result<(), Fail> {
         };
         let lanes = run_lanes(&rt, rt.alloc(), workers, load);
         let queues = run_queues(&rt, rt.alloc(), workers, load);
-        let (Some(lanes), Some(queues)) = (lanes, queues) else {
-            panic!(rt; "not made")
-        };
-        assert_eq!(rt; lanes.players.len(), workers);
-        assert_eq!(rt; queues.players.len(), workers);
-        for (lane, queue) in lanes.players.iter().zip(queues.players.iter()) {
-            check_worker(&rt, lane, queue, load.each);
+        match (&lanes, &queues) {
+            (Some(lanes), Some(queues)) => check_runs(&rt, lanes, queues, workers, load.each),
+            _ => panic!(rt; "not made"),
         }
     }
     Ok(())

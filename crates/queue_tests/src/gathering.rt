@@ -7,6 +7,7 @@ ghost use Rattle.engine.specs.PlainState.{plain_sizes, plain_cache, plain_moment
 ghost use Rattle.queue_exchange.specs.Queues.{AreQueuesMade, IsEndOf};
 ghost use Rattle.queue_tests.specs.Ends.{StaysAsItWas};
 
+use crate::same::check_same;
 use engine::PlainStore;
 use exchange_runs::{Served, serve_next};
 use proto::{Geometry, Posted, Request};
@@ -109,15 +110,26 @@ fn see<R: Wait>(rt: &R, alloc: Global) -> Result<Seen, Fail> {
 #[test]
 fn a_full_window_and_one_answer(rt: HostRuntime) -> Result<(), Fail> {
     let seen = see(&rt, rt.alloc())?;
-    assert_eq!(rt; seen.workers, 1);
-    assert_eq!(rt; seen.sent, 64);
-    assert_eq!(rt; seen.before, None);
-    assert!(rt; seen.was_request);
-    assert!(rt; !seen.is_open);
-    assert_eq!(rt; seen.answer, Some(1));
-    assert_eq!(rt; seen.after, None);
-    assert_eq!(rt; seen.sent_then, 1);
-    assert_eq!(rt; seen.gathered.sent, [65, 0, 0, 0, 0, 0, 0, 0]);
-    assert_eq!(rt; seen.gathered.back, [1, 0, 0, 0, 0, 0, 0, 0]);
+    let gathered = seen.gathered;
+    check_same(&rt, seen.workers, 1, "workers");
+    check_same(&rt, seen.sent, 64, "sent");
+    check_same(&rt, seen.before, None, "an answer before");
+    check_same(&rt, seen.was_request, true, "a request");
+    check_same(&rt, seen.is_open, false, "open");
+    check_same(&rt, seen.answer, Some(1), "the answer");
+    check_same(&rt, seen.after, None, "an answer after");
+    check_same(&rt, seen.sent_then, 1, "sent then");
+    check_same(
+        &rt,
+        gathered.sent,
+        [65, 0, 0, 0, 0, 0, 0, 0],
+        "gathered requests",
+    );
+    check_same(
+        &rt,
+        gathered.back,
+        [1, 0, 0, 0, 0, 0, 0, 0],
+        "gathered answers",
+    );
     Ok(())
 }

@@ -5,3 +5,5 @@
 mod comparison;
 #[cfg(test)]
 mod gathering;
+#[cfg(test)]
+mod same;

@@ -3,8 +3,9 @@
 
 use crate::asking::answer;
 use crate::random::Random;
+use crate::same::check_same;
 use engine::PlainStore;
-use proto::Geometry;
+use proto::{Geometry, NoMemory};
 use segcache::Store;
 use std::alloc::{AllocError, Global};
 use std::process::Abort;
@@ -43,28 +44,71 @@ fn random_put(
     )
 }
 
+/// A verb, a key, and a number or another key behind it.
+fn with_number(
+    alloc: Global,
+    verb: &str,
+    key: u64,
+    between: &str,
+    number: u64,
+) -> Result<String, AllocError> {
+    format!(in alloc; "{verb} k{key}{between}{number}\r\n")
+}
+
+fn random_cas(alloc: Global, random: &mut Random) -> Result<String, AllocError> {
+    let unique = format!(in alloc; " {}", random.below(200))?;
+    random_put(alloc, random, "cas", unique.as_str())
+}
+
 /// A request for one or two keys.
 fn random_request(alloc: Global, random: &mut Random) -> Result<String, AllocError> {
     let key = random.below(KEYS);
     let other = random.below(KEYS);
     match random.below(13) {
-        0..=1 => format!(in alloc; "get k{key} k{other}\r\n"),
+        0..=1 => with_number(alloc, "get", key, " k", other),
         2..=3 => format!(in alloc; "gets k{key} k{other} k{key}\r\n"),
         4..=6 => random_put(alloc, random, "set", ""),
         7 => random_put(alloc, random, "add", ""),
         8 => random_put(alloc, random, "replace", ""),
-        9 => {
-            let unique = format!(in alloc; " {}", random.below(200))?;
-            random_put(alloc, random, "cas", unique.as_str())
-        }
+        9 => random_cas(alloc, random),
         10 => format!(in alloc; "delete k{key}\r\n"),
-        11 => format!(in alloc; "incr k{key} {other}\r\n"),
+        11 => with_number(alloc, "incr", key, " ", other),
         _ => match random.below(40) {
-            0 => format!(in alloc; "flush_all\r\n"),
-            1 => format!(in alloc; "flush_all 2\r\n"),
-            _ => format!(in alloc; "decr k{key} {other}\r\n"),
+            0 => String::from_str(alloc, "flush_all\r\n"),
+            1 => String::from_str(alloc, "flush_all 2\r\n"),
+            _ => with_number(alloc, "decr", key, " ", other),
         },
     }
+}
+
+/// Both stores answer the request alike: whether they show a value.
+fn check_request(
+    rt: &impl Abort,
+    alloc: Global,
+    segmented: &mut Store,
+    plain: &mut PlainStore,
+    request: &str,
+    turn: u64,
+) -> Result<bool, NoMemory> {
+    let now = 1000 + turn / 100;
+    let wanted = answer(alloc, plain, now, request)?;
+    let given = answer(alloc, segmented, now, request)?;
+    check_same(rt, wanted.is_empty(), false, (turn, request));
+    check_same(rt, given.as_slice(), wanted.as_slice(), (turn, request));
+    Ok(wanted.starts_with(b"VALUE"))
+}
+
+/// One random request.
+fn check_turn(
+    rt: &impl Abort,
+    alloc: Global,
+    segmented: &mut Store,
+    plain: &mut PlainStore,
+    random: &mut Random,
+    turn: u64,
+) -> Result<bool, Fail> {
+    let request = random_request(alloc, random)?;
+    Ok(check_request(rt, alloc, segmented, plain, request.as_str(), turn)?)
 }
 
 /// Sends 20,000 requests in 200 seconds to both, and compares the answers.
@@ -77,30 +121,28 @@ fn compare(
     let mut random = Random::new(88_172_645_463_325_252);
     let mut shown = 0u32;
     for turn in 0..20_000u64 {
-        let request = random_request(alloc, &mut random)?;
-        let now = 1000 + turn / 100;
-        let wanted = answer(alloc, plain, now, request.as_str())?;
-        let given = answer(alloc, segmented, now, request.as_str())?;
-        assert!(*rt; !wanted.is_empty(), "no request: {request}");
-        assert_eq!(*rt;
-            given.as_slice(),
-            wanted.as_slice(),
-            "at the request {turn}"
-        );
-        if wanted.starts_with(b"VALUE") {
+        if check_turn(rt, alloc, segmented, plain, &mut random, turn)? {
             shown = shown.saturating_add(1);
         }
     }
-    assert!(*rt; shown > 2000, "only {shown} answers show a value");
+    check_same(rt, shown > 2000, true, shown);
     Ok(())
+}
+
+fn compare_with_plain(
+    rt: &impl Abort,
+    alloc: Global,
+    segmented: &mut Store,
+    geometry: Geometry,
+) -> Result<(), Fail> {
+    let mut plain = PlainStore::new(alloc, geometry)?;
+    compare(rt, alloc, segmented, &mut plain)
 }
 
 /// The answers are the plain store's. The items that are written take some twenty times the segments' bytes.
 #[test]
 fn nothing_is_forgotten(rt: HostRuntime) -> Result<(), Fail> {
-    let alloc = rt.alloc();
     let geometry = Geometry::new(16_384, 8)?;
-    let mut segmented = Store::new(alloc, geometry)?;
-    let mut plain = PlainStore::new(alloc, geometry)?;
-    compare(&rt, alloc, &mut segmented, &mut plain)
+    let mut segmented = Store::new(rt.alloc(), geometry)?;
+    compare_with_plain(&rt, rt.alloc(), &mut segmented, geometry)
 }

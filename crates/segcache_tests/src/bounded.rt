@@ -2,10 +2,11 @@
 //! makes a merge forget the oldest ones.
 
 use crate::random::Random;
+use crate::same::check_same;
 use crate::session::answers;
 use proto::Geometry;
 use segcache::Store;
-use std::alloc::Global;
+use std::alloc::{AllocError, Global};
 use std::process::Abort;
 use std::test::Fail;
 
@@ -30,49 +31,40 @@ impl Script {
         }
     }
 
+    /// A text is sent, and answered so.
+    fn send_text(&mut self, input: &str, output: &str) -> Result<(), AllocError> {
+        self.input.push_str(input)?;
+        self.output.push_str(output)
+    }
+
     /// A value of so many of a letter is stored.
     fn set(&mut self, alloc: Global, key: u64, letter: u8, length: u64) -> Result<(), Fail> {
-        let value = value(alloc, letter, length)?;
-        self.input.push_str(format!(in alloc;
-            "set k{key:03} 0 0 {length}\r\n{value}\r\n"
-        )?.as_str())?;
+        push_text(alloc, &mut self.input, "set ", key, " 0 0", letter, length)?;
         self.output.push_str("STORED\r\n")?;
         Ok(())
     }
 
     /// A key is deleted that is there, or isn't.
-    fn delete(&mut self, alloc: Global, key: u64, is_there: bool) -> Result<(), Fail> {
-        self.input
-            .push_str(format!(in alloc; "delete k{key:03}\r\n")?.as_str())?;
+    fn delete(&mut self, alloc: Global, key: u64, is_there: bool) -> Result<(), AllocError> {
+        push_line(alloc, &mut self.input, "delete ", key)?;
         self.output.push_str(if is_there {
             "DELETED\r\n"
         } else {
             "NOT_FOUND\r\n"
-        })?;
-        Ok(())
+        })
     }
 
     /// A key is found with its value, or isn't.
     fn get(&mut self, alloc: Global, key: u64, found: Option<(u8, u64)>) -> Result<(), Fail> {
-        self.input
-            .push_str(format!(in alloc; "get k{key:03}\r\n")?.as_str())?;
+        push_line(alloc, &mut self.input, "get ", key)?;
         if let Some((letter, length)) = found {
-            let value = value(alloc, letter, length)?;
-            self.output.push_str(format!(in alloc;
-                "VALUE k{key:03} 0 {length}\r\n{value}\r\n"
-            )?.as_str())?;
+            push_text(alloc, &mut self.output, "VALUE ", key, " 0", letter, length)?;
         }
         self.output.push_str("END\r\n")?;
         Ok(())
     }
 
-    /// A text is sent, and answered so.
-    fn send_text(&mut self, input: &str, output: &str) -> Result<(), Fail> {
-        self.input.push_str(input)?;
-        self.output.push_str(output)?;
-        Ok(())
-    }
-
+    /// A new store answers as it has to.
     fn check(
         &self,
         rt: &impl Abort,
@@ -81,7 +73,7 @@ impl Script {
         segments: u32,
     ) -> Result<(), Fail> {
         let mut store = Store::new(alloc, Geometry::new(segment_size, segments)?)?;
-        self.send(rt, alloc, &mut store, segment_size, segments)
+        self.send(rt, alloc, &mut store, (segments, segment_size))
     }
 
     fn send(
@@ -89,17 +81,34 @@ impl Script {
         rt: &impl Abort,
         alloc: Global,
         store: &mut Store,
-        segment_size: u32,
-        segments: u32,
+        sizes: (u32, u32),
     ) -> Result<(), Fail> {
         let given = answers(alloc, store, NOW, 0, self.input.as_bytes())?;
-        assert_eq!(rt;
-            given.as_slice(),
-            self.output.as_bytes(),
-            "{segments} segments of {segment_size} bytes"
-        );
+        check_same(rt, given.as_slice(), self.output.as_bytes(), sizes);
         Ok(())
     }
+}
+
+/// Adds a word and a key as a line.
+fn push_line(alloc: Global, text: &mut String, word: &str, key: u64) -> Result<(), AllocError> {
+    let line = format!(in alloc; "{word}k{key:03}\r\n")?;
+    text.push_str(line.as_str())
+}
+
+/// Adds a word, a key and what stands behind it, and so many of a letter as their value.
+fn push_text(
+    alloc: Global,
+    text: &mut String,
+    word: &str,
+    key: u64,
+    behind: &str,
+    letter: u8,
+    length: u64,
+) -> Result<(), Fail> {
+    let value = value(alloc, letter, length)?;
+    let piece = format!(in alloc; "{word}k{key:03}{behind} {length}\r\n{value}\r\n")?;
+    text.push_str(piece.as_str())?;
+    Ok(())
 }
 
 fn value(alloc: Global, letter: u8, length: u64) -> Result<String, Fail> {
@@ -111,36 +120,43 @@ fn item_size(length: u64) -> u64 {
     (28u64.saturating_add(length).saturating_add(7) / 8).saturating_mul(8)
 }
 
+/// So many items are written, each of 512 bytes, and all are found.
+fn write_and_get(alloc: Global, script: &mut Script, keys: u64) -> Result<(), Fail> {
+    for key in 1..=keys {
+        script.set(alloc, key, b'v', 484)?;
+    }
+    for key in 1..=keys {
+        script.get(alloc, key, Some((b'v', 484)))?;
+    }
+    Ok(())
+}
+
 /// 49 items of 512 bytes are the 25,088 bytes of the bound.
 #[test]
 fn the_bound_itself(rt: HostRuntime) -> Result<(), Fail> {
-    let alloc = rt.alloc();
-    let mut script = Script::new(alloc);
-    for key in 1..=49u64 {
-        script.set(alloc, key, b'v', 484)?;
-    }
-    for key in 1..=49u64 {
-        script.get(alloc, key, Some((b'v', 484)))?;
-    }
-    script.check(&rt, alloc, 4096, 8)
+    let mut script = Script::new(rt.alloc());
+    write_and_get(rt.alloc(), &mut script, 49)?;
+    script.check(&rt, rt.alloc(), 4096, 8)
 }
 
-/// 64 items fill all segments, and are all forgotten by a flush: the next one finds room, and is found alone.
-#[test]
-fn a_flush_makes_room(rt: HostRuntime) -> Result<(), Fail> {
-    let alloc = rt.alloc();
-    let mut script = Script::new(alloc);
+fn flush_and_write(alloc: Global, script: &mut Script) -> Result<(), Fail> {
     for key in 1..=64u64 {
         script.set(alloc, key, b'v', 476)?;
     }
     script.send_text("flush_all\r\n", "OK\r\n")?;
     script.set(alloc, 65, b'v', 476)?;
-    let shown = value(alloc, b'v', 476)?;
-    script.send_text(
-        "get k064 k065\r\n",
-        format!(in alloc; "VALUE k065 0 476\r\n{shown}\r\nEND\r\n")?.as_str(),
-    )?;
-    script.check(&rt, alloc, 4096, 8)
+    script.input.push_str("get k064 k065\r\n")?;
+    push_text(alloc, &mut script.output, "VALUE ", 65, " 0", b'v', 476)?;
+    script.output.push_str("END\r\n")?;
+    Ok(())
+}
+
+/// 64 items fill all segments, and are all forgotten by a flush: the next one finds room, and is found alone.
+#[test]
+fn a_flush_makes_room(rt: HostRuntime) -> Result<(), Fail> {
+    let mut script = Script::new(rt.alloc());
+    flush_and_write(rt.alloc(), &mut script)?;
+    script.check(&rt, rt.alloc(), 4096, 8)
 }
 
 /// The length of the nth value, so that eight items leave 504 bytes of a segment: six of 512 bytes, 264 and 256.
@@ -152,27 +168,114 @@ fn worst_length(n: u64) -> u64 {
     }
 }
 
+/// So many such items are written, and the first ones are forgotten.
+fn write_worst(
+    alloc: Global,
+    script: &mut Script,
+    writes: u64,
+    forgotten: u64,
+) -> Result<(), Fail> {
+    for key in 1..=writes {
+        script.set(alloc, key, b'v', worst_length(key))?;
+    }
+    for key in 1..=forgotten {
+        script.get(alloc, key, None)?;
+    }
+    for key in forgotten.saturating_add(1)..=writes {
+        script.get(alloc, key, Some((b'v', worst_length(key))))?;
+    }
+    Ok(())
+}
+
+fn check_worst(rt: &impl Abort, alloc: Global, writes: u64, forgotten: u64) -> Result<(), Fail> {
+    let mut script = Script::new(alloc);
+    write_worst(alloc, &mut script, writes, forgotten)?;
+    script.check(rt, alloc, 4096, 8)
+}
+
 /// After 64 such items each of eight segments has no room for another of 512. The 65th makes the first four be merged:
 /// the newest of theirs stay, 4,096 bytes at most.
 #[test]
 fn one_item_too_many(rt: HostRuntime) -> Result<(), Fail> {
-    let alloc = rt.alloc();
-    for (writes, forgotten) in [(64u64, 0u64), (65, 23)] {
-        let mut script = Script::new(alloc);
-        for key in 1..=writes {
-            script.set(alloc, key, b'v', worst_length(key))?;
+    check_worst(&rt, rt.alloc(), 64, 0)?;
+    check_worst(&rt, rt.alloc(), 65, 23)
+}
+
+/// What a key is to be found with: a letter, and how many of it.
+type Found = Option<(u8, u64)>;
+
+/// A random key is deleted, or given a value of at most a length if that is within what is left of the bound. Gives what
+/// is left then, and None where it isn't.
+fn push_turn(
+    alloc: Global,
+    script: &mut Script,
+    there: &mut [Found],
+    random: &mut Random,
+    letter: u8,
+    (longest, left): (u64, u64),
+) -> Result<Option<u64>, Fail> {
+    let key = random.below(KEYS);
+    let Some(place) = there.get_mut(key as usize) else {
+        return Ok(None);
+    };
+    if random.below(8) == 0 {
+        script.delete(alloc, key, place.is_some())?;
+        *place = None;
+        return Ok(Some(left));
+    }
+    let length = random.below(longest.saturating_add(1));
+    let Some(left) = left.checked_sub(item_size(length)) else {
+        return Ok(None);
+    };
+    script.set(alloc, key, letter, length)?;
+    *place = Some((letter, length));
+    Ok(Some(left))
+}
+
+fn push_turns(
+    alloc: Global,
+    script: &mut Script,
+    there: &mut [Found],
+    random: &mut Random,
+    longest: u64,
+    bound: u64,
+) -> Result<(), Fail> {
+    let mut left = bound;
+    for turn in 0..5000u64 {
+        let letter = b'a' + (turn % 26) as u8;
+        match push_turn(alloc, script, there, random, letter, (longest, left))? {
+            Some(rest) => left = rest,
+            None => break,
         }
-        for key in 1..=writes {
-            let found = if key <= forgotten {
-                None
-            } else {
-                Some((b'v', worst_length(key)))
-            };
-            script.get(alloc, key, found)?;
-        }
-        script.check(&rt, alloc, 4096, 8)?;
     }
     Ok(())
+}
+
+fn push_gets(alloc: Global, script: &mut Script, there: &[Found]) -> Result<(), Fail> {
+    for (key, found) in there.iter().enumerate() {
+        script.get(alloc, key as u64, *found)?;
+    }
+    Ok(())
+}
+
+fn push_random(
+    alloc: Global,
+    script: &mut Script,
+    seed: u64,
+    longest: u64,
+    bound: u64,
+) -> Result<(), Fail> {
+    let mut there: Vec<Found> = Vec::from_elem(alloc, None, KEYS as usize)?;
+    let mut random = Random::new(seed);
+    push_turns(
+        alloc,
+        script,
+        there.as_mut_slice(),
+        &mut random,
+        longest,
+        bound,
+    )?;
+    push_gets(alloc, script, there.as_slice())
 }
 
 /// Random values of at most a length are written, over others too, and deleted, as long as what is written is within the
@@ -186,53 +289,31 @@ fn check_random(
 ) -> Result<(), Fail> {
     let bound = (u64::from(segments).saturating_sub(1)).saturating_mul(u64::from(segment_size)) / 8
         * 7;
-    let mut random = Random::new(u64::from(segment_size) ^ longest ^ 88_172_645_463_325_252);
+    let seed = u64::from(segment_size) ^ longest ^ 88_172_645_463_325_252;
     let mut script = Script::new(alloc);
-    let mut there: Vec<Option<(u8, u64)>> = Vec::from_elem(alloc, None, KEYS as usize)?;
-    let mut written = 0u64;
-    for turn in 0..5000u64 {
-        let key = random.below(KEYS);
-        let Some(place) = there.get_mut(key as usize) else {
-            break;
-        };
-        if random.below(8) == 0 {
-            script.delete(alloc, key, place.is_some())?;
-            *place = None;
-        } else {
-            let length = random.below(longest.saturating_add(1));
-            written = written.saturating_add(item_size(length));
-            if written > bound {
-                break;
-            }
-            let letter = b'a' + (turn % 26) as u8;
-            script.set(alloc, key, letter, length)?;
-            *place = Some((letter, length));
-        }
-    }
-    for key in 0..KEYS {
-        let found = match there.get(key as usize) {
-            Some(place) => *place,
-            None => None,
-        };
-        script.get(alloc, key, found)?;
-    }
+    push_random(alloc, &mut script, seed, longest, bound)?;
     script.check(rt, alloc, segment_size, segments)
+}
+
+/// The size and the number of the segments, and the longest value.
+const ROWS: [(u32, u32, u64); 7] = [
+    (4096, 8, 484),
+    (4096, 8, 100),
+    (4096, 9, 0),
+    (4096, 23, 484),
+    (8192, 8, 996),
+    (16384, 11, 2020),
+    (65536, 8, 8164),
+];
+
+fn check_rows(rt: &impl Abort, alloc: Global, rows: &[(u32, u32, u64)]) -> Result<(), Fail> {
+    for (segment_size, segments, longest) in rows {
+        check_random(rt, alloc, *segment_size, *segments, *longest)?;
+    }
+    Ok(())
 }
 
 #[test]
 fn all_within_the_bound(rt: HostRuntime) -> Result<(), Fail> {
-    let alloc = rt.alloc();
-    let rows = [
-        (4096, 8, 484),
-        (4096, 8, 100),
-        (4096, 9, 0),
-        (4096, 23, 484),
-        (8192, 8, 996),
-        (16384, 11, 2020),
-        (65536, 8, 8164),
-    ];
-    for (segment_size, segments, longest) in rows {
-        check_random(&rt, alloc, segment_size, segments, longest)?;
-    }
-    Ok(())
+    check_rows(&rt, rt.alloc(), &ROWS)
 }

@@ -1,10 +1,11 @@
 //! Rows of whole sessions, and a store at its limits.
 
+use crate::same::check_same;
 use crate::session::answers;
 use engine::StorageEngine;
 use proto::{ByteString, Geometry, Put, Reply, Request};
 use segcache::Store;
-use std::alloc::Global;
+use std::alloc::{AllocError, Global};
 use std::process::Abort;
 use std::test::Fail;
 
@@ -156,11 +157,7 @@ fn check_session(
     output: &str,
 ) -> Result<(), Fail> {
     let given = answers(alloc, store, now, tick, input.as_bytes())?;
-    assert_eq!(rt;
-        given.as_slice(),
-        output.as_bytes(),
-        "after {input} at {now}"
-    );
+    check_same(rt, given.as_slice(), output.as_bytes(), (input, now));
     Ok(())
 }
 
@@ -207,26 +204,57 @@ fn no_cas_number_left(rt: HostRuntime) -> Result<(), Fail> {
     )
 }
 
-/// Whether a key and a value of these lengths are stored, or are too large; None for another answer.
-fn is_stored(alloc: Global, key: usize, value: usize) -> Result<Option<bool>, Fail> {
-    let mut store = Store::new(alloc, Geometry::new(4096, 8)?)?;
-    let key = vec![in alloc; b'k'; key]?;
-    let value = vec![in alloc; b'v'; value]?;
-    let mut request = Request::Set(Put {
-        key: ByteString::from_vec(key),
-        flags: 0,
-        exptime: 0,
-        value: ByteString::from_vec(value),
-    });
-    let reply = store.handle(1, &mut request);
-    let stored = match &reply {
+/// Whether a write was stored, or was too large; None for another answer.
+fn says_stored(reply: &Reply) -> Option<bool> {
+    match reply {
         Reply::Stored => Some(true),
         Reply::TooLarge => Some(false),
         _ => None,
-    };
-    drop(reply);
-    drop(request);
-    Ok(stored)
+    }
+}
+
+fn put_of(alloc: Global, key: usize, value: usize) -> Result<Request, AllocError> {
+    let key = ByteString::from_vec(vec![in alloc; b'k'; key]?);
+    let value = ByteString::from_vec(vec![in alloc; b'v'; value]?);
+    Ok(Request::Set(Put {
+        key,
+        flags: 0,
+        exptime: 0,
+        value,
+    }))
+}
+
+/// Whether a store to which nothing was sent stores the write.
+fn put_stored(store: &mut Store, request: &mut Request) -> Option<bool> {
+    if store.last_moment() > 1 {
+        return None;
+    }
+    let reply = store.handle(1, request);
+    says_stored(&reply)
+}
+
+/// Whether a key and a value of these lengths are stored, or are too large; None for another answer.
+fn is_stored(
+    alloc: Global,
+    store: &mut Store,
+    key: usize,
+    value: usize,
+) -> Result<Option<bool>, AllocError> {
+    let mut request = put_of(alloc, key, value)?;
+    Ok(put_stored(store, &mut request))
+}
+
+fn check_length(
+    rt: &impl Abort,
+    alloc: Global,
+    (key, value): (usize, usize),
+    fits: bool,
+) -> Result<(), Fail> {
+    let mut store = Store::new(alloc, Geometry::new(4096, 8)?)?;
+    let stored = is_stored(alloc, &mut store, key, value);
+    drop(store);
+    check_same(rt, stored?, Some(fits), (key, value));
+    Ok(())
 }
 
 fn check_lengths(
@@ -235,35 +263,46 @@ fn check_lengths(
     rows: &[(usize, usize, bool)],
 ) -> Result<(), Fail> {
     for (key, value, fits) in rows {
-        let stored = is_stored(alloc, *key, *value)?;
-        assert_eq!(rt; stored, Some(*fits), "a key of {key}, a value of {value}");
+        check_length(rt, alloc, (*key, *value), *fits)?;
     }
     Ok(())
 }
 
-/// Keys have 1 to 250 bytes, and an item an eighth of a segment at most: 24 bytes, the key and the value,
-/// rounded up to a multiple of 8.
+/// The lengths of a key and of a value, and whether they are stored. Keys have 1 to 250 bytes, and an item an eighth of a
+/// segment at most: 24 bytes, the key and the value, rounded up to a multiple of 8.
+const LENGTHS: [(usize, usize, bool); 8] = [
+    (0, 1, false),
+    (1, 1, true),
+    (250, 1, true),
+    (251, 1, false),
+    (1, 487, true),
+    (1, 488, false),
+    (250, 238, true),
+    (250, 239, false),
+];
+
 #[test]
 fn lengths(rt: HostRuntime) -> Result<(), Fail> {
-    check_lengths(&rt, rt.alloc(), &[(0, 1, false), (1, 1, true)])?;
-    check_lengths(&rt, rt.alloc(), &[(250, 1, true), (251, 1, false)])?;
-    check_lengths(&rt, rt.alloc(), &[(1, 487, true), (1, 488, false)])?;
-    check_lengths(&rt, rt.alloc(), &[(250, 238, true), (250, 239, false)])
+    check_lengths(&rt, rt.alloc(), &LENGTHS)
 }
 
 fn check_state(rt: &impl Abort, store: &Store, moment: u64, pending: Option<u64>) {
-    assert_eq!(rt; (store.last_moment(), store.pending()), (moment, pending));
+    let given = (store.last_moment(), store.pending());
+    check_same(rt, given, (moment, pending), "the store's state");
+}
+
+fn check_states(rt: &impl Abort, alloc: Global, store: &mut Store) -> Result<(), Fail> {
+    check_state(rt, store, 0, None);
+    check_session(rt, alloc, store, (7, 0), "flush_all 5\r\n", "OK\r\n")?;
+    check_state(rt, store, 7, Some(12));
+    check_session(rt, alloc, store, (12, 0), "get a\r\n", "END\r\n")?;
+    check_state(rt, store, 12, None);
+    Ok(())
 }
 
 /// What a store says of itself.
 #[test]
 fn moments(rt: HostRuntime) -> Result<(), Fail> {
-    let alloc = rt.alloc();
-    let mut store = Store::new(alloc, Geometry::new(65536, 64)?)?;
-    check_state(&rt, &store, 0, None);
-    check_session(&rt, alloc, &mut store, (7, 0), "flush_all 5\r\n", "OK\r\n")?;
-    check_state(&rt, &store, 7, Some(12));
-    check_session(&rt, alloc, &mut store, (12, 0), "get a\r\n", "END\r\n")?;
-    check_state(&rt, &store, 12, None);
-    Ok(())
+    let mut store = Store::new(rt.alloc(), Geometry::new(65536, 64)?)?;
+    check_states(&rt, rt.alloc(), &mut store)
 }

@@ -2,6 +2,7 @@
 
 use crate::asking::answer;
 use crate::random::Random;
+use crate::same::check_same;
 use proto::Geometry;
 use segcache::Store;
 use std::alloc::{AllocError, Global};
@@ -50,7 +51,7 @@ fn check(
     wanted: &str,
 ) -> Result<(), Fail> {
     let given = answer(alloc, store, 1000, request)?;
-    assert_eq!(*rt; given.as_slice(), wanted.as_bytes(), "{request}");
+    check_same(rt, given.as_slice(), wanted.as_bytes(), request);
     Ok(())
 }
 
@@ -67,6 +68,38 @@ fn check_key(
     check(rt, alloc, store, request.as_str(), wanted.as_str())
 }
 
+/// Deletes the key, which may have a value.
+fn delete_key(
+    rt: &impl Abort,
+    alloc: Global,
+    store: &mut Store,
+    values: &mut [Option<u64>],
+    key: u64,
+) -> Result<(), Fail> {
+    let request = format!(in alloc; "delete key{key}\r\n")?;
+    let wanted = if value_of(values, key).is_some() {
+        "DELETED\r\n"
+    } else {
+        "NOT_FOUND\r\n"
+    };
+    give(values, key, None);
+    check(rt, alloc, store, request.as_str(), wanted)
+}
+
+/// Gives the key the value.
+fn write_key(
+    rt: &impl Abort,
+    alloc: Global,
+    store: &mut Store,
+    values: &mut [Option<u64>],
+    key: u64,
+    value: u64,
+) -> Result<(), Fail> {
+    let request = set(alloc, key, value)?;
+    give(values, key, Some(value));
+    check(rt, alloc, store, request.as_str(), "STORED\r\n")
+}
+
 /// Deletes a key, writes one, and looks one up.
 fn turn(
     rt: &impl Abort,
@@ -76,38 +109,46 @@ fn turn(
     random: &mut Random,
     turn: u64,
 ) -> Result<(), Fail> {
-    let gone = random.below(KEYS);
-    let request = format!(in alloc; "delete key{gone}\r\n")?;
-    let wanted = if value_of(values, gone).is_some() {
-        "DELETED\r\n"
-    } else {
-        "NOT_FOUND\r\n"
-    };
-    check(rt, alloc, store, request.as_str(), wanted)?;
-    give(values, gone, None);
-    let written = random.below(KEYS);
-    let request = set(alloc, written, turn)?;
-    check(rt, alloc, store, request.as_str(), "STORED\r\n")?;
-    give(values, written, Some(turn));
+    delete_key(rt, alloc, store, values, random.below(KEYS))?;
+    write_key(rt, alloc, store, values, random.below(KEYS), turn)?;
     check_key(rt, alloc, store, values, random.below(KEYS))
 }
 
-/// What is written takes less than the bound below which nothing is forgotten. At the end all keys are looked up.
-fn take_turns(rt: &impl Abort, alloc: Global, store: &mut Store) -> Result<(), Fail> {
-    let mut values: Vec<Option<u64>> = vec![in alloc; None; 10_000]?;
+fn take_turns(
+    rt: &impl Abort,
+    alloc: Global,
+    store: &mut Store,
+    values: &mut [Option<u64>],
+) -> Result<(), Fail> {
     let mut random = Random::new(2_463_534_242);
     for number in 0..30_000u64 {
-        turn(rt, alloc, store, values.as_mut_slice(), &mut random, number)?;
-    }
-    for key in 0..KEYS {
-        check_key(rt, alloc, store, values.as_slice(), key)?;
+        turn(rt, alloc, store, values, &mut random, number)?;
     }
     Ok(())
+}
+
+fn check_keys(
+    rt: &impl Abort,
+    alloc: Global,
+    store: &mut Store,
+    values: &[Option<u64>],
+) -> Result<(), Fail> {
+    for key in 0..KEYS {
+        check_key(rt, alloc, store, values, key)?;
+    }
+    Ok(())
+}
+
+/// What is written takes less than the bound below which nothing is forgotten. At the end all keys are looked up.
+fn check_store(rt: &impl Abort, alloc: Global, store: &mut Store) -> Result<(), Fail> {
+    let mut values: Vec<Option<u64>> = vec![in alloc; None; 10_000]?;
+    take_turns(rt, alloc, store, values.as_mut_slice())?;
+    check_keys(rt, alloc, store, values.as_slice())
 }
 
 #[test]
 fn each_is_found(rt: HostRuntime) -> Result<(), Fail> {
     let alloc = rt.alloc();
     let mut store = Store::new(alloc, Geometry::new(1_048_576, 8)?)?;
-    take_turns(&rt, alloc, &mut store)
+    check_store(&rt, alloc, &mut store)
 }

@@ -1,5 +1,6 @@
 //! The memory of hits goes round: of that no clause speaks.
 
+use crate::same::check_same;
 use engine::StorageEngine;
 use proto::{Geometry, Message, Next, Request, SpareBuffer, next_message};
 use segcache::Store;
@@ -50,21 +51,34 @@ fn buffers_back(
     Ok((handed_back, capacity_of(reply.into_buffer())))
 }
 
-fn check_buffers(
+/// The buffer comes back with the reply, or else with the request.
+fn check_request(
     rt: &impl Abort,
     alloc: Global,
+    store: &mut Store,
+    text: &str,
+    comes_back: Option<usize>,
+) -> Result<(), Fail> {
+    let (handed_back, kept) = buffers_back(alloc, store, text)?;
+    check_same(rt, kept, comes_back, text);
+    check_same(rt, handed_back.is_some(), kept.is_none(), text);
+    Ok(())
+}
+
+fn check_requests(
+    rt: &impl Abort,
+    alloc: Global,
+    store: &mut Store,
     rows: &[(&str, Option<usize>)],
 ) -> Result<(), Fail> {
-    let mut store = Store::new(alloc, Geometry::new(4096, 8)?)?;
     for (text, comes_back) in rows {
-        let (handed_back, kept) = buffers_back(alloc, &mut store, text)?;
-        assert_eq!(rt; kept, *comes_back, "with the reply to {text}");
-        assert_eq!(rt; handed_back.is_some(), kept.is_none(), "of {text}");
+        check_request(rt, alloc, store, text, *comes_back)?;
     }
     Ok(())
 }
 
 #[test]
 fn the_memory_of_hits_goes_round(rt: HostRuntime) -> Result<(), Fail> {
-    check_buffers(&rt, rt.alloc(), &REQUESTS)
+    let mut store = Store::new(rt.alloc(), Geometry::new(4096, 8)?)?;
+    check_requests(&rt, rt.alloc(), &mut store, &REQUESTS)
 }

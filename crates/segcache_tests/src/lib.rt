@@ -1,7 +1,8 @@
 //! Tests of the segmented store by its public calls.
 #![tactic(auto)]
 
-pub mod asking;
+#[cfg(test)]
+mod asking;
 #[cfg(test)]
 mod beside_plain;
 #[cfg(test)]
@@ -12,6 +13,9 @@ mod commands;
 mod in_turn;
 #[cfg(test)]
 mod lent_buffers;
-pub mod random;
+#[cfg(test)]
+mod random;
+#[cfg(test)]
+mod same;
 #[cfg(test)]
 mod session;

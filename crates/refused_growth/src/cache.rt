@@ -3,7 +3,7 @@
 
 use crate::protocol::read_request;
 use engine::StorageEngine;
-use proto::{Geometry, Message, NoMemory, Reply, Request, show};
+use proto::{Geometry, Message, Reply, Request, show};
 use segcache::Store;
 use std::alloc::Global;
 
@@ -49,10 +49,14 @@ fn handle(store: &mut Store, now: u64, request: &mut Request) -> Option<Reply> {
     Some(store.handle(now, request))
 }
 
-fn shown(alloc: Global, request: Request, reply: &Reply) -> Result<Vec<u8>, NoMemory> {
+/// The answer; None where memory was refused.
+fn shown(alloc: Global, request: Request, reply: &Reply) -> Option<Vec<u8>> {
     let mut out = Vec::new(alloc);
-    show(&Message::Ask(request, false), Some(reply), &mut out)?;
-    Ok(out)
+    let message = Message::Ask(request, false);
+    match show(&message, Some(reply), &mut out) {
+        Ok(()) => Some(out),
+        Err(_) => None,
+    }
 }
 
 /// What stands in the store; None inside where memory was refused.
@@ -60,7 +64,7 @@ fn entries_once(alloc: Global, store: &mut Store, now: u64) -> Option<Option<Vec
     let mut request = read_request(alloc, ALL)?;
     match handle(store, now, &mut request)? {
         Reply::NoMemory => Some(None),
-        reply => Some(shown(alloc, request, &reply).ok()),
+        reply => Some(shown(alloc, request, &reply)),
     }
 }
 

@@ -37,22 +37,29 @@ fn finds_room(pool: &mut Pool, geometry: Geometry, bucket: usize) -> bool
     size_of(item) <= geometry.item_limit() && pool.append(bucket, 0, item).is_ok()
 }
 
-/// Whether eight segments are made at the first or the second try, and all are free: no segment is in a chain,
-/// eight buckets find room for an item, and a ninth one finds none.
-pub fn is_repeatable(alloc: Global) -> bool {
-    let Ok(geometry) = Geometry::new(4096, 8) else {
-        return false;
-    };
-    let Some(mut pool) = make(alloc, geometry) else {
-        return false;
-    };
+/// Whether all of eight segments are free: no segment is in a chain, eight buckets find room for an item, and a ninth
+/// one finds none.
+fn are_free(pool: &mut Pool, geometry: Geometry) -> bool
+    requires sizes { pool.old.sizes ≡ geometry }
+{
     if pool.oldest().is_some() {
         return false;
     }
     for bucket in 0..8 {
-        if !finds_room(&mut pool, geometry, bucket) {
+        if !finds_room(pool, geometry, bucket) {
             return false;
         }
     }
-    !finds_room(&mut pool, geometry, 8)
+    !finds_room(pool, geometry, 8)
+}
+
+/// Whether eight segments are made at the first or the second try, and all are free.
+pub fn is_repeatable(alloc: Global) -> bool {
+    let Ok(geometry) = Geometry::new(4096, 8) else {
+        return false;
+    };
+    match make(alloc, geometry) {
+        Some(mut pool) => are_free(&mut pool, geometry),
+        None => false,
+    }
 }

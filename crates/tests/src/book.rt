@@ -46,22 +46,54 @@ fn check_open(rt: &impl Abort, book: &mut Book, session: u64, wanted: Result<(),
     check_same(rt, opened, wanted, session);
 }
 
-fn check_order(rt: &impl Abort, player: &mut Player) -> Result<(), Fail> {
-    player.open(1)?;
-    player.feed(1, b"set a 0 0 1\r\nx\r\nset a 0 0 1\r\ny\r\n")?;
-    check_ask(rt, player, 1, Some(1))?;
-    check_ask(rt, player, 1, Some(2))?;
-    check_settle(rt, player, 1, Settled::Stranger)?;
-    check_output(rt, player, 1, "");
-    check_settle(rt, player, 0, Settled::Kept)?;
-    check_output(rt, player, 1, "STORED\r\n");
+/// What is done to a player, with what is to be seen of it.
+#[derive(Clone, Copy)]
+enum Step {
+    Open(u64),
+    Feed(u64, &'static [u8]),
+    /// The number of the session's next request, if it has one.
+    Ask(u64, Option<u64>),
+    Settle(usize, Settled),
+    Output(u64, &'static str),
+    Close(u64),
+}
+
+fn check_step(rt: &impl Abort, player: &mut Player, step: &Step) -> Result<(), Fail> {
+    match step {
+        Step::Open(session) => return player.open(*session),
+        Step::Feed(session, piece) => return player.feed(*session, piece),
+        Step::Ask(session, number) => return check_ask(rt, player, *session, *number),
+        Step::Settle(place, settled) => return check_settle(rt, player, *place, *settled),
+        Step::Output(session, output) => check_output(rt, player, *session, output),
+        Step::Close(session) => player.close(*session),
+    }
     Ok(())
 }
+
+fn check_steps(rt: &impl Abort, player: &mut Player, steps: &[Step]) -> Result<(), Fail> {
+    for step in steps {
+        check_step(rt, player, step)?;
+    }
+    Ok(())
+}
+
+const IN_ORDER: [Step; 8] = [
+    Step::Open(1),
+    Step::Feed(1, b"set a 0 0 1\r\nx\r\nset a 0 0 1\r\ny\r\n"),
+    Step::Ask(1, Some(1)),
+    Step::Ask(1, Some(2)),
+    Step::Settle(1, Settled::Stranger),
+    Step::Output(1, ""),
+    Step::Settle(0, Settled::Kept),
+    Step::Output(1, "STORED\r\n"),
+];
 
 #[test]
 fn settles_in_order(rt: HostRuntime) -> Result<(), Fail> {
     let mut player = Player::new(rt.alloc(), None);
-    check_order(&rt, &mut player)
+    let checked = check_steps(&rt, &mut player, &IN_ORDER);
+    drop(player);
+    checked
 }
 
 /// Sixteen of these pieces are fed, and one byte more is held.
@@ -81,26 +113,42 @@ fn check_full(rt: &impl Abort, alloc: Global, book: &mut Book, piece: &[u8]) -> 
 fn holds_so_much_input(rt: HostRuntime) -> Result<(), Fail> {
     let piece = vec![in rt.alloc(); b'k'; 16384]?;
     let mut book = Book::new(rt.alloc(), 3);
-    check_full(&rt, rt.alloc(), &mut book, piece.as_slice())
+    let checked = check_full(&rt, rt.alloc(), &mut book, piece.as_slice());
+    drop(book);
+    drop(piece);
+    checked
 }
 
-fn check_64(rt: &impl Abort, player: &mut Player) -> Result<(), Fail> {
+/// Opens session 1, and feeds it so many requests.
+fn feed_gets(player: &mut Player, count: u64) -> Result<(), Fail> {
     player.open(1)?;
-    for _ in 0..65 {
+    for _ in 0..count {
         player.feed(1, b"get a\r\n")?;
     }
+    Ok(())
+}
+
+/// The 65th request is asked once one of the 64 before it is settled.
+const BEHIND_64: [Step; 3] = [
+    Step::Ask(1, None),
+    Step::Settle(0, Settled::Kept),
+    Step::Ask(1, Some(65)),
+];
+
+fn check_64(rt: &impl Abort, player: &mut Player) -> Result<(), Fail> {
+    feed_gets(player, 65)?;
     for number in 1..65 {
         check_ask(rt, player, 1, Some(number))?;
     }
-    check_ask(rt, player, 1, None)?;
-    check_settle(rt, player, 0, Settled::Kept)?;
-    check_ask(rt, player, 1, Some(65))
+    check_steps(rt, player, &BEHIND_64)
 }
 
 #[test]
 fn asks_64_at_a_time(rt: HostRuntime) -> Result<(), Fail> {
     let mut player = Player::new(rt.alloc(), None);
-    check_64(&rt, &mut player)
+    let checked = check_64(&rt, &mut player);
+    drop(player);
+    checked
 }
 
 fn check_known(rt: &impl Abort, book: &mut Book, sessions: &[u64]) {
@@ -109,23 +157,38 @@ fn check_known(rt: &impl Abort, book: &mut Book, sessions: &[u64]) {
     }
 }
 
+fn check_rising(rt: &impl Abort, book: &mut Book) {
+    check_open(rt, book, 5, Ok(()));
+    check_known(rt, book, &[5, 4, 0]);
+    check_open(rt, book, 6, Ok(()));
+}
+
 #[test]
 fn opens_rising_numbers(rt: HostRuntime) {
     let mut book = Book::new(rt.alloc(), 0);
-    check_open(&rt, &mut book, 5, Ok(()));
-    check_known(&rt, &mut book, &[5, 4, 0]);
-    check_open(&rt, &mut book, 6, Ok(()));
+    check_rising(&rt, &mut book);
+    drop(book);
 }
 
-fn check_large_block(rt: &impl Abort, player: &mut Player) -> Result<(), Fail> {
-    player.open(1)?;
-    player.feed(1, b"set a 0 0 100000\r\n")?;
-    check_ask(rt, player, 1, None)?;
+const LARGE_HEAD: [Step; 3] = [
+    Step::Open(1),
+    Step::Feed(1, b"set a 0 0 100000\r\n"),
+    Step::Ask(1, None),
+];
+
+/// Feeds a block of 100,000 bytes and its end byte by byte, before each of which no request is found.
+fn check_block(rt: &impl Abort, player: &mut Player) -> Result<(), Fail> {
     for byte in 0..100_002 {
         let last: &[u8] = if byte < 100_001 { b"\r" } else { b"\n" };
         check_ask(rt, player, 1, None)?;
         player.feed(1, last)?;
     }
+    Ok(())
+}
+
+fn check_large_block(rt: &impl Abort, player: &mut Player) -> Result<(), Fail> {
+    check_steps(rt, player, &LARGE_HEAD)?;
+    check_block(rt, player)?;
     check_ask(rt, player, 1, Some(1))?;
     check_same(rt, player.looks(), 2, "looks");
     Ok(())
@@ -134,27 +197,30 @@ fn check_large_block(rt: &impl Abort, player: &mut Player) -> Result<(), Fail> {
 #[test]
 fn looks_twice_at_a_large_block(rt: HostRuntime) -> Result<(), Fail> {
     let mut player = Player::new(rt.alloc(), None);
-    check_large_block(&rt, &mut player)
+    let checked = check_large_block(&rt, &mut player);
+    drop(player);
+    checked
 }
 
-fn check_dropped(rt: &impl Abort, player: &mut Player) -> Result<(), Fail> {
-    player.open(1)?;
-    player.feed(1, b"set a 0 0 1\r\nx\r\n")?;
-    check_ask(rt, player, 1, Some(1))?;
-    player.close(1);
-    player.open(2)?;
-    player.feed(2, b"get a\r\n")?;
-    check_ask(rt, player, 2, Some(2))?;
-    check_settle(rt, player, 0, Settled::Dropped)?;
-    check_output(rt, player, 1, "");
-    check_output(rt, player, 2, "");
-    check_settle(rt, player, 0, Settled::Kept)?;
-    check_output(rt, player, 2, "VALUE a 0 1\r\nx\r\nEND\r\n");
-    Ok(())
-}
+const TO_CLOSED: [Step; 12] = [
+    Step::Open(1),
+    Step::Feed(1, b"set a 0 0 1\r\nx\r\n"),
+    Step::Ask(1, Some(1)),
+    Step::Close(1),
+    Step::Open(2),
+    Step::Feed(2, b"get a\r\n"),
+    Step::Ask(2, Some(2)),
+    Step::Settle(0, Settled::Dropped),
+    Step::Output(1, ""),
+    Step::Output(2, ""),
+    Step::Settle(0, Settled::Kept),
+    Step::Output(2, "VALUE a 0 1\r\nx\r\nEND\r\n"),
+];
 
 #[test]
 fn drops_answers_of_closed_sessions(rt: HostRuntime) -> Result<(), Fail> {
     let mut player = Player::new(rt.alloc(), Some("x"));
-    check_dropped(&rt, &mut player)
+    let checked = check_steps(&rt, &mut player, &TO_CLOSED);
+    drop(player);
+    checked
 }

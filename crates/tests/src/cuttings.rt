@@ -80,14 +80,25 @@ fn feed<'a>(player: &mut Player, bytes: &'a [u8], length: usize) -> Result<&'a [
     Ok(rest)
 }
 
+/// Reads the next request, if there is one.
+fn ask(player: &mut Player) -> Result<(), Fail> {
+    let _ = player.ask(7)?;
+    Ok(())
+}
+
+/// Settles the oldest request, if there is one.
+fn settle(player: &mut Player) -> Result<(), Fail> {
+    let _ = player.settle(0)?;
+    Ok(())
+}
+
 /// Reads, settles and gives what there is to read, settle and give.
 fn finish(player: &mut Player, given: &mut Vec<u8>) -> Result<(), Fail> {
     for _ in 0..10 {
-        let _ = player.ask(7)?;
-        let _ = player.settle(0)?;
+        ask(player)?;
+        settle(player)?;
     }
-    player.give(7, given)?;
-    Ok(())
+    player.give(7, given)
 }
 
 /// Feeds, reads, settles or gives, as the number picks, and says what is left to feed.
@@ -97,16 +108,13 @@ fn play_turn<'a>(
     rest: &'a [u8],
     random: u64,
 ) -> Result<&'a [u8], Fail> {
-    match (random >> 40) % 4 {
+    let played = match (random >> 40) % 4 {
         0 => return feed(player, rest, ((random >> 33) % 7) as usize),
-        1 => {
-            let _ = player.ask(7)?;
-        }
-        2 => {
-            let _ = player.settle(0)?;
-        }
-        _ => player.give(7, given)?,
-    }
+        1 => ask(player),
+        2 => settle(player),
+        _ => player.give(7, given),
+    };
+    played?;
     Ok(rest)
 }
 
@@ -123,17 +131,32 @@ fn play(player: &mut Player, given: &mut Vec<u8>, input: &[u8], seed: u64) -> Re
     finish(player, given)
 }
 
+/// Plays the row's session, and says whether its output is given.
+fn gives_output(alloc: Global, player: &mut Player, row: &Row, seed: u64) -> Result<bool, Fail> {
+    let mut given = Vec::new(alloc);
+    let played = play(player, &mut given, row.input.as_bytes(), seed);
+    let is_given = given.as_slice() == row.output.as_bytes();
+    drop(given);
+    played?;
+    Ok(is_given)
+}
+
+/// Whether the row's output is given, and how its session ends.
+fn outcome(
+    alloc: Global,
+    player: &mut Player,
+    row: &Row,
+    seed: u64,
+) -> Result<(bool, Option<EndCause>), Fail> {
+    let is_given = gives_output(alloc, player, row, seed)?;
+    Ok((is_given, player.finished(7)))
+}
+
 fn check_row(rt: &impl Abort, alloc: Global, row: &Row, seed: u64) -> Result<(), Fail> {
     let mut player = Player::new(alloc, row.found);
-    let mut given = Vec::new(alloc);
-    play(&mut player, &mut given, row.input.as_bytes(), seed)?;
-    let is_given = given.as_slice() == row.output.as_bytes();
-    check_same(
-        rt,
-        (is_given, player.finished(7)),
-        (true, row.ends),
-        (row.input, seed),
-    );
+    let outcome = outcome(alloc, &mut player, row, seed);
+    drop(player);
+    check_same(rt, outcome?, (true, row.ends), (row.input, seed));
     Ok(())
 }
 

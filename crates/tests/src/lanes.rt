@@ -9,12 +9,20 @@ use std::alloc::Global;
 use std::process::Abort;
 use std::test::Fail;
 
-fn made(alloc: Global, workers: usize) -> Result<(Vec<WorkerEnd>, StorageEnd), MakeFault> {
+/// Both sides of an exchange.
+#[derive(Drop)]
+struct Lanes {
+    workers: Vec<WorkerEnd>,
+    storage: StorageEnd,
+}
+
+fn made(alloc: Global, workers: usize) -> Result<Lanes, MakeFault> {
     let geometry = match Geometry::new(4096, 8) {
         Ok(geometry) => geometry,
         Err(_) => return Err(MakeFault::BadCount),
     };
-    make(alloc, workers, geometry)
+    let (workers, storage) = make(alloc, workers, geometry)?;
+    Ok(Lanes { workers, storage })
 }
 
 /// The deletion with this number.
@@ -49,9 +57,17 @@ fn ask(rt: &impl Abort, alloc: Global, end: &mut WorkerEnd) -> Result<bool, Fail
         Err(back) => {
             let is_same = is_deletion(&back, number);
             drop(back);
-            assert!(rt; is_same);
+            check_same(rt, is_same, true, "what is handed back");
             Ok(false)
         }
+    }
+}
+
+/// The last worker's end.
+fn last<'a>(rt: &impl Abort, ends: &'a mut [WorkerEnd]) -> &'a mut WorkerEnd {
+    match ends.last_mut() {
+        Some(end) => end,
+        None => panic!(rt; "no end"),
     }
 }
 
@@ -67,6 +83,17 @@ fn next_of(storage: &mut StorageEnd) -> Option<(usize, bool)>
         Some(Taken::Bye { worker }) => Some((worker, false)),
         None => None,
     }
+}
+
+/// No request is open, and the next message is so.
+fn check_next(
+    rt: &impl Abort,
+    storage: &mut StorageEnd,
+    wanted: Option<(usize, bool)>,
+    place: &str,
+) {
+    assert!(rt; !storage.is_open());
+    check_same(rt, next_of(storage), wanted, place);
 }
 
 fn check_sent(
@@ -85,24 +112,34 @@ fn has_none(end: &mut WorkerEnd) -> bool {
     end.take().is_none()
 }
 
+fn check_none(rt: &impl Abort, end: &mut WorkerEnd) {
+    check_same(rt, has_none(end), true, "no answer");
+}
+
 fn check_65th(rt: &impl Abort, alloc: Global, end: &mut WorkerEnd) -> Result<(), Fail> {
-    assert!(rt; has_none(end));
+    check_none(rt, end);
     for _ in 0..64 {
         check_sent(rt, alloc, end, true)?;
     }
     check_sent(rt, alloc, end, false)?;
-    assert!(rt; has_none(end));
+    check_none(rt, end);
     check_same(rt, (end.sent(), end.outstanding()), (64, 64), "the end");
     Ok(())
 }
 
 #[test]
 fn the_65th_request_is_handed_back(rt: HostRuntime) -> Result<(), Fail> {
-    let (mut ends, _storage) = made(rt.alloc(), 1)?;
-    let Some(end) = ends.last_mut() else {
-        panic!(rt; "no end")
-    };
-    check_65th(&rt, rt.alloc(), end)
+    let mut lanes = made(rt.alloc(), 1)?;
+    let checked = check_65th(&rt, rt.alloc(), last(&rt, lanes.workers.as_mut_slice()));
+    drop(lanes);
+    checked
+}
+
+/// Says bye where that may be said.
+fn say_bye(end: &mut WorkerEnd) {
+    if !end.said_bye() && end.outstanding() == 0 {
+        end.bye();
+    }
 }
 
 fn check_bye(
@@ -111,24 +148,20 @@ fn check_bye(
     end: &mut WorkerEnd,
     storage: &mut StorageEnd,
 ) -> Result<(), Fail> {
-    assert!(rt; !storage.is_open());
-    check_same(rt, next_of(storage), None, "the beginning");
-    if !end.said_bye() && end.outstanding() == 0 {
-        end.bye();
-    }
+    check_next(rt, storage, None, "the beginning");
+    say_bye(end);
     check_sent(rt, alloc, end, false)?;
-    assert!(rt; !storage.is_open());
-    check_same(rt, next_of(storage), Some((1, false)), "the bye");
+    check_next(rt, storage, Some((1, false)), "the bye");
     Ok(())
 }
 
 #[test]
 fn nothing_is_posted_after_bye(rt: HostRuntime) -> Result<(), Fail> {
-    let (mut ends, mut storage) = made(rt.alloc(), 2)?;
-    let Some(end) = ends.last_mut() else {
-        panic!(rt; "no end")
-    };
-    check_bye(&rt, rt.alloc(), end, &mut storage)
+    let mut lanes = made(rt.alloc(), 2)?;
+    let end = last(&rt, lanes.workers.as_mut_slice());
+    let checked = check_bye(&rt, rt.alloc(), end, &mut lanes.storage);
+    drop(lanes);
+    checked
 }
 
 fn check_turns(
@@ -141,22 +174,32 @@ fn check_turns(
     for end in ends {
         check_sent(rt, alloc, end, true)?;
     }
-    assert!(rt; !storage.is_open());
-    check_same(rt, next_of(storage), Some((0, true)), "the first");
-    assert!(rt; storage.is_open());
+    check_next(rt, storage, Some((0, true)), "the first");
+    check_same(rt, storage.is_open(), true, "behind the first");
     Ok(())
 }
 
 #[test]
 fn lanes_are_looked_at_in_turn(rt: HostRuntime) -> Result<(), Fail> {
-    let (mut ends, mut storage) = made(rt.alloc(), 3)?;
-    check_turns(&rt, rt.alloc(), ends.as_mut_slice(), &mut storage)
+    let mut lanes = made(rt.alloc(), 3)?;
+    let checked = check_turns(
+        &rt,
+        rt.alloc(),
+        lanes.workers.as_mut_slice(),
+        &mut lanes.storage,
+    );
+    drop(lanes);
+    checked
 }
 
 /// How many ends of workers are made, and how many of them storage knows; None where the count is bad.
 fn made_counts(alloc: Global, workers: usize) -> Result<Option<(usize, usize)>, MakeFault> {
     match made(alloc, workers) {
-        Ok((ends, storage)) => Ok(Some((ends.len(), storage.workers()))),
+        Ok(lanes) => {
+            let counts = (lanes.workers.len(), lanes.storage.workers());
+            drop(lanes);
+            Ok(Some(counts))
+        }
         Err(MakeFault::BadCount) => Ok(None),
         Err(fault) => Err(fault),
     }

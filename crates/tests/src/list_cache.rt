@@ -64,7 +64,7 @@ impl ListCache {
 
     /// Drops what is over at the moment.
     fn expire(&mut self, now: u64) {
-        if self.pending.is_some_and(|moment| moment <= now) {
+        if matches!(self.pending, Some(moment) if moment <= now) {
             self.entries.clear();
             self.pending = None;
         }
@@ -160,15 +160,8 @@ impl ListCache {
 
     fn push(&mut self, alloc: Global, put: &Put, deadline: u64) -> Result<(), AllocError> {
         self.last_cas = self.last_cas.saturating_add(1);
-        let key = Vec::from_slice(alloc, put.key.as_slice())?;
-        let value = Vec::from_slice(alloc, put.value.as_slice())?;
-        self.entries.push(ListEntry {
-            key,
-            value,
-            flags: put.flags,
-            deadline,
-            cas: self.last_cas,
-        })?;
+        let entry = entry_of(alloc, put, deadline, self.last_cas)?;
+        self.entries.push(entry)?;
         Ok(())
     }
 
@@ -202,26 +195,40 @@ impl ListCache {
         let Some(i) = self.place(key) else {
             return text_line(alloc, "NOT_FOUND");
         };
-        let entry = &mut self.entries[i];
-        let Some(n) = number(entry.value.as_slice()) else {
+        let Some(n) = number(self.entries[i].value.as_slice()) else {
             return text_line(
                 alloc,
                 "CLIENT_ERROR cannot increment or decrement non-numeric value",
             );
         };
-        let n = if up {
-            n.wrapping_add(amount)
-        } else if n < amount {
-            0
-        } else {
-            n - amount
-        };
         let mut buffer = Buffer::new();
-        let text = buffer.format(n);
+        let text = buffer.format(counted(n, amount, up));
         self.last_cas = self.last_cas.saturating_add(1);
-        entry.value = Vec::from_slice(alloc, text.as_bytes())?;
-        entry.cas = self.last_cas;
+        self.entries[i].cas = self.last_cas;
+        self.entries[i].value = Vec::from_slice(alloc, text.as_bytes())?;
         text_line(alloc, text)
+    }
+}
+
+/// The entry of a put, with copies of its key and value.
+fn entry_of(alloc: Global, put: &Put, deadline: u64, cas: u64) -> Result<ListEntry, AllocError> {
+    let key = Vec::from_slice(alloc, put.key.as_slice())?;
+    let value = Vec::from_slice(alloc, put.value.as_slice())?;
+    Ok(ListEntry {
+        key,
+        value,
+        flags: put.flags,
+        deadline,
+        cas,
+    })
+}
+
+/// The number that an `incr` makes of this one, or a `decr`.
+fn counted(n: u64, amount: u64, up: bool) -> u64 {
+    if up {
+        n.wrapping_add(amount)
+    } else {
+        n.saturating_sub(amount)
     }
 }
 
@@ -252,20 +259,28 @@ fn number(value: &[u8]) -> Option<u64> {
     str::from_utf8(value).ok()?.parse::<u64>().ok()
 }
 
-fn push_value(out: &mut Vec<u8>, entry: &ListEntry, with_cas: bool) -> Result<(), AllocError> {
+/// A space and the number.
+fn push_number(out: &mut Vec<u8>, n: u64) -> Result<(), AllocError> {
     let mut buffer = Buffer::new();
+    out.extend_from_slice(b" ")?;
+    out.extend_from_slice(buffer.format(n).as_bytes())
+}
+
+/// The line before a value, without its end.
+fn push_head(out: &mut Vec<u8>, entry: &ListEntry, with_cas: bool) -> Result<(), AllocError> {
     out.extend_from_slice(b"VALUE ")?;
     out.extend_from_slice(entry.key.as_slice())?;
-    out.extend_from_slice(b" ")?;
-    out.extend_from_slice(buffer.format(entry.flags).as_bytes())?;
-    out.extend_from_slice(b" ")?;
-    out.extend_from_slice(buffer.format(entry.value.len()).as_bytes())?;
+    push_number(out, u64::from(entry.flags))?;
+    push_number(out, entry.value.len() as u64)?;
     if with_cas {
-        out.extend_from_slice(b" ")?;
-        out.extend_from_slice(buffer.format(entry.cas).as_bytes())?;
+        push_number(out, entry.cas)?;
     }
+    Ok(())
+}
+
+fn push_value(out: &mut Vec<u8>, entry: &ListEntry, with_cas: bool) -> Result<(), AllocError> {
+    push_head(out, entry, with_cas)?;
     out.extend_from_slice(b"\r\n")?;
     out.extend_from_slice(entry.value.as_slice())?;
-    out.extend_from_slice(b"\r\n")?;
-    Ok(())
+    out.extend_from_slice(b"\r\n")
 }

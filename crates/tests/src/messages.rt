@@ -4,10 +4,10 @@ ghost use Rattle.std.specs.Prelude.{◌≡◌, is_some};
 ghost use Rattle.proto.specs.Answers.{is_ask};
 
 use crate::player::push_hit;
-use crate::same::check_same;
+use crate::same::{check_bytes, check_same};
 use proto::{
-    HitWriter, Hits, Keys, Message, Next, NextView, NoMemory, Put, Reply, Request, SpareBuffer,
-    next_message, next_view, show,
+    ByteString, HitWriter, Hits, Keys, Message, Next, NextView, NoMemory, Put, Reply, Request,
+    SpareBuffer, next_message, next_view, show,
 };
 use std::alloc::{AllocError, Global};
 use std::process::Abort;
@@ -154,11 +154,16 @@ fn reply_of(alloc: Global, given: Given) -> Result<Reply, NoMemory> {
     })
 }
 
+/// A message of the input is so long.
+fn check_length(rt: &impl Abort, length: usize, wanted: usize, input: &[u8]) {
+    check_same(rt, length, wanted, input);
+}
+
 /// The message that the whole input spells.
 fn whole(rt: &impl Abort, alloc: Global, input: &[u8]) -> Result<Message, Fail> {
     match next_message(alloc, input)? {
         Next::Found(message, n) => {
-            check_same(rt, n, input.len(), input);
+            check_length(rt, n, input.len(), input);
             Ok(message)
         }
         Next::More => Err(Fail::from("a message")),
@@ -166,7 +171,7 @@ fn whole(rt: &impl Abort, alloc: Global, input: &[u8]) -> Result<Message, Fail> 
 }
 
 /// The bytes that show appends to what was there.
-fn shown(alloc: Global, message: &Message, reply: Option<&Reply>) -> Result<Vec<u8>, Fail>
+pub fn shown(alloc: Global, message: &Message, reply: Option<&Reply>) -> Result<Vec<u8>, Fail>
     requires { is_some reply ≡ is_ask message.now }
 {
     let mut out = Vec::new(alloc);
@@ -182,6 +187,14 @@ fn request_answer(alloc: Global, message: &Message, reply: &Reply) -> Result<Vec
     }
 }
 
+/// The answer to a request that is given such a reply.
+fn answer_to(alloc: Global, message: &Message, given: Given) -> Result<Vec<u8>, Fail> {
+    let reply = reply_of(alloc, given)?;
+    let out = request_answer(alloc, message, &reply);
+    drop(reply);
+    out
+}
+
 /// A request that is given this reply is answered so.
 fn check_reply(
     rt: &impl Abort,
@@ -190,10 +203,8 @@ fn check_reply(
     given: Given,
     wanted: &[u8],
 ) -> Result<(), Fail> {
-    let reply = reply_of(alloc, given)?;
-    let out = request_answer(alloc, message, &reply);
-    drop(reply);
-    check_same(rt, out?.as_slice(), wanted, "a request");
+    let out = answer_to(alloc, message, given)?;
+    check_bytes(rt, out.as_slice(), wanted, "a request");
     Ok(())
 }
 
@@ -238,14 +249,16 @@ fn check_local(
     wanted: &[u8],
 ) -> Result<(), Fail> {
     let out = local_answer(alloc, message)?;
-    check_same(rt, out.as_slice(), wanted, "no request");
+    check_bytes(rt, out.as_slice(), wanted, "no request");
     Ok(())
 }
 
 fn check_fault(rt: &impl Abort, alloc: Global, input: &[u8], answer: &[u8]) -> Result<(), Fail> {
     check_spelling(rt, alloc, input)?;
     let message = whole(rt, alloc, input)?;
-    check_local(rt, alloc, &message, answer)
+    let checked = check_local(rt, alloc, &message, answer);
+    drop(message);
+    checked
 }
 
 fn check_faults(rt: &impl Abort, alloc: Global, rows: &[(&[u8], &[u8])]) -> Result<(), Fail> {
@@ -338,15 +351,23 @@ const SPELLINGS: [(&str, u8, usize, &str); 46] = [
     ("replace a 0 0 1\r\n", b'x', 1, "\r\n"),
 ];
 
+fn check_spelled(
+    rt: &impl Abort,
+    alloc: Global,
+    row: &(&str, u8, usize, &str),
+) -> Result<(), Fail> {
+    let mut input = Vec::new(alloc);
+    spell(&mut input, row)?;
+    check_spelling(rt, alloc, input.as_slice())
+}
+
 fn check_spellings(
     rt: &impl Abort,
     alloc: Global,
     rows: &[(&str, u8, usize, &str)],
 ) -> Result<(), Fail> {
     for row in rows {
-        let mut input = Vec::new(alloc);
-        spell(&mut input, row)?;
-        check_spelling(rt, alloc, input.as_slice())?;
+        check_spelled(rt, alloc, row)?;
     }
     Ok(())
 }
@@ -371,8 +392,10 @@ fn check_long(rt: &impl Abort, alloc: Global, input: &[u8], answer: &[u8]) -> Re
     let Next::Found(message, n) = next_message(alloc, input)? else {
         return Err(Fail::from("a message"));
     };
-    check_same(rt, n, 2048, input);
-    check_local(rt, alloc, &message, answer)
+    check_length(rt, n, 2048, input);
+    let checked = check_local(rt, alloc, &message, answer);
+    drop(message);
+    checked
 }
 
 /// What a line of so many letters with these bytes behind it is answered; 2,048 bytes are read of it.
@@ -426,6 +449,12 @@ fn a_storage_line_says_how_much_is_needed(rt: HostRuntime) {
     check_needs(&rt, &NEEDS);
 }
 
+fn check_copy(rt: &impl Abort, alloc: Global, key: &ByteString) -> Result<(), Fail> {
+    let copy = key.try_clone(alloc)?.into_vec();
+    check_bytes(rt, copy.as_slice(), b"key", "a copy of its key");
+    Ok(())
+}
+
 fn check_cas(rt: &impl Abort, alloc: Global, put: &Put, unique: u64) -> Result<(), Fail> {
     check_same(
         rt,
@@ -433,21 +462,26 @@ fn check_cas(rt: &impl Abort, alloc: Global, put: &Put, unique: u64) -> Result<(
         (7, -5, u64::MAX),
         "cas",
     );
-    check_same(rt, put.key.as_slice(), b"key", "its key");
-    check_same(rt, put.value.as_slice(), b"a\r\n", "its value");
-    let copy = put.key.try_clone(alloc)?.into_vec();
-    check_same(rt, copy.as_slice(), b"key", "a copy of its key");
-    Ok(())
+    check_bytes(rt, put.key.as_slice(), b"key", "its key");
+    check_bytes(rt, put.value.as_slice(), b"a\r\n", "its value");
+    check_copy(rt, alloc, &put.key)
+}
+
+/// A cas that isn't quiet.
+fn check_cas_message(rt: &impl Abort, alloc: Global, message: &Message) -> Result<(), Fail> {
+    match message {
+        Message::Ask(Request::Cas(put, unique), false) => check_cas(rt, alloc, put, *unique),
+        _ => Err(Fail::from("a cas that isn't quiet")),
+    }
 }
 
 #[test]
 fn a_cas_is_read_whole(rt: HostRuntime) -> Result<(), Fail> {
     let input = b"cas key 7 -5 3 18446744073709551615\r\na\r\n\r\n";
     let message = whole(&rt, rt.alloc(), input)?;
-    match &message {
-        Message::Ask(Request::Cas(put, unique), false) => check_cas(&rt, rt.alloc(), put, *unique),
-        _ => Err(Fail::from("a cas that isn't quiet")),
-    }
+    let checked = check_cas_message(&rt, rt.alloc(), &message);
+    drop(message);
+    checked
 }
 
 /// The keys `a` and `noreply`.
@@ -461,21 +495,33 @@ fn check_keys(rt: &impl Abort, keys: &Keys, wanted: &Keys) {
     for place in 0..3u64 {
         check_same(rt, given.next(), copy.next(), place);
     }
-    assert!(rt; given.is_empty() && copy.is_empty() && !wanted.is_empty());
+    let are_over = given.is_empty() && copy.is_empty() && !wanted.is_empty();
+    check_same(rt, are_over, true, "the ends");
     check_same(rt, keys.len(), 2, "keys");
+}
+
+/// A `gets` of these keys that isn't quiet.
+fn check_gets(rt: &impl Abort, message: &Message, wanted: &Keys) -> Result<(), Fail> {
+    match message {
+        Message::Ask(Request::Get { keys, with_cas }, false) => {
+            check_same(rt, *with_cas, true, "gets");
+            check_keys(rt, keys, wanted);
+            Ok(())
+        }
+        _ => Err(Fail::from("a gets that isn't quiet")),
+    }
+}
+
+fn check_noreply(rt: &impl Abort, alloc: Global, wanted: &Keys) -> Result<(), Fail> {
+    let message = whole(rt, alloc, b"gets a noreply\r\n")?;
+    let checked = check_gets(rt, &message, wanted);
+    drop(message);
+    checked
 }
 
 #[test]
 fn noreply_is_a_key_of_gets(rt: HostRuntime) -> Result<(), Fail> {
     let mut wanted = Keys::new(rt.alloc());
     push_keys(&mut wanted)?;
-    let message = whole(&rt, rt.alloc(), b"gets a noreply\r\n")?;
-    match &message {
-        Message::Ask(Request::Get { keys, with_cas }, false) => {
-            assert!(rt; *with_cas);
-            check_keys(&rt, keys, &wanted);
-            Ok(())
-        }
-        _ => Err(Fail::from("a gets that isn't quiet")),
-    }
+    check_noreply(&rt, rt.alloc(), &wanted)
 }

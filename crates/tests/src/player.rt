@@ -2,8 +2,8 @@
 
 use bytes::Bytes;
 use proto::{Answered, HitRef, HitWriter, NoMemory, Posted, Reply, Request, SpareBuffer};
-use session_book::{Book, EndCause, OpenFault, Received, Settled};
-use std::alloc::{AllocError, Global};
+use session_book::{Book, EndCause, Received, Settled};
+use std::alloc::Global;
 use std::test::Fail;
 
 #[derive(Drop)]
@@ -24,8 +24,9 @@ impl Player {
         }
     }
 
-    pub fn open(&mut self, session: u64) -> Result<(), OpenFault> {
-        self.book.open(session)
+    pub fn open(&mut self, session: u64) -> Result<(), Fail> {
+        self.book.open(session)?;
+        Ok(())
     }
 
     /// Feeds a piece, which is to fit.
@@ -57,7 +58,9 @@ impl Player {
         }
         let reply = reply_to(self.alloc, &self.asked[place].request, self.found)?;
         let answered = answered(self.asked.remove(place), reply);
-        Ok(Some(self.book.settle(&answered)))
+        let settled = self.book.settle(&answered);
+        drop(answered);
+        Ok(Some(settled))
     }
 
     pub fn has_output(&self, session: u64, output: &str) -> bool {
@@ -65,7 +68,7 @@ impl Player {
     }
 
     /// Gives all output of a session, behind what was given before.
-    pub fn give(&mut self, session: u64, given: &mut Vec<u8>) -> Result<(), AllocError> {
+    pub fn give(&mut self, session: u64, given: &mut Vec<u8>) -> Result<(), Fail> {
         let out = self.book.out(session);
         given.extend_from_slice(out)?;
         let n = out.len();

@@ -1,9 +1,10 @@
 //! Random requests, which the store is to answer as the list does.
 
 use crate::list_cache::ListCache;
+use crate::messages::shown;
 use crate::same::check_same;
 use engine::{PlainStore, StorageEngine};
-use proto::{ByteString, Geometry, Keys, Message, NoMemory, Put, Request, Words, show};
+use proto::{ByteString, Geometry, Keys, Message, NoMemory, Put, Reply, Request, Words};
 use std::alloc::{AllocError, Global};
 use std::process::Abort;
 use std::test::Fail;
@@ -55,8 +56,8 @@ fn random_value(alloc: Global, random: &mut Random) -> Result<ByteString, AllocE
     }
 }
 
-fn random_put(alloc: Global, random: &mut Random, now: u64) -> Result<Put, AllocError> {
-    let exptime = match random.below(8) {
+fn random_exptime(random: &mut Random, now: u64) -> i64 {
+    match random.below(8) {
         0 => -1,
         1 => 1,
         2 => 5,
@@ -64,7 +65,11 @@ fn random_put(alloc: Global, random: &mut Random, now: u64) -> Result<Put, Alloc
         4 => 2_592_001,
         5 => i64::try_from(now.saturating_add(random.below(4))).unwrap_or(i64::MAX),
         _ => 0,
-    };
+    }
+}
+
+fn random_put(alloc: Global, random: &mut Random, now: u64) -> Result<Put, AllocError> {
+    let exptime = random_exptime(random, now);
     Ok(Put {
         key: random_key(alloc, random)?,
         flags: (random.next() % 4_294_967_296) as u32,
@@ -78,8 +83,8 @@ fn push_random_key(
     random: &mut Random,
     line: &mut Vec<u8>,
 ) -> Result<(), AllocError> {
-    let key = random_key(alloc, random)?;
     line.push(b' ')?;
+    let key = random_key(alloc, random)?;
     line.extend_from_slice(key.as_slice())
 }
 
@@ -95,12 +100,17 @@ fn push_random_line(
     Ok(())
 }
 
+/// The keys of a line.
+fn keys_of(alloc: Global, line: &[u8]) -> Result<Keys, NoMemory> {
+    let mut words = Words::new(line);
+    let _ = words.next();
+    Keys::from_words(alloc, words)
+}
+
 fn random_keys(alloc: Global, random: &mut Random) -> Result<Keys, NoMemory> {
     let mut line = Vec::new(alloc);
     push_random_line(alloc, random, &mut line)?;
-    let mut words = Words::new(line.as_slice());
-    let _ = words.next();
-    Keys::from_words(alloc, words)
+    keys_of(alloc, line.as_slice())
 }
 
 /// An amount that a counter may pass its ends by.
@@ -166,6 +176,11 @@ fn random_request(
     }
 }
 
+fn reply_of(rt: &impl Abort, store: &mut PlainStore, now: u64, request: &mut Request) -> Reply {
+    assert!(rt; store.last_moment() <= now && now < 3_000_000);
+    store.handle(now, request)
+}
+
 /// The store's answer.
 fn answer_of(
     rt: &impl Abort,
@@ -174,11 +189,36 @@ fn answer_of(
     now: u64,
     mut request: Request,
 ) -> Result<Vec<u8>, Fail> {
-    assert!(rt; store.last_moment() <= now && now < 3_000_000);
-    let reply = store.handle(now, &mut request);
-    let mut given = Vec::new(alloc);
-    show(&Message::Ask(request, false), Some(&reply), &mut given)?;
-    Ok(given)
+    let reply = reply_of(rt, store, now, &mut request);
+    let message = Message::Ask(request, false);
+    let given = shown(alloc, &message, Some(&reply));
+    drop(message);
+    drop(reply);
+    given
+}
+
+/// The store's answer to the request is this.
+fn check_answer(
+    rt: &impl Abort,
+    alloc: Global,
+    store: &mut PlainStore,
+    request: Request,
+    (turn, now): (u64, u64),
+    wanted: &[u8],
+) -> Result<(), Fail> {
+    let given = answer_of(rt, alloc, store, now, request)?;
+    check_same(rt, given.as_slice(), wanted, turn);
+    Ok(())
+}
+
+/// The store and the list are as far, and have the same flush before them.
+fn check_moments(rt: &impl Abort, store: &PlainStore, list: &ListCache, (turn, now): (u64, u64)) {
+    check_same(
+        rt,
+        (store.last_moment(), store.pending()),
+        (now, list.pending),
+        turn,
+    );
 }
 
 /// The store answers a random request as the list does, and says whether a value is shown.
@@ -192,15 +232,12 @@ fn check_turn(
 ) -> Result<bool, Fail> {
     let request = random_request(alloc, random, now, list)?;
     let wanted = list.answer(alloc, now, &request)?;
-    let given = answer_of(rt, alloc, store, now, request)?;
-    check_same(rt, given.as_slice(), wanted.as_slice(), turn);
-    check_same(
-        rt,
-        (store.last_moment(), store.pending()),
-        (now, list.pending),
-        turn,
-    );
-    Ok(wanted.starts_with(b"VALUE"))
+    let checked = check_answer(rt, alloc, store, request, (turn, now), wanted.as_slice());
+    let is_shown = wanted.starts_with(b"VALUE");
+    drop(wanted);
+    checked?;
+    check_moments(rt, store, list, (turn, now));
+    Ok(is_shown)
 }
 
 fn check_turns(
@@ -230,5 +267,8 @@ fn as_a_list(rt: HostRuntime) -> Result<(), Fail> {
     let mut random = Random(2_463_534_242);
     let mut store = PlainStore::new(alloc, geometry)?;
     let mut list = ListCache::new(alloc, 512);
-    check_turns(&rt, alloc, &mut random, &mut store, &mut list)
+    let checked = check_turns(&rt, alloc, &mut random, &mut store, &mut list);
+    drop(store);
+    drop(list);
+    checked
 }

@@ -12,3 +12,8 @@ pub fn check_same<T: Copy + PartialEq + Debug, P: Copy + Debug>(
 ) {
     assert_eq!(rt; given, wanted, "at {place:?}");
 }
+
+/// The bytes are the same, or it is said at which place they aren't.
+pub fn check_bytes(rt: &impl Abort, given: &[u8], wanted: &[u8], place: &str) {
+    check_same(rt, given, wanted, place);
+}

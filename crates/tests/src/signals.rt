@@ -32,6 +32,7 @@ fn check_hint(rt: &impl Abort, signals: &StorageSignals, worker: usize, number: 
 }
 
 fn check_hints(rt: &impl Abort, signals: &StorageSignals) {
+    check_same(rt, signals.has_hints(), true, "two workers");
     for place in 0..512u64 {
         leave(signals, (place / 64) as usize, place % 64);
     }
@@ -46,16 +47,21 @@ fn check_hints(rt: &impl Abort, signals: &StorageSignals) {
 #[test]
 fn each_message_has_a_hint(rt: HostRuntime) -> Result<(), Fail> {
     let signals = StorageSignals::new(rt.alloc(), FoldHasher::default(), 2)?;
-    assert!(rt; signals.has_hints());
     check_hints(&rt, &signals);
+    drop(signals);
     Ok(())
+}
+
+fn check_no_hints(rt: &impl Abort, signals: &StorageSignals) {
+    check_same(rt, signals.has_hints(), false, "a single worker");
+    signals.leave_hint(0, 0, b"alpha");
+    check_same(rt, signals.hint(0, 0), 0, "the hint");
 }
 
 #[test]
 fn a_single_worker_leaves_none(rt: HostRuntime) -> Result<(), Fail> {
     let signals = StorageSignals::new(rt.alloc(), FoldHasher::default(), 1)?;
-    assert!(rt; !signals.has_hints());
-    signals.leave_hint(0, 0, b"alpha");
-    check_same(&rt, signals.hint(0, 0), 0, "the hint");
+    check_no_hints(&rt, &signals);
+    drop(signals);
     Ok(())
 }

@@ -24,6 +24,20 @@ pub(crate) fn connect<R: Net<Stream = TcpStream> + Abort>(
     TcpStream::connect(rt, addr.as_str()).expect(rt, "a connection")
 }
 
+/// So many connections.
+pub(crate) fn connect_all<R: Net<Stream = TcpStream> + Abort>(
+    rt: &R,
+    alloc: Global,
+    port: u16,
+    count: u64,
+) -> Vec<TcpStream> {
+    let mut streams = Vec::new(alloc);
+    for _ in 0..count {
+        streams.push(connect(rt, alloc, port)).expect(rt, "memory");
+    }
+    streams
+}
+
 pub(crate) fn send<R: Abort>(rt: &R, stream: &TcpStream, bytes: &[u8]) {
     let mut writer: &TcpStream = stream;
     writer.write_all(bytes).expect(rt, "bytes sent");

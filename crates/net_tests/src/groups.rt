@@ -78,6 +78,18 @@ fn had_one_session<R: Drop>(workers: &[GroupWorker<MioPort<R>>], cause: EndCause
     workers.iter().all(|worker| worker.sessions.as_slice() == [(1, cause)].as_slice())
 }
 
+/// Each of two workers served one of two clients.
+fn check_served<R: Abort + Drop>(
+    rt: &R,
+    answers: &(Vec<u8>, Vec<u8>),
+    listened: &ListenReport,
+    workers: &[GroupWorker<MioPort<R>>],
+) {
+    assert!(*rt; answers.0.as_slice() == ANSWER_A && answers.1.as_slice() == ANSWER_B);
+    assert!(*rt; listened.accepted == 2 && listened.closed == 0 && listened.failed == 0);
+    assert!(*rt; workers.len() == 2 && had_one_session(workers, EndCause::Quit));
+}
+
 #[test]
 fn each_of_two_workers_serves_a_client(rt: HostRuntime) {
     let alloc: Global = rt.alloc();
@@ -89,10 +101,8 @@ fn each_of_two_workers_serves_a_client(rt: HostRuntime) {
     )
     .expect(&rt, "a thread");
     let (listened, workers) = serve_some(rt, alloc, parts, Some(2));
-    let (first, second) = clients.join(&rt);
-    assert!(rt; first.as_slice() == ANSWER_A && second.as_slice() == ANSWER_B);
-    assert!(rt; listened.accepted == 2 && listened.closed == 0 && listened.failed == 0);
-    assert!(rt; workers.len() == 2 && had_one_session(workers.as_slice(), EndCause::Quit));
+    let answers = clients.join(&rt);
+    check_served(&rt, &answers, &listened, workers.as_slice());
 }
 
 #[test]
@@ -106,10 +116,8 @@ fn a_group_ends_once_each_worker_was_given_all_its_streams(rt: HostRuntime) {
     )
     .expect(&rt, "a thread");
     let (listened, workers) = serve_some(rt, alloc, parts, None);
-    let (first, second) = clients.join(&rt);
-    assert!(rt; first.as_slice() == ANSWER_A && second.as_slice() == ANSWER_B);
-    assert!(rt; listened.accepted == 2 && listened.closed == 0 && listened.failed == 0);
-    assert!(rt; workers.len() == 2 && had_one_session(workers.as_slice(), EndCause::Quit));
+    let answers = clients.join(&rt);
+    check_served(&rt, &answers, &listened, workers.as_slice());
 }
 
 /// A client that closes without reading, and then one that asks for the first one's key.

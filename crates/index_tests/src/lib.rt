@@ -3,5 +3,8 @@
 
 #[cfg(test)]
 mod rows;
+#[cfg(test)]
+mod same;
 pub mod shelf;
-pub mod small;
+#[cfg(test)]
+mod small;

@@ -1,9 +1,12 @@
 //! Writes and deletes in turn, each look-up compared with a map.
 
+use crate::same::check_same;
 use crate::shelf::Shelf;
 use crate::small::Small;
 use proto::Geometry;
+use std::alloc::{AllocError, Global};
 use std::collections::BTreeMap;
+use std::process::Abort;
 use std::test::Fail;
 
 /// The next of numbers that look random.
@@ -13,42 +16,62 @@ fn next(state: u64) -> u64 {
         .wrapping_add(1_442_695_040_888_963_407)
 }
 
+/// One write or delete of a key by chance, of 40 keys for which there are 32 places.
+fn check_step(
+    rt: &impl Abort,
+    shelf: &mut Small,
+    map: &mut BTreeMap<u64, u64>,
+    state: u64,
+    step: u64,
+) -> Result<(), AllocError> {
+    let number = (state >> 40) % 40;
+    let key = number.to_le_bytes();
+    if (state >> 20) % 4 == 0 {
+        let was_there = map.remove(&number).is_some();
+        check_same(rt, shelf.delete(&key), was_there, step);
+    } else if shelf.put(&key, step) {
+        map.insert(number, step)?;
+    } else {
+        check_same(rt, shelf.len(), 32, step);
+    }
+    Ok(())
+}
+
+/// Each of so many keys is found as the map has it.
+fn check_keys(rt: &impl Abort, shelf: &Small, map: &BTreeMap<u64, u64>, keys: u64) {
+    for number in 0..keys {
+        let given = shelf.cas_of(&number.to_le_bytes());
+        check_same(rt, given, map.get(&number).copied(), number);
+    }
+}
+
+/// So many writes and deletes, after each of which all 40 keys are looked up; at the end the table is emptied.
+fn check_steps(
+    rt: &impl Abort,
+    shelf: &mut Small,
+    map: &mut BTreeMap<u64, u64>,
+    steps: u64,
+) -> Result<(), Fail> {
+    let mut state = 1;
+    for step in 0..steps {
+        state = next(state);
+        check_step(rt, shelf, map, state, step)?;
+        check_keys(rt, shelf, map, 40);
+        check_same(rt, shelf.len(), map.len(), step);
+    }
+    shelf.clear();
+    check_same(rt, shelf.len(), 0, "the end");
+    Ok(())
+}
+
 /// In a table of 64 slots, with up to 32 of 40 keys: keys meet, runs of used slots go over the end, and most deletes
 /// have places behind them.
 #[test]
 fn small_table(rt: HostRuntime) -> Result<(), Fail> {
-    let mut shelf = Small::new(
-        rt.alloc(),
-        Geometry::new(65_536, 8)?,
-        64,
-        88_172_645_463_325_252,
-    )?;
+    let geometry = Geometry::new(65_536, 8)?;
+    let mut shelf = Small::new(rt.alloc(), geometry, 64, 88_172_645_463_325_252)?;
     let mut map: BTreeMap<u64, u64> = BTreeMap::new(rt.alloc());
-    let mut state = 1;
-    for step in 0..10_000u64 {
-        state = next(state);
-        let number = (state >> 40) % 40;
-        if (state >> 20) % 4 != 0 {
-            if shelf.put(&number.to_le_bytes(), step) {
-                map.insert(number, step)?;
-            } else {
-                assert_eq!(rt; shelf.len(), 32);
-            }
-        } else {
-            let was_there = map.remove(&number).is_some();
-            assert_eq!(rt; shelf.delete(&number.to_le_bytes()), was_there);
-        }
-        for other in 0..40u64 {
-            assert_eq!(rt;
-                shelf.cas_of(&other.to_le_bytes()),
-                map.get(&other).copied()
-            );
-        }
-        assert_eq!(rt; shelf.len(), map.len());
-    }
-    shelf.clear();
-    assert_eq!(rt; shelf.len(), 0);
-    Ok(())
+    check_steps(&rt, &mut shelf, &mut map, 10_000)
 }
 
 /// Whether each of so many keys is found as the map has it.
@@ -67,7 +90,7 @@ fn step(
     map: &mut BTreeMap<u64, u64>,
     state: u64,
     cas: u64,
-) -> Result<bool, Fail> {
+) -> Result<bool, AllocError> {
     let number = (state >> 40) % 1_500;
     if (state >> 20) % 4 != 0 {
         map.insert(number, cas)?;
@@ -84,7 +107,7 @@ fn chance(
     map: &mut BTreeMap<u64, u64>,
     seed: u64,
     steps: u64,
-) -> Result<bool, Fail> {
+) -> Result<bool, AllocError> {
     let mut state = seed;
     for cas in 0..steps {
         state = next(state);
@@ -98,30 +121,49 @@ fn chance(
     Ok(agree(shelf, map, 1_500) && shelf.len() == map.len())
 }
 
+fn check_doublings(
+    rt: &impl Abort,
+    shelf: &mut Small,
+    map: &mut BTreeMap<u64, u64>,
+) -> Result<(), Fail> {
+    check_same(rt, chance(shelf, map, 3, 6_000)?, true, "the first run");
+    shelf.clear();
+    map.clear();
+    check_same(rt, agree(shelf, map, 1_500), true, "the emptied table");
+    check_same(rt, chance(shelf, map, 4, 6_000)?, true, "the second run");
+    Ok(())
+}
+
 /// A table with room for 4,096 slots goes from one slot through twelve doublings, is emptied, and does it again.
 #[test]
 fn through_doublings(rt: HostRuntime) -> Result<(), Fail> {
-    let mut shelf = Small::new(rt.alloc(), Geometry::new(65_536, 32)?, 4_096, 5)?;
+    let geometry = Geometry::new(65_536, 32)?;
+    let mut shelf = Small::new(rt.alloc(), geometry, 4_096, 5)?;
     let mut map: BTreeMap<u64, u64> = BTreeMap::new(rt.alloc());
-    assert!(rt; chance(&mut shelf, &mut map, 3, 6_000)?);
-    shelf.clear();
-    map.clear();
-    assert!(rt; agree(&shelf, &map, 1_500));
-    assert!(rt; chance(&mut shelf, &mut map, 4, 6_000)?);
+    check_doublings(&rt, &mut shelf, &mut map)
+}
+
+/// Writes a key with five others behind it.
+fn write_six(
+    shelf: &mut Small,
+    map: &mut BTreeMap<u64, u64>,
+    number: u64,
+) -> Result<(), AllocError> {
+    for key in 0..6 {
+        let key = number.wrapping_add(key * 1_000_000);
+        map.insert(key, number)?;
+        shelf.put(&key.to_le_bytes(), number);
+    }
     Ok(())
 }
 
 /// Writes the keys below a count whose hash leaves this home of 1,024, and behind each five others. Answers how many have
 /// that home.
-fn crowd(shelf: &mut Small, map: &mut BTreeMap<u64, u64>, home: u64) -> Result<u64, Fail> {
+fn crowd(shelf: &mut Small, map: &mut BTreeMap<u64, u64>, home: u64) -> Result<u64, AllocError> {
     let mut crowded: u64 = 0;
     for number in 0..100_000u64 {
         if shelf.hash_of(&number.to_le_bytes()) % 1_024 == home {
-            for key in 0..6 {
-                let key = number.wrapping_add(key * 1_000_000);
-                map.insert(key, number)?;
-                shelf.put(&key.to_le_bytes(), number);
-            }
+            write_six(shelf, map, number)?;
             crowded = crowded.wrapping_add(1);
         }
     }
@@ -148,85 +190,143 @@ fn thin(shelf: &mut Small, map: &mut BTreeMap<u64, u64>) {
     }
 }
 
+fn check_home(
+    rt: &impl Abort,
+    shelf: &mut Small,
+    map: &mut BTreeMap<u64, u64>,
+    home: u64,
+) -> Result<(), Fail> {
+    let crowded = crowd(shelf, map, home)?;
+    check_same(rt, (70..130).contains(&crowded), true, (home, crowded));
+    check_same(rt, all_found(shelf, map), true, (home, "crowded"));
+    thin(shelf, map);
+    check_same(rt, all_found(shelf, map), true, (home, "thinned"));
+    Ok(())
+}
+
+fn check_new_home(rt: &impl Abort, alloc: Global, home: u64) -> Result<(), Fail> {
+    let geometry = Geometry::new(65_536, 32)?;
+    let mut shelf = Small::new(alloc, geometry, 2_048, 11)?;
+    let mut map: BTreeMap<u64, u64> = BTreeMap::new(alloc);
+    check_home(rt, &mut shelf, &mut map, home)
+}
+
 /// About a hundred keys have one home while there are up to 1,024 slots, then two, while the table grows under them: the
 /// first slots of their homes, and the last ones, from which their searches go over the end.
 #[test]
 fn at_one_home(rt: HostRuntime) -> Result<(), Fail> {
-    for home in [0u64, 1_023] {
-        let mut shelf = Small::new(rt.alloc(), Geometry::new(65_536, 32)?, 2_048, 11)?;
-        let mut map: BTreeMap<u64, u64> = BTreeMap::new(rt.alloc());
-        let crowded = crowd(&mut shelf, &mut map, home)?;
-        assert!(rt; (70..130).contains(&crowded));
-        assert!(rt; all_found(&shelf, &map));
-        thin(&mut shelf, &mut map);
-        assert!(rt; all_found(&shelf, &map));
-    }
-    Ok(())
+    check_new_home(&rt, rt.alloc(), 0)?;
+    check_new_home(&rt, rt.alloc(), 1_023)
+}
+
+fn check_read_ahead(rt: &impl Abort, shelf: &mut Small) {
+    check_same(rt, shelf.read_ahead(b"alpha"), 0, "no key");
+    check_same(rt, shelf.put(b"alpha", 9), true, "alpha");
+    check_same(rt, shelf.read_ahead(b"alpha"), 9, "alpha");
+    check_same(rt, shelf.read_ahead(b"beta"), 0, "beta");
 }
 
 /// An item begins with its cas number, and behind the only one nothing stands.
 #[test]
 fn a_key_is_read_ahead(rt: HostRuntime) -> Result<(), Fail> {
-    let mut shelf = Small::new(rt.alloc(), Geometry::new(65_536, 8)?, 64, 77)?;
-    assert_eq!(rt; shelf.read_ahead(b"alpha"), 0);
-    assert!(rt; shelf.put(b"alpha", 9));
-    assert_eq!(rt; shelf.read_ahead(b"alpha"), 9);
-    assert_eq!(rt; shelf.read_ahead(b"beta"), 0);
+    let geometry = Geometry::new(65_536, 8)?;
+    let mut shelf = Small::new(rt.alloc(), geometry, 64, 77)?;
+    check_read_ahead(&rt, &mut shelf);
     Ok(())
+}
+
+/// Writes so many keys, each with its number, and for the next one there is no room.
+fn check_filling(rt: &impl Abort, shelf: &mut Shelf, keys: u64) {
+    for n in 0..keys {
+        check_same(rt, shelf.put(&n.to_le_bytes(), b"", n), true, n);
+    }
+    check_same(rt, shelf.put(&keys.to_le_bytes(), b"", keys), false, keys);
+}
+
+/// So many keys are found with their numbers.
+fn check_filled(rt: &impl Abort, shelf: &Shelf, keys: u64) {
+    for n in 0..keys {
+        check_same(rt, shelf.cas_of(&n.to_le_bytes()), Some(n), n);
+    }
+}
+
+/// How many of so many keys are found, each with its number.
+fn count_found(rt: &impl Abort, shelf: &Shelf, keys: u64) -> u64 {
+    let mut found: u64 = 0;
+    for n in 0..keys {
+        if let Some(cas) = shelf.cas_of(&n.to_le_bytes()) {
+            check_same(rt, cas, n, n);
+            found = found.wrapping_add(1);
+        }
+    }
+    found
+}
+
+fn check_full_pool(rt: &impl Abort, shelf: &mut Shelf) {
+    check_filling(rt, shelf, 1_024);
+    check_filled(rt, shelf, 1_024);
+    shelf.forget(3);
+    check_same(rt, shelf.len(), 896, "used slots");
+    check_same(rt, count_found(rt, shelf, 1_024), 896, "keys found");
 }
 
 /// A pool of eight segments of 4,096 bytes is full with 1,024 items of 32 bytes, which use half of the 2,048 slots.
 /// Then the keys of one segment are forgotten, which are as many as the bytes of a segment hold.
 #[test]
 fn a_full_pool(rt: HostRuntime) -> Result<(), Fail> {
-    let mut shelf = Shelf::new(rt.alloc(), Geometry::new(4096, 8)?, 7)?;
-    for n in 0..1_024u64 {
-        assert!(rt; shelf.put(&n.to_le_bytes(), b"", n));
+    let geometry = Geometry::new(4096, 8)?;
+    let mut shelf = Shelf::new(rt.alloc(), geometry, 7)?;
+    check_full_pool(&rt, &mut shelf);
+    Ok(())
+}
+
+fn check_key(rt: &impl Abort, shelf: &Shelf, map: &BTreeMap<u64, u64>, number: u64) {
+    let given = shelf.cas_of(&number.to_le_bytes());
+    check_same(rt, given, map.get(&number).copied(), number);
+}
+
+/// Writes a key, and deletes the one that was written 5,000 keys before it.
+fn check_write(
+    rt: &impl Abort,
+    shelf: &mut Shelf,
+    map: &mut BTreeMap<u64, u64>,
+    n: u64,
+) -> Result<(), AllocError> {
+    check_same(rt, shelf.put(&n.to_le_bytes(), b"value", n), true, n);
+    map.insert(n, n)?;
+    if n >= 5_000 {
+        let old = n - 5_000;
+        check_same(rt, shelf.delete(&old.to_le_bytes()), true, old);
+        map.remove(&old);
     }
-    assert!(rt; !shelf.put(&1_024u64.to_le_bytes(), b"", 1_024));
-    for n in 0..1_024u64 {
-        assert_eq!(rt; shelf.cas_of(&n.to_le_bytes()), Some(n));
-    }
-    shelf.forget(3);
-    assert_eq!(rt; shelf.len(), 896);
-    let mut found: u64 = 0;
-    for n in 0..1_024u64 {
-        match shelf.cas_of(&n.to_le_bytes()) {
-            None => {}
-            Some(cas) => {
-                assert_eq!(rt; cas, n);
-                found = found.wrapping_add(1);
+    Ok(())
+}
+
+fn check_many_keys(
+    rt: &impl Abort,
+    shelf: &mut Shelf,
+    map: &mut BTreeMap<u64, u64>,
+    keys: u64,
+) -> Result<(), Fail> {
+    for n in 0..keys {
+        check_write(rt, shelf, map, n)?;
+        for other in n.saturating_sub(5_050)..n.saturating_add(2) {
+            if other % 97 == n % 97 {
+                check_key(rt, shelf, map, other);
             }
         }
     }
-    assert_eq!(rt; found, 896);
+    for n in 0..keys {
+        check_key(rt, shelf, map, n);
+    }
     Ok(())
 }
 
 /// 10,000 keys written, and from the 5,000th on one deleted with each write.
 #[test]
 fn many_keys(rt: HostRuntime) -> Result<(), Fail> {
-    let mut shelf = Shelf::new(rt.alloc(), Geometry::new(65_536, 16)?, 1)?;
+    let geometry = Geometry::new(65_536, 16)?;
+    let mut shelf = Shelf::new(rt.alloc(), geometry, 1)?;
     let mut map: BTreeMap<u64, u64> = BTreeMap::new(rt.alloc());
-    for n in 0..10_000u64 {
-        assert!(rt; shelf.put(&n.to_le_bytes(), b"value", n));
-        map.insert(n, n)?;
-        if n >= 5_000 {
-            let old = n - 5_000;
-            assert!(rt; shelf.delete(&old.to_le_bytes()));
-            map.remove(&old);
-        }
-        for other in n.saturating_sub(5_050)..n.saturating_add(2) {
-            if other % 97 == n % 97 {
-                assert_eq!(rt;
-                    shelf.cas_of(&other.to_le_bytes()),
-                    map.get(&other).copied()
-                );
-            }
-        }
-    }
-    for n in 0..10_000u64 {
-        assert_eq!(rt; shelf.cas_of(&n.to_le_bytes()), map.get(&n).copied());
-    }
-    Ok(())
+    check_many_keys(&rt, &mut shelf, &mut map, 10_000)
 }

@@ -1,7 +1,7 @@
 //! A worker that calls either exchange, the lanes with single requests or with batches.
 
 use exchange::ParkingWord;
-use proto::{Answered, ByteString, Keys, NoMemory, Posted, Put, Reply, Request, Words, show_reply};
+use proto::{Answered, ByteString, Keys, NoMemory, Posted, Put, Request, Words, show_reply};
 use std::alloc::{AllocError, Global};
 use std::sync::Wait;
 use std::thread;
@@ -184,36 +184,27 @@ impl<C: Caller + Drop> CallingWorker<C> {
         })
     }
 
-    // Asks for what is at this place, and says whether there was room for it.
-    fn ask<R: Wait>(&mut self, rt: &R, place: u64) -> Result<bool, NoMemory> {
-        let request = self.request(place)?;
-        Ok(self.end.ask(rt, request).is_ok())
-    }
-
-    fn keep(&mut self, reply: &Reply) -> Result<(), NoMemory> {
-        if self.load.kept {
-            show_reply(false, reply, &mut self.answers)?;
-        }
-        Ok(())
-    }
-
-    // Takes an answer, and says whether there was one.
-    fn take<R: Wait>(&mut self, rt: &R) -> Result<bool, NoMemory> {
-        let Some(answered) = self.end.answer(rt) else {
-            return Ok(false);
-        };
-        self.keep(&answered.reply)?;
-        Ok(true)
-    }
-
     // One turn: a request or an answer. Says whether there was one.
     fn turn<R: Wait>(&mut self, rt: &R) -> Result<bool, NoMemory> {
         let (sent, outstanding) = self.end.counts();
         if sent < self.load.each && outstanding < self.load.window {
-            self.ask(rt, sent)
-        } else {
-            self.take(rt)
+            let request = self.request(sent)?;
+            return match self.end.ask(rt, request) {
+                Ok(()) => Ok(true),
+                Err(back) => {
+                    drop(back);
+                    Ok(false)
+                }
+            };
         }
+        let Some(answered) = self.end.answer(rt) else {
+            return Ok(false);
+        };
+        if self.load.kept {
+            show_reply(false, &answered.reply, &mut self.answers)?;
+        }
+        drop(answered);
+        Ok(true)
     }
 
     /// Posts all requests, takes the answers and says bye. Where memory is wanting the answers kept so far are dropped.

@@ -93,27 +93,6 @@ pub fn serve_next<R: Wait, S: StorageEngine>(rt: &R, store: &mut S, end: &mut St
     }
 }
 
-// Serves until as many byes were taken as there are workers.
-fn serve_all<R: Wait, S: StorageEngine>(rt: &R, store: &mut S, end: &mut StorageEnd)
-    requires empty { (S.cache store.old ≡ empty_cache 0) × (S.moment store.old ≡ 0) }
-    requires sizes { S.sizes store.old ≡ end.old.geometry }
-    requires unused { HasTakenNothing end.old }
-    ensures same { IsSameQueues end.old end.new }
-{
-    let mut left = end.workers();
-    for _ in rt.forever() {
-        if left == 0 {
-            return;
-        }
-        match serve_next(rt, store, end) {
-            Served::Request => {}
-            Served::Bye => left = left.saturating_sub(1),
-            Served::Nothing => thread::yield_now(),
-        }
-    }
-    unreachable!()
-}
-
 /// Serves until as many byes were taken as there are workers. The store is empty, and
 /// nothing was taken from the end.
 pub fn serve_queues<R: Wait, S: StorageEngine + Drop>(
@@ -128,6 +107,16 @@ pub fn serve_queues<R: Wait, S: StorageEngine + Drop>(
 {
     let mut store = store;
     let mut end = storage_end;
-    serve_all(rt, &mut store, &mut end);
-    end
+    let mut left = end.workers();
+    for _ in rt.forever() {
+        if left == 0 {
+            return end;
+        }
+        match serve_next(rt, &mut store, &mut end) {
+            Served::Request => {}
+            Served::Bye => left = left.saturating_sub(1),
+            Served::Nothing => thread::yield_now(),
+        }
+    }
+    unreachable!()
 }

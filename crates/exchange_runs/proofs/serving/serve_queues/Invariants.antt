@@ -1,12 +1,12 @@
 use Rattle.std.proofs.Common.{◌≡◌, None}
 use Rattle.engine.specs.Reaching.{Reaches}
 use Rattle.exchange_runs.specs.Serving.{IsSameQueues}
-use Rattle.exchange_runs.proofs.serving.serve_all.Given as goal
+use Rattle.exchange_runs.proofs.serving.serve_queues.Given as goal
 
 abbrev pub invariant-loop : goal.invariant-loop
 invariant-loop g l =
     (goal.iterator-loop g).can_next l.iterator' × (goal.iterator-loop g).is_finite l.iterator'
-    × IsSameQueues l.fn.end l.end
+    × IsSameQueues l.fn.storage_end l.end
     × (l.end.open_request ≡ None)
     × (g.S.StorageEngine.sizes l.store ≡ l.end.geometry)
     × Reaches l.end.geometry l.end.history (g.S.StorageEngine.cache l.store) (g.S.StorageEngine.moment l.store)

@@ -69,38 +69,41 @@ fn is_first(answered: &Answered) -> bool {
         && matches!(&answered.reply, Reply::NotFound)
 }
 
-/// Takes the next answer, and says whether it is that to the first request.
-fn takes_first(end: &mut WorkerEnd) -> bool {
+/// Takes the next answer, if there is one, and says whether it is that to the first request.
+fn takes_first(end: &mut WorkerEnd) -> Option<bool> {
     match end.take() {
-        Some(answered) => is_first(&answered),
-        None => false,
+        Some(answered) => Some(is_first(&answered)),
+        None => None,
     }
-}
-
-/// Takes the next answer, and says whether there was none.
-fn has_none(end: &mut WorkerEnd) -> bool {
-    end.take().is_none()
-}
-
-/// The answer to the first request is taken, and no other.
-fn check_taken(rt: &impl Abort, end: &mut WorkerEnd) {
-    assert!(rt; takes_first(end));
-    assert!(rt; has_none(end));
 }
 
 /// 64 requests are sent, and the next one is handed back. Once one of them was taken and answered and its answer taken, one
 /// more is sent, and the next is handed back.
+fn check_room(
+    rt: &impl Abort,
+    alloc: Global,
+    end: &mut WorkerEnd,
+    storage: &mut StorageEnd,
+    store: &mut Store,
+)
+    requires reaches { Reaches storage.old.geometry storage.old.history (segmented_cache store.old) (last_moment store.old) }
+    requires sizes { sizes_in store.old ≡ storage.old.geometry }
+    requires shut { storage.old.open_request ≡ None }
+{
+    check_sent(rt, alloc, end, 64);
+    check_same(rt, takes_first(end), None, "before an answer");
+    check_same(rt, serve_one(store, storage), true, "an answer");
+    check_same(rt, takes_first(end), Some(true), "the answer");
+    check_same(rt, takes_first(end), None, "behind the answer");
+    check_sent(rt, alloc, end, 1);
+}
+
 #[test]
 fn an_answer_makes_room(rt: HostRuntime) -> Result<(), Fail> {
-    let alloc = rt.alloc();
-    let (mut ends, mut storage, mut store) = made(alloc, 1)?;
-    let Some(end) = ends.last_mut() else {
-        panic!(rt; "no end")
-    };
-    check_sent(&rt, alloc, end, 64);
-    assert!(rt; has_none(end));
-    assert!(rt; serve_one(&mut store, &mut storage));
-    check_taken(&rt, end);
-    check_sent(&rt, alloc, end, 1);
+    let (mut ends, mut storage, mut store) = made(rt.alloc(), 1)?;
+    match ends.last_mut() {
+        Some(end) => check_room(&rt, rt.alloc(), end, &mut storage, &mut store),
+        None => panic!(rt; "no end"),
+    }
     Ok(())
 }

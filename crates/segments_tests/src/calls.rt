@@ -2,35 +2,72 @@
 
 use crate::run::{check, key_of, value_of};
 use crate::stock::Stock;
-use segments::{LASTING, Move, Place};
+use segments::{ItemRef, LASTING, Move, Place};
 use std::alloc::Global;
 use std::process::Abort;
 use std::test::Fail;
 
+fn check_new(rt: &impl Abort, stock: &Stock) {
+    check(rt, stock.pool.oldest().is_none(), "no oldest segment", 0);
+    check(rt, stock.moves().is_empty(), "no moves", 0);
+    check(
+        rt,
+        stock.pool.geometry().segment_size() == 4096,
+        "the size",
+        4096,
+    );
+    check(rt, stock.pool.geometry().segments() == 8, "the segments", 8);
+}
+
 #[test]
 fn a_new_pool(rt: HostRuntime) -> Result<(), Fail> {
     let stock = Stock::new(rt.alloc(), 4096, 8)?;
-    assert!(rt; stock.pool.oldest().is_none());
-    assert!(rt; stock.moves().is_empty());
-    assert!(rt; stock.pool.geometry().segment_size() == 4096);
-    assert!(rt; stock.pool.geometry().segments() == 8);
+    check_new(&rt, &stock);
+    Ok(())
+}
+
+/// Appends an item with this cas number.
+fn append(stock: &mut Stock, cas: u64, key: &[u8], value: &[u8]) -> Result<Place, Fail> {
+    match stock.append(LASTING, 1000, cas, key, value) {
+        Some(place) => Ok(place),
+        None => Err("no room".into()),
+    }
+}
+
+fn check_item(rt: &impl Abort, item: ItemRef) {
+    check(rt, item.key == b"a".as_slice(), "the key", 1);
+    check(rt, item.value == b"x".as_slice(), "the value", 1);
+    check(rt, item.flags == 0, "the flags", 1);
+    check(rt, item.cas == 1, "the cas number", 1);
+    check(rt, item.reads == 127, "the reads", 1);
+    check(rt, item.deadline.is_none(), "no deadline", 1);
+}
+
+/// Reads an item so often, and looks at it.
+fn check_read(rt: &impl Abort, stock: &mut Stock, place: Place, times: u32) -> Result<(), Fail> {
+    for _ in 0..times {
+        stock.read(place);
+    }
+    match stock.item(place) {
+        Some(item) => check_item(rt, item),
+        None => return Err("gone".into()),
+    }
     Ok(())
 }
 
 fn check_two(rt: &impl Abort, stock: &mut Stock) -> Result<(), Fail> {
-    let first = stock.append(LASTING, 1000, 1, b"a", b"x").ok_or("no room")?;
-    let second = stock.append(LASTING, 1000, 2, b"b", b"y").ok_or("no room")?;
-    assert!(rt; first.offset == 0 && second.offset == 32);
-    assert!(rt; first.segment == second.segment);
-    assert!(rt; stock.pool.oldest() == Some(first.segment));
-    for _ in 0..130 {
-        stock.read(first);
-    }
-    let item = stock.item(first).ok_or("gone")?;
-    assert!(rt; item.key == b"a".as_slice() && item.value == b"x".as_slice());
-    assert!(rt; item.flags == 0 && item.cas == 1 && item.reads == 127);
-    assert!(rt; item.deadline.is_none());
-    Ok(())
+    let first = append(stock, 1, b"a", b"x")?;
+    let second = append(stock, 2, b"b", b"y")?;
+    check(rt, first.offset == 0, "the offset", 1);
+    check(rt, second.offset == 32, "the offset", 2);
+    check(rt, first.segment == second.segment, "the segment", 2);
+    check(
+        rt,
+        stock.pool.oldest() == Some(first.segment),
+        "the oldest",
+        1,
+    );
+    check_read(rt, stock, first, 130)
 }
 
 /// Items of 32 bytes stand one behind the other. Reads are counted up to 127.
@@ -46,21 +83,24 @@ fn has_room(alloc: Global, stock: &mut Stock, length: usize) -> Result<bool, Fai
     Ok(stock.append(LASTING, 1000, 1, b"a", &value).is_some())
 }
 
+fn check_largest(rt: &impl Abort, alloc: Global, stock: &mut Stock) -> Result<(), Fail> {
+    check(rt, !has_room(alloc, stock, 488)?, "no room", 488);
+    check(rt, has_room(alloc, stock, 487)?, "room", 487);
+    Ok(())
+}
+
 /// With the key `a` the largest value of a segment of 4,096 bytes has 487 bytes.
 #[test]
 fn the_largest_item(rt: HostRuntime) -> Result<(), Fail> {
     let mut stock = Stock::new(rt.alloc(), 4096, 8)?;
-    let is_large_kept = has_room(rt.alloc(), &mut stock, 488)?;
-    let is_kept = has_room(rt.alloc(), &mut stock, 487)?;
-    assert!(rt; !is_large_kept && is_kept);
-    Ok(())
+    check_largest(&rt, rt.alloc(), &mut stock)
 }
 
 fn add(alloc: Global, stock: &mut Stock, n: usize) -> Result<(), Fail> {
     let value = value_of(alloc, n, 476)?;
-    let place = stock.append(LASTING, 1000, n as u64, &key_of(n), &value);
+    let appended = append(stock, n as u64, &key_of(n), &value);
     drop(value);
-    place.ok_or("no room")?;
+    appended?;
     Ok(())
 }
 

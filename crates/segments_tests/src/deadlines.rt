@@ -1,7 +1,7 @@
 //! Runs of writes with deadlines on eight segments of 4,096 bytes.
 
 use crate::run::Step::{self, Deadline, Empty, Hits, Made, Segment, Write, WriteFor};
-use crate::run::play;
+use crate::run::play_each;
 use std::test::Fail;
 
 /// A time to live of 16 seconds is of bucket 2, whose lower end is 16 and whose width is 8. The tail opened at 1000
@@ -78,12 +78,16 @@ const IN_TURNS: [Step; 6] = [
     Made(0, 2, 0),
 ];
 
+const RUNS: [&[Step]; 6] = [
+    &ONE_WIDTH,
+    &REWRITTEN,
+    &NINE_BUCKETS,
+    &AT_THE_DEADLINE,
+    &ONE_DEADLINE,
+    &IN_TURNS,
+];
+
 #[test]
 fn writes_with_deadlines(rt: HostRuntime) -> Result<(), Fail> {
-    play(&rt, rt.alloc(), &ONE_WIDTH)?;
-    play(&rt, rt.alloc(), &REWRITTEN)?;
-    play(&rt, rt.alloc(), &NINE_BUCKETS)?;
-    play(&rt, rt.alloc(), &AT_THE_DEADLINE)?;
-    play(&rt, rt.alloc(), &ONE_DEADLINE)?;
-    play(&rt, rt.alloc(), &IN_TURNS)
+    play_each(&rt, rt.alloc(), &RUNS)
 }

@@ -4,7 +4,7 @@
 //! 9 to 16 in the next, and so on.
 
 use crate::run::Step::{self, Empty, Forget, Hits, Made, Read, Reads, Segment, Write, WriteOf};
-use crate::run::play;
+use crate::run::play_each;
 use std::test::Fail;
 
 /// The 65th write finds no room and no segment to give back. The front of the chain is all but the tail, 7
@@ -84,13 +84,17 @@ const SOME_FORGOTTEN: [Step; 5] = [
 /// segments and an eighth, and nothing is forgotten.
 const LARGEST: [Step; 4] = [WriteOf(484, 49), Hits(1, 49, 0, 0), Empty(1), Made(0, 0, 0)];
 
+const RUNS: [&[Step]; 7] = [
+    &SIXTY_FIVE,
+    &ONE_READ,
+    &EIGHTY_NINE,
+    &TWO_READS,
+    &ALL_FORGOTTEN,
+    &SOME_FORGOTTEN,
+    &LARGEST,
+];
+
 #[test]
 fn writes_without_deadlines(rt: HostRuntime) -> Result<(), Fail> {
-    play(&rt, rt.alloc(), &SIXTY_FIVE)?;
-    play(&rt, rt.alloc(), &ONE_READ)?;
-    play(&rt, rt.alloc(), &EIGHTY_NINE)?;
-    play(&rt, rt.alloc(), &TWO_READS)?;
-    play(&rt, rt.alloc(), &ALL_FORGOTTEN)?;
-    play(&rt, rt.alloc(), &SOME_FORGOTTEN)?;
-    play(&rt, rt.alloc(), &LARGEST)
+    play_each(&rt, rt.alloc(), &RUNS)
 }

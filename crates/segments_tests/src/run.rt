@@ -97,22 +97,25 @@ impl Run {
         }
     }
 
+    /// Appends the item of a write, where need be once there is room for it.
+    fn append(&mut self, ttl: Option<u64>, moment: u64, n: usize, value: &[u8]) -> Option<Place> {
+        let bucket = bucket_of(ttl);
+        let key = key_of(n);
+        let tried = self.stock.append(bucket, moment, n as u64, &key, value);
+        if tried.is_some() {
+            return tried;
+        }
+        self.make_room(moment);
+        self.stock.append(bucket, moment, n as u64, &key, value)
+    }
+
     /// The next write.
     fn write(&mut self, alloc: Global, ttl: Option<u64>, moment: u64) -> Result<(), Fail> {
         let n = self.writes.next();
-        let bucket = bucket_of(ttl);
-        let key = key_of(n);
         let value = value_of(alloc, n, self.value_length)?;
-        let tried = self.stock.append(bucket, moment, n as u64, &key, &value);
-        let place = match tried {
-            Some(place) => place,
-            None => {
-                self.make_room(moment);
-                let again = self.stock.append(bucket, moment, n as u64, &key, &value);
-                again.ok_or("no room")?
-            }
-        };
-        self.writes.add(place)?;
+        let place = self.append(ttl, moment, n, &value);
+        drop(value);
+        self.writes.add(place.ok_or("no room")?)?;
         Ok(())
     }
 
@@ -223,41 +226,53 @@ impl Run {
         count
     }
 
+    fn check_reads(&self, rt: &impl Abort, write: usize, reads: u8) -> Result<(), Fail> {
+        let item = self.item(write).ok_or("gone")?;
+        check(rt, item.reads == reads, "reads", write);
+        Ok(())
+    }
+
+    fn check_deadline(
+        &self,
+        rt: &impl Abort,
+        write: usize,
+        deadline: Option<u64>,
+    ) -> Result<(), Fail> {
+        let item = self.item(write).ok_or("gone")?;
+        check(rt, item.deadline == deadline, "deadline", write);
+        Ok(())
+    }
+
+    fn check_made(&self, rt: &impl Abort, given_back: usize, merges: usize, clears: usize) {
+        let is_given_back = self.given_back == given_back;
+        check(rt, is_given_back, "segments given back", given_back);
+        check(rt, self.merges == merges, "merges", merges);
+        check(rt, self.clears == clears, "clears", clears);
+    }
+
     fn play_step(&mut self, rt: &impl Abort, alloc: Global, step: Step) -> Result<(), Fail> {
         match step {
-            Step::Write(count) => self.write_all(alloc, None, 1000, count)?,
-            Step::WriteFor(ttl, moment, count) => self.write_all(alloc, Some(ttl), moment, count)?,
+            Step::Write(count) => return self.write_all(alloc, None, 1000, count),
+            Step::WriteFor(ttl, moment, count) => {
+                return self.write_all(alloc, Some(ttl), moment, count);
+            }
             Step::WriteOf(length, count) => {
                 self.value_length = length;
-                self.write_all(alloc, None, 1000, count)?
+                return self.write_all(alloc, None, 1000, count);
             }
-            Step::Read(write) => self.read(write)?,
+            Step::Read(write) => return self.read(write),
             Step::Forget(first, last) => self.forget(first, last),
-            Step::Hits(a, b, c, d) => self.check_hits(rt, alloc, (a, b), (c, d))?,
-            Step::Segment(first, second, last) => self.check_segment(rt, first, second, last)?,
-            Step::Reads(write, reads) => {
-                let item = self.item(write).ok_or("gone")?;
-                check(rt, item.reads == reads, "reads", write);
+            Step::Hits(a, b, c, d) => return self.check_hits(rt, alloc, (a, b), (c, d)),
+            Step::Segment(first, second, last) => {
+                return self.check_segment(rt, first, second, last);
             }
-            Step::Deadline(write, deadline) => {
-                let item = self.item(write).ok_or("gone")?;
-                check(rt, item.deadline == deadline, "deadline", write);
+            Step::Reads(write, reads) => return self.check_reads(rt, write, reads),
+            Step::Deadline(write, deadline) => return self.check_deadline(rt, write, deadline),
+            Step::Empty(count) => {
+                check(rt, self.empty_segments() == count, "empty segments", count);
             }
-            Step::Empty(count) => check(
-                rt,
-                self.empty_segments() == count,
-                "empty segments",
-                count,
-            ),
             Step::Made(given_back, merges, clears) => {
-                check(
-                    rt,
-                    self.given_back == given_back,
-                    "segments given back",
-                    given_back,
-                );
-                check(rt, self.merges == merges, "merges", merges);
-                check(rt, self.clears == clears, "clears", clears);
+                self.check_made(rt, given_back, merges, clears);
             }
         }
         Ok(())
@@ -272,7 +287,15 @@ fn play_all(rt: &impl Abort, alloc: Global, run: &mut Run, steps: &[Step]) -> Re
 }
 
 /// Plays the steps on eight segments of 4,096 bytes.
-pub fn play(rt: &impl Abort, alloc: Global, steps: &[Step]) -> Result<(), Fail> {
+fn play(rt: &impl Abort, alloc: Global, steps: &[Step]) -> Result<(), Fail> {
     let mut run = Run::new(alloc)?;
     play_all(rt, alloc, &mut run, steps)
+}
+
+/// Plays each of the runs.
+pub fn play_each(rt: &impl Abort, alloc: Global, runs: &[&[Step]]) -> Result<(), Fail> {
+    for steps in runs {
+        play(rt, alloc, steps)?;
+    }
+    Ok(())
 }

@@ -75,13 +75,14 @@ fn ask(book: &mut Book, session: u64) -> Result<Option<u64>, Fail> {
 
 /// Settles a request of session 1 with a value of this length.
 fn answer(alloc: Global, book: &mut Book, number: u64, length: usize) -> Result<Settled, Fail> {
+    let reply = value_of(alloc, length)?;
     let answered = Answered {
         worker: 0,
         session: 1,
         number,
         request: Request::FlushAll { delay: 0 },
         moment: 1000,
-        reply: value_of(alloc, length)?,
+        reply,
     };
     Ok(book.settle(&answered))
 }

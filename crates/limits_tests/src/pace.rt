@@ -7,8 +7,8 @@ use engine::PlainStore;
 use group::{Config, run_group};
 use proto::Geometry;
 use std::alloc::Global;
+use std::process::Abort;
 use std::sync::Wait;
-use std::test::Fail;
 use std::thread;
 use std::thread::Threads;
 use std::time::{Clock, Duration, Instant};
@@ -103,12 +103,11 @@ impl<R: Clock + Drop> Port for OneAtATime<R> {
 }
 
 // Runs a group over the requests, and gives how many were executed and how long that took.
-fn run<R: Threads + Wait + Clock + Sync + Send + Copy + Drop, C: Moments + Send>(
-    rt: &R,
-    alloc: Global,
-    pause_millis: u64,
-    clock: C,
-) -> Result<(u64, Duration), Fail> {
+fn run<R, C>(rt: &R, alloc: Global, pause_millis: u64, clock: C) -> (u64, Duration)
+where
+    R: Abort + Threads + Wait + Clock + Sync + Send + Copy + Drop,
+    C: Moments + Send,
+{
     let port = OneAtATime {
         rt: *rt,
         pause_millis,
@@ -117,30 +116,29 @@ fn run<R: Threads + Wait + Clock + Sync + Send + Copy + Drop, C: Moments + Send>
         sent: 0,
         given: 0,
     };
-    let geometry = Geometry::new(65_536, 64)?;
+    let geometry = Geometry::new(65_536, 64).expect(rt, "a geometry");
     let config = Config { geometry };
-    let store = PlainStore::new(alloc, geometry)?;
-    let mut ports = Vec::with_capacity(alloc, 1)?;
-    ports.push(port)?;
-    let start = Instant::now(rt)?;
-    let report = run_group(rt, alloc, ports, config, store, clock, &OpenGate)?;
-    Ok((report.executed, start.elapsed(rt)?))
+    let store = PlainStore::new(alloc, geometry).expect(rt, "memory");
+    let mut ports = Vec::new(alloc);
+    ports.push(port).expect(rt, "memory");
+    let start = Instant::now(rt).expect(rt, "the time");
+    let report = run_group(rt, alloc, ports, config, store, clock, &OpenGate).expect(rt, "a group");
+    (report.executed, start.elapsed(rt).expect(rt, "the time"))
+}
+
+fn check_run(rt: &impl Abort, (executed, took): (u64, Duration)) {
+    assert!(rt; took < Duration::from_secs(MOST_SECONDS));
+    assert_eq!(rt; executed, REQUESTS as u64);
 }
 
 // Storage has parked when a request comes.
 #[test]
-fn requests_after_pauses_are_answered_soon(rt: HostRuntime) -> Result<(), Fail> {
-    let (executed, took) = run(&rt, rt.alloc(), PAUSE_MILLIS, SteadyClock)?;
-    assert!(rt; took < Duration::from_secs(MOST_SECONDS));
-    assert_eq!(rt; executed, REQUESTS as u64);
-    Ok(())
+fn requests_after_pauses_are_answered_soon(rt: HostRuntime) {
+    check_run(&rt, run(&rt, rt.alloc(), PAUSE_MILLIS, SteadyClock));
 }
 
 // The worker has parked when its answer comes.
 #[test]
-fn answers_of_a_slow_storage_are_taken_soon(rt: HostRuntime) -> Result<(), Fail> {
-    let (executed, took) = run(&rt, rt.alloc(), 0, SlowClock { rt })?;
-    assert!(rt; took < Duration::from_secs(MOST_SECONDS));
-    assert_eq!(rt; executed, REQUESTS as u64);
-    Ok(())
+fn answers_of_a_slow_storage_are_taken_soon(rt: HostRuntime) {
+    check_run(&rt, run(&rt, rt.alloc(), 0, SlowClock { rt }));
 }

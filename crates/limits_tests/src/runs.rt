@@ -189,12 +189,13 @@ fn stores_of_2_gib_and_more(rt: HostRuntime) -> Result<(), Fail> {
 #[test]
 fn many_sessions_are_open_at_once(rt: HostRuntime) -> Result<(), Fail> {
     let alloc = rt.alloc();
+    let geometry = Geometry::new(65_536, 64)?;
     let shape = Shape {
         value: 1,
         keys: 1,
         lines: 1,
     };
     let talk = talk_of(&rt, alloc, shape);
-    check_run(&rt, alloc, Geometry::new(65_536, 64)?, 1500, &talk, 1);
+    check_run(&rt, alloc, geometry, 1500, &talk, 1);
     Ok(())
 }

@@ -1,6 +1,6 @@
 //! How long requests take on the segmented store, of 64 segments of 64 KiB, beside the plain store: gets that find their
 //! key, gets that find none, sets of keys that are there, and sets of so many keys that segments are merged.
-//! `segment_store_bench N` sends N of each, and writes the times to the standard error. `segment_store_bench N B S V` sets N keys
+//! `segcache_bench N` sends N of each, and writes the times to the standard error. `segcache_bench N B S V` sets N keys
 //! with values of V bytes in a segmented store of S segments of B bytes, then N more, and flushes it; and so in the plain one,
 //! which keeps them all.
 #![tactic(auto)]

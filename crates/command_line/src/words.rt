@@ -9,6 +9,7 @@ ghost use Rattle.command_line.specs.declared.words.WordsFault.TheVariants as wor
 ghost use Rattle.command_line.specs.Words.{IsJob, IsReplayInRange, IsServeInRange};
 
 use crate::version::VERSION;
+use clap::builder::ValueParser;
 use clap::error::ErrorKind;
 use clap::{Arg, ArgMatches, Command};
 use proto::{MAX_SEGMENT_SIZE, MAX_SEGMENTS, MAX_WORKERS, MIN_SEGMENT_SIZE, MIN_SEGMENTS};
@@ -99,89 +100,126 @@ const SERVE_HELP: &str =
 
 Exit status: 0 done, 1 a fault (one line on standard error), 2 bad words";
 
-fn option<'a>(alloc: Global, name: &'a str, value: &'a str, help: &'a str) -> Arg<'a> {
-    Arg::new(alloc, name)
-        .long(name)
-        .value_name(value)
-        .help(help)
+/// An option whose value is a number from `least` to `most`.
+#[derive(Drop)]
+struct NumberOption {
+    name: &'static str,
+    value_name: &'static str,
+    help: &'static str,
+    least: u64,
+    most: u64,
+    /// Its value where it isn't given; empty where it then has none.
+    default: &'static [&'static str],
 }
 
-/// An option with a number from `least` to `most`.
-fn ranged<'a>(
+/// How many workers run. Both jobs have this option, each with a default of its own.
+const WORKERS: NumberOption = NumberOption {
+    name: "workers",
+    value_name: "COUNT",
+    help: "Number of worker threads, 1 to 8",
+    least: 1,
+    most: MAX_WORKERS as u64,
+    default: &[],
+};
+
+const SEGMENT_SIZE: NumberOption = NumberOption {
+    name: "segment-size",
+    value_name: "BYTES",
+    help: "Bytes of a segment, a power of two from 4096 to 1048576",
+    least: MIN_SEGMENT_SIZE as u64,
+    most: MAX_SEGMENT_SIZE as u64,
+    default: &["65536"],
+};
+
+const SEGMENTS: NumberOption = NumberOption {
+    name: "segments",
+    value_name: "COUNT",
+    help: "Number of segments, 8 to 65536. Where no request sets a life, all is sure to stay while what was written takes no more than 7/8 of all segments but one",
+    least: MIN_SEGMENTS as u64,
+    most: MAX_SEGMENTS as u64,
+    default: &["64"],
+};
+
+/// The options of a replay: the workers, the segments, the clock, and the faults of the ports.
+static REPLAY_OPTIONS: [NumberOption; 7] = [
+    NumberOption {
+        default: &["1"],
+        ..WORKERS
+    },
+    SEGMENT_SIZE,
+    SEGMENTS,
+    NumberOption {
+        name: "now",
+        value_name: "SECONDS",
+        help: "The clock's first answer",
+        least: 0,
+        most: u64::MAX,
+        default: &["1000"],
+    },
+    NumberOption {
+        name: "tick",
+        value_name: "SECONDS",
+        help: "How much more each further answer of the clock is",
+        least: 0,
+        most: u64::MAX,
+        default: &["0"],
+    },
+    NumberOption {
+        name: "accept",
+        value_name: "BYTES",
+        help: "Each give accepts at most so many bytes, 1 to 65536",
+        least: 1,
+        most: MAX_ACCEPTED,
+        default: &[],
+    },
+    NumberOption {
+        name: "fail-give",
+        value_name: "N",
+        help: "At each worker the Nth give finds its peer gone",
+        least: 1,
+        most: u64::MAX,
+        default: &[],
+    },
+];
+
+/// The options of a server beside its address.
+static SERVE_OPTIONS: [NumberOption; 4] = [
+    NumberOption {
+        default: &["2"],
+        ..WORKERS
+    },
+    NumberOption {
+        name: "sessions",
+        value_name: "COUNT",
+        help: "Accept so many streams, and end when their sessions have ended",
+        least: 1,
+        most: u64::MAX,
+        default: &[],
+    },
+    SEGMENT_SIZE,
+    SEGMENTS,
+];
+
+fn number_option<'a>(alloc: Global, option: &NumberOption) -> Arg<'a> {
+    Arg::new(alloc, option.name)
+        .long(option.name)
+        .value_name(option.value_name)
+        .help(option.help)
+        .value_parser(ValueParser::unsigned(option.least, option.most))
+        .default_values(option.default)
+}
+
+/// The command with these options, where there was memory for it so far.
+fn with_options<'a>(
     alloc: Global,
-    name: &'a str,
-    value: &'a str,
-    help: &'a str,
-    least: i64,
-    most: i64,
-) -> Arg<'a> {
-    option(alloc, name, value, help).value_parser(clap::value_parser!(u64).range(least..=most))
-}
-
-/// An option with a number from 1 on.
-fn counted<'a>(alloc: Global, name: &'a str, value: &'a str, help: &'a str) -> Arg<'a> {
-    option(alloc, name, value, help).value_parser(clap::value_parser!(u64).range(1..))
-}
-
-/// An option with a number of seconds.
-fn seconds<'a>(alloc: Global, name: &'a str, help: &'a str) -> Arg<'a> {
-    option(alloc, name, "SECONDS", help).value_parser(clap::value_parser!(u64))
-}
-
-/// How many workers run; both jobs have them.
-fn with_workers<'a>(
-    alloc: Global,
-    command: Command<'a>,
-    default: &'a str,
+    command: Result<Command<'a>, AllocError>,
+    options: &[NumberOption],
 ) -> Result<Command<'a>, AllocError> {
-    let help = "Number of worker threads, 1 to 8";
-    command.arg(ranged(alloc, "workers", "COUNT", help, 1, MAX_WORKERS as i64).default_value(
-        default,
-    ))
-}
-
-/// The sizes of the segments; both jobs have them.
-fn with_segments<'a>(alloc: Global, command: Command<'a>) -> Result<Command<'a>, AllocError> {
-    let size = "Bytes of a segment, a power of two from 4096 to 1048576";
-    let count =
-        "Number of segments, 8 to 65536. Where no request sets a life, all is sure to stay while what was written takes no more than 7/8 of all segments but one";
-    command
-        .arg(ranged(
-            alloc,
-            "segment-size",
-            "BYTES",
-            size,
-            MIN_SEGMENT_SIZE as i64,
-            MAX_SEGMENT_SIZE as i64,
-        )
-        .default_value("65536"))?
-        .arg(ranged(
-            alloc,
-            "segments",
-            "COUNT",
-            count,
-            MIN_SEGMENTS as i64,
-            MAX_SEGMENTS as i64,
-        )
-        .default_value("64"))
-}
-
-/// The clock of a replay.
-fn with_clock<'a>(alloc: Global, command: Command<'a>) -> Result<Command<'a>, AllocError> {
-    let now = "The clock's first answer";
-    let tick = "How much more each further answer of the clock is";
-    command
-        .arg(seconds(alloc, "now", now).default_value("1000"))?
-        .arg(seconds(alloc, "tick", tick).default_value("0"))
-}
-
-/// The faults of a replay's ports.
-fn with_faults<'a>(alloc: Global, command: Command<'a>) -> Result<Command<'a>, AllocError> {
-    let accept = "Each give accepts at most so many bytes, 1 to 65536";
-    let fail_give = "At each worker the Nth give finds its peer gone";
-    command
-        .arg(ranged(alloc, "accept", "BYTES", accept, 1, MAX_ACCEPTED as i64))?
-        .arg(counted(alloc, "fail-give", "N", fail_give))
+    let mut command = command?;
+    for option in options {
+        command = command.arg(number_option(alloc, option))?;
+    }
+    Ok(command)
 }
 
 fn file<'a>(alloc: Global) -> Arg<'a> {
@@ -199,41 +237,46 @@ fn listen<'a>(alloc: Global) -> Arg<'a> {
         .required(true)
 }
 
-fn sessions<'a>(alloc: Global) -> Arg<'a> {
-    let help = "Accept so many streams, and end when their sessions have ended";
-    counted(alloc, "sessions", "COUNT", help)
-}
-
 fn replay_command<'a>(alloc: Global) -> Result<Command<'a>, AllocError> {
-    let command = Command::new(alloc, "replay")
+    Command::new(alloc, "replay")
         .about("Runs a script and prints what each session was given")
         .override_usage("segcached replay [OPTIONS] <FILE>")
         .after_help(REPLAY_HELP)
-        .arg(file(alloc))?;
-    let command = with_workers(alloc, command, "1")?;
-    let command = with_segments(alloc, command)?;
-    let command = with_clock(alloc, command)?;
-    with_faults(alloc, command)
+        .arg(file(alloc))
 }
 
 fn serve_command<'a>(alloc: Global) -> Result<Command<'a>, AllocError> {
-    let command = Command::new(alloc, "serve")
+    Command::new(alloc, "serve")
         .about("Listens on an address and serves")
         .override_usage("segcached serve [OPTIONS] --listen <ADDR>")
         .after_help(SERVE_HELP)
-        .arg(listen(alloc))?;
-    let command = with_workers(alloc, command, "2")?.arg(sessions(alloc))?;
-    with_segments(alloc, command)
+        .arg(listen(alloc))
 }
 
-fn command<'a>(alloc: Global) -> Result<Command<'a>, AllocError> {
+/// The command with no job yet.
+fn bare_command<'a>(alloc: Global) -> Command<'a> {
     Command::new(alloc, "segcached")
         .about("A cache server: memcached's text protocol over Segcache's segments")
         .version(VERSION)
         .no_binary_name(true)
         .subcommand_required(true)
-        .subcommand(replay_command(alloc)?)?
-        .subcommand(serve_command(alloc)?)
+}
+
+/// The command with one more job, where there was memory for both.
+fn with_job<'a>(
+    command: Result<Command<'a>, AllocError>,
+    job: Result<Command<'a>, AllocError>,
+) -> Result<Command<'a>, AllocError> {
+    match command.ok().zip(job.ok()) {
+        Some((command, job)) => command.subcommand(job),
+        None => Err(AllocError),
+    }
+}
+
+fn command<'a>(alloc: Global) -> Result<Command<'a>, AllocError> {
+    let replay = with_options(alloc, replay_command(alloc), &REPLAY_OPTIONS);
+    let serve = with_options(alloc, serve_command(alloc), &SERVE_OPTIONS);
+    with_job(with_job(Ok(bare_command(alloc)), replay), serve)
 }
 
 /// A number that the words give, or by default; 0 where there is neither.
@@ -337,17 +380,23 @@ pub fn unreadable_words(alloc: Global, error: &io::Error) -> WordsFault
     }
 }
 
+fn job_of(alloc: Global, matches: &ArgMatches<'_>) -> Result<Job, WordsFault>
+    ensures { IfOk result IsJob }
+{
+    match matches.subcommand() {
+        Some(("serve", serve)) => Ok(Job::Serve(serve_options(alloc, serve)?)),
+        Some((_, replay)) => Ok(Job::Replay(replay_options(alloc, replay)?)),
+        None => Err(WordsFault::BadWords(String::new(alloc))),
+    }
+}
+
 /// What the words after the program's name ask for. Words that are bad are answered with the text to print.
 pub fn parse_words(alloc: Global, words: &[String]) -> Result<Job, WordsFault>
     ensures { IfOk result IsJob }
 {
     let command = command(alloc)?;
     match command.try_get_matches_from(words) {
-        Ok(matches) => match matches.subcommand() {
-            Some(("serve", serve)) => Ok(Job::Serve(serve_options(alloc, serve)?)),
-            Some((_, replay)) => Ok(Job::Replay(replay_options(alloc, replay)?)),
-            None => Err(WordsFault::BadWords(String::new(alloc))),
-        },
+        Ok(matches) => job_of(alloc, &matches),
         Err(error) => parse_fault(alloc, &error),
     }
 }

@@ -4,3 +4,4 @@ pub mod AccountLaws
 pub mod Needing
 pub mod Steps
 pub mod Books
+pub mod Entries

@@ -2,3 +2,4 @@ pub mod Kinds
 pub mod Session
 pub mod Book
 pub mod Accounts
+pub mod Entries

@@ -4,6 +4,10 @@ ghost use Rattle.std.specs.Prelude.{◌≡◌, ◌⊎◌, ◌+◌, ◌≤◌, �
 ghost use Rattle.std.specs.Prelude.{OnOk, OnErr, MatchOption};
 ghost use Rattle.session_book.specs.Session.{SessionState, new_session, gave, finished_by};
 ghost use Rattle.std.specs.Option.{option_and_then};
+ghost use Rattle.std.specs.VecDeque.{deque_len, deque_capacity};
+ghost use Rattle.proto.specs.declared.message.Request.{Request};
+ghost use Rattle.proto.specs.Reading.{asks};
+ghost use Rattle.session_book.specs.Entries.{entry_of, AsksEntry, SettlesEntry};
 
 use crate::causes::{EndCause, OpenFault, Received, Settled, Unsettled};
 use crate::limits::{MAX_POSTS, MAX_SESSIONS, MAX_UNSETTLED};
@@ -134,13 +138,7 @@ impl Book {
         let Some(open) = self.sessions.get_mut(&session) else {
             return Received::Unknown;
         };
-        if open.take_memory(self.alloc).is_err() {
-            return Received::Refused;
-        }
-        let Some(state) = &mut open.state else {
-            return Received::Refused;
-        };
-        state.receive(session, piece, &mut self.upkeep)
+        open.receive(self.alloc, session, piece, &mut self.upkeep)
     }
 
     /// Feeds the held piece of a session, if it fits by now.
@@ -150,10 +148,7 @@ impl Book {
         let Some(open) = self.sessions.get_mut(&session) else {
             return Ok(false);
         };
-        let Some(state) = &mut open.state else {
-            return Ok(false);
-        };
-        state.feed_held(session, &mut self.upkeep)
+        open.feed_held(session, &mut self.upkeep)
     }
 
     /// The state of a session that is open and has had input.
@@ -190,19 +185,16 @@ impl Book {
         if self.unsettled.len() >= MAX_UNSETTLED || self.posted >= MAX_POSTS {
             return Ok(None);
         }
-        let Some(open) = self.sessions.get_mut(&session) else {
-            return Ok(None);
-        };
-        let Some(state) = &mut open.state else {
-            self.upkeep.reads_on = false;
-            return Ok(None);
-        };
-        self.unsettled.reserve(1)?;
-        let read = state.next_ask(session, &mut self.looks, &mut self.upkeep);
+        let read = ask_session(
+            &mut self.sessions,
+            session,
+            &mut self.unsettled,
+            &mut self.looks,
+            &mut self.upkeep,
+        );
         let Some(request) = read? else {
             return Ok(None);
         };
-        self.upkeep.load.asked(&request);
         self.posted += 1;
         let number = self.posted;
         self.unsettled.push_back(Unsettled { number, session })?;
@@ -223,19 +215,7 @@ impl Book {
         }
         self.unsettled.pop_front();
         self.upkeep.load.settled(&answered.request);
-        let Some(open) = self.sessions.get_mut(&answered.session) else {
-            return Settled::Dropped;
-        };
-        let Some(state) = &mut open.state else {
-            unreachable!()
-        };
-        match state.settle(answered, &mut self.upkeep) {
-            Ok(()) => Settled::Kept,
-            Err(NoMemory) => {
-                self.sessions.remove(&answered.session);
-                Settled::Starved
-            }
-        }
+        settle_session(&mut self.sessions, answered, &mut self.upkeep)
     }
 
     pub fn is_open(&self, session: u64) -> bool
@@ -285,11 +265,7 @@ impl Book {
         let Some(open) = self.sessions.get_mut(&session) else {
             return None;
         };
-        let Some(state) = &mut open.state else {
-            return None;
-        };
-        state.gave(session, n, &mut self.upkeep);
-        state.finished()
+        open.gave(session, n, &mut self.upkeep)
     }
 
     /// Quit or Fatal, once all before it was answered and given.
@@ -312,11 +288,8 @@ impl Book {
     pub fn ask_later(&mut self, session: u64)
         ensures { self.new ≡ self.old }
     {
-        let Some(open) = self.sessions.get_mut(&session) else {
-            return;
-        };
-        if let Some(state) = &mut open.state {
-            state.ask_later(session, &mut self.upkeep);
+        if let Some(open) = self.sessions.get_mut(&session) {
+            open.ask_later(session, &mut self.upkeep);
         }
     }
 
@@ -388,5 +361,47 @@ impl Book {
         ensures { result ≡ self.now.looks }
     {
         self.looks
+    }
+}
+
+/// Reads a session up to its next request, for which there is room among the unsettled ones then.
+fn ask_session(
+    sessions: &mut HashMap<u64, OpenSession>,
+    session: u64,
+    unsettled: &mut VecDeque<Unsettled>,
+    looks: &mut u64,
+    upkeep: &mut Upkeep,
+) -> Result<Option<Request>, NoMemory>
+    ensures closed { entry_of sessions.old.entries session ≡ None
+        → (result ≡ Ok None) × (sessions.new.entries ≡ sessions.old.entries) × (looks.new ≡ looks.old) }
+    ensures open { (s : SessionState) → entry_of sessions.old.entries session ≡ Some s
+        → AsksEntry sessions.old.entries sessions.new.entries session s looks.old result looks.new }
+    ensures kept { unsettled.new.items ≡ unsettled.old.items }
+    ensures room { (request : Request) → result ≡ Ok (Some request) → deque_len unsettled.new < deque_capacity unsettled.new }
+{
+    match sessions.get_mut(&session) {
+        Some(open) => open.next_ask(session, unsettled, looks, upkeep),
+        None => Ok(None),
+    }
+}
+
+/// Gives the first unsettled request of a session its reply. Where there is no memory for it the session is closed.
+fn settle_session(
+    sessions: &mut HashMap<u64, OpenSession>,
+    answered: &Answered,
+    upkeep: &mut Upkeep,
+) -> Settled
+    requires { (s : SessionState) → entry_of sessions.old.entries answered.now.session ≡ Some s → 0 < length (asks s.queue) }
+    ensures { SettlesEntry sessions.old.entries answered.now result sessions.new.entries }
+{
+    let Some(open) = sessions.get_mut(&answered.session) else {
+        return Settled::Dropped;
+    };
+    match open.settle(answered, upkeep) {
+        Ok(()) => Settled::Kept,
+        Err(NoMemory) => {
+            sessions.remove(&answered.session);
+            Settled::Starved
+        }
     }
 }

@@ -1,14 +1,16 @@
 //! One session: reading its messages and answering them in their order.
 
 ghost use Rattle.std.specs.Prelude.{◌≡◌, ◌≤◌, ◌<◌, ◌+◌, ◌↔◌, [], length, not, ◌==◌, drop, is_some, OnOk, OnErr, ◌∷◌};
-ghost use Rattle.std.specs.Prelude.{◌++◌, true, None, Err};
+ghost use Rattle.std.specs.Prelude.{◌++◌, true, None, Some, Ok, Err};
+ghost use Rattle.std.specs.VecDeque.{deque_len, deque_capacity};
+ghost use Rattle.proto.specs.declared.message.Request.{Request};
 ghost use Rattle.std.specs.Bool.{OnTrue, OnFalse};
 ghost use Rattle.proto.specs.Answers.{said};
 ghost use Rattle.session_book.specs.Session.{begins_asked, left, ended_by, read_of};
 ghost use Rattle.proto.specs.Reading.{asks};
 
 use crate::buffer::Buffer;
-use crate::causes::{EndCause, FeedFault, Received};
+use crate::causes::{EndCause, FeedFault, Received, Unsettled};
 use crate::limits::{MAX_UNREAD, MAX_WAITING};
 use crate::pending_answer::PendingAnswer;
 use crate::ready_queues::Tickets;
@@ -258,17 +260,25 @@ impl Session {
         fed
     }
 
-    /// Reads messages up to the next request, and counts the calls of the parser.
+    /// Reads messages up to the next request, for which there is room among the unsettled ones then, and counts the calls
+    /// of the parser.
     pub fn next_ask(
         &mut self,
         session: u64,
+        unsettled: &mut VecDeque<Unsettled>,
         looks: &mut u64,
         upkeep: &mut Upkeep,
     ) -> Result<Option<Request>, NoMemory>
-        ensures { ReadsAsk self.old looks.old result self.new looks.new }
+        ensures reads { ReadsAsk self.old looks.old result self.new looks.new }
+        ensures kept { unsettled.new.items ≡ unsettled.old.items }
+        ensures room { (request : Request) → result ≡ Ok (Some request) → deque_len unsettled.new < deque_capacity unsettled.new }
     {
         let before = self.output.len();
+        unsettled.reserve(1)?;
         let read = self.read_ask(looks);
+        if let Ok(Some(request)) = &read {
+            upkeep.load.asked(request);
+        }
         upkeep.load.output_changed(before, self.output.len());
         self.was_asked(session, upkeep);
         read

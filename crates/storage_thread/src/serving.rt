@@ -31,6 +31,16 @@ pub struct StorageReport<C: Clock> {
     pub executed: u64,
 }
 
+// The moment of the next request: the clock's answer, but none after the greatest moment or before the last one.
+fn next_moment<C: Clock>(clock: &mut C, last: u64) -> u64
+    ensures leads { C.leads_to clock.old clock.new }
+    ensures moment { AsksClock (C.told clock.old) last (C.told clock.new) result }
+    ensures order { (last ≤ result) × (last ≤ max_moment → result ≤ max_moment) }
+{
+    let now = clock.now().min(MAX_MOMENT);
+    now.max(last)
+}
+
 // Executes the open request, and answers it. Its worker is told at the next flush, or before.
 fn execute<S: StorageEngine, C: Clock>(
     store: &mut S,
@@ -51,8 +61,7 @@ fn execute<S: StorageEngine, C: Clock>(
     ensures leads { C.leads_to clock.old clock.new }
     ensures moment { AsksClock (C.told clock.old) (S.moment store.old) (C.told clock.new) (S.moment store.new) }
 {
-    let now = clock.now().min(MAX_MOMENT);
-    let moment = now.max(store.last_moment());
+    let moment = next_moment(clock, store.last_moment());
     let Posted {
         session,
         number,

@@ -1,7 +1,7 @@
 -- What reading a session up to its next request leaves true of a worker.
 use Rattle.std.proofs.Common.{◌≡◌, ◌≢◌, ℕ, ◌+◌, ◌≤◌, ◌==◌, Bool, cond, List, [], ◌∷◌, ◌++◌, length, take}
 use Rattle.std.proofs.Common.{drop, map, refl, sym, ap, subst, ◌∙◌, append-nil}
-use Rattle.std.proofs.Common.{arith, Option, Some, None, Result, Ok, length-append, get_or}
+use Rattle.std.proofs.Common.{arith, Option, Some, None, option_to_list, Result, Ok, length-append, get_or}
 use Rattle.std.proofs.lemmas.List.{map-append, length-take, drop-append-le, take-append-le}
 use Rattle.proto.specs.declared.message.Request.{Request}
 use Rattle.proto.specs.declared.message.Message.{Message}
@@ -230,17 +230,16 @@ quiet_goes_on told old new t None o port end request sessions unopened strangers
       paused_kept story story (piece_of old.book) (piece_of new.book) pieces (λ q. refl) was_so.1,
     ))
 
--- the held request is sent
-pub posted_goes_on : {P : Type 0} (told : P → Option PortStory) (old : WorkerState P) (p : Posted) (batch : WorkerBatchView)
+-- the request that is held is sent, if there is one
+pub posted_goes_on : {P : Type 0} (told : P → Option PortStory) (old : WorkerState P) (batch : WorkerBatchView)
     (request : Option Posted)
-    → old.request ≡ Some p → request ≡ None → once_flushed batch ≡ record (end_of old) { sent = (end_of old).sent ++ p ∷ [] }
+    → request ≡ None → once_flushed batch ≡ record (end_of old) { sent = posted_by (end_of old) old.request }
     → IsWorkerServing told old
     → WorkerGoesOn told old (record old { batch = batch; request = request })
-posted_goes_on told old p batch request held taken sent h =
+posted_goes_on told old batch request taken sent h =
     let w = end_of old in let end = once_flushed batch in let new = record old { batch = batch; request = request } in
     let all : posted_by end request ≡ posted_by w old.request =
-    (λ i. posted_by (sent i) (taken i)) ∙ append-nil (w.sent ++ p ∷ [])
-    ∙ (λ i. posted_by w (sym held i)) in
+    (λ i. posted_by (sent i) (taken i)) ∙ append-nil (posted_by w old.request) in
     let back : end.back ≡ w.back = ap (λ (x : WorkerView). x.back) sent in
     let le = back_le w h.steady.back in
     steps_on told old new (λ story. story) (same_story (told old.port) (told old.port) refl) (record {
@@ -253,7 +252,7 @@ posted_goes_on told old p batch request held taken sent h =
         posted = h.steady.posted ∙ ap (length {A = Posted}) (sym all);
         numbered = subst (λ (r : Option Posted). IsNumbered end r) (sym taken) tt;
         unsettled = h.steady.unsettled ∙ (λ i. map unsettled_post (drop (length (sym back i)) (sym all i)));
-        back = ap asked_posted back ∙ h.steady.back ∙ sym (take-append-le (length w.back) w.sent (p ∷ []) le)
+        back = ap asked_posted back ∙ h.steady.back ∙ sym (take-append-le (length w.back) w.sent (option_to_list old.request) le)
             ∙ (λ i. take (length (sym back i)) ((sym sent i).sent));
       };
       strangers = h.strangers;

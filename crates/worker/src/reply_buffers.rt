@@ -37,7 +37,14 @@ impl ReplyBuffers {
 
     // Keeps the buffer of an answer that is settled.
     pub(crate) fn keep(&mut self, settled: Answered) {
-        let Some(spare) = settled.reply.into_buffer() else {
+        let Answered { request, reply, .. } = settled;
+        drop(request);
+        self.keep_spare(reply.into_buffer());
+    }
+
+    // Keeps a spare buffer of moderate size, if there is one and room for it.
+    fn keep_spare(&mut self, spare: Option<SpareBuffer>) {
+        let Some(spare) = spare else {
             return;
         };
         if spare.capacity() <= MAX_CAPACITY && self.buffers.len() < MAX_BUFFERS {

@@ -256,20 +256,20 @@ fn leave<P: Port>(worker: Worker<P>, storage: &StorageSignals) -> WorkerReport<P
     let WorkerState {
         port,
         batch,
-        book: _,
-        request: _,
+        book,
+        request,
         sessions,
         unopened,
         strangers,
         ended: _,
-        reply_buffers: _,
+        reply_buffers,
     } = state;
-    let mut worker_end = sending::into_end(batch);
-    worker_end.bye();
-    storage.parking().unpark();
+    drop(book);
+    drop(request);
+    drop(reply_buffers);
     WorkerReport {
         port,
-        worker_end,
+        worker_end: sending::say_bye(batch, storage),
         sessions,
         unopened,
         strangers,

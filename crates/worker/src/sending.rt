@@ -2,9 +2,9 @@
 //!
 //! Contracts speak of the worker's end as it is once all that was put is flushed, so what was put counts as sent.
 
-ghost use Rattle.std.specs.Prelude.{◌≡◌, ◌+◌, ◌++◌, ◌∷◌, [], length, MatchOption, MatchResult};
+ghost use Rattle.std.specs.Prelude.{◌≡◌, ◌+◌, ◌++◌, ◌∷◌, [], length, true, false, Some, None, MatchOption, MatchResult};
 ghost use Rattle.exchange.specs.Ends.{CanPost};
-ghost use Rattle.worker.specs.Workers.{once_flushed, TakesNone, TakesBack};
+ghost use Rattle.worker.specs.Workers.{once_flushed, posted_by, IsNumbered, TakesNone, TakesBack};
 
 use exchange::{Answered, Posted, StorageSignals, WorkerBatch, WorkerEnd};
 
@@ -24,6 +24,36 @@ pub(crate) fn post(
         storage.leave_hint(batch.worker(), posted.number - 1, key);
     }
     batch.put(posted)
+}
+
+// Holds a request until it is posted.
+pub(crate) fn hold(held: &mut Option<Posted>, posted: Posted)
+    ensures { held.new ≡ Some posted }
+{
+    drop(held.replace(posted));
+}
+
+// Puts the request that is held, which stays held where there is no room for it.
+pub(crate) fn post_held(
+    batch: &mut WorkerBatch,
+    held: &mut Option<Posted>,
+    storage: &StorageSignals,
+) -> bool
+    requires { IsNumbered (once_flushed batch.old) held.old }
+    ensures posted { result ≡ true → (held.new ≡ None)
+        × (once_flushed batch.new ≡ record (once_flushed batch.old) { sent = posted_by (once_flushed batch.old) held.old }) }
+    ensures stays { result ≡ false → (held.new ≡ held.old) × (once_flushed batch.new ≡ once_flushed batch.old) }
+{
+    let Some(posted) = held.take() else {
+        return false;
+    };
+    match post(batch, posted, storage) {
+        Ok(()) => true,
+        Err(posted) => {
+            hold(held, posted);
+            false
+        }
+    }
 }
 
 // Tells storage of all that was put, and unparks it.
@@ -53,4 +83,16 @@ pub(crate) fn into_end(mut end: WorkerBatch) -> WorkerEnd
 {
     end.flush();
     end.into_end()
+}
+
+// The end, with all that was put flushed, once it has said bye. Storage is unparked for it.
+pub(crate) fn say_bye(batch: WorkerBatch, storage: &StorageSignals) -> WorkerEnd
+    requires running { (once_flushed batch).said_bye ≡ false }
+    requires quiet { length (once_flushed batch).back ≡ length (once_flushed batch).sent }
+    ensures { result ≡ record (once_flushed batch) { said_bye = true } }
+{
+    let mut worker_end = into_end(batch);
+    worker_end.bye();
+    storage.parking().unpark();
+    worker_end
 }

@@ -109,11 +109,12 @@ impl<P: Port> Worker<P> {
         match self.state.book.next_ask(session) {
             Ok(Some((mut request, number))) => {
                 self.state.reply_buffers.lend(&mut request);
-                self.state.request = Some(Posted {
+                let posted = Posted {
                     session,
                     number,
                     request,
-                });
+                };
+                sending::hold(&mut self.state.request, posted);
                 false
             }
             Ok(None) => true,
@@ -161,20 +162,13 @@ impl<P: Port> Worker<P> {
         ensures goes_on { Continues P.told P.leads_to self.old self.new }
         ensures posted { result ≡ true → self.new.request ≡ None }
     {
-        let Some(posted) = self.state.request.take() else {
+        let Some(posted) = &self.state.request else {
             return false;
         };
         if !gate.may_post(self.state.batch.worker(), posted.number) {
-            self.state.request = Some(posted);
             return false;
         }
-        match sending::post(&mut self.state.batch, posted, storage) {
-            Ok(()) => true,
-            Err(posted) => {
-                self.state.request = Some(posted);
-                false
-            }
-        }
+        sending::post_held(&mut self.state.batch, &mut self.state.request, storage)
     }
 
     // Tells storage of all that was posted.

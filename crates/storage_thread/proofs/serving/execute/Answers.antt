@@ -19,7 +19,7 @@ answer_later-requires-clause-legal g c = let p = c.args.posted in
       session = p.session;
       number = p.number;
       request = c.handle-reply.new.request;
-      moment = c.max-moment.result;
+      moment = c.next_moment-moment.result;
       reply = c.handle-reply.result;
     } in
     legal_of _ _ _ _
@@ -37,7 +37,7 @@ returns-clause-reaches g c = let p = c.args.posted in
       session = p.session;
       number = p.number;
       request = c.handle-reply.new.request;
-      moment = c.max-moment.result;
+      moment = c.next_moment-moment.result;
       reply = c.handle-reply.result;
     } in
     let more = reaches_more c.args.end.now.end.geometry c.args.end.now.end.history
@@ -58,7 +58,7 @@ returns-clause-kept g c l = let p = c.args.posted in let m = g.S.StorageEngine i
       session = p.session;
       number = p.number;
       request = c.handle-reply.new.request;
-      moment = c.max-moment.result;
+      moment = c.next_moment-moment.result;
       reply = c.handle-reply.result;
     } in
     let old = m.cache c.args.store.now in let after = m.cache c.handle-reply.new.self in

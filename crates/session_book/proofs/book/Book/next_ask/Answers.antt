@@ -1,12 +1,11 @@
-use Rattle.std.proofs.Common.{rules, ◌≡◌, ◌+◌, ◌++◌, ◌∷◌, [], List, Ok, Some, None, Option, refl, sym, ap, subst, ◌∙◌, arith}
+use Rattle.std.proofs.Common.{rules, ◌≡◌, ◌+◌, ◌++◌, ◌∷◌, [], List, Ok, Err, Some, None, Option, refl, sym, ap, subst, ◌∙◌, arith}
 use Rattle.std.proofs.lemmas.Result.{err_from_is_err_and}
-use Rattle.std.specs.Prelude.{box_value}
-use Rattle.std.specs.Option.{option_map_or}
 use Rattle.proto.specs.declared.message.Request.{Request}
 use Rattle.session_book.specs.declared.causes.Unsettled.{Unsettled}
-use Rattle.session_book.specs.Session.{SessionState, new_session, given_request}
-use Rattle.session_book.specs.Book.{BookState, IsBook, GivesNone, full, spent}
-use Rattle.session_book.proofs.Books.{written_only, written_back, stays_unsettled, fits_unasked, asks_book, idle_ask, silent_ask, refused_ask}
+use Rattle.session_book.specs.Session.{given_request}
+use Rattle.session_book.specs.Book.{BookState, IsBook, GivesNone, given_in, full, spent}
+use Rattle.session_book.proofs.Books.{idle_ask}
+use Rattle.session_book.proofs.Entries.{unasked_book, asked_book, asks_none, asks_given}
 use Rattle.session_book.proofs.book.Book.next_ask.Goals.{then-len-ge-MAX_UNSETTLED-via-then-len-ge-MAX_UNSETTLED}
 use Rattle.session_book.proofs.book.Book.next_ask.Goals.{then-len-ge-MAX_UNSETTLED-via-else-len-ge-MAX_UNSETTLED+then-self-ge-MAX_POSTS}
 use Rattle.session_book.proofs.book.Book.next_ask.Goals as goal
@@ -24,65 +23,51 @@ returns-then-len-ge-MAX_UNSETTLED-clause-open c =
           (omega (arith, w.if-self-ge-MAX_POSTS.true))
     ]))
 
-pub returns-in_default-state-clause-open : goal.returns-in_default-state-clause-open
-returns-in_default-state-clause-open c =
-    let t = option_map_or box_value c.open.inside.state new_session in
-    let silent : t ≡ new_session = ap (λ o. option_map_or box_value o new_session) c.in_default-state.is in
-    λ s open_now.
-    silent_ask _ _ c.args.self.now c.self.view_is c.args.session s c.self.invariant
-    (sym c.in-Some.ensures.value ∙ ap (λ (s : SessionState). Some s) (sym c.open.view_is ∙ silent)) refl
-    (written_back c.self.inside.sessions (c.get_mut.follows.lender t) c.args.session c.in-Some.open.now t
-    (c.get_mut.follows.holds t) c.in-Some.ensures.value c.open.view_is) open_now
+pub invariant_of-self : goal.invariant_of-self
+invariant_of-self c =
+    unasked_book _ _ c.args.session c.ask_session-read.result c.self.invariant c.ask_session-read.ensures.closed
+    c.ask_session-read.ensures.open (ap given_request c.in_err-request.was) refl c.ask_session-read.ensures.kept
 
-pub returns-in_err-reserve-clause-open : goal.returns-in_err-reserve-clause-open
-returns-in_err-reserve-clause-open c =
+pub returns-in_err-request-clause-open : goal.returns-in_err-request-clause-open
+returns-in_err-request-clause-open c =
     let p = err_from_is_err_and c.from_residual.result c.from_residual.ensures.1 in
-    let t = c.in-Some-state.state.value in
-    let same : t ≡ c.in-Some.open.now = search rules in
     λ s open_now.
-    refused_ask _ _ c.args.self.now c.args.session s c.from_residual.result p.0 c.self.view_is p.1 c.self.invariant
-    (written_back c.self.inside.sessions
-    (c.get_mut.follows.lender t) c.args.session c.in-Some.open.now t
-    (c.get_mut.follows.holds t) c.in-Some.ensures.value same)
-    c.reserve.ensures.items refl open_now
+    asks_none _ _ c.args.self.now c.args.session s c.ask_session-read.result c.from_residual.result c.self.view_is
+    c.ask_session-read.ensures.open (ap given_request c.in_err-request.was) (ap given_in p.1)
+    (λ e. absurd (let failed = p.1 in cc)) (rw c.ask_session-read.ensures.kept refl) open_now
 
-pub invariant_of-self-in_err-request : goal.invariant_of-self-in_err-request
-invariant_of-self-in_err-request c =
-    let same : c.deref_mut.result.now ≡ c.in-Some.open.now = search rules in
-    stays_unsettled _ _ c.args.session c.in-Some.open.now c.next_ask-read.new.self c.self.invariant
-    (sym c.in-Some.ensures.value)
-    (written_only c.self.inside.sessions (c.get_mut.follows.lender c.next_ask-read.new.self) _ _ _
-    (c.get_mut.follows.holds c.next_ask-read.new.self) c.in-Some.ensures.value)
-    refl c.reserve.ensures.items
-    (λ asked. fits_unasked c.in-Some.open.now c.next_ask-read.new.self c.self.inside.looks
-    c.next_ask-read.new.looks
-    c.next_ask-read.result (rw (← same) c.next_ask-read.ensures)
-    (ap given_request c.in_err-request.was))
+pub invariant_of-self-in_default : goal.invariant_of-self-in_default
+invariant_of-self-in_default c =
+    unasked_book _ _ c.args.session c.ask_session-read.result c.self.invariant c.ask_session-read.ensures.closed
+    c.ask_session-read.ensures.open
+    (ap given_request c.in_ok-request.was ∙ ap (λ (o : Option Request). given_request (Ok o)) c.in_default.is)
+    refl c.ask_session-read.ensures.kept
 
-pub invariant_of-self-in_default-2 : goal.invariant_of-self-in_default-2
-invariant_of-self-in_default-2 c =
-    let same : c.deref_mut.result.now ≡ c.in-Some.open.now = search rules in
-    stays_unsettled _ _ c.args.session c.in-Some.open.now c.next_ask-read.new.self c.self.invariant
-    (sym c.in-Some.ensures.value)
-    (written_only c.self.inside.sessions (c.get_mut.follows.lender c.next_ask-read.new.self) _ _ _
-    (c.get_mut.follows.holds c.next_ask-read.new.self) c.in-Some.ensures.value)
-    refl c.reserve.ensures.items
-    (λ asked. fits_unasked c.in-Some.open.now c.next_ask-read.new.self c.self.inside.looks
-    c.next_ask-read.new.looks
-    c.next_ask-read.result (rw (← same) c.next_ask-read.ensures)
-    (ap given_request c.in_ok-request.was ∙ ap (λ (o : Option Request). given_request (Ok o)) c.in_default-2.is))
+pub returns-in_default-clause-open : goal.returns-in_default-clause-open
+returns-in_default-clause-open c =
+    let none = c.in_ok-request.was ∙ ap (λ (o : Option Request). Ok o) c.in_default.is in
+    λ s open_now.
+    asks_none _ _ c.args.self.now c.args.session s c.ask_session-read.result (Ok None) c.self.view_is
+    c.ask_session-read.ensures.open (ap given_request none) refl (λ e. none)
+    (rw c.ask_session-read.ensures.kept refl) open_now
 
 pub invariant_of-self-2 : goal.invariant_of-self-2
 invariant_of-self-2 c =
-    let same : c.deref_mut.result.now ≡ c.in-Some.open.now = search rules in
     let given : Unsettled = record { number = c.self.inside.posted + 1; session = c.args.session } in
-    let pushed : c.push_back.new.self.items ≡ c.reserve.new.self.items ++ given ∷ [] = search rules in
-    asks_book _ _ c.args.session
-    (c.self.inside.posted + 1) c.in-Some.open.now c.next_ask-read.new.self c.in-Some-2.request
-    c.next_ask-read.result
-    c.self.inside.looks c.next_ask-read.new.looks c.self.invariant (sym c.in-Some.ensures.value)
-    (written_only c.self.inside.sessions (c.get_mut.follows.lender c.next_ask-read.new.self) _ _ _
-    (c.get_mut.follows.holds c.next_ask-read.new.self) c.in-Some.ensures.value)
-    refl (pushed ∙ ap (λ (us : List Unsettled). us ++ given ∷ []) c.reserve.ensures.items)
-    (c.in_ok-request.was ∙ ap (λ (o : Option Request). Ok o) c.in-Some-2.is)
-    (rw (← same) c.next_ask-read.ensures)
+    asked_book _ _ c.args.session (c.self.inside.posted + 1) c.in-Some.request c.ask_session-read.result c.self.invariant
+    c.ask_session-read.ensures.closed c.ask_session-read.ensures.open
+    (c.in_ok-request.was ∙ ap (λ (o : Option Request). Ok o) c.in-Some.is) refl
+    (c.in_ok-push_back.ensures.items
+    ∙ ap (λ (us : List Unsettled). us ++ given ∷ []) c.ask_session-read.ensures.kept)
+
+pub returns-clause-open : goal.returns-clause-open
+returns-clause-open c =
+    let given : Unsettled = record { number = c.self.inside.posted + 1; session = c.args.session } in
+    let unsettled : c.push_back.new.self.items ≡ c.self.inside.unsettled.items ++ given ∷ [] =
+    c.in_ok-push_back.ensures.items
+    ∙ ap (λ (us : List Unsettled). us ++ given ∷ []) c.ask_session-read.ensures.kept in
+    λ s open_now.
+    asks_given _ _ c.args.self.now c.args.session s c.in-Some.request c.ask_session-read.result c.self.view_is
+    c.ask_session-read.ensures.open (c.in_ok-request.was ∙ ap (λ (o : Option Request). Ok o) c.in-Some.is)
+    (omega (arith, c.len.ensures, c.if-len-ge-MAX_UNSETTLED.false)) (omega (arith, c.if-self-ge-MAX_POSTS.false))
+    (rw unsettled refl) open_now

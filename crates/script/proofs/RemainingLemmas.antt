@@ -1,6 +1,6 @@
 -- The ring of the events that are left.
-use Rattle.std.proofs.Common.{◌≡◌, ℕ, zero, suc, ◌+◌, ◌-◌, ◌≤◌, arith, List, [], ◌∷◌, ◌++◌, length, get_or, take, drop}
-use Rattle.std.proofs.Common.{sym, ap, ◌∙◌}
+use Rattle.std.proofs.Common.{◌≡◌, ℕ, zero, suc, ◌+◌, ◌-◌, ◌<◌, ◌≤◌, arith, List, [], ◌∷◌, ◌++◌, length, get_or, take, drop}
+use Rattle.std.proofs.Common.{refl, sym, ap, ◌∙◌}
 use Rattle.std.proofs.lemmas.List.{length-drop, take-take, drop-drop, drop-take}
 use Rattle.std.proofs.Math.Seq.{take-append-add, drop-append-add}
 use Rattle.script.specs.declared.event.ScriptEvent.{ScriptEvent}
@@ -27,6 +27,20 @@ popped (suc ahead) (y ∷ ring) e after is =
     let rest_is : take ahead ring ≡ after = cc in
     let less : suc ahead - 1 ≡ ahead = omega arith in
     ap (λ (n : ℕ). in_ring n ring) less ∙ (λ i. record { aside = drop ahead ring; rest = rest_is i })
+
+-- the first one leaves the ring: it is of the rest where there is any
+pub first_left : (ahead : ℕ) (ring : List ScriptEvent) → 0 < length (take ahead ring)
+    → in_ring (ahead - 1) (drop 1 ring) ≡ record (in_ring ahead ring) { rest = drop 1 (take ahead ring) }
+first_left zero ring some = absurd (omega (arith, some))
+first_left (suc ahead) [] some = absurd (omega (arith, some))
+first_left (suc ahead) (y ∷ ring) some = popped (suc ahead) (y ∷ ring) y (take ahead ring) refl
+
+-- and else of those aside
+pub first_aside_left : (ahead : ℕ) (ring : List ScriptEvent) → ahead ≤ length ring → take ahead ring ≡ []
+    → in_ring (ahead - 1) (drop 1 ring) ≡ record (in_ring ahead ring) { aside = drop 1 (drop ahead ring) }
+first_aside_left zero ring fits none = refl
+first_aside_left (suc ahead) [] fits none = absurd (omega (arith, fits))
+first_aside_left (suc ahead) (y ∷ ring) fits none = absurd (cc)
 
 -- another event is put in place of the first of the rest
 pub replaced : (ahead : ℕ) (ring : List ScriptEvent) (e x : ScriptEvent) (after : List ScriptEvent)

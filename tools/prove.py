@@ -1,12 +1,12 @@
 #!/usr/bin/env python3
-"""Proves segcached and the crates that it stands on, from nothing, and builds it as crates/segcached/out/segcached.
+"""Proves segcached and the crates that it stands on, and builds it as crates/segcached/out/segcached.
 
     tools/prove.py          with a line for each crate that is proved
     tools/prove.py --kept   proves nothing: status 0 where the program was built so, and nothing that it is built of has changed since
 
-`rt ci` proves them in a folder apart, in which no tests and no wrong bodies stand. What it has proved it keeps on this machine, crate by crate,
-for the gate, too: after an interrupt the next run goes on from there. What it says stands in out/proofs.log, and once all is proved beside the
-program, as segcached.log.
+It calls the prover for each crate once those below it are proved, as many side by side as there are processors and memory for. The crates
+from which the way to the program takes longest get several processors, and the others yield to them. What is proved stands in out/proofs: after an
+interrupt the next run goes on from there. What the prover says of each crate stands beside the program, as segcached.log.
 
 What each crate takes stands in tools/gate_minutes.tsv, by a run of the gate; how long the rest may take is an estimate from that.
 """
@@ -14,12 +14,10 @@ import fcntl
 import hashlib
 import math
 import os
-import re
 import shutil
 import signal
 import subprocess
 import sys
-import tempfile
 import time
 
 import gate_times
@@ -28,25 +26,44 @@ import machine
 TOP = os.path.dirname(os.path.dirname(os.path.abspath(__file__)))
 NAME = "segcached"
 PROGRAM = f"{TOP}/crates/{NAME}/out/{NAME}"
-LOG = f"{TOP}/out/proofs.log"
+# Of each crate what the prover said, the sum of what it was proved from, and a folder of kept work, if it has one; and the proved libraries.
+PROOFS = f"{TOP}/out/proofs"
+LIBRARIES = f"{PROOFS}/libraries"
 # What of a crate isn't a part of its proof or of its stored run.
 IGNORED = ("out", "must-fail")
 # A crate that no run of the gate has measured is taken to need half a minute, and one more for so many lines.
 LINES_A_MINUTE = 2500
+# So many processors a crate has from which the way is hardly shorter than the longest one: by at most so many minutes. With as many it is proved so
+# much faster; more cost more than they bring.
+JOBS = 3
+NEAR = 5
+FASTER = 1.9
+# A crate yields to others by a step (nice) for each minute that its way is shorter, and by at most so many.
+MOST_NICE = 19
 # For the estimate: where all processors have work, so much of their time is used.
-SHARE_USED = 0.8
+SHARE_USED = 0.9
+# Of what the prover says of a crate that isn't proved so many characters are shown, the last ones.
+SHOWN = 3000
+# So many seconds lie between two looks at what runs.
+EVERY = 0.2
 # The status after an interrupt.
 INTERRUPTED = 130
 
 
-def read_crates():
-    """The crates of crates.txt, each with those of the repository that it stands on."""
+def read_lines():
+    """The crates of crates.txt, each with all that it uses."""
     lines = {}
     with open(f"{TOP}/crates.txt", encoding="utf-8") as file:
         for line in file:
             name, colon, below = line.partition("#")[0].partition(":")
             if colon:
                 lines[name.split()[0]] = below.split()
+    return lines
+
+
+def read_crates():
+    """The crates of crates.txt, each with those of the repository that it stands on."""
+    lines = read_lines()
     return {name: [it for it in below if it in lines] for name, below in lines.items()}
 
 
@@ -69,31 +86,44 @@ def sum_of_file(path):
         return hashlib.sha256(file.read()).hexdigest()
 
 
+def sum_of_sources(name):
+    """A sum of all that a crate is proved from, the kit too."""
+    lines = read_lines()
+    whole = hashlib.sha256(machine.kit().encode())
+    for crate in sorted(with_those_below(read_crates(), name)):
+        whole.update(f"{crate}: {lines[crate]}\n".encode())
+        for path in files_of(crate):
+            whole.update(f"{os.path.relpath(path, TOP)} {sum_of_file(path)}\n".encode())
+    return whole.hexdigest()
+
+
 def record():
-    """A sum of all that the program is built of, the kit too, and one of the program; None where there is none."""
+    """A sum of all that the program is built of, and one of the program; None where there is none."""
     if not os.path.exists(PROGRAM):
         return None
-    crates = read_crates()
-    whole = hashlib.sha256(machine.kit().encode())
-    for name in sorted(with_those_below(crates, NAME)):
-        whole.update(f"{name}: {crates[name]}\n".encode())
-        for path in files_of(name):
-            whole.update(f"{os.path.relpath(path, TOP)} {sum_of_file(path)}\n".encode())
-    return f"sources {whole.hexdigest()}\nprogram {sum_of_file(PROGRAM)}\n"
+    return f"sources {sum_of_sources(NAME)}\nprogram {sum_of_file(PROGRAM)}\n"
 
 
-def is_kept():
-    """Whether the program was built of proved crates, and nothing has changed since."""
+def is_written(path, text):
     try:
-        with open(f"{PROGRAM}.kept", encoding="utf-8") as file:
-            return file.read() == record()
+        with open(path, encoding="utf-8") as file:
+            return file.read() == text
     except FileNotFoundError:
         return False
 
 
+def is_kept():
+    """Whether the program was built of proved crates, and nothing has changed since."""
+    return is_written(f"{PROGRAM}.kept", record())
+
+
+def write(path, text):
+    with open(path, "w", encoding="utf-8") as file:
+        file.write(text)
+
+
 def keep():
-    with open(f"{PROGRAM}.kept", "w", encoding="utf-8") as file:
-        file.write(record())
+    write(f"{PROGRAM}.kept", record())
 
 
 def guessed_minutes(name):
@@ -111,21 +141,24 @@ def minutes_of(names):
     return {name: measured[name]["proofs"] if name in measured else guessed_minutes(name) for name in names}
 
 
-def longest_way(crates, minutes):
-    """What those take, one behind the other, from a lowest of these crates to a highest, where that is longest."""
+def ways_to_the_top(crates, minutes):
+    """What the longest way takes from each of these crates to one on which none of them stands, in processor minutes."""
     ways = {}
 
     def measure(name):
         if name not in ways:
-            ways[name] = minutes[name] + max((measure(it) for it in crates[name] if it in minutes), default=0)
+            ways[name] = minutes[name] + max((measure(it) for it in minutes if name in crates[it]), default=0)
         return ways[name]
 
-    return max(map(measure, minutes), default=0)
+    for name in minutes:
+        measure(name)
+    return ways
 
 
 def minutes_left(crates, minutes):
     """How long these crates may take to prove, in minutes: an estimate."""
-    return max(longest_way(crates, minutes), sum(minutes.values()) / (SHARE_USED * machine.processors()))
+    longest = max(ways_to_the_top(crates, minutes).values(), default=0)
+    return max(longest / FASTER, sum(minutes.values()) / (SHARE_USED * machine.processors()))
 
 
 def in_words(minutes):
@@ -140,77 +173,156 @@ def minutes_and_seconds(seconds):
 class Progress:
     """Says a line for each crate that is proved, with the time so far and what may be left."""
 
-    def __init__(self, crates, names):
+    def __init__(self, crates, names, kept):
         self.crates, self.began, self.all = crates, time.monotonic(), len(names)
-        self.left = minutes_of(names)
+        self.left = minutes_of(names - kept)
         self.in_all = minutes_left(crates, self.left)
-        print(f"{self.all} crates to prove, on {machine.processors()} processors: {in_words(self.in_all)}", end="")
-        print(" (an estimate, from what they took in the gate)", flush=True)
+        if kept:
+            print(f"{len(kept)} of {len(names)} crates are proved, and nothing has changed since.", flush=True)
+        if self.left:
+            print(f"{len(self.left)} crates to prove, on {machine.processors()} processors: {in_words(self.in_all)}", end="")
+            print(" (an estimate, from what they took in the gate)", flush=True)
 
     def proved(self):
         return self.all - len(self.left)
 
-    def say(self, name, kept):
-        self.left.pop(name, None)
+    def say(self, name):
+        del self.left[name]
         took = (time.monotonic() - self.began) / 60
         left = minutes_left(self.crates, self.left)
-        # It goes on as much slower as it was until now, or faster by up to a half; what is kept ends much faster.
-        left *= max(took / max(self.in_all - left, 0.1), 0.5)
-        so_far = minutes_and_seconds(60 * took) + (", kept by an earlier run" if kept else "")
-        print(f"  {self.proved():2} of {self.all}  {name:18} ({so_far}{f', {in_words(left)} left' if self.left else ''})", flush=True)
+        # It goes on as much slower as it was until now, or faster by up to a half; the first minute says little.
+        left *= max((took + 1) / (self.in_all - left + 1), 0.5)
+        rest = f", {in_words(left)} left" if self.left else ""
+        print(f"  {self.proved():2} of {self.all}  {name:18} ({minutes_and_seconds(60 * took)}{rest})", flush=True)
 
 
-def copy_crates(names, folder):
-    """Makes a folder like the repository's, with these crates alone."""
-    with open(f"{TOP}/crates.txt", encoding="utf-8") as lines, open(f"{folder}/crates.txt", "w", encoding="utf-8") as copy:
-        copy.writelines(line for line in lines if re.match(r"\w*", line)[0] in names)
-    shutil.copyfile(f"{TOP}/HANDLES", f"{folder}/HANDLES")
-    for name in names:
-        shutil.copytree(f"{TOP}/crates/{name}", f"{folder}/crates/{name}", ignore=shutil.ignore_patterns(*IGNORED))
+def kit_folder():
+    return os.path.dirname(subprocess.run(["rt", "doc"], stdout=subprocess.PIPE, text=True, check=True).stdout.strip())
 
 
-def follow(lines, log, progress):
-    """Writes what rt says to the log, and says how far it is. The names of the crates that it refused."""
-    refused = []
-    for line in lines:
-        log.write(line)
-        said = re.match(r"rt: (\w+) (proved$|is kept|NOT PROVED)", line)
-        if said and said[2] == "NOT PROVED":
-            refused.append(said[1])
-        elif said:
-            progress.say(said[1], kept=said[2] == "is kept")
-    return refused
+class Prover:
+    """How the prover of a kit is called for a crate."""
+
+    def __init__(self, kit):
+        self.kit, self.lines = kit, read_lines()
+
+    def libraries(self, name):
+        for it in ["std", *self.lines[name]]:
+            folder = LIBRARIES if it in self.lines else f"{self.kit}/rlibs"
+            yield from ("--extern", f"{it}={folder}/{it}.rlib")
+        for folder in (LIBRARIES, f"{self.kit}/rlibs"):
+            yield from ("-L", f"dependency={folder}")
+
+    def words(self, name, jobs):
+        words = ["rattle", "build", "--crate-name", name, *self.libraries(name)]
+        words += ["--antt-project", f"{self.kit}/rattle/logic/antt-project.json", "--logic-built", f"{self.kit}/logic_built"]
+        words += ["--jobs", str(jobs)]
+        # Several jobs share a crate well only over kept work, beside which a library can't be written as what it states alone, which is read faster.
+        if name == NAME or jobs > 1:
+            words += ["--incremental", f"{PROOFS}/{name}"]
+        else:
+            words.append("--statements")
+        if name == NAME:
+            return [*words, "--toolchain", f"{self.kit}/toolchain", "-o", f"{PROOFS}/{name}.o", "src/main.rt"]
+        return [*words, "-o", f"{LIBRARIES}/{name}.rlib", "src/lib.rt"]
+
+    def link(self):
+        """Makes the program of what was proved and compiled."""
+        words = [f"{self.kit}/bin/rattle-link", "--target", "x86_64-unknown-linux-gnu", "--toolchain", f"{self.kit}/toolchain"]
+        words += ["-o", PROGRAM, f"{PROOFS}/{NAME}.o", f"{self.kit}/c/libos_c.a", f"{self.kit}/c/liblibc_c.a"]
+        os.makedirs(os.path.dirname(PROGRAM), exist_ok=True)
+        subprocess.run(words, check=True)
 
 
-def prove(folder, progress, interrupts):
-    """Proves the crates in a folder and gives the status. It ends early where a signal was added to interrupts."""
-    os.makedirs(os.path.dirname(LOG), exist_ok=True)
-    how = {"stdin": subprocess.DEVNULL, "stdout": subprocess.PIPE, "stderr": subprocess.STDOUT}
-    with open(LOG, "w", encoding="utf-8") as log:
-        ran = subprocess.Popen(["rt", "ci"], cwd=folder, text=True, errors="replace", start_new_session=True, **how)
-        for number in interrupts.signals:
-            signal.signal(number, lambda *_: interrupts.come(ran))
-        refused = follow(ran.stdout, log, progress)
-    status = ran.wait()
-    if interrupts.came:
+def log_of(name):
+    return f"{PROOFS}/{name}.log"
+
+
+def is_proved(name):
+    return is_written(f"{PROOFS}/{name}.proved", sum_of_sources(name))
+
+
+class Proof:
+    """A crate that is being proved, by so many jobs, which yield to others by so much."""
+
+    def __init__(self, prover, name, jobs, nice):
+        self.name, self.sources, self.record = name, sum_of_sources(name), f"{PROOFS}/{name}.proved"
+        if os.path.exists(self.record):
+            os.remove(self.record)
+        words = ["nice", "-n", str(nice), *prover.words(name, jobs)]
+        with open(log_of(name), "w", encoding="utf-8") as log:
+            how = {"stdin": subprocess.DEVNULL, "stdout": log, "stderr": subprocess.STDOUT, "process_group": 0}
+            self.ran = subprocess.Popen(words, cwd=f"{TOP}/crates/{name}", **how)
+
+    def has_ended(self):
+        return self.ran.poll() is not None
+
+    def note(self):
+        """Notes that the crate is proved, if it is, and no file of it has changed meanwhile. Whether the prover proved it."""
+        if self.ran.returncode == 0 and sum_of_sources(self.name) == self.sources:
+            write(self.record, self.sources)
+        return self.ran.returncode == 0
+
+    def stop(self):
+        os.killpg(self.ran.pid, signal.SIGTERM)
+        self.ran.wait()
+
+
+def to_start(crates, ways, proved, running):
+    """The crates to start now, those with the longest way first: each with its jobs, and how much it yields to others."""
+    left = [name for name in ways if name not in proved]
+    longest = max(map(ways.get, left), default=0)
+    ready = [name for name in left if name not in running and proved.issuperset(crates[name])]
+    chosen = sorted(ready, key=ways.get, reverse=True)[: machine.at_once() - len(running)]
+    jobs = max(1, min(JOBS, machine.processors() - 1))
+    behind = {name: longest - ways[name] for name in chosen}
+    return [(name, jobs if behind[name] <= NEAR else 1, min(round(behind[name]), MOST_NICE)) for name in chosen]
+
+
+def prove_side_by_side(crates, proved, progress, interrupts):
+    """Proves the crates that are left, and gives the name of one that isn't proved, if there is one. It ends early where a signal was added to interrupts."""
+    prover, ways, running = Prover(kit_folder()), ways_to_the_top(crates, dict(progress.left)), {}
+    try:
+        while progress.left and not interrupts:
+            for name, jobs, nice in to_start(crates, ways, proved, running):
+                running[name] = Proof(prover, name, jobs, nice)
+            time.sleep(EVERY)
+            for name in [it for it, proof in running.items() if proof.has_ended()]:
+                if not running.pop(name).note():
+                    return name
+                if name == NAME:
+                    prover.link()
+                proved.add(name)
+                progress.say(name)
+    finally:
+        for proof in running.values():
+            proof.stop()
+    return None
+
+
+def prove(interrupts):
+    """Proves what isn't proved yet, and gives the status."""
+    crates = read_crates()
+    names = with_those_below(crates, NAME)
+    # The program is linked behind its proof, so it is proved anew where it isn't kept.
+    proved = {name for name in names - {NAME} if is_proved(name)}
+    progress = Progress(crates, names, proved)
+    refused = prove_side_by_side(crates, proved, progress, interrupts)
+    if interrupts:
         print(f"Interrupted: {progress.proved()} of {progress.all} crates are proved and kept; the next run goes on from there.", flush=True)
         return INTERRUPTED
-    if status:
-        print(f"Not proved: {' '.join(refused) or 'see below'}. What rt said stands in {os.path.relpath(LOG)}.", flush=True)
-    return status
-
-
-class Interrupts:
-    """The signals that end a run, which is passed on to rt and to all that it started."""
-
-    signals = (signal.SIGINT, signal.SIGTERM, signal.SIGHUP)
-
-    def __init__(self):
-        self.came = False
-
-    def come(self, ran):
-        self.came = True
-        os.killpg(ran.pid, signal.SIGTERM)
+    if refused:
+        with open(log_of(refused), encoding="utf-8", errors="replace") as log:
+            print(log.read()[-SHOWN:])
+        print(f"{refused} isn't proved. What the prover said stands in {os.path.relpath(log_of(refused))}.", flush=True)
+        return 1
+    with open(f"{PROGRAM}.log", "w", encoding="utf-8") as whole:
+        for name in sorted(names):
+            with open(log_of(name), encoding="utf-8", errors="replace") as log:
+                whole.write(f"== {name}\n{log.read()}")
+        whole.write(f"{len(names)} crates proved\n")
+    keep()
+    return 0
 
 
 def alone_here():
@@ -232,16 +344,11 @@ def main():
     if sys.argv[1:]:
         return 1
     machine.stop_where_lacking(machine.lacks_kit())
-    held, crates = alone_here(), read_crates()
-    names = with_those_below(crates, NAME)
-    with tempfile.TemporaryDirectory(prefix="segcached-") as folder:
-        copy_crates(names, folder)
-        status = prove(folder, Progress(crates, names), Interrupts())
-        if not status:
-            os.makedirs(os.path.dirname(PROGRAM), exist_ok=True)
-            shutil.copy2(f"{folder}/crates/{NAME}/out/{NAME}", PROGRAM)
-            shutil.copyfile(LOG, f"{PROGRAM}.log")
-            keep()
+    held, interrupts = alone_here(), []
+    for number in (signal.SIGINT, signal.SIGTERM, signal.SIGHUP):
+        signal.signal(number, lambda number, _: interrupts.append(number))
+    os.makedirs(LIBRARIES, exist_ok=True)
+    status = prove(interrupts)
     os.close(held)
     return status
 

@@ -1,11 +1,11 @@
 #!/usr/bin/env python3
 """Writes and checks the record of what the built segcached was proved from: crates/segcached/out/PROVED.
 
-    tools/proved.py write --log FILE [--alone]   after the program was built by `rt ci`, whose output FILE is: of all crates, or of the program's alone
+    tools/proved.py write --log FILE [--alone]   after the program was built; FILE is what `rt ci` said, or tools/prove.py of the program's crates alone
     tools/proved.py check [PROGRAM]              ends with a line and status 1 where the program can't be packaged
 
 The record holds for one program, by its sha256, and for one state of the repository's files, by the sum that git gives
-them. Of a crate it has the prover's line, or rt's, where an earlier run on the machine proved it.
+them. Of a crate it has the prover's line, or that of rt, where an earlier run on the machine proved it.
 """
 import argparse
 import hashlib
@@ -19,7 +19,7 @@ from prove import NAME, PROGRAM, TOP, read_crates, with_those_below
 
 
 # What the record says of a run over the program's crates alone.
-ALONE = ", of the program's crates, with no tests and no wrong bodies"
+ALONE = ", with no tests and no wrong bodies"
 
 
 class Trouble(Exception):
@@ -55,7 +55,7 @@ def commit_of(files):
 
 
 def verdicts_of_log(path):
-    """By crate, what `rt ci` said of its proof, and behind them all its last line."""
+    """By crate, what a run said of its proof, and behind them all its last line."""
     verdicts, crate = {}, None
     with open(path, encoding="utf-8", errors="replace") as file:
         lines = file.read().splitlines()
@@ -85,7 +85,7 @@ def write(log, alone):
         f"files: {files}",
         f"kit: {output_of('rt', 'version')}",
         f"program: {sum_of_program(PROGRAM)}",
-        f"rt ci: {last}{ALONE if alone else ''}",
+        f"run: {last}{ALONE if alone else ''}",
         f"proved: {len(names)} crates",
         "",
         *(f"{name}: {verdicts[name]}" for name in names),

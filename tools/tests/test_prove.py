@@ -6,8 +6,11 @@ They prove nothing and take a few seconds.
 import os
 import re
 import shutil
+import signal
 import subprocess
 import sys
+import threading
+import time
 
 import pytest
 
@@ -24,17 +27,34 @@ MINUTES = {"base": 2.0, "left": 5.0, "right": 1.0, "aside": 0.5, "top": 1.0}
 
 
 def test_the_longest_way_goes_through_what_is_left():
-    assert prove.longest_way(CRATES, MINUTES) == 8.0
-    assert prove.longest_way(CRATES, {name: MINUTES[name] for name in ("right", "aside", "top")}) == 2.0
-    assert prove.longest_way(CRATES, {}) == 0
+    assert prove.ways_to_the_top(CRATES, MINUTES) == {"base": 8.0, "left": 6.0, "right": 2.0, "aside": 0.5, "top": 1.0}
+    assert prove.ways_to_the_top(CRATES, {name: MINUTES[name] for name in ("right", "aside", "top")})["right"] == 2.0
+    assert prove.ways_to_the_top(CRATES, {}) == {}
 
 
 def test_what_is_left_takes_its_longest_way_or_all_processors(monkeypatch):
     monkeypatch.setattr(prove, "SHARE_USED", 1)
+    monkeypatch.setattr(prove, "FASTER", 2)
     monkeypatch.setattr(machine, "processors", lambda: 4)
-    assert prove.minutes_left(CRATES, MINUTES) == 8.0
+    assert prove.minutes_left(CRATES, MINUTES) == 4.0
     monkeypatch.setattr(machine, "processors", lambda: 1)
     assert prove.minutes_left(CRATES, MINUTES) == 9.5
+
+
+def test_those_with_the_longest_way_start_first_have_several_processors_and_dont_yield(monkeypatch):
+    ways = prove.ways_to_the_top(CRATES, MINUTES)
+    monkeypatch.setattr(machine, "processors", lambda: 4)
+    monkeypatch.setattr(machine, "at_once", lambda: 2)
+    monkeypatch.setattr(prove, "NEAR", 3)
+    assert prove.to_start(CRATES, ways, set(), {}) == [("base", 3, 0)]
+    assert prove.to_start(CRATES, ways, {"base"}, {}) == [("left", 3, 0), ("right", 1, 4)]
+    assert prove.to_start(CRATES, ways, {"base"}, {"left": None, "right": None}) == []
+    assert prove.to_start(CRATES, ways, {"base", "right"}, {"left": None}) == [("aside", 1, 6)]
+    monkeypatch.setattr(prove, "MOST_NICE", 2)
+    monkeypatch.setattr(prove, "NEAR", 4)
+    assert prove.to_start(CRATES, ways, {"base"}, {}) == [("left", 3, 0), ("right", 3, 2)]
+    monkeypatch.setattr(machine, "processors", lambda: 2)
+    assert prove.to_start(CRATES, ways, set(), {}) == [("base", 1, 0)]
 
 
 def test_each_crate_of_the_repository_has_its_minutes():
@@ -99,24 +119,75 @@ def test_a_new_file_and_another_kit_are_seen(repository, monkeypatch):
     assert not prove.is_kept()
 
 
-def test_the_folder_apart_has_no_tests_and_no_wrong_bodies(repository, tmp_path_factory):
-    folder = tmp_path_factory.mktemp("apart")
-    prove.copy_crates({"low", "high"}, folder)
-    found = sorted(str(path.relative_to(folder)) for path in folder.rglob("*") if path.is_file())
-    assert found == ["HANDLES", "crates.txt", "crates/high/src/main.rt", "crates/low/src/lib.rt"]
-    assert (folder / "crates.txt").read_text() == "low:\nhigh: low bytes\n"
+# In place of the prover: it writes what it was asked for, and refuses a crate whose source says so.
+PROVER = """#!/bin/bash
+words=("$@")
+while [ $# -gt 1 ]; do [ "$1" != -o ] || { mkdir -p "$(dirname "$2")"; echo made >"$2"; }; shift; done
+grep -q SLOW "$1" && sleep 60
+grep -q WRONG "$1" && { echo logic=not-proved; exit 1; }
+echo "called with ${words[*]}"
+echo "logic=proved functions=1"
+"""
+LINKER = """#!/bin/bash
+while [ $# -gt 1 ]; do [ "$1" != -o ] || echo "a program" >"$2"; shift; done
+"""
 
 
-def test_a_line_is_said_for_each_crate_that_rt_has_proved(capsys, tmp_path):
-    progress = prove.Progress(CRATES, set(CRATES))
-    lines = ["== base\n", "rt: base is kept: an earlier run proved it\n", "rt: left proved\n", "rt: right NOT PROVED\n"]
-    with open(tmp_path / "log", "w", encoding="utf-8") as log:
-        assert prove.follow(lines, log, progress) == ["right"]
-    assert (tmp_path / "log").read_text() == "".join(lines)
+@pytest.fixture
+def unproved(repository, monkeypatch):
+    """The small repository with nothing proved, and a kit that isn't one."""
+    kit = repository / "kit"
+    for path, text in (("bin/rattle", PROVER), ("bin/rattle-link", LINKER), ("bin/rt", f"#!/bin/sh\necho {kit}/START\n")):
+        (kit / path).parent.mkdir(parents=True, exist_ok=True)
+        (kit / path).write_text(text)
+        (kit / path).chmod(0o755)
+    monkeypatch.setenv("PATH", f"{kit}/bin:{os.environ['PATH']}")
+    monkeypatch.setattr(prove, "PROOFS", str(repository / "out" / "proofs"))
+    monkeypatch.setattr(prove, "LIBRARIES", str(repository / "out" / "proofs" / "libraries"))
+    (repository / "out" / "proofs" / "libraries").mkdir(parents=True)
+    (repository / "crates" / "high" / "out" / "high.kept").unlink()
+    return repository
+
+
+def test_crates_are_proved_over_those_below_and_the_program_is_linked(unproved, capsys):
+    assert prove.prove([]) == 0
+    assert prove.is_kept()
     said = capsys.readouterr().out.splitlines()
-    assert re.match(r"   1 of 5  base +\(0:00, kept by an earlier run, ", said[1])
-    assert re.match(r"   2 of 5  left +\(0:00, ", said[2])
-    assert (progress.proved(), len(said)) == (2, 3)
+    assert [line.split()[:4] for line in said[1:]] == [["1", "of", "2", "low"], ["2", "of", "2", "high"]]
+    log = (unproved / "crates" / "high" / "out" / "high.log").read_text()
+    assert re.findall(r"^== \w+|^logic=.*", log, re.MULTILINE) == ["== high", "logic=proved functions=1", "== low", "logic=proved functions=1"]
+    libraries = f"{unproved}/out/proofs/libraries"
+    assert f"--extern low={libraries}/low.rlib --extern bytes={unproved}/kit/rlibs/bytes.rlib" in log
+    assert log.splitlines()[-1] == "2 crates proved"
+
+
+def test_what_was_proved_is_not_proved_again(unproved, capsys):
+    assert prove.prove([]) == 0
+    (unproved / "crates" / "high" / "src" / "main.rt").write_text("changed")
+    capsys.readouterr()
+    assert prove.prove([]) == 0
+    said = capsys.readouterr().out.splitlines()
+    assert said[0] == "1 of 2 crates are proved, and nothing has changed since."
+    assert [line.split()[:4] for line in said[2:]] == [["2", "of", "2", "high"]]
+
+
+def test_a_crate_that_is_refused_ends_the_run_and_is_named(unproved, capsys):
+    (unproved / "crates" / "low" / "src" / "lib.rt").write_text("WRONG")
+    assert prove.prove([]) == 1
+    said = capsys.readouterr().out
+    assert "logic=not-proved" in said and said.splitlines()[-1].startswith("low isn't proved. ")
+    assert not prove.is_proved("low") and not prove.is_kept()
+
+
+def test_an_interrupt_ends_what_runs_and_keeps_what_is_proved(unproved, capsys):
+    (unproved / "crates" / "high" / "src" / "main.rt").write_text("SLOW")
+    came = []
+    threading.Timer(2, came.append, [signal.SIGINT]).start()
+    began = time.monotonic()
+    assert prove.prove(came) == prove.INTERRUPTED
+    assert time.monotonic() - began < 10
+    assert prove.is_proved("low")
+    assert capsys.readouterr().out.splitlines()[-1].startswith("Interrupted: 1 of 2 crates are proved and kept")
 
 
 def test_the_minutes_are_read_as_they_were_written(tmp_path):

@@ -3,7 +3,7 @@ ghost use Rattle.std.specs.Prelude.{◌≡◌, ℕ, ◌≤◌, ◌≢◌, ◌⊎
 ghost use Rattle.proto.specs.Sizes.{Sizes};
 ghost use Rattle.proto.specs.Cache.{empty_cache};
 ghost use Rattle.exchange.specs.Ends.{AreTogether, IsCount};
-ghost use Rattle.group.specs.declared.fault.GroupFault.TheVariants.{BadConfig};
+ghost use Rattle.group.specs.declared.fault.GroupFault.TheVariants.{BadConfig, NoMemory};
 ghost use Rattle.group.specs.Threads.{IsSilent, AreJoined, IsLeftByStorage, ends_of, workers_of};
 ghost use Rattle.group.specs.Headline.{IsRun};
 
@@ -83,6 +83,28 @@ fn finish<P: Port, E: StorageEngine, C: Clock>(
     }
 }
 
+/// Room for what joining a group leaves.
+#[derive(Drop)]
+struct Room<P> {
+    reports: Vec<WorkerReport<P>>,
+    workers: Vec<GroupWorker<P>>,
+    ends: Vec<WorkerEnd>,
+}
+
+/// Room for a group of so many workers.
+fn make_room<P: Port>(alloc: Global, count: usize) -> Result<Room<P>, GroupFault>
+    ensures reports { IfOk result (λ room. (room.reports.items ≡ []) × (count ≤ vec_capacity room.reports)) }
+    ensures workers { IfOk result (λ room. (room.workers.items ≡ []) × (count ≤ vec_capacity room.workers)) }
+    ensures ends { IfOk result (λ room. (room.ends.items ≡ []) × (count ≤ vec_capacity room.ends)) }
+    ensures fault { IfErr result (λ fault. fault ≡ NoMemory) }
+{
+    Ok(Room {
+        reports: Vec::with_capacity(alloc, count)?,
+        workers: Vec::with_capacity(alloc, count)?,
+        ends: Vec::with_capacity(alloc, count)?,
+    })
+}
+
 /// Makes the ends and all room that joining needs, starts the threads, and joins them.
 fn run_in<
     's,
@@ -114,9 +136,7 @@ fn run_in<
     let count = ports.len();
     let (ends, storage_end) = make(alloc, count, config.geometry)?;
     let handles = Vec::with_capacity(alloc, count)?;
-    let reports = Vec::with_capacity(alloc, count)?;
-    let workers = Vec::with_capacity(alloc, count)?;
-    let ends_left = Vec::with_capacity(alloc, count)?;
+    let room = make_room(alloc, count)?;
     let storage = start_storage(rt, scope, start, store, clock, storage_end, signals)?;
     match start_workers(rt, alloc, scope, start, ports, ends, gate, signals, handles) {
         Ok(handles) => {
@@ -124,9 +144,9 @@ fn run_in<
             if !*start.value(&told) {
                 return Err(GroupFault::NoThread);
             }
-            let reports = join_workers(rt, &told, handles, reports);
+            let reports = join_workers(rt, &told, handles, room.reports);
             let storage = join_storage(rt, &told, storage);
-            Ok(finish::<P, E, C>(reports, storage, workers, ends_left))
+            Ok(finish::<P, E, C>(reports, storage, room.workers, room.ends))
         }
         Err(fault) => {
             announce_start(rt, start, false);

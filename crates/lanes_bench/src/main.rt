@@ -1,12 +1,26 @@
 //! Requests a second through the lanes, singly and in batches, and through the exchange by queues, each to the plain
 //! store and back. The figures go to standard error, since they differ from run to run. `lanes_bench N` hands over N requests a run;
-//! `lanes_bench idle N` lets the storage thread wait N seconds for nothing, to be timed from outside.
+//! `lanes_bench idle N` lets the storage thread wait N seconds for nothing, to be timed from outside. With no word it first
+//! tries a window of the queues, and whether lanes and queues give the same answers to the same requests.
 #![tactic(auto)]
+
+mod checks;
+mod comparison;
+mod ends;
+mod player;
+mod runs;
+mod serving;
+mod window;
 
 ghost use Rattle.std.specs.Prelude.{◌<◌};
 
-use exchange_runs::{Workload, time_batches, time_lanes, time_queues};
+use crate::checks::Checks;
+use crate::comparison::compare;
+use crate::player::Workload;
+use crate::runs::{Way, run_load};
+use crate::window::check_window;
 use std::env;
+use std::io::Eprint;
 use std::process::ExitCode;
 use std::rt::Env;
 use std::sync::Wait;
@@ -27,26 +41,14 @@ fn number<R: Env + AllocGlobal>(rt: &R, place: usize) -> Option<u64> {
     word(rt, place)?.as_str().parse::<u64>().ok()
 }
 
-fn per_second(requests: u64, elapsed: Option<Duration>) -> u64 {
-    match elapsed {
-        Some(elapsed) => {
-            let micros = u64::try_from(elapsed.as_micros())
-                .unwrap_or(u64::MAX)
-                .max(1);
-            requests.saturating_mul(1_000_000) / micros
-        }
-        None => 0,
-    }
-}
-
-/// Measures the lanes with single requests and with batches, and the queues, for so many requests of all workers
-/// together.
-fn measure<R: Threads + Wait + Clock + Sync + AllocGlobal>(
+/// So many requests of all workers together: how many a second, or 0 where memory is wanting or the clock doesn't say.
+fn per_second<R: Threads + Wait + Clock + Sync + AllocGlobal>(
     rt: &R,
+    way: Way,
     requests: u64,
     workers: usize,
     window: u64,
-) -> (u64, u64, u64)
+) -> u64
     requires { 0 < workers }
 {
     let load = Workload {
@@ -55,11 +57,21 @@ fn measure<R: Threads + Wait + Clock + Sync + AllocGlobal>(
         kept: false,
         pause: Duration::ZERO,
     };
-    (
-        per_second(requests, time_lanes(rt, rt.alloc(), workers, load)),
-        per_second(requests, time_batches(rt, rt.alloc(), workers, load)),
-        per_second(requests, time_queues(rt, rt.alloc(), workers, load)),
-    )
+    let elapsed = match run_load(rt, rt.alloc(), way, workers, load) {
+        Some(run) => run.elapsed,
+        None => None,
+    };
+    match elapsed {
+        Some(elapsed) => a_second(requests, elapsed),
+        None => 0,
+    }
+}
+
+fn a_second(requests: u64, elapsed: Duration) -> u64 {
+    let micros = u64::try_from(elapsed.as_micros())
+        .unwrap_or(u64::MAX)
+        .max(1);
+    requests.saturating_mul(1_000_000) / micros
 }
 
 /// Lets the storage thread wait so many seconds for a worker that posts nothing.
@@ -70,7 +82,7 @@ fn idle<R: Threads + Wait + Clock + Sync + AllocGlobal>(rt: &R, seconds: u64) {
         kept: false,
         pause: Duration::from_secs(seconds),
     };
-    let _ = time_lanes(rt, rt.alloc(), 1, load);
+    let _ = run_load(rt, rt.alloc(), Way::Lanes, 1, load);
 }
 
 fn is_idle<R: Env + AllocGlobal>(rt: &R) -> bool {
@@ -80,19 +92,46 @@ fn is_idle<R: Env + AllocGlobal>(rt: &R) -> bool {
     }
 }
 
-fn main(rt: HostRuntime) -> ExitCode {
-    if is_idle(&rt) {
-        idle(&rt, number(&rt, 2).unwrap_or(1));
-        return ExitCode::SUCCESS;
-    }
-    let requests = number(&rt, 1).unwrap_or(FEW);
+/// Prints the figures of runs with so many requests.
+fn measure<R: Threads + Wait + Clock + Sync + AllocGlobal + Eprint>(rt: &R, requests: u64) {
     for workers in [1, 2, 4] {
         for window in [1, 16, 64] {
-            let (lanes, batches, queues) = measure(&rt, requests, workers, window);
+            let lanes = per_second(rt, Way::Lanes, requests, workers, window);
+            let batches = per_second(rt, Way::Batches, requests, workers, window);
+            let queues = per_second(rt, Way::Queues, requests, workers, window);
             let _ = eprintln!(rt;
                 "{workers} workers, window {window}: lanes {lanes}, in batches {batches}, queues {queues} a second"
             );
         }
     }
+}
+
+/// Whether the queues do what the lanes do. If not, says which check failed.
+fn is_same<R: Threads + Wait + Clock + Sync + AllocGlobal + Eprint>(rt: &R) -> bool {
+    let mut checks = Checks {
+        workers: 1,
+        failed: None,
+    };
+    check_window(rt, rt.alloc(), &mut checks);
+    if checks.failed.is_none() {
+        compare(rt, rt.alloc(), &mut checks);
+    }
+    let Some((workers, name)) = checks.failed else {
+        return true;
+    };
+    let _ = eprintln!(rt; "failed, with {workers} workers: {name}");
+    false
+}
+
+fn main(rt: HostRuntime) -> ExitCode {
+    if is_idle(&rt) {
+        idle(&rt, number(&rt, 2).unwrap_or(1));
+        return ExitCode::SUCCESS;
+    }
+    let requests = number(&rt, 1);
+    if requests.is_none() && !is_same(&rt) {
+        return ExitCode::FAILURE;
+    }
+    measure(&rt, requests.unwrap_or(FEW));
     ExitCode::SUCCESS
 }

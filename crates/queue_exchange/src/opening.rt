@@ -1,19 +1,36 @@
 //! How the ends of one exchange are made.
-ghost use Rattle.std.specs.Prelude.{◌≡◌, ◌⊎◌, ◌↔◌, ◌≤◌, IsTrue, IfOk, MatchResult};
+ghost use Rattle.std.specs.Prelude.{◌≡◌, ◌⊎◌, ◌↔◌, ◌≤◌, ◌*◌, [], IsTrue, IfOk, MatchResult};
 ghost use Rattle.exchange.specs.declared.opening.MakeFault.TheVariants.{BadCount, NoMemory};
 ghost use Rattle.exchange.specs.Ends.{IsCount};
-ghost use Rattle.queue_exchange.specs.Queues.{AreQueuesMade};
+ghost use Rattle.queue_exchange.specs.Queues.{AreQueuesMade, new_storage_queues};
 
 use crate::storage::StorageEnd;
 use crate::worker::WorkerEnd;
 use exchange::MakeFault;
 use proto::Geometry;
-use std::alloc::Global;
+use std::alloc::{AllocError, Global};
 
 fn is_count(workers: usize) -> bool
     ensures { IsTrue result ↔ IsCount workers }
 {
     1 <= workers && workers <= 8
+}
+
+// Makes the ends of so many workers, in their order.
+fn make_workers(
+    alloc: Global,
+    workers: usize,
+    storage: &mut StorageEnd,
+) -> Result<Vec<WorkerEnd>, AllocError>
+    requires count { workers ≤ 8 }
+    requires unused { storage.old ≡ new_storage_queues storage.old.requests (65 * workers) [] storage.old.geometry }
+    ensures { IfOk result (λ ends. AreQueuesMade workers storage.old.geometry ends.items storage.new) }
+{
+    let mut ends = Vec::with_capacity(alloc, workers)?;
+    for _ in 0..workers {
+        ends.push(storage.one_more(alloc)?)?;
+    }
+    Ok(ends)
 }
 
 /// The ends of one exchange, those of the workers in their order. The geometry is the one that histories are judged by.
@@ -31,9 +48,6 @@ pub fn make(
         return Err(MakeFault::BadCount);
     }
     let mut storage = StorageEnd::open(alloc, 65 * workers, geometry)?;
-    let mut ends = Vec::with_capacity(alloc, workers)?;
-    for _ in 0..workers {
-        ends.push(storage.one_more(alloc)?)?;
-    }
+    let ends = make_workers(alloc, workers, &mut storage)?;
     Ok((ends, storage))
 }

@@ -168,16 +168,26 @@ impl WorkerEnd {
         ensures said { result ≡ true → self.new ≡ record self.old { said_bye = true } }
         ensures full { result ≡ false → self.new ≡ self.old }
     {
-        let has_room = push_bye(rt, &self.requests, &mut self.asks, self.worker);
-        self.said_bye = has_room;
-        has_room
+        let bye = Taken::Bye {
+            worker: self.worker,
+        };
+        match self.requests.push_as::<Sends, R>(rt, &mut self.asks, bye) {
+            Ok(()) => {
+                self.said_bye = true;
+                true
+            }
+            Err(back) => {
+                drop(back);
+                false
+            }
+        }
     }
 }
 
 ghost use Rattle.std.specs.Prelude.{◌≡◌, ◌+◌, ◌++◌, ◌∷◌, [], List, length, true, false, MatchResult};
 ghost use Rattle.crossbeam_queue.specs.Passes.{view, IsSamePass, IsPassOf, ruled_capacity};
 ghost use Rattle.exchange.specs.declared.messages.Taken.{Taken};
-ghost use Rattle.exchange.specs.declared.messages.Taken.TheVariants.{Asked, Bye};
+ghost use Rattle.exchange.specs.declared.messages.Taken.TheVariants.{Asked};
 ghost use Rattle.queue_exchange.specs.Requests.{worker_pass, after_sending, messages_of, part};
 
 // Pushes a request, or hands it back where the queue was full.
@@ -203,24 +213,5 @@ fn push_request<R: Wait>(
         Ok(()) => Ok(()),
         Err(Taken::Asked { worker: _, posted }) => Err(posted),
         Err(Taken::Bye { worker: _ }) => unreachable!(),
-    }
-}
-
-// Pushes a bye, and says whether there was room.
-fn push_bye<R: Wait>(rt: &R, queue: &RequestQueue, pass: &mut RequestPass, worker: usize) -> bool
-    requires queue { IsPassOf queue.now pass.old }
-    requires view { ((view pass.old).sends ≡ true) × ((view pass.old).takes ≡ false) × ((view pass.old).worker ≡ worker)
-        × ((view pass.old).sending.said_bye ≡ false) }
-    ensures queue { IsSamePass pass.old pass.new }
-    ensures sent { result ≡ true
-        → view pass.new ≡ worker_pass worker (after_sending (view pass.old).sending (Bye worker)) }
-    ensures full { result ≡ false → view pass.new ≡ view pass.old }
-{
-    match queue.push_as::<Sends, R>(rt, pass, Taken::Bye { worker }) {
-        Ok(()) => true,
-        Err(back) => {
-            drop(back);
-            false
-        }
     }
 }

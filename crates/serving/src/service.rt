@@ -69,10 +69,17 @@ fn listening_line(alloc: Global, options: &ServeOptions, port: u16) -> Result<St
     Ok(line)
 }
 
-/// Prints the line.
-fn announce<W: Write>(line: &str, out: &mut W) -> Result<(), Fault>
-    ensures { OnOk result (Appends (W.contents out.old) (W.contents out.new) line.now) }
+/// Prints that it listens, with the real port.
+fn announce<W: Write>(
+    alloc: Global,
+    options: &ServeOptions,
+    port: u16,
+    out: &mut W,
+) -> Result<(), Fault>
+    ensures { OnOk result ((line : List ℕ) × IsListeningLine (string_bytes options.entry.now.listen) port line
+        × Appends (W.contents out.old) (W.contents out.new) line) }
 {
+    let line = listening_line(alloc, options, port)?;
     if out.write_all(line.as_bytes()).is_err() || out.flush().is_err() {
         return Err(Fault::CannotWrite);
     }
@@ -134,7 +141,25 @@ where
     }
 }
 
-/// Accepts streams up to the limit, and runs the group until it has ended.
+/// Runs a worker for each port over the store, until all have ended.
+fn run_workers<H>(
+    rt: H,
+    alloc: Global,
+    ports: Vec<MioPort<H>>,
+    store: Store,
+    geometry: Geometry,
+) -> Result<(), Fault>
+where
+    H: Threads + Wait + time::Clock + Copy + Drop + Send + Sync + 'static,
+    requires { IsNewStore geometry store }
+{
+    let config = Config { geometry };
+    let clock = UnixClock::new(rt);
+    let _ = run_group(&rt, alloc, ports, config, store, clock, &OpenGate)?;
+    Ok(())
+}
+
+/// Accepts streams up to the limit, and runs the workers until they have ended.
 fn run<H>(
     rt: H,
     alloc: Global,
@@ -153,9 +178,7 @@ where
         store,
     } = opened;
     let listening = start_listening(rt, listener, hands, limit)?;
-    let config = Config { geometry };
-    let clock = UnixClock::new(rt);
-    let _ = run_group(&rt, alloc, ports, config, store, clock, &OpenGate)?;
+    run_workers(rt, alloc, ports, store, geometry)?;
     listening.join(&rt);
     Ok(())
 }
@@ -178,7 +201,6 @@ where
         × Appends (W.contents out.old) (W.contents out.new) line) }
 {
     let opened = open(rt, alloc, options, geometry, seed)?;
-    let line = listening_line(alloc, options, opened.listener.port())?;
-    announce(line.as_str(), out)?;
+    announce(alloc, options, opened.listener.port(), out)?;
     run(rt, alloc, opened, geometry, options.sessions)
 }

@@ -1,4 +1,4 @@
-use Rattle.std.proofs.Common.{rules, ◌≡◌, [], ◌∷◌, ◌++◌, sym, ap, subst, ◌∙◌, append_assoc, append-nil}
+use Rattle.std.proofs.Common.{arith, ◌≡◌, [], ◌∷◌, ◌++◌, sym, ap, subst, ◌∙◌, append_assoc, append-nil}
 use Rattle.std.proofs.lemmas.List.{nil_from_length}
 use Rattle.group.specs.Threads.{AreEach, KeepsWorker}
 use Rattle.group.proofs.Places.{each_more}
@@ -15,9 +15,13 @@ loop-handle-preserved g c = let i = c.loop-handle.invariant in let h = c.in-Some
           (each_more (λ h r. KeepsWorker g.P.Port.told g.P.Port.leads_to h.promise.port.value h.promise.end.value r)
           c.loop-handle.yielded c.loop-handle.reports.items h c.join_worker-report.result i.joined
           c.join_worker-report.ensures);
-      room = (let a = c.in-Some.ensures.steps.1 in let p = c.push_reserved.ensures.len in
-          let k = c.push_reserved.ensures.capacity in
-          let e = i.room in search rules);
+      room = omega (
+        arith,
+        c.in-Some.ensures.steps.1,
+        c.push_reserved.ensures.len,
+        c.push_reserved.ensures.capacity,
+        i.room,
+      );
     }
 
 pub returns : goal.returns

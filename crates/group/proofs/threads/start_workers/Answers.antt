@@ -1,4 +1,4 @@
-use Rattle.std.proofs.Common.{rules, ◌≡◌, [], ◌∷◌, ◌++◌, All, map, sym, ap, subst, ◌∙◌, append_assoc}
+use Rattle.std.proofs.Common.{arith, ◌≡◌, [], ◌∷◌, ◌++◌, All, map, sym, ap, subst, ◌∙◌, append_assoc}
 use Rattle.std.proofs.lemmas.List.{map-append}
 use Rattle.group.specs.Threads.{HasSentNothing, IsSilent}
 use Rattle.group.proofs.Places.{first_of_all, all_more}
@@ -26,8 +26,7 @@ loop-end-preserved g c =
           (c.in-Some-next.port ∷ []) c.next-in-loop-end.new.self.rest.items
           ∙ ap (λ l. map (λ h. h.promise.port.value) c.loop-end.handles.items ++ l) (sym c.in-Some-next.ensures.items)
           ∙ i.ported;
-      lengths = (let a = c.in-Some.ensures.steps.1 in let b = c.in-Some-next.ensures.len in let e = i.lengths in
-          search rules);
+      lengths = omega (arith, c.in-Some.ensures.steps.1, c.in-Some-next.ensures.len, i.lengths);
       silent = (first_of_all
           (IsSilent g.P.Port.told) c.loop-end.ports.rest.items c.in-Some-next.port
           c.next-in-loop-end.new.self.rest.items
@@ -39,6 +38,11 @@ loop-end-preserved g c =
           c.in_ok-handle.ensures.start);
       ends = more ∙ ap (λ l. l ++ h.promise.end.value ∷ []) i.ends
           ∙ ap (λ e. y ++ e ∷ []) c.in_ok-handle.ensures.given.1;
-      room = (let a = c.in-Some.ensures.steps.1 in let p = c.push_reserved.ensures.len in
-          let k = c.push_reserved.ensures.capacity in let e = i.room in search rules);
+      room = omega (
+        arith,
+        c.in-Some.ensures.steps.1,
+        c.push_reserved.ensures.len,
+        c.push_reserved.ensures.capacity,
+        i.room,
+      );
     }

@@ -33,13 +33,13 @@ LIBRARIES = f"{PROOFS}/libraries"
 IGNORED = ("out", "must-fail")
 # A crate that no run of the gate has measured is taken to need half a minute, and one more for so many lines.
 LINES_A_MINUTE = 2500
-# So many processors a crate has from which the way is hardly shorter than the longest one: by at most so many minutes. With as many it is proved so
-# much faster; more cost more than they bring.
-JOBS = 3
-NEAR = 5
-FASTER = 1.9
-# A crate yields to others by a step (nice) for each minute that its way is shorter, and by at most so many.
-MOST_NICE = 19
+# So many processors a crate has from which the way is shorter than the longest one by at most so many minutes. With as many it is proved so much
+# faster; more cost more than they bring, since each process reads the libraries by itself.
+JOBS = 2
+NEAR = 3
+FASTER = 1.5
+# The other crates yield by so much (nice).
+NICE = 10
 # For the estimate: where all processors have work, so much of their time is used.
 SHARE_USED = 0.9
 # Of what the prover says of a crate that isn't proved so many characters are shown, the last ones.
@@ -274,9 +274,8 @@ def to_start(crates, ways, proved, running):
     longest = max(map(ways.get, left), default=0)
     ready = [name for name in left if name not in running and proved.issuperset(crates[name])]
     chosen = sorted(ready, key=ways.get, reverse=True)[: machine.at_once() - len(running)]
-    jobs = max(1, min(JOBS, machine.processors() - 1))
-    behind = {name: longest - ways[name] for name in chosen}
-    return [(name, jobs if behind[name] <= NEAR else 1, min(round(behind[name]), MOST_NICE)) for name in chosen]
+    jobs = min(JOBS, machine.processors())
+    return [(name, jobs, 0) if longest - ways[name] <= NEAR else (name, 1, NICE) for name in chosen]
 
 
 def prove_side_by_side(crates, proved, progress, interrupts):

@@ -46,14 +46,13 @@ def test_those_with_the_longest_way_start_first_have_several_processors_and_dont
     monkeypatch.setattr(machine, "processors", lambda: 4)
     monkeypatch.setattr(machine, "at_once", lambda: 2)
     monkeypatch.setattr(prove, "NEAR", 3)
-    assert prove.to_start(CRATES, ways, set(), {}) == [("base", 3, 0)]
-    assert prove.to_start(CRATES, ways, {"base"}, {}) == [("left", 3, 0), ("right", 1, 4)]
+    assert prove.to_start(CRATES, ways, set(), {}) == [("base", prove.JOBS, 0)]
+    assert prove.to_start(CRATES, ways, {"base"}, {}) == [("left", prove.JOBS, 0), ("right", 1, prove.NICE)]
     assert prove.to_start(CRATES, ways, {"base"}, {"left": None, "right": None}) == []
-    assert prove.to_start(CRATES, ways, {"base", "right"}, {"left": None}) == [("aside", 1, 6)]
-    monkeypatch.setattr(prove, "MOST_NICE", 2)
+    assert prove.to_start(CRATES, ways, {"base", "right"}, {"left": None}) == [("aside", 1, prove.NICE)]
     monkeypatch.setattr(prove, "NEAR", 4)
-    assert prove.to_start(CRATES, ways, {"base"}, {}) == [("left", 3, 0), ("right", 3, 2)]
-    monkeypatch.setattr(machine, "processors", lambda: 2)
+    assert prove.to_start(CRATES, ways, {"base"}, {}) == [("left", prove.JOBS, 0), ("right", prove.JOBS, 0)]
+    monkeypatch.setattr(machine, "processors", lambda: 1)
     assert prove.to_start(CRATES, ways, set(), {}) == [("base", 1, 0)]
 
 

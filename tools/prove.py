@@ -4,8 +4,8 @@
     tools/prove.py          with a line for each crate that is proved
     tools/prove.py --kept   proves nothing: status 0 where the program was built so, and nothing that it is built of has changed since
 
-It calls the prover for each crate once those below it are proved, as many side by side as there are processors and memory for. The crates
-from which the way to the program takes longest get several processors, and the others yield to them. What is proved stands in out/proofs: after an
+It calls the prover for each crate once those below it are proved, as many side by side as there are processors and memory for. The crate
+from which the way to the program takes longest gets several processors, and the others yield to it. What is proved stands in out/proofs: after an
 interrupt the next run goes on from there. What the prover says of each crate stands beside the program, as segcached.log.
 
 What each crate takes stands in tools/gate_minutes.tsv, by a run of the gate; how long the rest may take is an estimate from that.
@@ -33,12 +33,11 @@ LIBRARIES = f"{PROOFS}/libraries"
 IGNORED = ("out", "must-fail")
 # A crate that no run of the gate has measured is taken to need half a minute, and one more for so many lines.
 LINES_A_MINUTE = 2500
-# So many processors a crate has from which the way is shorter than the longest one by at most so many minutes. With as many it is proved so much
-# faster; more cost more than they bring, since each process reads the libraries by itself.
-JOBS = 2
-NEAR = 3
-FASTER = 1.5
-# The other crates yield by so much (nice).
+# So many processors the crate has from which the way is longest. With as many it is proved so much faster; more cost more than they bring, since
+# each process reads the libraries by itself.
+JOBS = 3
+FASTER = 1.9
+# The other crates yield to it by so much (nice).
 NICE = 10
 # For the estimate: where all processors have work, so much of their time is used.
 SHARE_USED = 0.9
@@ -274,8 +273,8 @@ def to_start(crates, ways, proved, running):
     longest = max(map(ways.get, left), default=0)
     ready = [name for name in left if name not in running and proved.issuperset(crates[name])]
     chosen = sorted(ready, key=ways.get, reverse=True)[: machine.at_once() - len(running)]
-    jobs = min(JOBS, machine.processors())
-    return [(name, jobs, 0) if longest - ways[name] <= NEAR else (name, 1, NICE) for name in chosen]
+    jobs = max(1, min(JOBS, machine.processors() - 1))
+    return [(name, jobs, 0) if ways[name] == longest else (name, 1, NICE) for name in chosen]
 
 
 def prove_side_by_side(crates, proved, progress, interrupts):

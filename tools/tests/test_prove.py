@@ -41,18 +41,15 @@ def test_what_is_left_takes_its_longest_way_or_all_processors(monkeypatch):
     assert prove.minutes_left(CRATES, MINUTES) == 9.5
 
 
-def test_those_with_the_longest_way_start_first_have_several_processors_and_dont_yield(monkeypatch):
+def test_those_with_the_longest_way_start_first_and_the_longest_has_several_processors(monkeypatch):
     ways = prove.ways_to_the_top(CRATES, MINUTES)
     monkeypatch.setattr(machine, "processors", lambda: 4)
     monkeypatch.setattr(machine, "at_once", lambda: 2)
-    monkeypatch.setattr(prove, "NEAR", 3)
-    assert prove.to_start(CRATES, ways, set(), {}) == [("base", prove.JOBS, 0)]
-    assert prove.to_start(CRATES, ways, {"base"}, {}) == [("left", prove.JOBS, 0), ("right", 1, prove.NICE)]
+    assert prove.to_start(CRATES, ways, set(), {}) == [("base", 3, 0)]
+    assert prove.to_start(CRATES, ways, {"base"}, {}) == [("left", 3, 0), ("right", 1, prove.NICE)]
     assert prove.to_start(CRATES, ways, {"base"}, {"left": None, "right": None}) == []
     assert prove.to_start(CRATES, ways, {"base", "right"}, {"left": None}) == [("aside", 1, prove.NICE)]
-    monkeypatch.setattr(prove, "NEAR", 4)
-    assert prove.to_start(CRATES, ways, {"base"}, {}) == [("left", prove.JOBS, 0), ("right", prove.JOBS, 0)]
-    monkeypatch.setattr(machine, "processors", lambda: 1)
+    monkeypatch.setattr(machine, "processors", lambda: 2)
     assert prove.to_start(CRATES, ways, set(), {}) == [("base", 1, 0)]
 
 

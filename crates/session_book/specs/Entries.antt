@@ -10,14 +10,14 @@ use Rattle.session_book.specs.declared.causes.Settled.{Settled}
 use Rattle.session_book.specs.declared.causes.Settled.TheVariants as outcomes
 use Rattle.session_book.specs.Session.{SessionState, ReadsAsk, with_reply}
 
--- the entry of this number, if there is one
-abbrev pub entry_of : List (ℕ × SessionState) → ℕ → Option SessionState
-entry_of entries session = lookup (nat_eq session) entries
+-- the state of the session with this number, if it is open
+abbrev pub session_in : List (ℕ × SessionState) → ℕ → Option SessionState
+session_in entries session = lookup (nat_eq session) entries
 
 -- only this entry is another one: it is so afterwards, or none
 abbrev pub OnlyEntry : List (ℕ × SessionState) → List (ℕ × SessionState) → ℕ → Option SessionState → Type 0
 OnlyEntry before after session s =
-    (other : ℕ) → entry_of after other ≡ (if other == session then s else entry_of before other)
+    (other : ℕ) → session_in after other ≡ (if other == session then s else session_in before other)
 
 -- the session s is read up to its next request
 pub record AsksEntry (before after : List (ℕ × SessionState)) (session : ℕ) (s : SessionState) (looks : ℕ)
@@ -30,14 +30,14 @@ pub record AsksEntry (before after : List (ℕ × SessionState)) (session : ℕ)
 -- the reply goes to the session's first unsettled request
 pub record RepliesEntry (before after : List (ℕ × SessionState)) (answered : Answered) : Type 0 where
   pub s : SessionState
-  pub was_open : entry_of before answered.session ≡ Some s
+  pub was_open : session_in before answered.session ≡ Some s
   pub only : OnlyEntry before after answered.session (Some (with_reply s answered.reply))
 
 -- What becomes of an answer at its session, which is closed where the bytes find no room.
 abbrev pub SettlesEntry : List (ℕ × SessionState) → Answered → Settled → List (ℕ × SessionState) → Type 0
 SettlesEntry before answered outcomes.Stranger after = ⊥
 SettlesEntry before answered outcomes.Dropped after =
-    (entry_of before answered.session ≡ None) × OnlyEntry before after answered.session None
+    (session_in before answered.session ≡ None) × OnlyEntry before after answered.session None
 SettlesEntry before answered outcomes.Kept after = RepliesEntry before after answered
 SettlesEntry before answered outcomes.Starved after =
-    IsSome (entry_of before answered.session) × OnlyEntry before after answered.session None
+    IsSome (session_in before answered.session) × OnlyEntry before after answered.session None

@@ -12,7 +12,7 @@ use Rattle.session_book.specs.declared.causes.Settled.TheVariants as outcomes
 use Rattle.session_book.specs.declared.limits.TheConstants.{MAX_UNSETTLED, MAX_POSTS}
 use Rattle.session_book.specs.Session.{SessionState, ReadsUpTo, given_request, with_reply}
 use Rattle.session_book.specs.Book.{BookState, session_of, unsettled_in, IsBook, IsOldest, Settles, NextAsk, given_in, stops}
-use Rattle.session_book.specs.Entries.{session_in, AsksEntry, SettlesEntry}
+use Rattle.session_book.specs.Entries.{state_at, AsksEntry, SettlesEntry}
 use Rattle.session_book.proofs.Books.{settles_book, settles_kept, settles_reply, stays_unsettled, fits_unasked, asks_book}
 
 -- ---- settling
@@ -54,13 +54,13 @@ settled outcomes.Starved before after now answered same is oldest h rest =
 -- what becomes of a session that isn't open
 abbrev pub AsksClosed : BookState → BookState → ℕ → Result (Option Request) NoMemory → Type 0
 AsksClosed before after session r =
-    session_in before.sessions session ≡ None
+    state_at before.sessions session ≡ None
     → (r ≡ Ok None) × (after.sessions ≡ before.sessions) × (after.looks ≡ before.looks)
 
 -- what becomes of one that is
 abbrev pub AsksOpen : BookState → BookState → ℕ → Result (Option Request) NoMemory → Type 0
 AsksOpen before after session r =
-    (s : SessionState) → session_in before.sessions session ≡ Some s
+    (s : SessionState) → state_at before.sessions session ≡ Some s
     → AsksEntry before.sessions after.sessions session s before.looks r after.looks
 
 -- a book with the same sessions and unsettled requests is one
@@ -77,7 +77,7 @@ same_book before after is sessions greatest unsettled = record {
 }
 
 unasked_at : (o : Option SessionState) (before after : BookState) (session : ℕ) (r : Result (Option Request) NoMemory)
-    → session_in before.sessions session ≡ o → IsBook before
+    → state_at before.sessions session ≡ o → IsBook before
     → AsksClosed before after session r → AsksOpen before after session r
     → given_request r ≡ [] → after.greatest ≡ before.greatest → after.unsettled ≡ before.unsettled → IsBook after
 unasked_at None before after session r at is closed open_now none greatest unsettled =
@@ -97,7 +97,7 @@ unasked_book before after session r is closed open_now none greatest unsettled =
 
 asked_at : (o : Option SessionState) (before after : BookState) (session number : ℕ) (q : Request)
     (r : Result (Option Request) NoMemory)
-    → session_in before.sessions session ≡ o → IsBook before
+    → state_at before.sessions session ≡ o → IsBook before
     → AsksClosed before after session r → AsksOpen before after session r
     → r ≡ Ok (Some q) → after.greatest ≡ before.greatest
     → after.unsettled ≡ before.unsettled ++ record { number = number; session = session } ∷ [] → IsBook after

@@ -11,13 +11,13 @@ use Rattle.session_book.specs.declared.causes.Settled.TheVariants as outcomes
 use Rattle.session_book.specs.Session.{SessionState, ReadsAsk, with_reply}
 
 -- the state of the session with this number, if it is open
-abbrev pub session_in : List (ℕ × SessionState) → ℕ → Option SessionState
-session_in entries session = lookup (nat_eq session) entries
+abbrev pub state_at : List (ℕ × SessionState) → ℕ → Option SessionState
+state_at entries session = lookup (nat_eq session) entries
 
 -- only this entry is another one: it is so afterwards, or none
 abbrev pub OnlyEntry : List (ℕ × SessionState) → List (ℕ × SessionState) → ℕ → Option SessionState → Type 0
 OnlyEntry before after session s =
-    (other : ℕ) → session_in after other ≡ (if other == session then s else session_in before other)
+    (other : ℕ) → state_at after other ≡ (if other == session then s else state_at before other)
 
 -- the session s is read up to its next request
 pub record AsksEntry (before after : List (ℕ × SessionState)) (session : ℕ) (s : SessionState) (looks : ℕ)
@@ -30,14 +30,14 @@ pub record AsksEntry (before after : List (ℕ × SessionState)) (session : ℕ)
 -- the reply goes to the session's first unsettled request
 pub record RepliesEntry (before after : List (ℕ × SessionState)) (answered : Answered) : Type 0 where
   pub s : SessionState
-  pub was_open : session_in before answered.session ≡ Some s
+  pub was_open : state_at before answered.session ≡ Some s
   pub only : OnlyEntry before after answered.session (Some (with_reply s answered.reply))
 
 -- What becomes of an answer at its session, which is closed where the bytes find no room.
 abbrev pub SettlesEntry : List (ℕ × SessionState) → Answered → Settled → List (ℕ × SessionState) → Type 0
 SettlesEntry before answered outcomes.Stranger after = ⊥
 SettlesEntry before answered outcomes.Dropped after =
-    (session_in before answered.session ≡ None) × OnlyEntry before after answered.session None
+    (state_at before answered.session ≡ None) × OnlyEntry before after answered.session None
 SettlesEntry before answered outcomes.Kept after = RepliesEntry before after answered
 SettlesEntry before answered outcomes.Starved after =
-    IsSome (session_in before answered.session) × OnlyEntry before after answered.session None
+    IsSome (state_at before answered.session) × OnlyEntry before after answered.session None

@@ -7,7 +7,7 @@ ghost use Rattle.std.specs.Option.{option_and_then};
 ghost use Rattle.std.specs.VecDeque.{deque_len, deque_capacity};
 ghost use Rattle.proto.specs.declared.message.Request.{Request};
 ghost use Rattle.proto.specs.Reading.{asks};
-ghost use Rattle.session_book.specs.Entries.{session_in, AsksEntry, SettlesEntry};
+ghost use Rattle.session_book.specs.Entries.{state_at, AsksEntry, SettlesEntry};
 
 use crate::causes::{EndCause, OpenFault, Received, Settled, Unsettled};
 use crate::limits::{MAX_POSTS, MAX_SESSIONS, MAX_UNSETTLED};
@@ -372,9 +372,9 @@ fn ask_session(
     looks: &mut u64,
     upkeep: &mut Upkeep,
 ) -> Result<Option<Request>, NoMemory>
-    ensures closed { session_in sessions.old.entries session ≡ None
+    ensures closed { state_at sessions.old.entries session ≡ None
         → (result ≡ Ok None) × (sessions.new.entries ≡ sessions.old.entries) × (looks.new ≡ looks.old) }
-    ensures open { (s : SessionState) → session_in sessions.old.entries session ≡ Some s
+    ensures open { (s : SessionState) → state_at sessions.old.entries session ≡ Some s
         → AsksEntry sessions.old.entries sessions.new.entries session s looks.old result looks.new }
     ensures kept { unsettled.new.items ≡ unsettled.old.items }
     ensures room { (request : Request) → result ≡ Ok (Some request) → deque_len unsettled.new < deque_capacity unsettled.new }
@@ -391,7 +391,7 @@ fn settle_session(
     answered: &Answered,
     upkeep: &mut Upkeep,
 ) -> Settled
-    requires { (s : SessionState) → session_in sessions.old.entries answered.now.session ≡ Some s → 0 < length (asks s.queue) }
+    requires { (s : SessionState) → state_at sessions.old.entries answered.now.session ≡ Some s → 0 < length (asks s.queue) }
     ensures { SettlesEntry sessions.old.entries answered.now result sessions.new.entries }
 {
     let Some(open) = sessions.get_mut(&answered.session) else {

@@ -4,12 +4,13 @@
     tools/prove.py          with a line for each crate that is proved
     tools/prove.py --kept   proves nothing: status 0 where the program was built so, and nothing that it is built of has changed since
 
-It calls the prover for each crate once those below it are proved, as many side by side as there are processors and memory for. The crate
-from which the way to the program takes longest gets several processors, and the others yield to it. What is proved stands in out/proofs: after an
+It calls the prover for each crate once those below it are proved, as many side by side as there are processors and memory for. The crates
+from which the way to the program takes longest get several processes, and the others yield to them. What is proved stands in out/proofs: after an
 interrupt the next run goes on from there. What the prover says of each crate stands beside the program, as segcached.log.
 
 What each crate takes stands in tools/gate_minutes.tsv, by a run of the gate; how long the rest may take is an estimate from that.
 """
+import dataclasses
 import fcntl
 import hashlib
 import math
@@ -33,11 +34,13 @@ LIBRARIES = f"{PROOFS}/libraries"
 IGNORED = ("out", "must-fail")
 # A crate that no run of the gate has measured is taken to need half a minute, and one more for so many lines.
 LINES_A_MINUTE = 2500
-# So many processors the crate has from which the way is longest. With as many it is proved so much faster; more cost more than they bring, since
-# each process reads the libraries by itself.
-JOBS = 3
-FASTER = 1.9
-# The other crates yield to it by so much (nice).
+# From a crate the way is near the longest one where it is shorter by at most so many minutes. Such a crate is proved by several processes, which is so
+# much faster, while its way is longer than LAST minutes: behind that few crates stand above it, and its library without its proofs saves them more.
+NEAR = 3
+JOBS = 2
+FASTER = 1.5
+LAST = 5
+# The other crates yield by so much (nice).
 NICE = 10
 # For the estimate: where all processors have work, so much of their time is used.
 SHARE_USED = 0.9
@@ -199,6 +202,17 @@ def kit_folder():
     return os.path.dirname(subprocess.run(["rt", "doc"], stdout=subprocess.PIPE, text=True, check=True).stdout.strip())
 
 
+@dataclasses.dataclass(frozen=True)
+class How:
+    """How a crate is proved: by so many processes, and so much nicer than others. Where work is kept each process reads the libraries, and proves some
+    functions at a time; the library that comes of it holds its proofs. Else the processes are copies of one that has read them, which is faster where
+    there is little to read, and the library holds what it states alone, which is read faster."""
+
+    processes: int
+    is_kept: bool
+    nice: int
+
+
 class Prover:
     """How the prover of a kit is called for a crate."""
 
@@ -212,14 +226,13 @@ class Prover:
         for folder in (LIBRARIES, f"{self.kit}/rlibs"):
             yield from ("-L", f"dependency={folder}")
 
-    def words(self, name, jobs):
+    def words(self, name, how):
         words = ["rattle", "build", "--crate-name", name, *self.libraries(name)]
         words += ["--antt-project", f"{self.kit}/rattle/logic/antt-project.json", "--logic-built", f"{self.kit}/logic_built"]
-        words += ["--jobs", str(jobs)]
-        # Several jobs share a crate well only over kept work, beside which a library can't be written as what it states alone, which is read faster.
-        if name == NAME or jobs > 1:
+        words += ["--jobs", str(how.processes)]
+        if how.is_kept:
             words += ["--incremental", f"{PROOFS}/{name}"]
-        else:
+        elif name != NAME:
             words.append("--statements")
         if name == NAME:
             return [*words, "--toolchain", f"{self.kit}/toolchain", "-o", f"{PROOFS}/{name}.o", "src/main.rt"]
@@ -242,16 +255,16 @@ def is_proved(name):
 
 
 class Proof:
-    """A crate that is being proved, by so many jobs, which yield to others by so much."""
+    """A crate that is being proved."""
 
-    def __init__(self, prover, name, jobs, nice):
+    def __init__(self, prover, name, how):
         self.name, self.sources, self.record = name, sum_of_sources(name), f"{PROOFS}/{name}.proved"
         if os.path.exists(self.record):
             os.remove(self.record)
-        words = ["nice", "-n", str(nice), *prover.words(name, jobs)]
+        words = ["nice", "-n", str(how.nice), *prover.words(name, how)]
         with open(log_of(name), "w", encoding="utf-8") as log:
-            how = {"stdin": subprocess.DEVNULL, "stdout": log, "stderr": subprocess.STDOUT, "process_group": 0}
-            self.ran = subprocess.Popen(words, cwd=f"{TOP}/crates/{name}", **how)
+            to = {"stdin": subprocess.DEVNULL, "stdout": log, "stderr": subprocess.STDOUT, "process_group": 0}
+            self.ran = subprocess.Popen(words, cwd=f"{TOP}/crates/{name}", **to)
 
     def has_ended(self):
         return self.ran.poll() is not None
@@ -267,14 +280,23 @@ class Proof:
         self.ran.wait()
 
 
+def how_to_prove(name, crates, ways, longest):
+    """How to prove a crate that is ready, where the longest way that is left is so long."""
+    is_near = longest - ways[name] <= NEAR
+    nice = 0 if is_near else NICE
+    if name == NAME or not crates[name]:
+        return How(machine.processors(), False, nice)
+    processes = min(JOBS, machine.processors()) if is_near and ways[name] > LAST else 1
+    return How(processes, processes > 1, nice)
+
+
 def to_start(crates, ways, proved, running):
-    """The crates to start now, those with the longest way first: each with its jobs, and how much it yields to others."""
+    """The crates to start now, those with the longest way first, and how to prove each."""
     left = [name for name in ways if name not in proved]
     longest = max(map(ways.get, left), default=0)
     ready = [name for name in left if name not in running and proved.issuperset(crates[name])]
     chosen = sorted(ready, key=ways.get, reverse=True)[: machine.at_once() - len(running)]
-    jobs = max(1, min(JOBS, machine.processors() - 1))
-    return [(name, jobs, 0) if ways[name] == longest else (name, 1, NICE) for name in chosen]
+    return [(name, how_to_prove(name, crates, ways, longest)) for name in chosen]
 
 
 def prove_side_by_side(crates, proved, progress, interrupts):
@@ -282,8 +304,8 @@ def prove_side_by_side(crates, proved, progress, interrupts):
     prover, ways, running = Prover(kit_folder()), ways_to_the_top(crates, dict(progress.left)), {}
     try:
         while progress.left and not interrupts:
-            for name, jobs, nice in to_start(crates, ways, proved, running):
-                running[name] = Proof(prover, name, jobs, nice)
+            for name, how in to_start(crates, ways, proved, running):
+                running[name] = Proof(prover, name, how)
             time.sleep(EVERY)
             for name in [it for it, proof in running.items() if proof.has_ended()]:
                 if not running.pop(name).note():

@@ -41,16 +41,21 @@ def test_what_is_left_takes_its_longest_way_or_all_processors(monkeypatch):
     assert prove.minutes_left(CRATES, MINUTES) == 9.5
 
 
-def test_those_with_the_longest_way_start_first_and_the_longest_has_several_processors(monkeypatch):
+def test_those_with_the_longest_way_start_first_and_are_proved_by_several_processes(monkeypatch):
     ways = prove.ways_to_the_top(CRATES, MINUTES)
+    how, nice = prove.How, prove.NICE
+    monkeypatch.setattr(prove, "NAME", "top")
+    monkeypatch.setattr(prove, "LAST", 1.5)
     monkeypatch.setattr(machine, "processors", lambda: 4)
     monkeypatch.setattr(machine, "at_once", lambda: 2)
-    assert prove.to_start(CRATES, ways, set(), {}) == [("base", 3, 0)]
-    assert prove.to_start(CRATES, ways, {"base"}, {}) == [("left", 3, 0), ("right", 1, prove.NICE)]
+    assert prove.to_start(CRATES, ways, set(), {}) == [("base", how(4, False, 0))]
+    assert prove.to_start(CRATES, ways, {"base"}, {}) == [("left", how(2, True, 0)), ("right", how(1, False, nice))]
     assert prove.to_start(CRATES, ways, {"base"}, {"left": None, "right": None}) == []
-    assert prove.to_start(CRATES, ways, {"base", "right"}, {"left": None}) == [("aside", 1, prove.NICE)]
-    monkeypatch.setattr(machine, "processors", lambda: 2)
-    assert prove.to_start(CRATES, ways, set(), {}) == [("base", 1, 0)]
+    assert prove.to_start(CRATES, ways, {"base", "right"}, {"left": None}) == [("aside", how(1, False, nice))]
+    assert prove.to_start(CRATES, ways, {"base", "left"}, {}) == [("right", how(2, True, 0)), ("aside", how(1, False, 0))]
+    assert prove.to_start(CRATES, ways, {"base", "left", "right", "aside"}, {}) == [("top", how(4, False, 0))]
+    monkeypatch.setattr(machine, "processors", lambda: 1)
+    assert prove.to_start(CRATES, ways, {"base"}, {"right": None}) == [("left", how(1, False, 0))]
 
 
 def test_each_crate_of_the_repository_has_its_minutes():

@@ -1,4 +1,4 @@
-"""Each request for memory and each thread refused in turn: in the programs that are built for it, and in segcached."""
+"""Each request for memory and each thread refused in turn: in refused_growth, built for it, and in segcached."""
 import itertools
 import os
 import subprocess
@@ -6,6 +6,7 @@ import subprocess
 import pytest
 from served import TOP
 
+REFUSED_GROWTH = f"{TOP}/crates/refused_growth"
 SCRIPT = f"{TOP}/crates/segcached/data/script"
 SESSIONS = b"set a 0 0 1\r\nx\r\nget a\r\n", b"set b 0 0 1\r\ny\r\nget b\r\n"
 
@@ -40,12 +41,11 @@ def two_workers(tmp_path):
     return ["replay", f"{tmp_path}/two_workers", "--workers", "2"]
 
 
-@pytest.mark.parametrize("name", sorted(it for it in os.listdir(f"{TOP}/crates") if it.startswith("refused_")))
-def test_a_refused_request_for_memory_changes_nothing_that_is_written(refuse, say, name):
-    """Of each of these crates; what it writes stands in its file stdout."""
-    built = f"{TOP}/crates/{name}/out/{name}"
-    assert os.access(built, os.X_OK), f"it isn't built: (cd crates/{name} && rt run)"
-    with open(f"{TOP}/crates/{name}/stdout", "rb") as file:
+def test_a_refused_request_for_memory_changes_nothing_that_is_written(refuse, say):
+    """Of refused_growth; what it writes stands in its file stdout."""
+    built = f"{REFUSED_GROWTH}/out/refused_growth"
+    assert os.access(built, os.X_OK), "it isn't built: (cd crates/refused_growth && rt run)"
+    with open(f"{REFUSED_GROWTH}/stdout", "rb") as file:
         wanted = file.read()
     for number, _, ran in refuse("REFUSE_NTH", built):
         assert (ran.returncode, ran.stdout) == (0, wanted), f"request {number}"

@@ -1,10 +1,11 @@
 //! A port of two sessions that takes no memory.
 
+use crate::counters::Counters;
 use bytes::Bytes;
 use worker_port::{Gone, Port, PortEvent};
 
 /// The most bytes that are kept of a session's output.
-const ROOM: usize = 128;
+const ROOM: usize = 64;
 
 /// What a session was given.
 #[derive(Drop)]
@@ -41,18 +42,20 @@ impl Output {
     }
 }
 
-/// Opens sessions 1 and 2 and sends each its input.
+/// Opens sessions 1 and 2, sends each its input unless it was shut, and ends. It counts how often it is asked.
 #[derive(Drop)]
-pub struct QuietPort {
+pub struct QuietPort<'a> {
+    counters: &'a Counters,
     inputs: [&'static [u8]; 2],
     pub first: Output,
     pub second: Output,
     step: u64,
 }
 
-impl QuietPort {
-    pub fn new(inputs: [&'static [u8]; 2]) -> QuietPort {
+impl<'a> QuietPort<'a> {
+    pub fn new(counters: &'a Counters, inputs: [&'static [u8]; 2]) -> QuietPort<'a> {
         QuietPort {
+            counters,
             inputs,
             first: Output::new(),
             second: Output::new(),
@@ -69,7 +72,7 @@ impl QuietPort {
     }
 }
 
-impl Port for QuietPort {
+impl Port for QuietPort<'_> {
     ghost use Rattle.std.specs.Prelude.{None};
 
     ghost told = { λ _. None };
@@ -77,6 +80,7 @@ impl Port for QuietPort {
     ghost leads_to = { λ _ _. Unit {0} };
 
     fn next(&mut self, _may_wait: bool) -> PortEvent {
+        self.counters.count_event();
         self.step = self.step.saturating_add(1);
         match self.step {
             1 => PortEvent::Opened(1),

@@ -1,0 +1,84 @@
+//! Ports with their bytes, runs over them, and what a group's workers were given.
+
+use crate::groups::counters::{CountedPort, Counters};
+use bytes::Bytes;
+use group::{Config, GroupFault, GroupReport, GroupWorker, run_group};
+use proto::Geometry;
+use segcache::Store;
+use session_book::EndCause;
+use std::alloc::Global;
+use std::process::Abort;
+use std::sync::Wait;
+use std::thread::Threads;
+use std::time;
+use storage_thread::Clock;
+use worker::Gate;
+
+/// Stores one byte under the key `a` and asks for it.
+pub(crate) const INPUT: &[u8] = b"set a 0 0 1\r\nx\r\nget a\r\n";
+
+/// What is answered.
+pub(crate) const OUTPUT: &[u8] = b"STORED\r\nVALUE a 0 1\r\nx\r\nEND\r\n";
+
+/// The bytes with this key in place of `a`.
+pub(crate) fn with_key<R: Abort>(rt: &R, alloc: Global, bytes: &[u8], key: u8) -> Vec<u8> {
+    let mut all = Vec::new(alloc);
+    for byte in bytes {
+        let byte = if *byte == b'a' { key } else { *byte };
+        all.push(byte).expect(rt, "memory");
+    }
+    all
+}
+
+/// A port for each key, whose session 1 sends these bytes with the key in place of `a`.
+pub(crate) fn ports_of<'a, R: Abort>(
+    rt: &R,
+    alloc: Global,
+    counters: &'a Counters,
+    keys: &[u8],
+) -> Vec<CountedPort<'a>> {
+    let mut ports = Vec::new(alloc);
+    for key in keys {
+        let bytes = with_key(rt, alloc, INPUT, *key);
+        let input = Bytes::copy_from_slice(alloc, bytes.as_slice()).expect(rt, "memory");
+        ports
+            .push(CountedPort::new(alloc, counters, input))
+            .expect(rt, "memory");
+    }
+    ports
+}
+
+/// Runs a group over a new store of 64 segments.
+pub(crate) fn run<
+    'a,
+    C: Clock + Send,
+    G: Gate + Sync,
+    R: Abort + Threads + Wait + time::Clock + Sync,
+>(
+    rt: &R,
+    alloc: Global,
+    ports: Vec<CountedPort<'a>>,
+    clock: C,
+    gate: &G,
+) -> Result<GroupReport<CountedPort<'a>, C>, GroupFault> {
+    let geometry = Geometry::new(65_536, 64).expect(rt, "a geometry");
+    let store = Store::new(alloc, geometry).expect(rt, "memory");
+    run_group(rt, alloc, ports, Config { geometry }, store, clock, gate)
+}
+
+/// Each worker opened session 1 alone, which drained, and was given the whole output for its key.
+pub(crate) fn are_complete<R: Abort>(
+    rt: &R,
+    alloc: Global,
+    workers: &[GroupWorker<CountedPort<'_>>],
+    keys: &[u8],
+) -> bool {
+    for (worker, key) in workers.iter().zip(keys.iter()) {
+        let wanted = with_key(rt, alloc, OUTPUT, *key);
+        let has_drained = worker.sessions.as_slice() == [(1, EndCause::Drained)].as_slice();
+        if !has_drained || worker.port.given.as_slice() != wanted.as_slice() {
+            return false;
+        }
+    }
+    workers.len() == keys.len()
+}

@@ -1,0 +1,13 @@
+//! What storage and the workers of a run are woken by.
+
+use exchange::StorageSignals;
+use std::alloc::Global;
+use std::hash::FoldHasher;
+use std::process::Abort;
+use std::sync::Arc;
+
+/// The signals of storage and so many workers.
+pub(crate) fn signals_of(rt: &impl Abort, alloc: Global, workers: usize) -> Arc<StorageSignals> {
+    let signals = StorageSignals::new(alloc, FoldHasher::default(), workers).expect(rt, "memory");
+    Arc::new(alloc, signals).expect(rt, "memory")
+}

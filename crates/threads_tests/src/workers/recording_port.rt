@@ -1,0 +1,189 @@
+//! A port of the tests' own, which plays a list of steps and keeps its records.
+
+ghost use Rattle.std.specs.Prelude.{◌≡◌, ◌==◌, ◌++◌, ◌∷◌, [], false, ℕ, if◌then◌else◌};
+ghost use Rattle.std.specs.Option.{option_map_or};
+
+use crate::workers::records::{has_ended_in, is_new_in, is_open_in};
+use bytes::Bytes;
+use std::alloc::Global;
+use std::collections::VecDeque;
+use std::process::Abort;
+use worker_port::{Gone, MAX_PIECE, Port, PortEvent, PortRecord};
+
+/// What a port plays.
+#[derive(Drop)]
+pub(crate) enum Step {
+    Open(u64),
+    Send(u64, Bytes),
+    Gone(u64),
+}
+
+/// How a port takes what is given. Gives are counted for session 1 alone.
+#[derive(Clone, Copy, Drop)]
+pub(crate) struct Manners {
+    /// At most so many bytes of each give are accepted.
+    pub(crate) accept: usize,
+    /// So many gives accept nothing.
+    pub(crate) slow_gives: u64,
+    /// At this give the peer has gone; none where it is 0.
+    pub(crate) gone_at: u64,
+}
+
+/// Plays its steps in order, but for those that may not come, and keeps its records.
+#[derive(Drop)]
+pub(crate) struct RecordingPort<R: Abort + Drop> {
+    rt: R,
+    alloc: Global,
+    pub(crate) records: Vec<PortRecord>,
+    steps: VecDeque<Step>,
+    manners: Manners,
+    gives: u64,
+    paused: Option<u64>,
+    pub(crate) pauses: u64,
+    pub(crate) resumes: u64,
+}
+
+impl<R: Abort + Drop> RecordingPort<R> {
+    pub(crate) fn new(
+        rt: R,
+        alloc: Global,
+        steps: VecDeque<Step>,
+        manners: Manners,
+    ) -> RecordingPort<R>
+        ensures { result.records.items ≡ [] }
+    {
+        RecordingPort {
+            rt,
+            alloc,
+            records: Vec::new(alloc),
+            steps,
+            manners,
+            gives: 0,
+            paused: None,
+            pauses: 0,
+            resumes: 0,
+        }
+    }
+
+    /// How many gives will still accept nothing.
+    pub(crate) fn slow_gives_left(&self) -> u64 {
+        self.manners.slow_gives
+    }
+
+    // A session that has ended is paused no more.
+    fn forget_pause(&mut self, session: u64)
+        ensures rest { self.new ≡ record self.old { paused = self.new.paused } }
+        ensures forgets { (s : ℕ) → option_map_or (λ t. t == s) self.new.paused false
+            ≡ (if s == session then false else option_map_or (λ t. t == s) self.old.paused false) }
+    {
+        if self.paused == Some(session) {
+            self.paused = None;
+        }
+    }
+
+    // Whether the next step has to wait until its session is resumed.
+    fn is_paused(&self) -> bool {
+        match self.steps.front() {
+            Some(Step::Send(session, _)) => self.paused == Some(*session),
+            _ => false,
+        }
+    }
+
+    fn note(&mut self, entry: PortRecord)
+        ensures records { self.new.records.items ≡ self.old.records.items ++ entry ∷ [] }
+        ensures paused { self.new.paused ≡ self.old.paused }
+    {
+        self.records.push(entry).expect(&self.rt, "memory");
+    }
+}
+
+impl<R: Abort + Drop> Port for RecordingPort<R> {
+    ghost use Rattle.std.specs.Prelude.{Some, false, ◌==◌};
+    ghost use Rattle.std.specs.Option.{option_map_or};
+
+    ghost told = { λ p. Some (record { events = p.records.items; paused = λ s. option_map_or (λ t. t == s) p.paused false }) };
+
+    ghost leads_to = { λ _ _. Unit {0} };
+
+    fn next(&mut self, _may_wait: bool) -> PortEvent {
+        if has_ended_in(self.records.as_slice()) || self.is_paused() {
+            return PortEvent::Idle;
+        }
+        match self.steps.pop_front() {
+            Some(Step::Open(session)) => {
+                if !is_new_in(self.records.as_slice(), session) {
+                    return PortEvent::Idle;
+                }
+                self.note(PortRecord::Opened(session));
+                PortEvent::Opened(session)
+            }
+            Some(Step::Send(session, bytes)) => {
+                if bytes.len() > MAX_PIECE
+                    || self.paused == Some(session)
+                    || !is_open_in(self.records.as_slice(), session)
+                {
+                    return PortEvent::Idle;
+                }
+                let copy = bytes.clone().expect(&self.rt, "memory");
+                self.note(PortRecord::Data(session, copy));
+                PortEvent::Data(session, bytes)
+            }
+            Some(Step::Gone(session)) => {
+                if !is_open_in(self.records.as_slice(), session) {
+                    return PortEvent::Idle;
+                }
+                self.forget_pause(session);
+                self.note(PortRecord::Gone(session));
+                PortEvent::Gone(session)
+            }
+            None => {
+                self.note(PortRecord::Ended);
+                PortEvent::Ended
+            }
+        }
+    }
+
+    fn give(&mut self, session: u64, bytes: &[u8]) -> Result<usize, Gone> {
+        if self.manners.slow_gives > 0 {
+            self.manners.slow_gives -= 1;
+            return Ok(0);
+        }
+        if session == 1 {
+            self.gives = self.gives.saturating_add(1);
+            if self.gives == self.manners.gone_at {
+                self.forget_pause(session);
+                self.note(PortRecord::Gone(session));
+                return Err(Gone);
+            }
+        }
+        let accepted = bytes.len().min(self.manners.accept);
+        if accepted > 0 {
+            let copy = Bytes::copy_from_slice(self.alloc, &bytes[..accepted]).expect(
+                &self.rt, "memory",
+            );
+            self.note(PortRecord::Accepted(session, copy));
+        }
+        Ok(accepted)
+    }
+
+    fn pause(&mut self, session: u64) {
+        assert_eq!(self.rt; self.paused, None);
+        self.paused = Some(session);
+        self.pauses = self.pauses.saturating_add(1);
+    }
+
+    fn resume(&mut self, session: u64) {
+        assert_eq!(self.rt; self.paused, Some(session));
+        self.paused = None;
+        self.resumes = self.resumes.saturating_add(1);
+    }
+
+    fn shut(&mut self, session: u64) {
+        self.forget_pause(session);
+        self.note(PortRecord::Shut(session));
+    }
+
+    ghost leads_reflexive = { λ _. tt };
+
+    ghost leads_transitive = { λ _ _ _ _ _. tt };
+}

@@ -1,0 +1,79 @@
+//! What a run over a port that keeps its records leaves.
+
+ghost use Rattle.std.specs.Prelude.{◌≡◌, []};
+
+use crate::workers::recording_port::RecordingPort;
+use crate::workers::serving::serve;
+use session_book::EndCause;
+use std::alloc::Global;
+use std::process::Abort;
+use std::sync::Wait;
+use std::thread::Threads;
+use std::time::Clock;
+use worker::Gate;
+use worker_port::PortRecord;
+
+/// What a run leaves.
+#[derive(Drop)]
+pub(crate) struct Outcome<R: Abort + Drop> {
+    pub(crate) port: RecordingPort<R>,
+    pub(crate) sessions: Vec<(u64, EndCause)>,
+    pub(crate) sent: u64,
+    pub(crate) executed: u64,
+}
+
+/// Runs a worker over the port. Each session that was opened stands in the report.
+pub(crate) fn run<R, G>(rt: &R, alloc: Global, port: RecordingPort<R>, gate: &G) -> Outcome<R>
+where
+    R: Abort + Threads + Wait + Clock + Copy + Drop + Send + Sync + 'static,
+    G: Gate,
+    requires { port.records.items ≡ [] }
+{
+    let (report, executed) = serve(rt, alloc, port, gate);
+    assert!(*rt; report.unopened == 0);
+    Outcome {
+        port: report.port,
+        sessions: report.sessions,
+        sent: report.worker_end.sent(),
+        executed,
+    }
+}
+
+impl<R: Abort + Drop> Outcome<R> {
+    /// Why the session ended, by the report.
+    pub(crate) fn cause_of(&self, session: u64) -> Option<EndCause> {
+        for entry in self.sessions.as_slice() {
+            if entry.0 == session {
+                return Some(entry.1);
+            }
+        }
+        None
+    }
+
+    /// The bytes that were given to the session.
+    pub(crate) fn given_to(&self, rt: &R, alloc: Global, session: u64) -> Vec<u8> {
+        let mut all = Vec::new(alloc);
+        for entry in self.port.records.as_slice() {
+            if let PortRecord::Accepted(number, bytes) = entry {
+                if *number == session {
+                    all.extend_from_slice(bytes.as_slice()).expect(rt, "memory");
+                }
+            }
+        }
+        all
+    }
+
+    /// Session 1 was shut, once, and nothing of it follows.
+    pub(crate) fn is_shut_last(&self) -> bool {
+        let mut shuts = 0u64;
+        for entry in self.port.records.as_slice() {
+            match entry {
+                PortRecord::Shut(_) => shuts = shuts.saturating_add(1),
+                PortRecord::Ended => {}
+                _ if shuts > 0 => return false,
+                _ => {}
+            }
+        }
+        shuts == 1
+    }
+}

@@ -1,0 +1,60 @@
+//! Steps of ports, and bytes.
+
+use crate::workers::recording_port::Step;
+use bytes::Bytes;
+use std::alloc::Global;
+use std::collections::VecDeque;
+use std::process::Abort;
+
+/// Steps, in order.
+#[derive(Drop)]
+pub(crate) struct Script<R: Abort + Copy + Drop> {
+    rt: R,
+    alloc: Global,
+    pub(crate) steps: VecDeque<Step>,
+}
+
+impl<R: Abort + Copy + Drop> Script<R> {
+    pub(crate) fn new(rt: &R, alloc: Global) -> Script<R> {
+        Script {
+            rt: *rt,
+            alloc,
+            steps: VecDeque::new(alloc),
+        }
+    }
+
+    pub(crate) fn open(&mut self, session: u64) {
+        self.push(Step::Open(session));
+    }
+
+    pub(crate) fn gone(&mut self, session: u64) {
+        self.push(Step::Gone(session));
+    }
+
+    pub(crate) fn send(&mut self, session: u64, bytes: &[u8]) {
+        let bytes = Bytes::copy_from_slice(self.alloc, bytes).expect(&self.rt, "memory");
+        self.push(Step::Send(session, bytes));
+    }
+
+    fn push(&mut self, step: Step) {
+        self.steps.push_back(step).expect(&self.rt, "memory");
+    }
+}
+
+/// The bytes, so many times.
+pub(crate) fn repeated<R: Abort>(rt: &R, alloc: Global, bytes: &[u8], times: usize) -> Vec<u8> {
+    let mut all = Vec::new(alloc);
+    for _ in 0..times {
+        all.extend_from_slice(bytes).expect(rt, "memory");
+    }
+    all
+}
+
+/// The parts, one behind the other.
+pub(crate) fn joined<R: Abort>(rt: &R, alloc: Global, parts: &[&[u8]]) -> Vec<u8> {
+    let mut all = Vec::new(alloc);
+    for part in parts {
+        all.extend_from_slice(part).expect(rt, "memory");
+    }
+    all
+}

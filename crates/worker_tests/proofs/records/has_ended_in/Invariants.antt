@@ -1,6 +1,0 @@
-use Rattle.std.proofs.Common.{◌≡◌, take}
-use Rattle.worker_port.specs.Ports.{has_ended}
-use Rattle.worker_tests.proofs.records.has_ended_in.Given as goal
-
-abbrev pub invariant-loop-entry : goal.invariant-loop-entry
-invariant-loop-entry l = l.ended ≡ has_ended (take l.entry-index l.records)

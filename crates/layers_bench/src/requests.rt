@@ -1,16 +1,13 @@
 //! Requests of the numbered keys.
 
+use crate::items::{mixed, value_of};
 use proto::{ByteString, Keys, NoMemory, Put, Request, Words};
 use std::alloc::{AllocError, Global};
 
-/// How many bytes a small value has.
-pub const SMALL: usize = 100;
-
 /// The key of a number: eight letters that look random.
 fn key_of(n: u64) -> [u8; 8] {
-    let mixed = n.wrapping_mul(0x9e37_79b9_7f4a_7c15).to_le_bytes();
     let mut key = [b'a'; 8];
-    for (letter, byte) in key.iter_mut().zip(mixed) {
+    for (letter, byte) in key.iter_mut().zip(mixed(n)) {
         *letter = b'a' + byte % 16;
     }
     key
@@ -66,7 +63,7 @@ fn push_gets(
 
 /// A set of each key from a number on, to a value of so many bytes.
 pub fn sets(alloc: Global, from: u64, count: u64, length: usize) -> Result<Vec<Request>, NoMemory> {
-    let value = vec![in alloc; b'v'; length]?;
+    let value = value_of(alloc, length)?;
     let mut requests = Vec::with_capacity(alloc, count as usize)?;
     push_sets(&mut requests, alloc, from, count, &value)?;
     Ok(requests)

@@ -1,6 +1,4 @@
-//! How the time of a book grows with its work: each part is run once, and then with four times the work. What was
-//! done goes to the standard output, the times to the standard error.
-#![tactic(auto)]
+//! How the time of a book grows with its work: each part is run once, and then with four times the work.
 
 use anyhow::{Result, bail};
 use bytes::Bytes;
@@ -137,7 +135,8 @@ fn measure<R: Print + Eprint + Clock>(rt: &R, alloc: Global, work: Work) -> Resu
     Ok(())
 }
 
-fn main(rt: HostRuntime) -> Result<()> {
+/// Measures each part of a book's work, and each again with four times the work.
+pub fn measure_book<R: Print + Eprint + Clock>(rt: &R, alloc: Global) -> Result<()> {
     for factor in [1, 4] {
         for work in [
             Work::Sessions(10_000 * factor),
@@ -145,7 +144,7 @@ fn main(rt: HostRuntime) -> Result<()> {
             Work::Pieces(9_362 * factor, "get a\r\n"),
             Work::Pieces(9_362 * factor, "foo\r\n"),
         ] {
-            measure(&rt, rt.alloc(), work)?;
+            measure(rt, alloc, work)?;
         }
     }
     Ok(())

@@ -1,15 +1,26 @@
-//! Sets of ever new keys, each timed alone, and a flush.
+//! How long sets of ever new keys take on the segmented store and on the plain one, each timed alone, and a flush.
 
 use crate::requests::sets;
+use crate::timing::nanos_each;
 use anyhow::Result;
-use engine::StorageEngine;
-use proto::{Reply, Request};
+use engine::{PlainStore, StorageEngine};
+use proto::{Geometry, Reply, Request};
+use segcache::Store;
 use std::alloc::Global;
 use std::io::{Eprint, Print};
 use std::time::{Clock, Duration, Instant};
 
 /// How many requests are made at once, before they are sent.
 const BATCH: u64 = 50_000;
+
+/// So many keys at first, and as many further ones, with values of so many bytes, and the sizes of the segmented store.
+#[derive(Clone, Copy)]
+pub struct SteadyLoad {
+    pub keys: u64,
+    pub segment_size: u32,
+    pub segments: u32,
+    pub value_length: usize,
+}
 
 /// How many requests did what they asked, the time of all of them, and of the one that took longest.
 #[derive(Clone, Copy)]
@@ -86,7 +97,7 @@ fn set_many<E: StorageEngine, R: Print + Eprint + Clock>(
     println!(rt; "{name}: {} stored", times.done)?;
     eprintln!(rt;
         "{name}: {} ns each, the longest {} us",
-        times.all.as_nanos() / times.done.max(1) as u128,
+        nanos_each(times.all, times.done),
         times.longest.as_micros(),
     )?;
     Ok(())
@@ -98,14 +109,15 @@ fn time_flush<E: StorageEngine, R: Clock>(rt: &R, store: &mut E) -> Result<Times
 }
 
 /// Sets so many keys, then as many others, and flushes the store.
-pub fn run_steady<E: StorageEngine, R: Print + Eprint + Clock>(
+fn run<E: StorageEngine, R: Print + Eprint + Clock>(
     rt: &R,
     alloc: Global,
     name: &str,
     store: &mut E,
-    count: u64,
-    length: usize,
+    load: SteadyLoad,
 ) -> Result<()> {
+    let count = load.keys;
+    let length = load.value_length;
     println!(rt; "{name}")?;
     eprintln!(rt; "{name}")?;
     set_many(rt, alloc, "first sets", store, (0, count), length)?;
@@ -114,4 +126,37 @@ pub fn run_steady<E: StorageEngine, R: Print + Eprint + Clock>(
     println!(rt; "flush_all: {} done", times.done)?;
     eprintln!(rt; "flush_all: {} us", times.longest.as_micros())?;
     Ok(())
+}
+
+fn run_plain<R: Print + Eprint + Clock>(
+    rt: &R,
+    alloc: Global,
+    geometry: Geometry,
+    load: SteadyLoad,
+) -> Result<()> {
+    let mut store = PlainStore::new(alloc, geometry)?;
+    run(rt, alloc, "plain", &mut store, load)
+}
+
+/// Runs in the segmented store, and, beside what that one holds, in the plain one.
+fn run_both<R: Print + Eprint + Clock>(
+    rt: &R,
+    alloc: Global,
+    geometry: Geometry,
+    store: &mut Store,
+    load: SteadyLoad,
+) -> Result<()> {
+    run(rt, alloc, "segmented", store, load)?;
+    run_plain(rt, alloc, geometry, load)
+}
+
+/// Measures a segmented store, and, beside what that one holds, a plain one, which keeps all keys.
+pub fn measure_steady<R: Print + Eprint + Clock>(
+    rt: &R,
+    alloc: Global,
+    load: SteadyLoad,
+) -> Result<()> {
+    let geometry = Geometry::new(load.segment_size, load.segments)?;
+    let mut store = Store::new(alloc, geometry)?;
+    run_both(rt, alloc, geometry, &mut store, load)
 }

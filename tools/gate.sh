@@ -47,9 +47,7 @@ mkdir -p out
 rm -f "$minutes"
 python3 tools/gate_times.py measure "$minutes" &
 times_pid=$!
-# One process a check: a check by several takes a fifth more, up to three times as much, and edits have work for all processors.
-at_once=$(cd tools && python3 -c 'import machine; print(machine.at_once())')
-RT_JOBS=$at_once rt ci 2>&1 | tee "$work/log" | with_progress
+rt ci 2>&1 | tee "$work/log" | with_progress
 kill "$times_pid" && wait "$times_pid"
 times_pid=
 if [[ $(tail -n 1 "$work/log") =~ ^([0-9]+)\ passed,\ ([0-9]+)\ failed$ ]]; then

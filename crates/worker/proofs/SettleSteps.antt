@@ -27,7 +27,8 @@ use Rattle.worker.specs.Sessions.{RunView, facts, asked_by, had_by, cause_of, Ar
 use Rattle.worker_port.specs.PortFacts.{PortFacts, port_facts}
 use Rattle.worker_port.specs.Ports.{PortStory, then_told, has_ended, AcceptsOnlyOpen}
 use Rattle.worker.specs.EndCauses.{Rises, piece_of}
-use Rattle.worker.specs.Workers.{once_flushed, end_of, posted_by, unsettled_post, IsNumbered, IsSteady, AreSessionsCounted, IsStoryKnown, run_view, IsWorkerServing}
+use Rattle.worker.specs.Workers.{once_flushed, end_of, posted_by, unsettled_post, IsNumbered}
+use Rattle.worker.specs.Workers.{IsSteady, AreSessionsCounted, IsStoryKnown, run_view, IsWorkerServing}
 use Rattle.worker.specs.Workers.{TakesNone, TakesBack, Shuts}
 use Rattle.worker.proofs.Facts.{had_here, had_elsewhere}
 use Rattle.worker.proofs.SessionSteps.{runs, is_running, Stays, served_settled, closed_starved, dropped}

@@ -1,9 +1,9 @@
 -- What an engine over a plain map handles is a plain step.
-use Rattle.std.proofs.Common.{◌≡◌, ℕ, true, List, Option, Some, None, refl, sym, ◌∙◌, inl, inr}
+use Rattle.std.proofs.Common.{◌≡◌, ℕ, true, List, Option, Some, None, sym, ◌∙◌, inl, inr}
 use Rattle.std.specs.Prelude.{⊤}
 use Rattle.proto.specs.declared.message.Request.{Request}
 use Rattle.proto.specs.declared.message.Reply.{Reply}
-use Rattle.proto.specs.Cache.{Cache, found_at}
+use Rattle.proto.specs.Cache.{found_at}
 use Rattle.proto.specs.Commands.{Outcome, cache_of}
 use Rattle.engine.specs.declared.commands.Engine.{Engine}
 use Rattle.engine.specs.declared.plain_map.PlainMap.{PlainMap}

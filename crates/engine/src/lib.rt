@@ -1,7 +1,8 @@
-//! The commands of the cache, over any map of live entries; what any store of it promises; and the plain store, which forgets
-//! nothing and is there to be compared with.
+//! The commands of the cache, over any map of live entries; what the storage thread asks of a store and of a clock; and the
+//! plain store, which forgets nothing and is there to be compared with.
 #![tactic(auto)]
 
+mod clock;
 mod commands;
 mod deadline;
 mod entry_ref;
@@ -16,6 +17,7 @@ mod storage_engine;
 mod store;
 mod store_map;
 
+pub use clock::Clock;
 pub use commands::Engine;
 pub use deadline::has_arrived;
 pub use entry_ref::EntryRef;

@@ -11,14 +11,14 @@ use crate::fault::GroupFault;
 use crate::report::{Config, GroupReport, GroupWorker};
 use crate::start::announce_start;
 use crate::threads::{join_storage, join_workers, start_storage, start_workers};
-use engine::StorageEngine;
+use engine::{Clock, StorageEngine};
 use exchange::{StorageSignals, WorkerEnd, gather, make};
 use proto::MAX_WORKERS;
 use std::alloc::Global;
 use std::sync::{OnceLock, Wait};
 use std::thread;
 use std::thread::{Scope, Threads};
-use storage_thread::{Clock, StorageReport};
+use storage_thread::StorageReport;
 use worker::{Gate, WorkerReport};
 use worker_port::Port;
 

@@ -9,13 +9,13 @@ ghost use Rattle.group.specs.Threads.{IsFinished, HasSentNothing, IsSilent, Keep
 
 use crate::fault::GroupFault;
 use crate::start::{Finished, wait_for_start};
-use engine::StorageEngine;
+use engine::{Clock, StorageEngine};
 use exchange::{StorageEnd, StorageSignals, WorkerEnd};
 use std::alloc::Global;
 use std::snapshot::Snapshot;
 use std::sync::{OnceLock, OnceToken, Wait};
 use std::thread::{Promise, PromisedHandle, Scope, Threads};
-use storage_thread::{Clock, StorageReport, run_storage};
+use storage_thread::{StorageReport, run_storage};
 use worker::{Gate, WorkerReport, run_worker};
 use worker_port::Port;
 

@@ -6,7 +6,7 @@ ghost use Rattle.lanes_bench.specs.Serving.{IsUnusedEnd, IsFresh};
 use crate::ends::CallingEnd;
 use crate::player::{Player, Workload};
 use crate::serving::serve_queues;
-use engine::PlainStore;
+use engine::{Clock, PlainStore};
 use exchange::StorageSignals;
 use proto::Geometry;
 use std::alloc::{AllocError, Global};
@@ -15,7 +15,7 @@ use std::sync::Wait;
 use std::thread::Threads;
 use std::time::{Duration, Instant};
 use std::{thread, time};
-use storage_thread::{Clock, run_storage};
+use storage_thread::run_storage;
 
 /// A clock that stands still: it answers 0 always.
 #[derive(Drop)]

@@ -3,7 +3,7 @@
 
 use crate::runs::SteadyClock;
 use bytes::Bytes;
-use engine::PlainStore;
+use engine::{Clock as Moments, PlainStore};
 use group::{Config, run_group};
 use proto::Geometry;
 use std::alloc::Global;
@@ -12,7 +12,6 @@ use std::sync::Wait;
 use std::thread;
 use std::thread::Threads;
 use std::time::{Clock, Duration, Instant};
-use storage_thread::Clock as Moments;
 use worker::OpenGate;
 use worker_port::{Gone, Port, PortEvent};
 

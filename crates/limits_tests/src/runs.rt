@@ -3,7 +3,7 @@
 use crate::same::check_same;
 use crate::serving::serve;
 use crate::talk::{Shape, Talk, script_of, talk_of};
-use engine::PlainStore;
+use engine::{Clock, PlainStore};
 use proto::Geometry;
 use script::{ScriptClock, ScriptPort, WorkerScript, read_script, replay_sequentially};
 use session_book::EndCause;
@@ -13,7 +13,6 @@ use std::sync::Wait;
 use std::test::Fail;
 use std::thread::Threads;
 use std::time;
-use storage_thread::Clock;
 use worker::{OpenGate, WorkerReport};
 
 /// The size and the number of a store's segments; and the bytes of a value, how many keys stand in a line that asks

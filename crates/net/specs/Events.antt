@@ -1,6 +1,6 @@
 -- What a port over sockets tells of.
 use Rattle.std.specs.Prelude.{◌≡◌, ℕ, ◌+◌, ◌<◌, ◌≤◌, Bool, true, false, [], length, is_some}
-use Rattle.std.specs.Prelude.{IsTrue, cond}
+use Rattle.std.specs.Prelude.{cond}
 use Rattle.std.specs.Map.{lookup}
 use Rattle.std.specs.Bool.{nat_eq}
 use Rattle.worker_port.specs.declared.events.PortEvent.{PortEvent}

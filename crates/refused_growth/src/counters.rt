@@ -1,7 +1,7 @@
 //! How often the ports and the clock of a run are asked, and that clock. They take no memory.
 
+use engine::Clock;
 use std::sync::atomic::{AtomicU64, Ordering};
-use storage_thread::Clock;
 
 /// How often the ports and the clock of a run were asked.
 #[derive(Drop)]

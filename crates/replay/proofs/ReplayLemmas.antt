@@ -5,7 +5,6 @@ use Rattle.std.specs.Prelude.{⊤, flat_map}
 use Rattle.std.specs.List.{list_any}
 use Rattle.std.proofs.lemmas.List.{length-map}
 use Rattle.std.proofs.Common.{length-append}
-use mathlib.Core.Option.{some}
 use Rattle.proto.specs.declared.message.Message.{Message}
 use Rattle.proto.specs.declared.history.Answered.{Answered}
 use Rattle.proto.specs.Sizes.{Sizes}

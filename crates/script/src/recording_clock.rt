@@ -5,7 +5,7 @@ ghost use Rattle.script.specs.Readings.{readings_in_order};
 
 use crate::ScriptClock;
 use crate::readings::Readings;
-use storage_thread::Clock;
+use engine::Clock;
 
 /// A script's clock that tells the list of its readings. The list takes no memory.
 #[derive(Drop)]

@@ -1,5 +1,5 @@
 -- A book stays a book when one session changes.
-use Rattle.std.proofs.Common.{◌≡◌, ℕ, ◌+◌, ◌<◌, ◌≤◌, Bool, true, false, cond, List, [], ◌∷◌, ◌++◌, length, drop, Option, Some, None, Result, Ok, Err, is_some}
+use Rattle.std.proofs.Common.{◌≡◌, ℕ, ◌+◌, ◌<◌, ◌≤◌, Bool, true, false, cond, List, [], ◌∷◌, ◌++◌, length, drop, Option, Some, None, Result, Ok, Err}
 use Rattle.std.proofs.Common.{refl, sym, ap, subst, ◌∙◌, arith, inl, inr, add-zero, zero-add, length-append}
 use Rattle.std.proofs.lemmas.List.{append-nil}
 use Rattle.session_book.proofs.Steps.{reads_nothing, reads_new}
@@ -9,7 +9,6 @@ use Rattle.std.specs.Prelude.{IsSome}
 use Rattle.std.specs.Bool.{nat_eq}
 use Rattle.std.specs.HashMap.{HashMap, get_by, UpdatesBy, WritesThrough}
 use Rattle.std.specs.Map.{lookup}
-use Rattle.std.specs.Result.{OnOk, OnErr}
 use Rattle.std.proofs.lemmas.Map.Steps.{set_value_same}
 use Rattle.proto.specs.declared.message.Request.{Request}
 use Rattle.proto.specs.declared.message.Message.{Message}
@@ -20,7 +19,7 @@ use Rattle.proto.specs.Reading.{asks}
 use Rattle.session_book.specs.declared.causes.Unsettled.{Unsettled}
 use Rattle.session_book.specs.declared.causes.Received.{Received}
 use Rattle.session_book.specs.declared.causes.Received.TheVariants as receptions
-use Rattle.session_book.specs.Session.{SessionState, new_session, begins_asked, left, with_reply, once_fed, IsInputFull, held_fed, TakesPiece, FeedsHeld}
+use Rattle.session_book.specs.Session.{SessionState, new_session, begins_asked, left, with_reply, IsInputFull, held_fed, TakesPiece, FeedsHeld}
 use Rattle.session_book.specs.Session.{ReadsOn, ReadsAsk, Stops, given_request, gave}
 use Rattle.session_book.specs.Book.{BookState, session_of, unsettled_in, OnlyAt, ChangesOpen, Receives, FeedsHeldOf, IsBook, GivesNone, NextAsk, given_in}
 use Rattle.session_book.specs.Book.{IsOldest, SettlesReply, ChangesSession, stops}

@@ -5,7 +5,6 @@ use Rattle.std.specs.Bool.{nat_eq}
 use Rattle.proto.specs.declared.message.Request.{Request}
 use Rattle.proto.specs.declared.history.Answered.{Answered}
 use Rattle.proto.specs.declared.no_memory.NoMemory.{NoMemory}
-use Rattle.proto.specs.Reading.{asks}
 use Rattle.session_book.specs.declared.causes.Settled.{Settled}
 use Rattle.session_book.specs.declared.causes.Settled.TheVariants as outcomes
 use Rattle.session_book.specs.Session.{SessionState, ReadsAsk, with_reply}

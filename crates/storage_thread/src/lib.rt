@@ -3,11 +3,9 @@
 #![tactic(auto)]
 
 mod answered_worker;
-mod clock;
 mod reading_ahead;
 mod serving;
 mod unix_clock;
 
-pub use clock::Clock;
 pub use serving::{StorageReport, run_storage};
 pub use unix_clock::UnixClock;

@@ -10,9 +10,8 @@ ghost use Rattle.storage_thread.specs.Serving.{GetsNone, GetsMessage, AnswersOpe
 ghost use Rattle.storage_thread.specs.Keeping.{LeadsKeeping, MayForgetNothing};
 
 use crate::answered_worker::AnsweredWorker;
-use crate::clock::Clock;
 use crate::reading_ahead::ReadAhead;
-use engine::{MAX_MOMENT, StorageEngine};
+use engine::{Clock, MAX_MOMENT, StorageEngine};
 use exchange::{Answered, IdleTurns, Posted, StorageBatch, StorageEnd, StorageSignals, Taken};
 use std::sync::Wait;
 

@@ -3,7 +3,7 @@
 ghost use Rattle.std.specs.Prelude.{◌≡◌, ◌/◌};
 ghost use Rattle.std.specs.Time.{system_time_nanos};
 
-use crate::Clock;
+use engine::Clock;
 use std::time::{self, SystemTime, UNIX_EPOCH};
 
 /// Unix seconds, 0 before 1970 or where the clock can't be read. It doesn't tell its answers: std says of

@@ -1,9 +1,9 @@
 //! A port and a clock that count how often they are asked.
 
 use bytes::Bytes;
+use engine::Clock;
 use std::alloc::Global;
 use std::sync::atomic::{AtomicU64, Ordering};
-use storage_thread::Clock;
 use worker_port::{Gone, Port, PortEvent};
 
 /// How often the ports and the clock of a run were asked.

@@ -1,8 +1,8 @@
 //! A gate and a clock that wait for each other, so that eight workers and storage have to run side by side.
 
+use engine::Clock;
 use std::sync::atomic::{AtomicBool, AtomicU64, Ordering};
 use std::thread;
-use storage_thread::Clock;
 use worker::Gate;
 
 /// How often a stay yields before it gives up.

@@ -2,6 +2,7 @@
 
 use crate::groups::counters::{CountedPort, Counters};
 use bytes::Bytes;
+use engine::Clock;
 use group::{Config, GroupFault, GroupReport, GroupWorker, run_group};
 use proto::Geometry;
 use segcache::Store;
@@ -11,7 +12,6 @@ use std::process::Abort;
 use std::sync::Wait;
 use std::thread::Threads;
 use std::time;
-use storage_thread::Clock;
 use worker::Gate;
 
 /// Stores one byte under the key `a` and asks for it.

@@ -8,6 +8,7 @@ ghost use Rattle.storage_thread.specs.Serving.{IsUnused, IsSameExchange};
 use crate::same::check_same;
 use crate::signals::signals_of;
 use crate::storage::ends::{ask, made};
+use engine::Clock;
 use exchange::{Gathered, StorageEnd, StorageSignals, WorkerEnd, gather};
 use segcache::Store;
 use std::alloc::Global;
@@ -18,7 +19,7 @@ use std::sync::{Arc, Wait};
 use std::test::Fail;
 use std::thread;
 use std::thread::Promise;
-use storage_thread::{Clock, StorageReport, run_storage};
+use storage_thread::{StorageReport, run_storage};
 
 const CALLERS: usize = 8;
 

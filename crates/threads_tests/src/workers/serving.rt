@@ -7,7 +7,7 @@ ghost use Rattle.storage_thread.specs.Serving.{IsUnused};
 ghost use Rattle.worker_port.specs.Ports.{PortStory};
 
 use crate::signals::signals_of;
-use engine::PlainStore;
+use engine::{Clock, PlainStore};
 use exchange::{StorageEnd, WorkerEnd, make};
 use proto::Geometry;
 use std::alloc::Global;
@@ -15,7 +15,7 @@ use std::process::Abort;
 use std::sync::{Arc, Wait};
 use std::thread::Threads;
 use std::{thread, time};
-use storage_thread::{Clock, StorageReport, run_storage};
+use storage_thread::{StorageReport, run_storage};
 use worker::{Gate, WorkerReport, run_worker};
 use worker_port::Port;
 

@@ -2,7 +2,7 @@ use Rattle.std.proofs.Common.{rules, ◌≡◌, List, [], ◌∷◌, ◌++◌, l
 use mathlib.Core.Option.{some}
 use lib.ListN.{get_elem?}
 use Rattle.atomic_table.proofs.Lists.{at_last}
-use Rattle.queue_exchange.specs.Queues.{WorkerQueues, IsEndOf}
+use Rattle.queue_exchange.specs.Queues.{WorkerQueues}
 use Rattle.lanes_bench.proofs.window.made.Goals as goal
 
 pub returns-clause-end : goal.returns-clause-end

@@ -1,4 +1,4 @@
-use Rattle.std.proofs.Common.{rules, arith, ℕ, ◌<◌, All, sym, ap, subst, ◌∙◌}
+use Rattle.std.proofs.Common.{rules, arith, ℕ, ◌<◌, All, sym, subst, ◌∙◌}
 use Rattle.proto.specs.declared.history.Posted.{Posted}
 use Rattle.exchange.specs.Ends.{StorageView}
 use Rattle.storage_thread.specs.Serving.{SaidBye}

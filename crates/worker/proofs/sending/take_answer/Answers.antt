@@ -1,4 +1,4 @@
-use Rattle.std.proofs.Common.{◌≡◌, length, ◌++◌, ap, subst, ◌∙◌, Option, Some, None}
+use Rattle.std.proofs.Common.{◌≡◌, length, ◌++◌, ap, subst, Option, Some, None}
 use Rattle.std.specs.Prelude.{MatchOption, IfSome}
 use mathlib.Core.Option.{some}
 use lib.ListN.{get_elem?}

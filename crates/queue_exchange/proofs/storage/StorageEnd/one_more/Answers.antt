@@ -1,7 +1,6 @@
-use Rattle.std.proofs.Common.{◌≡◌, ℕ, ◌+◌, ◌<◌, List, [], ◌∷◌, ◌++◌, length, Some, is_some, arith, sym, ap, subst, ◌∙◌}
+use Rattle.std.proofs.Common.{◌≡◌, ℕ, ◌+◌, ◌<◌, List, [], ◌∷◌, ◌++◌, length, is_some, arith, sym, ap, subst, ◌∙◌}
 use Rattle.std.proofs.lemmas.List.{length-append, length-map}
 use Rattle.crossbeam_queue.specs.Passes.{view}
-use Rattle.proto.specs.declared.history.Posted.{Posted}
 use Rattle.proto.specs.History.{Legal, worker_share}
 use Rattle.queue_exchange.specs.declared.views.RequestQueueView.{RequestQueueView}
 use Rattle.queue_exchange.specs.Requests.{with_senders}

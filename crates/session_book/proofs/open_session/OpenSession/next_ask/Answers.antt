@@ -1,4 +1,4 @@
-use Rattle.std.proofs.Common.{◌≡◌, Ok, None, sym, ap, subst, ◌∙◌}
+use Rattle.std.proofs.Common.{◌≡◌, Ok, None, sym, ap, subst}
 use Rattle.std.specs.Prelude.{box_value}
 use Rattle.std.specs.Option.{option_map_or}
 use Rattle.session_book.specs.Session.{SessionState, new_session, ReadsAsk}

@@ -99,7 +99,7 @@ def write_minutes(path, minutes, note):
     with open(path, "w", encoding="utf-8") as file:
         file.write(f"# {note}\n" + "\t".join(["crate", *KINDS]) + "\n")
         for crate in sorted(minutes, key=lambda it: -in_all(minutes[it])):
-            file.write("\t".join([crate, *(f"{minutes[crate][kind]:.1f}" for kind in KINDS)]) + "\n")
+            file.write("\t".join([crate, *(f"{minutes[crate][kind]:.2f}" for kind in KINDS)]) + "\n")
 
 
 def read_minutes(path):
@@ -117,9 +117,15 @@ def note_of(path):
     return read(path).partition("\n")[0].removeprefix("# ")
 
 
+def processor_time():
+    """What the processors have had so far: all of it, and what the machine's host took."""
+    ticks = list(map(int, read("/proc/stat").split("\n", 1)[0].split()[1:9]))
+    return sum(ticks), ticks[7]
+
+
 def measure(path):
     """Measures what runs below the program that started this one."""
-    seen, ended, began = {}, [], time.time()
+    seen, ended, began, before = {}, [], time.time(), processor_time()
     load = " ".join(read("/proc/loadavg").split()[:3])
     signal.signal(signal.SIGTERM, lambda *_: ended.append(True))
     while not ended:
@@ -127,7 +133,9 @@ def measure(path):
         time.sleep(EVERY)
     when = time.strftime("%Y-%m-%d %H:%M UTC", time.gmtime(began))
     took = f"{(time.time() - began) / 60:.0f} minutes on {len(os.sched_getaffinity(0))} processors"
-    write_minutes(path, minutes_in(seen), f"{when}, {took}, with a load of {load} in the 1, 5 and 15 minutes before")
+    whole, stolen = (now - then for now, then in zip(processor_time(), before))
+    host = f"{stolen / max(whole, 1):.0%} of whose time the host took"
+    write_minutes(path, minutes_in(seen), f"{when}, {took}, {host}, with a load of {load} in the 1, 5 and 15 minutes before")
 
 
 def row(words):

@@ -34,12 +34,13 @@ LIBRARIES = f"{PROOFS}/libraries"
 IGNORED = ("out", "must-fail")
 # A crate that no run of the gate has measured is taken to need half a minute, and one more for so many lines.
 LINES_A_MINUTE = 2500
-# From a crate the way is near the longest one where it is shorter by at most so many minutes. Such a crate is proved by several processes, which is so
-# much faster, while its way is longer than LAST minutes: behind that few crates stand above it, and its library without its proofs saves them more.
-NEAR = 3
+# From a crate the way is near the longest one where it is shorter by at most such a share of the longest of all. Such a crate is proved by several
+# processes, which is so much faster, while its way is longer than another share: behind that few crates stand above it, and its library without its
+# proofs saves them more.
+NEAR = 0.15
 JOBS = 2
 FASTER = 1.5
-LAST = 5
+LAST = 0.3
 # The other crates yield by so much (nice).
 NICE = 10
 # For the estimate: where all processors have work, so much of their time is used.
@@ -282,11 +283,12 @@ class Proof:
 
 def how_to_prove(name, crates, ways, longest):
     """How to prove a crate that is ready, where the longest way that is left is so long."""
-    is_near = longest - ways[name] <= NEAR
+    whole = max(ways.values())
+    is_near = longest - ways[name] <= NEAR * whole
     nice = 0 if is_near else NICE
     if name == NAME or not crates[name]:
         return How(machine.processors(), False, nice)
-    processes = min(JOBS, machine.processors()) if is_near and ways[name] > LAST else 1
+    processes = min(JOBS, machine.processors()) if is_near and ways[name] > LAST * whole else 1
     return How(processes, processes > 1, nice)
 
 

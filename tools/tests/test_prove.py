@@ -45,7 +45,8 @@ def test_those_with_the_longest_way_start_first_and_are_proved_by_several_proces
     ways = prove.ways_to_the_top(CRATES, MINUTES)
     how, nice = prove.How, prove.NICE
     monkeypatch.setattr(prove, "NAME", "top")
-    monkeypatch.setattr(prove, "LAST", 1.5)
+    monkeypatch.setattr(prove, "NEAR", 0.375)
+    monkeypatch.setattr(prove, "LAST", 0.2)
     monkeypatch.setattr(machine, "processors", lambda: 4)
     monkeypatch.setattr(machine, "at_once", lambda: 2)
     assert prove.to_start(CRATES, ways, set(), {}) == [("base", how(4, False, 0))]

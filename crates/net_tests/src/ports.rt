@@ -12,8 +12,8 @@ use worker_port::{Port, PortEvent};
 /// So often a port is asked for an event that has to come.
 const CALLS: usize = 100_000_000;
 
-/// So often it is asked where none may come.
-const FEW_CALLS: usize = 100_000;
+/// So often it is asked where none may come: as it waits a little from the 8,192nd on, more would take long.
+const FEW_CALLS: usize = 10_000;
 
 /// What came, without its bytes.
 #[derive(Clone, Copy, PartialEq)]

@@ -11,8 +11,8 @@ ghost use Rattle.command_line.specs.Words.{IsJob, IsReplayInRange, IsServeInRang
 use crate::version::VERSION;
 use clap::builder::ValueParser;
 use clap::error::ErrorKind;
-use clap::{Arg, ArgMatches, Command};
-use proto::{MAX_SEGMENT_SIZE, MAX_SEGMENTS, MAX_WORKERS, MIN_SEGMENT_SIZE, MIN_SEGMENTS};
+use clap::{Arg, ArgAction, ArgMatches, Command};
+use proto::{Dialect, MAX_SEGMENT_SIZE, MAX_SEGMENTS, MAX_WORKERS, MIN_SEGMENT_SIZE, MIN_SEGMENTS};
 use std::alloc::{AllocError, Global};
 use std::io;
 use thiserror::Error;
@@ -39,6 +39,7 @@ pub struct Options {
     pub accept: u64,
     /// Which give of each worker's port finds its peer gone, counted from 1; 0 is none.
     pub fail_give: u64,
+    pub dialect: Dialect,
 }
 
 /// What `segcached serve` is told.
@@ -50,10 +51,13 @@ pub struct ServeOptions {
     pub workers: u64,
     /// So many streams are accepted; none is any number.
     pub sessions: Option<u64>,
+    /// A session that owes nothing is closed once nothing came from it for so many seconds; none is never.
+    pub idle: Option<u64>,
     /// The bytes of a segment, 4,096 to 1,048,576. Whether it is a power of two is tested later.
     pub segment_size: u64,
     /// The number of segments, 8 to 65,536.
     pub segments: u64,
+    pub dialect: Dialect,
 }
 
 /// What the words ask for.
@@ -183,7 +187,7 @@ static REPLAY_OPTIONS: [NumberOption; 7] = [
 ];
 
 /// The options of a server beside its address.
-static SERVE_OPTIONS: [NumberOption; 4] = [
+static SERVE_OPTIONS: [NumberOption; 5] = [
     NumberOption {
         default: &["2"],
         ..WORKERS
@@ -194,6 +198,14 @@ static SERVE_OPTIONS: [NumberOption; 4] = [
         help: "Accept so many streams, and end when their sessions have ended",
         least: 1,
         most: u64::MAX,
+        default: &[],
+    },
+    NumberOption {
+        name: "idle",
+        value_name: "SECONDS",
+        help: "Close a session from which nothing came for so long and which owes nothing, 1 to 4294967295",
+        least: 1,
+        most: u32::MAX as u64,
         default: &[],
     },
     SEGMENT_SIZE,
@@ -209,7 +221,17 @@ fn number_option<'a>(alloc: Global, option: &NumberOption) -> Arg<'a> {
         .default_values(option.default)
 }
 
-/// The command with these options, where there was memory for it so far.
+/// Both jobs have this option.
+fn lenient<'a>(alloc: Global) -> Arg<'a> {
+    Arg::new(alloc, "lenient")
+        .long("lenient")
+        .action(ArgAction::SetTrue)
+        .help(
+            "Spaces before a line's end don't count, and a line has at most 32768 bytes in place of 2048",
+        )
+}
+
+/// The command with these options and `--lenient`, where there was memory for it so far.
 fn with_options<'a>(
     alloc: Global,
     command: Result<Command<'a>, AllocError>,
@@ -219,7 +241,7 @@ fn with_options<'a>(
     for option in options {
         command = command.arg(number_option(alloc, option))?;
     }
-    Ok(command)
+    command.arg(lenient(alloc))
 }
 
 fn file<'a>(alloc: Global) -> Arg<'a> {
@@ -301,6 +323,14 @@ fn number_in(
     Ok(found)
 }
 
+fn dialect(matches: &ArgMatches<'_>) -> Dialect {
+    if matches.get_flag("lenient") {
+        Dialect::Lenient
+    } else {
+        Dialect::Strict
+    }
+}
+
 fn replay_options(alloc: Global, matches: &ArgMatches<'_>) -> Result<Options, WordsFault>
     ensures { IfOk result IsReplayInRange }
 {
@@ -324,6 +354,7 @@ fn replay_options(alloc: Global, matches: &ArgMatches<'_>) -> Result<Options, Wo
         tick: number(matches, "tick"),
         accept: number_in(alloc, matches, "accept", 0, MAX_ACCEPTED)?,
         fail_give: number(matches, "fail-give"),
+        dialect: dialect(matches),
         file: String::from_str(alloc, matches.get_str("file").unwrap_or(""))?,
     })
 }
@@ -334,6 +365,7 @@ fn serve_options(alloc: Global, matches: &ArgMatches<'_>) -> Result<ServeOptions
     Ok(ServeOptions {
         workers: number_in(alloc, matches, "workers", 1, MAX_WORKERS as u64)?,
         sessions: matches.get_one::<u64>("sessions"),
+        idle: matches.get_one::<u64>("idle"),
         segment_size: number_in(
             alloc,
             matches,
@@ -348,6 +380,7 @@ fn serve_options(alloc: Global, matches: &ArgMatches<'_>) -> Result<ServeOptions
             MIN_SEGMENTS as u64,
             MAX_SEGMENTS as u64,
         )?,
+        dialect: dialect(matches),
         listen: String::from_str(alloc, matches.get_str("listen").unwrap_or(""))?,
     })
 }

@@ -1,10 +1,12 @@
 -- A search for a line end, from one byte 13 to the next.
-use Rattle.std.proofs.Common.{◌≡◌, ℕ, zero, suc, ◌+◌, ◌-◌, ◌<◌, List, length, get_or, drop, refl, ap, ◌∙◌, arith, inl, inr, length-drop, add-zero}
-use Rattle.std.specs.Prelude.{nat_le}
+use Rattle.std.proofs.Common.{◌≡◌, ℕ, zero, suc, ◌+◌, ◌-◌, ◌<◌, ◌≤◌, List, length, get_or, take, drop, refl, sym, ap, ◌∙◌, arith, inl, inr, length-drop, add-zero}
+use Rattle.std.specs.Prelude.{nat_le, min}
+use Rattle.std.proofs.Math.Nat.{min-le_left, min-le_right}
 use Rattle.std.proofs.lemmas.Bool.{cases_Bool, leb-true, leb-false, eqb-true}
-use Rattle.std.proofs.lemmas.List.{get_or-drop}
+use Rattle.std.proofs.lemmas.List.{get_or-drop, get_or-take, length-take, length-take-le, take-take}
 use Rattle.memchr.specs.Find.{Nowhere, NoneBefore, OccursAt, Passes, is_byte}
-use Rattle.proto.specs.Lines.{line_end}
+use Rattle.proto.specs.Lines.{line_end, IsSearched}
+use Rattle.proto.proofs.FirstLine.{no_end_place, no_end_take}
 
 -- no line end begins below a place, where none begins up to `from` and no byte behind is 13
 further : (b back : List ℕ) (from i : ℕ) → back ≡ drop from b → Nowhere (Passes (is_byte 13) back) 0 i
@@ -63,3 +65,25 @@ search_goes_on b back from i back-is found before other k low high occurs =
           other (omega (arith, fits)) (rw place at ahead)
       | inr below ↦ further b back from i back-is found.0.before before k low (leb-false (from + i) k below) occurs
     ]
+
+-- no line end begins before the last of the bytes that were searched
+pub search_begins : (b : List ℕ) (n : ℕ) → IsSearched b n → Nowhere (OccursAt b line_end) 0 (n - 1)
+search_begins b n h k low high occurs =
+    let within = h.within in
+    let here : get_or b k 0 ≡ 13 = rw add-zero at (occurs.reads 0 (omega arith)) in
+    let ahead : get_or b (k + 1) 0 ≡ 10 = occurs.reads 1 (omega arith) in
+    let len : length (take n b) ≡ n = length-take-le n b within in
+    no_end_place (take n b) k h.no_end (omega (arith, len))
+    (rw (get_or-take n b k 0 (omega arith)) here) (rw (get_or-take n b (k + 1) 0 (omega arith)) ahead)
+
+-- what was searched of the bytes was searched of so many of them
+pub searched_front : (b : List ℕ) (most n : ℕ) → IsSearched b n
+    → IsSearched (take most b) (min n (length (take most b)))
+searched_front b most n h =
+    let least = min n (length (take most b)) in
+    let fits : least ≤ length (take most b) = min-le_right n (length (take most b)) in
+    let fewer : least ≤ n = min-le_left n (length (take most b)) in
+    let within : least ≤ most = omega (arith, fits, length-take most b) in
+    let same : take least (take most b) ≡ take least (take n b) =
+    take-take least most b within ∙ sym (take-take least n b fewer) in
+    record { within = fits; no_end = rw same (no_end_take least (take n b) h.no_end) }

@@ -3,6 +3,7 @@
 use Rattle.std.specs.Prelude.{◌≡◌, ℕ, ℤ, pos, negsuc, true, false, List, [], ◌∷◌, ◌++◌, codes, replicate, Option, Some, None}
 use Rattle.std.specs.List.{AllByRecursion}
 use Rattle.std.specs.FinMap as finite
+use Rattle.proto.specs.declared.dialect.Dialect.TheVariants.{Strict, Lenient}
 use Rattle.proto.specs.declared.message.Put.{Put}
 use Rattle.proto.specs.Hits.{Hit}
 use Rattle.proto.specs.declared.message.Request.{Request}
@@ -46,8 +47,12 @@ line_break = codes "\r\n"
 abbrev pub Example : Type 0
 Example = List ℕ × Message
 
+-- in the strict dialect
 abbrev pub IsSpelled : Example → Type 0
-IsSpelled e = Spells e.0 e.1
+IsSpelled e = Spells Strict e.0 e.1
+
+abbrev pub IsSpelledLeniently : Example → Type 0
+IsSpelledLeniently e = Spells Lenient e.0 e.1
 
 abbrev pub requests : List Example
 requests =
@@ -86,12 +91,14 @@ faults =
     ∷ (codes "get  a\r\n", Wrong wrong.BadLine)
     ∷ (codes "get a\nget a\r\n", Wrong wrong.BadLine)
     ∷ (codes "get " ++ long_key ++ line_break, Wrong wrong.BadLine)
+    ∷ (codes "get a \r\n", Wrong wrong.BadLine)
     ∷ (codes "quit \r\n", Wrong wrong.BadLine)
     ∷ (codes "flush_all 00\r\n", Wrong wrong.BadLine)
     ∷ (codes "flush_all -1\r\n", Wrong wrong.BadLine)
     ∷ (codes "flush_all 10000000000\r\n", Wrong wrong.BadLine)
     ∷ (codes "flush_all 10 20\r\n", Wrong wrong.BadLine)
     ∷ (codes "incr a 18446744073709551616\r\n", Wrong wrong.BadLine)
+    ∷ (codes "set a 0 0 1 \r\n", Fatal fatal.BadLine)
     ∷ (codes "set a 00 0 1\r\n", Fatal fatal.BadLine)
     ∷ (codes "set " ++ long_key ++ codes " 0 0 1\r\n", Fatal fatal.BadLine)
     ∷ (codes "set a 4294967296 0 1\r\n", Fatal fatal.BadLine)
@@ -112,6 +119,39 @@ long_lines =
     ∷ (replicate 2047 97 ++ codes "\r", Fatal fatal.LongLine)
     ∷ []
 
+-- Leniently spaces before the line's end don't count. All else is as in the strict dialect, and a data block may end in
+-- spaces.
+abbrev pub lenient_lines : List Example
+lenient_lines =
+    (codes "get a \r\n", Ask (Get (a ∷ []) false) false)
+    ∷ (codes "get a   \r\n", Ask (Get (a ∷ []) false) false)
+    ∷ (codes "gets a b \r\n", Ask (Get (a ∷ b ∷ []) true) false)
+    ∷ (codes "delete a \r\n", Ask (Delete a) false)
+    ∷ (codes "flush_all \r\n", Ask (FlushAll 0) false)
+    ∷ (codes "flush_all 0 noreply \r\n", Ask (FlushAll 0) true)
+    ∷ (codes "quit \r\n", Quit)
+    ∷ (codes "set a 0 0 1 \r\nx\r\n", Ask (Set (put_with a 0 (pos 0) (codes "x"))) false)
+    ∷ (codes "set a 0 0 1 noreply \r\nx\r\n", Ask (Set (put_with a 0 (pos 0) (codes "x"))) true)
+    ∷ (codes "set a 0 0 2\r\nx \r\n", Ask (Set (put_with a 0 (pos 0) (codes "x "))) false)
+    ∷ (codes "get \r\n", Wrong wrong.BadLine)
+    ∷ (codes "get  \r\n", Wrong wrong.BadLine)
+    ∷ (codes " \r\n", Wrong wrong.Unknown)
+    ∷ (codes "get  a\r\n", Wrong wrong.BadLine)
+    ∷ (codes " get a\r\n", Wrong wrong.Unknown)
+    ∷ (codes "get a\nget a\r\n", Wrong wrong.BadLine)
+    ∷ (codes "set a 00 0 1 \r\n", Fatal fatal.BadLine)
+    ∷ []
+
+-- and with its end a line may have 32,768 bytes, its spaces counted
+abbrev pub lenient_long_lines : List Example
+lenient_long_lines =
+    (replicate 32766 97 ++ line_break, Wrong wrong.Unknown)
+    ∷ (replicate 32768 97, Fatal fatal.LongLine)
+    ∷ (replicate 32767 97 ++ codes "\r", Fatal fatal.LongLine)
+    ∷ (codes "get a" ++ replicate 32761 32 ++ line_break, Ask (Get (a ∷ []) false) false)
+    ∷ (codes "get a" ++ replicate 32762 32 ++ codes "\r", Fatal fatal.LongLine)
+    ∷ []
+
 -- what isn't a whole message yet
 abbrev pub unfinished : List (List ℕ)
 unfinished =
@@ -120,7 +160,7 @@ unfinished =
 
 -- bytes, and how many there have to be before more can be found
 abbrev pub HasNeed : List ℕ × ℕ → Type 0
-HasNeed e = IsUnfinished e.0 e.1
+HasNeed e = IsUnfinished Strict e.0 e.1
 
 abbrev pub needs : List (List ℕ × ℕ)
 needs =
@@ -269,7 +309,7 @@ session_history =
     ∷ []
 
 pub record SessionIs : Type 0 where
-  pub reads : Reads session_input session_messages []
+  pub reads : Reads Strict session_input session_messages []
   pub legal : Legal (sizes_of 65536 64) session_history
   pub asked_in_order : asked (session_share session_history 0 1) ≡ asks session_messages
   pub output : said session_messages (had (session_share session_history 0 1))
@@ -286,7 +326,7 @@ quit_messages =
 
 -- nothing is read behind `quit`, and the quiet request is not answered
 pub record QuitIs : Type 0 where
-  pub reads : Reads quit_input quit_messages (codes "get a\r\n")
+  pub reads : Reads Strict quit_input quit_messages (codes "get a\r\n")
   pub output : said quit_messages (reply.Stored ∷ reply.Stored ∷ []) ≡ codes "STORED\r\n"
 
 -- ---- a flush that comes while a session goes on

@@ -4,6 +4,7 @@
 
 mod byte_string;
 mod command_word;
+mod dialect;
 mod examples;
 mod geometry;
 mod head;
@@ -26,6 +27,7 @@ mod view;
 mod words;
 
 pub use byte_string::ByteString;
+pub use dialect::Dialect;
 pub use geometry::{
     BadSize, Geometry, MAX_SEGMENT_SIZE, MAX_SEGMENTS, MIN_SEGMENT_SIZE, MIN_SEGMENTS,
 };
@@ -34,14 +36,15 @@ pub use history::{Answered, Posted};
 pub use hits::{HitIter, HitRef, HitWriter, Hits};
 pub use keys::Keys;
 pub use limits::{
-    MAX_BLOCK, MAX_KEY, MAX_LINE, MAX_POSTS, MAX_SESSIONS, MAX_WORKERS, MIN_ITEM_SIZE, WINDOW,
+    MAX_BLOCK, MAX_KEY, MAX_LENIENT_LINE, MAX_LINE, MAX_POSTS, MAX_SESSIONS, MAX_WORKERS,
+    MIN_ITEM_SIZE, WINDOW,
 };
 pub use message::{FatalKind, Message, Next, Put, Reply, Request, WrongKind};
 pub use message_view::{MessageView, RequestView};
-pub use next::{next_message, to_message};
+pub use next::{next_message, next_message_in, to_message};
 pub use no_memory::NoMemory;
 pub use parse::number;
 pub use showing::{show, show_reply, shows_cas};
 pub use spare_buffer::SpareBuffer;
-pub use view::{NextView, next_view};
+pub use view::{NextView, next_view, next_view_behind, next_view_in};
 pub use words::Words;

@@ -4,8 +4,13 @@
 /// The longest key in bytes, after memcached's protocol.txt.
 pub const MAX_KEY: usize = 250;
 
-/// The longest line in bytes, with its end. memcached too closes a connection whose line goes on beyond 2,048.
+/// The longest line in bytes, with its end. memcached closes a connection where no end has come within 2,048, but not for `get` and
+/// `gets`.
 pub const MAX_LINE: usize = 2048;
+
+/// The longest line of the lenient dialect in bytes, with its end. The longest message that begins with such a line is below
+/// the bytes that a session may have unread.
+pub const MAX_LENIENT_LINE: usize = 32_768;
 
 /// The longest data block in bytes: an item takes an eighth of a segment at most, and a segment has 1,048,576 at most.
 pub const MAX_BLOCK: u64 = 131_072;

@@ -6,6 +6,7 @@ use Rattle.std.specs.List.{concat}
 use Rattle.std.proofs.lemmas.List.{append-nil}
 use Rattle.std.proofs.lemmas.List.Folds.{concat-append}
 use Rattle.std.proofs.lemmas.Bool.{both_ways}
+use Rattle.proto.specs.declared.dialect.Dialect.{Dialect}
 use Rattle.proto.specs.declared.message.Message.{Message}
 use Rattle.proto.specs.declared.message.Reply.{Reply}
 use Rattle.proto.specs.Grammar.{SpellsNone}
@@ -39,15 +40,16 @@ regroup : (p q u d : List ℕ) → p ++ (q ++ u) ++ d ≡ (p ++ q) ++ u ++ d
 regroup p q u d = simp append_assoc
 
 -- once more messages are read, the bytes fed were read as all of the messages, the new ones last
-read_more : (bytes : List ℕ) (ms more : List Message) (s after : SessionState) → ReadsOn s more after
-    → HasRead bytes ms s → HasRead bytes (ms ++ more) after
-read_more bytes ms more s after r h = record {
+read_more : (d : Dialect) (bytes : List ℕ) (ms more : List Message) (s after : SessionState) → ReadsOn s more after
+    → HasRead d bytes ms s → HasRead d bytes (ms ++ more) after
+read_more d bytes ms more s after r h = record {
   pieces = h.pieces ++ r.pieces;
+  dialect = r.dialect ∙ h.dialect;
   dropped = h.dropped;
   whole = h.whole ∙ ap (λ (x : List ℕ). concat h.pieces ++ x ++ h.dropped) r.unread
       ∙ regroup (concat h.pieces) (concat r.pieces) after.unread h.dropped
       ∙ ap (λ (x : List ℕ). x ++ after.unread ++ h.dropped) (sym (concat-append h.pieces r.pieces));
-  spelled = SpellEach-append h.pieces r.pieces ms more h.spelled r.spelled;
+  spelled = SpellEach-append d h.pieces r.pieces ms more h.spelled (rw h.dialect at r.spelled);
   ends_at_last = joined_ends ms more s.ended h.ended r.not_ended h.ends_at_last r.ends_at_last;
   ended = r.ended ∙ ap (λ (e : Option EndCause). ended_by e more) h.ended ∙ sym (ended_by-append None ms more);
   nothing_dropped = λ e. h.nothing_dropped (not_ended_before s.ended more (sym r.ended ∙ e));
@@ -78,12 +80,12 @@ say_more given ms more rs s after r h =
 
 -- reading keeps what is known of the bytes read and of the answers said
 pub read_keeps : ReadKeeps
-read_keeps bytes given ms more rs s after r h k =
-    (read_more bytes ms more s after r h, say_more given ms more rs s after r k)
+read_keeps d bytes given ms more rs s after r h k =
+    (read_more d bytes ms more s after r h, say_more given ms more rs s after r k)
 
 -- settling a reply keeps both
 pub settle_keeps : SettleKeeps
-settle_keeps bytes given ms rs r s asked h k =
+settle_keeps d bytes given ms rs r s asked h k =
     let queue : left s.queue (r ∷ []) ≡ left ms (rs ++ r ∷ []) =
     ap (λ (q : List Message). left q (r ∷ [])) k.queue ∙ sym (left_more ms rs (r ∷ [])) in
     let one : length (rs ++ r ∷ []) ≡ length rs + 1 = length-append rs (r ∷ []) in (
@@ -91,6 +93,7 @@ settle_keeps bytes given ms rs r s asked h k =
         pieces = h.pieces;
         dropped = h.dropped;
         whole = h.whole;
+        dialect = h.dialect;
         spelled = h.spelled;
         ends_at_last = h.ends_at_last;
         ended = h.ended;
@@ -108,24 +111,24 @@ settle_keeps bytes given ms rs r s asked h k =
 -- ---- beginnings
 
 -- a session that has ended has read all
-whole_ended : (bytes rest : List ℕ) (ms all : List Message) (s : SessionState) → is_some s.ended ≡ true
-    → HasRead bytes ms s → Reads bytes all rest → all ≡ ms
-whole_ended bytes rest ms all s ended h r =
+whole_ended : (d : Dialect) (bytes rest : List ℕ) (ms all : List Message) (s : SessionState) → is_some s.ended ≡ true
+    → HasRead d bytes ms s → Reads d bytes all rest → all ≡ ms
+whole_ended d bytes rest ms all s ended h r =
     let has : last_ends ms ≡ true = sym (has_ended_by ms h.ends_at_last)
     ∙ ap (λ (o : Option EndCause). is_some o) (sym h.ended) ∙ ended in
-    let mine : Reads bytes ms (s.unread ++ h.dropped) = record {
+    let mine : Reads d bytes ms (s.unread ++ h.dropped) = record {
       pieces = h.pieces;
       whole = h.whole ∙ append_assoc (concat h.pieces) s.unread h.dropped;
       spelled = h.spelled;
       ends_at_last = h.ends_at_last;
       no_more = λ e. absurd (both_ways (last_ends ms) e has);
     } in
-    (has_one_reading bytes rest (s.unread ++ h.dropped) all ms r mine).0
+    (has_one_reading d bytes rest (s.unread ++ h.dropped) all ms r mine).0
 
 -- reading goes on behind what was read of a session that hasn't ended
-reads_behind : (bytes rest : List ℕ) (ms more : List Message) (s : SessionState) → s.ended ≡ None → HasRead bytes ms s
-    → Reads s.unread more rest → Reads bytes (ms ++ more) rest
-reads_behind bytes rest ms more s none h r =
+reads_behind : (d : Dialect) (bytes rest : List ℕ) (ms more : List Message) (s : SessionState) → s.ended ≡ None → HasRead d bytes ms s
+    → Reads d s.unread more rest → Reads d bytes (ms ++ more) rest
+reads_behind d bytes rest ms more s none h r =
     let kept : bytes ≡ concat h.pieces ++ s.unread =
     h.whole ∙ ap (λ (d : List ℕ). concat h.pieces ++ s.unread ++ d) (h.nothing_dropped none) ∙ append-nil _ in
     let open_yet : ended_by None ms ≡ None = sym h.ended ∙ none in
@@ -134,7 +137,7 @@ reads_behind bytes rest ms more s none h r =
       whole = kept ∙ ap (λ (x : List ℕ). concat h.pieces ++ x) r.whole
           ∙ sym (append_assoc (concat h.pieces) (concat r.pieces) rest)
           ∙ ap (λ (x : List ℕ). x ++ rest) (sym (concat-append h.pieces r.pieces));
-      spelled = SpellEach-append h.pieces r.pieces ms more h.spelled r.spelled;
+      spelled = SpellEach-append d h.pieces r.pieces ms more h.spelled r.spelled;
       ends_at_last = EndsAtLast-append ms more open_yet r.ends_at_last;
       no_more = λ e. r.no_more (goes_on_behind ms more open_yet r.ends_at_last
           (EndsAtLast-append ms more open_yet r.ends_at_last) e);
@@ -149,30 +152,30 @@ reads_behind bytes rest ms more s none h r =
 
 -- the messages read are the first of those that the bytes spell
 pub read_begins : ReadBegins
-read_begins bytes rest ms all s h r =
+read_begins d bytes rest ms all s h r =
     elim (some_or_none s.ended) [
-      | inl ended ↦ ([], whole_ended bytes rest ms all s ended h r ∙ sym (append-nil ms))
+      | inl ended ↦ ([], whole_ended d bytes rest ms all s ended h r ∙ sym (append-nil ms))
       | inr none ↦
-          let (more, left_over, below) = has_reading s.unread in (
+          let (more, left_over, below) = has_reading d s.unread in (
             more,
-            (has_one_reading bytes rest left_over all (ms ++ more) r
-                (reads_behind bytes left_over ms more s none h below)).0,
+            (has_one_reading d bytes rest left_over all (ms ++ more) r
+                (reads_behind d bytes left_over ms more s none h below)).0,
           )
     ]
 
 -- bytes of which no beginning spells a message are read as no messages
-nothing_read : (b : List ℕ) → SpellsNone b → Reads b [] b
-nothing_read b none = record { pieces = []; whole = refl; spelled = tt; ends_at_last = tt; no_more = λ e. none }
+nothing_read : (d : Dialect) (b : List ℕ) → SpellsNone d b → Reads d b [] b
+nothing_read d b none = record { pieces = []; whole = refl; spelled = tt; ends_at_last = tt; no_more = λ e. none }
 
 -- the messages read are all that the bytes spell, once the session has ended or no message is left
 pub read_is_whole : ReadIsWhole
-read_is_whole bytes rest ms all s (inl ended) h r = whole_ended bytes rest ms all s ended h r
-read_is_whole bytes rest ms all s (inr none_spelled) h r =
+read_is_whole d bytes rest ms all s (inl ended) h r = whole_ended d bytes rest ms all s ended h r
+read_is_whole d bytes rest ms all s (inr none_spelled) h r =
     elim (some_or_none s.ended) [
-      | inl ended ↦ whole_ended bytes rest ms all s ended h r
+      | inl ended ↦ whole_ended d bytes rest ms all s ended h r
       | inr none ↦
-          (has_one_reading bytes rest s.unread all (ms ++ []) r
-          (reads_behind bytes s.unread ms [] s none h (nothing_read s.unread none_spelled))).0 ∙ append-nil ms
+          (has_one_reading d bytes rest s.unread all (ms ++ []) r
+          (reads_behind d bytes s.unread ms [] s none h (nothing_read d s.unread none_spelled))).0 ∙ append-nil ms
     ]
 
 -- the bytes given are the first of what is said to more messages with more replies

@@ -104,12 +104,12 @@ same_queue s t same asked = record { asked = rw same asked; queued = rw same ref
 
 -- a new session fits at a number that wasn't in use
 pub opens_book : (before after : BookState) (session : ℕ) → IsBook before
-    → OnlyAt before after session (Some new_session)
+    → OnlyAt before after session (Some (new_session before.dialect))
     → before.greatest < session → after.greatest ≡ session
     → after.unsettled ≡ before.unsettled → IsBook after
 opens_book before after session is only new greatest unsettled =
-    stays_book before after session (Some new_session) is only (omega (arith, greatest)) (omega (arith, greatest))
-    (λ u e. of_one new_session u _ (record {
+    stays_book before after session (Some (new_session before.dialect)) is only (omega (arith, greatest)) (omega (arith, greatest))
+    (λ u e. of_one (new_session before.dialect) u _ (record {
       asked = refl;
       queued = rw unsettled (sym (is.unsettled_below session new));
     }) e)
@@ -423,45 +423,3 @@ refused_ask before after now session s result e same failed is sessions unsettle
     ∙ ap (λ (us : List Unsettled). record before { unsettled = us }) unsettled ∙ same in
     idle_ask now session s result after (ap given_in failed) unchanged
     (subst (λ (b : BookState). IsBook b) same is) open_now (λ none. absurd cc)
-
--- ---- a session of which nothing came
-
--- has no unsettled request
-pub silent_unasked : (before : BookState) (session number : ℕ) (s : SessionState) → IsBook before
-    → session_of before session ≡ Some s
-    → slice_get before.unsettled 0 ≡ Some (record { number = number; session = session }) → s ≡ new_session → ⊥
-silent_unasked before session number s is open_now oldest silent =
-    let none : 0 < 0 = subst (λ (x : SessionState). 0 < length (asks x.queue)) silent
-    (first_asked before session number s is open_now oldest) in
-    omega (arith, none)
-
--- gives no request
-pub silent_ask : (before after now : BookState) → before ≡ now → (session : ℕ) (s : SessionState) → IsBook before
-    → session_of before session ≡ Some new_session → after ≡ record before { sessions = after.sessions }
-    → after.sessions ≡ before.sessions → session_of now session ≡ Some s → NextAsk now session s (Ok None) after
-silent_ask before after now same session s is open_now rest back s_open =
-    let there : session_of now session ≡ Some new_session =
-    subst (λ (b : BookState). session_of b session ≡ Some new_session) same open_now in
-    let both : Some new_session ≡ Some s = sym there ∙ s_open in
-    let s_is : new_session ≡ s = cc in
-    idle_ask now session s (Ok None) after refl (unchanged before after now same rest back)
-    (subst (λ (b : BookState). IsBook b) same is) s_open
-    (λ e. stops (subst (λ (x : SessionState). Stops x) s_is ((reads_new 0).none refl)))
-
--- has no output
-pub silent_gave : (before after now : BookState) → before ≡ now → (session n : ℕ)
-    → session_of before session ≡ Some new_session → after ≡ record before { sessions = after.sessions }
-    → after.sessions ≡ before.sessions
-    → ChangesSession now after session (option_map (λ s. gave s n) (session_of now session))
-silent_gave before after now same session n open_now rest back =
-    let kept : after ≡ now = unchanged before after now same rest back in
-    let there : session_of now session ≡ Some new_session =
-    subst (λ (b : BookState). session_of b session ≡ Some new_session) same open_now in
-    let gives : option_map (λ (s : SessionState). gave s n) (session_of now session) ≡ Some new_session =
-    ap (λ (o : Option SessionState). option_map (λ (s : SessionState). gave s n) o) there
-    ∙ ap (λ (x : List ℕ). Some (record new_session { out = x })) (drop-nil n) in
-    record {
-      only_at = subst (λ (o : Option SessionState). OnlyAt now after session o) (sym gives)
-          (rw kept (nothing_only now.sessions session new_session there));
-      rest = rw kept refl;
-    }

@@ -5,3 +5,4 @@ pub mod Needing
 pub mod Steps
 pub mod Books
 pub mod Entries
+pub mod Emptied

@@ -1,6 +1,7 @@
 -- What is read, when more is read behind it.
 use Rattle.std.proofs.Common.{◌≡◌, ℕ, true, false, List, [], ◌∷◌, ◌++◌, Option, Some, None, is_some, refl, ap, ◌∙◌}
 use Rattle.std.proofs.lemmas.Bool.{both_ways}
+use Rattle.proto.specs.declared.dialect.Dialect.{Dialect}
 use Rattle.proto.specs.declared.message.Message.{Message}
 use Rattle.proto.specs.declared.message.Message.TheVariants.{Ask, Wrong, Quit, Fatal}
 use Rattle.proto.specs.Reading.{ends_session, SpellEach, EndsAtLast, last_ends}
@@ -9,12 +10,12 @@ use Rattle.session_book.specs.Session.{ended_by}
 use Rattle.proto.proofs.GrammarLaws.{ends_more}
 
 -- where pieces spell messages, and further pieces further messages, all of the pieces spell all of the messages
-pub SpellEach-append : (ps qs : List (List ℕ)) (ms ns : List Message) → SpellEach ps ms → SpellEach qs ns
-    → SpellEach (ps ++ qs) (ms ++ ns)
-SpellEach-append [] qs [] ns h k = k
-SpellEach-append [] qs (m ∷ ms) ns h k = absurd h
-SpellEach-append (p ∷ ps) qs [] ns h k = absurd h
-SpellEach-append (p ∷ ps) qs (m ∷ ms) ns h k = (h.0, SpellEach-append ps qs ms ns h.1 k)
+pub SpellEach-append : (d : Dialect) (ps qs : List (List ℕ)) (ms ns : List Message) → SpellEach d ps ms
+    → SpellEach d qs ns → SpellEach d (ps ++ qs) (ms ++ ns)
+SpellEach-append d [] qs [] ns h k = k
+SpellEach-append d [] qs (m ∷ ms) ns h k = absurd h
+SpellEach-append d (p ∷ ps) qs [] ns h k = absurd h
+SpellEach-append d (p ∷ ps) qs (m ∷ ms) ns h k = (h.0, SpellEach-append d ps qs ms ns h.1 k)
 
 -- what has ended a session behind two lists of messages is found by reading one list and then the other
 pub ended_by-append : (ended : Option EndCause) (ms ns : List Message)

@@ -6,10 +6,12 @@ use Rattle.std.specs.List.{concat}
 use Rattle.std.proofs.lemmas.List.{append-nil}
 use Rattle.std.proofs.lemmas.List.Folds.{concat-append}
 use Rattle.std.proofs.lemmas.Bool.{both_ways}
+use Rattle.proto.specs.declared.dialect.Dialect.{Dialect}
 use Rattle.proto.specs.declared.message.Request.{Request}
 use Rattle.proto.specs.declared.message.Message.{Message}
 use Rattle.proto.specs.declared.message.Message.TheVariants.{Ask, Wrong, Quit, Fatal}
 use Rattle.proto.specs.Grammar.{Spells, SpellsNone}
+use Rattle.proto.specs.Needs.{IsUnfinished}
 use Rattle.proto.specs.Reading.{asks}
 use Rattle.proto.specs.Answers.{said, is_ask}
 use Rattle.proto.proofs.MessageReader.{spelling_nonempty}
@@ -36,7 +38,7 @@ takes_one before after (Fatal kind) h = record { message = Fatal kind; no_ask = 
 pub takes_less : (before after : SessionState) (m : Message) → ReadsMessage before m after
     → length after.unread < length before.unread
 takes_less before after m h = rw h.unread
-    (omega (arith, length-append h.piece after.unread, spelling_nonempty h.piece m h.spells))
+    (omega (arith, length-append h.piece after.unread, spelling_nonempty before.dialect h.piece m h.spells))
 
 -- a queue that begins with a request, or is empty, stays as it is
 pub left_stays : (queue : List Message) → begins_asked queue ≡ true → left queue [] ≡ queue
@@ -53,6 +55,7 @@ pub reads_nothing : (s : SessionState) → begins_asked s.queue ≡ true → Rea
 reads_nothing s asked = record {
   pieces = [];
   spelled = tt;
+  dialect = refl;
   unread = refl;
   ends_at_last = tt;
   not_ended = λ e. refl;
@@ -87,7 +90,9 @@ reads_more before now after ms m h none t =
     append_assoc before.queue ms (m ∷ []) in
     record {
       pieces = h.pieces ++ t.piece ∷ [];
-      spelled = SpellEach-append h.pieces (t.piece ∷ []) ms (m ∷ []) h.spelled (t.spells, tt);
+      spelled = SpellEach-append before.dialect h.pieces (t.piece ∷ []) ms (m ∷ []) h.spelled
+          (rw h.dialect at t.spells, tt);
+      dialect = t.dialect ∙ h.dialect;
       unread = h.unread ∙ ap (λ (x : List ℕ). concat h.pieces ++ x) t.unread
           ∙ sym (append_assoc (concat h.pieces) t.piece after.unread)
           ∙ ap (λ (x : List ℕ). x ++ after.unread)
@@ -116,13 +121,14 @@ pub reads_no_more : (before now after : SessionState) (ms : List Message) → Re
 reads_no_more before now after ms h t = record {
   pieces = h.pieces;
   spelled = h.spelled;
+  dialect = ap (λ (s : SessionState). s.dialect) t.rest ∙ h.dialect;
   unread = h.unread ∙ ap (λ (s : SessionState). concat h.pieces ++ s.unread) (sym t.rest);
   ends_at_last = h.ends_at_last;
   not_ended = h.not_ended;
   ended = ap (λ (s : SessionState). s.ended) t.rest ∙ h.ended;
   queue = ap (λ (s : SessionState). s.queue) t.rest ∙ h.queue;
   out = ap (λ (s : SessionState). s.out) t.rest ∙ h.out;
-  need = inr t.unfinished;
+  need = inr (rw h.dialect at t.unfinished);
   held = ap (λ (s : SessionState). s.held) t.rest ∙ h.held;
 }
 
@@ -159,14 +165,15 @@ pub record HasReadLocals (before : SessionState) (looks : ℕ) (now : SessionSta
 
 -- the first n bytes are taken where they spell the message
 taken : (before : SessionState) (b : List ℕ) (n : ℕ) (m seen : Message) (after : SessionState) → b ≡ before.unread
-    → Spells (take n b) seen → m ≡ seen → before.ended ≡ None
+    → Spells before.dialect (take n b) seen → m ≡ seen → before.ended ≡ None
     → after.unread ≡ drop n before.unread → after.ended ≡ ended_by None (m ∷ [])
     → after.queue ≡ left (before.queue ++ m ∷ []) []
     → after.out ≡ before.out ++ said (before.queue ++ m ∷ []) []
-    → after.need ≡ 1 → after.held ≡ before.held → ReadsMessage before m after
-taken before b n m seen after b_is spelled m_is open_yet unread ended queue out need held = record {
+    → after.need ≡ 1 → after.held ≡ before.held → after.dialect ≡ before.dialect → ReadsMessage before m after
+taken before b n m seen after b_is spelled m_is open_yet unread ended queue out need held dialect = record {
   piece = take n b;
   spells = rw m_is spelled;
+  dialect = dialect;
   unread = sym (take-append-drop n before.unread) ∙ ap (λ (x : List ℕ). take n x ++ drop n before.unread) (sym b_is)
       ∙ ap (λ (x : List ℕ). take n b ++ x) (sym unread);
   ended = ended ∙ ap (λ (e : Option EndCause). ended_by e (m ∷ [])) (sym open_yet);
@@ -256,7 +263,10 @@ reads_none before now after looks looks_now looks_after h ready one t = record {
     most_looks = omega (arith, h.most_looks);
     no_look = λ short. absurd (too_short before now looks looks_now h ready short);
   };
-  none = λ e. no_message (unfinished_short after.unread after.need t.unfinished) t.unfinished.none;
+  none = λ e.
+      let unfinished : IsUnfinished after.dialect after.unread after.need =
+      rw (ap (λ (s : SessionState). s.dialect) t.rest) t.unfinished in
+      no_message (unfinished_short after.dialect after.unread after.need unfinished) unfinished.none;
 }
 
 -- the session reads no further
@@ -277,10 +287,11 @@ reads_stops before now looks looks_now h stops = record {
 }
 
 -- a session that was just opened has nothing to read
-pub reads_new : (looks : ℕ) → ReadsAsk new_session looks (Ok None) new_session looks
-reads_new looks =
-    let none : SpellsNone [] = spells_none [] 1 (needs_one []) (omega arith) in
-    reads_stops new_session new_session looks looks (starts_locals new_session looks refl) (no_message (omega arith) none)
+pub reads_new : (d : Dialect) (looks : ℕ) → ReadsAsk (new_session d) looks (Ok None) (new_session d) looks
+reads_new d looks =
+    let none : SpellsNone d [] = spells_none d [] 1 (needs_one d []) (omega arith) in
+    reads_stops (new_session d) (new_session d) looks looks (starts_locals (new_session d) looks refl)
+    (no_message (omega arith) none)
 
 -- there was no memory for a message, which stays unread
 pub reads_refused : (before now after : SessionState) (looks looks_now looks_after : ℕ) (no_memory : NoMemory)
@@ -302,14 +313,14 @@ reads_refused before now after looks looks_now looks_after no_memory h ready one
 -- the parser found a message, as the session's parts say
 pub read_found : (now view : SessionState) (b : List ℕ) (n : ℕ) (m seen : Message) (r : Read) (after : SessionState)
     → view ≡ now
-    → r ≡ read_of m → b ≡ view.unread → Spells (take n b) seen
+    → r ≡ read_of m → b ≡ view.unread → Spells view.dialect (take n b) seen
     → m ≡ seen → now.ended ≡ None → after.unread ≡ drop n view.unread → after.ended ≡ ended_by None (m ∷ [])
     → after.queue ≡ left (view.queue ++ m ∷ []) []
     → after.out ≡ view.out ++ said (view.queue ++ m ∷ []) [] → after.need ≡ 1 → after.held ≡ view.held
-    → ReadsOne now (Ok r) after
-read_found now view b n m seen r after same r_is b_is spelled m_is open_yet unread ended queue out need held =
+    → after.dialect ≡ view.dialect → ReadsOne now (Ok r) after
+read_found now view b n m seen r after same r_is b_is spelled m_is open_yet unread ended queue out need held dialect =
     let takes : ReadsOne view (Ok (read_of m)) after = takes_one view after m
     (taken view b n m seen after b_is spelled m_is
-    (ap (λ (s : SessionState). s.ended) same ∙ open_yet) unread ended queue out need held) in
+    (ap (λ (s : SessionState). s.ended) same ∙ open_yet) unread ended queue out need held dialect) in
     subst (λ (s : SessionState). ReadsOne s (Ok r) after) same
     (subst (λ (x : Read). ReadsOne view (Ok x) after) (sym r_is) takes)

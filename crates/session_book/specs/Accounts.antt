@@ -1,6 +1,7 @@
 -- What a session's book says of a whole run: the bytes given and the output are what was said.
 use Rattle.std.specs.Prelude.{◌≡◌, ℕ, ◌+◌, ◌<◌, ◌⊎◌, true, List, [], ◌∷◌, ◌++◌, length, take, None, is_some}
 use Rattle.std.specs.List.{concat}
+use Rattle.proto.specs.declared.dialect.Dialect.{Dialect}
 use Rattle.proto.specs.declared.message.Reply.{Reply}
 use Rattle.proto.specs.declared.message.Message.{Message}
 use Rattle.proto.specs.Grammar.{SpellsNone}
@@ -8,13 +9,14 @@ use Rattle.proto.specs.Reading.{SpellEach, EndsAtLast, Reads, asks}
 use Rattle.proto.specs.Answers.{said}
 use Rattle.session_book.specs.Session.{SessionState, new_session, left, ended_by, once_fed, ReadsOn, with_reply, gave}
 
--- Of a session the bytes fed were read as the messages ms; once Quit or a fatal message was read, further bytes
+-- Of a session with lines of this dialect the bytes fed were read as the messages ms; once Quit or a fatal message was read, further bytes
 -- were dropped.
-pub record HasRead (fed_bytes : List ℕ) (ms : List Message) (s : SessionState) : Type 0 where
+pub record HasRead (d : Dialect) (fed_bytes : List ℕ) (ms : List Message) (s : SessionState) : Type 0 where
   pub pieces : List (List ℕ)
   pub dropped : List ℕ
   pub whole : fed_bytes ≡ concat pieces ++ s.unread ++ dropped
-  pub spelled : SpellEach pieces ms
+  pub dialect : s.dialect ≡ d
+  pub spelled : SpellEach d pieces ms
   pub ends_at_last : EndsAtLast ms
   pub ended : s.ended ≡ ended_by None ms
   pub nothing_dropped : s.ended ≡ None → dropped ≡ []
@@ -28,44 +30,44 @@ pub record HasSaid (ms : List Message) (replies : List Reply) (given : List ℕ)
 
 -- both hold of a new session
 abbrev pub StartsAccounts : Type 0
-StartsAccounts = HasRead [] [] new_session × HasSaid [] [] [] new_session
+StartsAccounts = (d : Dialect) → HasRead d [] [] (new_session d) × HasSaid [] [] [] (new_session d)
 
 -- feeding, reading, settling and giving keep them
 abbrev pub FeedKeeps : Type 0
 FeedKeeps =
-    (bytes piece given : List ℕ) (ms : List Message) (replies : List Reply) (s : SessionState)
-    → HasRead bytes ms s → HasSaid ms replies given s
-    → HasRead (bytes ++ piece) ms (once_fed s piece) × HasSaid ms replies given (once_fed s piece)
+    (d : Dialect) (bytes piece given : List ℕ) (ms : List Message) (replies : List Reply) (s : SessionState)
+    → HasRead d bytes ms s → HasSaid ms replies given s
+    → HasRead d (bytes ++ piece) ms (once_fed s piece) × HasSaid ms replies given (once_fed s piece)
 
 abbrev pub ReadKeeps : Type 0
 ReadKeeps =
-    (bytes given : List ℕ) (ms more : List Message) (replies : List Reply) (s after : SessionState)
-    → ReadsOn s more after → HasRead bytes ms s → HasSaid ms replies given s
-    → HasRead bytes (ms ++ more) after × HasSaid (ms ++ more) replies given after
+    (d : Dialect) (bytes given : List ℕ) (ms more : List Message) (replies : List Reply) (s after : SessionState)
+    → ReadsOn s more after → HasRead d bytes ms s → HasSaid ms replies given s
+    → HasRead d bytes (ms ++ more) after × HasSaid (ms ++ more) replies given after
 
 abbrev pub SettleKeeps : Type 0
 SettleKeeps =
-    (bytes given : List ℕ) (ms : List Message) (replies : List Reply) (reply : Reply) (s : SessionState)
-    → 0 < length (asks s.queue) → HasRead bytes ms s → HasSaid ms replies given s
-    → HasRead bytes ms (with_reply s reply) × HasSaid ms (replies ++ reply ∷ []) given (with_reply s reply)
+    (d : Dialect) (bytes given : List ℕ) (ms : List Message) (replies : List Reply) (reply : Reply) (s : SessionState)
+    → 0 < length (asks s.queue) → HasRead d bytes ms s → HasSaid ms replies given s
+    → HasRead d bytes ms (with_reply s reply) × HasSaid ms (replies ++ reply ∷ []) given (with_reply s reply)
 
 abbrev pub GiveKeeps : Type 0
 GiveKeeps =
-    (bytes given : List ℕ) (n : ℕ) (ms : List Message) (replies : List Reply) (s : SessionState)
-    → HasRead bytes ms s → HasSaid ms replies given s
-    → HasRead bytes ms (gave s n) × HasSaid ms replies (given ++ take n s.out) (gave s n)
+    (d : Dialect) (bytes given : List ℕ) (n : ℕ) (ms : List Message) (replies : List Reply) (s : SessionState)
+    → HasRead d bytes ms s → HasSaid ms replies given s
+    → HasRead d bytes ms (gave s n) × HasSaid ms replies (given ++ take n s.out) (gave s n)
 
 -- the messages read are the first of those that the bytes spell
 abbrev pub ReadBegins : Type 0
 ReadBegins =
-    (bytes rest : List ℕ) (ms all : List Message) (s : SessionState)
-    → HasRead bytes ms s → Reads bytes all rest → (more : List Message) × (all ≡ ms ++ more)
+    (d : Dialect) (bytes rest : List ℕ) (ms all : List Message) (s : SessionState)
+    → HasRead d bytes ms s → Reads d bytes all rest → (more : List Message) × (all ≡ ms ++ more)
 
 -- and all of them, once the session has ended or no message is left
 abbrev pub ReadIsWhole : Type 0
 ReadIsWhole =
-    (bytes rest : List ℕ) (ms all : List Message) (s : SessionState)
-    → (is_some s.ended ≡ true) ⊎ SpellsNone s.unread → HasRead bytes ms s → Reads bytes all rest → all ≡ ms
+    (d : Dialect) (bytes rest : List ℕ) (ms all : List Message) (s : SessionState)
+    → (is_some s.ended ≡ true) ⊎ SpellsNone d s.unread → HasRead d bytes ms s → Reads d bytes all rest → all ≡ ms
 
 -- the bytes given are the first of what is said to more messages with more replies
 abbrev pub SaidBegins : Type 0

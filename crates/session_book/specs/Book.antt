@@ -1,9 +1,10 @@
 -- The sessions of one worker.
-use Rattle.std.specs.Prelude.{◌≡◌, ℕ, ◌+◌, ◌<◌, ◌≤◌, ◌⊎◌, Bool, true, false, List, []}
+use Rattle.std.specs.Prelude.{◌≡◌, ℕ, ◌+◌, ◌<◌, ◌≤◌, ◌⊎◌, ⊤, Bool, true, false, List, []}
 use Rattle.std.specs.Prelude.{◌∷◌, ◌++◌, map, length, Option, Some, None, Result, Ok, Err, IsSome}
 use Rattle.std.specs.Prelude.{slice_get, drop, max, filter, ◌==◌, if◌then◌else◌}
 use Rattle.std.specs.Map.{lookup}
 use Rattle.std.specs.Bool.{nat_eq}
+use Rattle.proto.specs.declared.dialect.Dialect.{Dialect}
 use Rattle.proto.specs.declared.message.Request.{Request}
 use Rattle.proto.specs.declared.message.Message.{Message}
 use Rattle.proto.specs.declared.history.Answered.{Answered}
@@ -17,11 +18,12 @@ use Rattle.session_book.specs.declared.causes.Settled.TheVariants as outcomes
 use Rattle.session_book.specs.declared.limits.TheConstants.{MAX_UNSETTLED, MAX_SESSIONS, MAX_POSTS}
 use Rattle.session_book.specs.Session.{SessionState, new_session, begins_asked, TakesPiece, IsInputFull, held_fed, ReadsUpTo, Stops, with_reply}
 
--- A worker's book: the worker's number; the open sessions by their numbers; how many requests got a number;
+-- A worker's book: the worker's number; the dialect of its sessions' lines; the open sessions by their numbers; how many requests got a number;
 -- the unsettled requests in the order of their numbers; the greatest number of a session opened, and how many
 -- were; and how often the parser was called.
 pub record BookState : Type 0 where
   pub worker : ℕ
+  pub dialect : Dialect
   pub sessions : List (ℕ × SessionState)
   pub posted : ℕ
   pub unsettled : List Unsettled
@@ -48,7 +50,8 @@ pub record IsBook (book : BookState) : Type 0 where
 
 -- it isn't open, or has had no input
 abbrev pub HasNoInput : Option SessionState → Type 0
-HasNoInput s = (s ≡ None) ⊎ (s ≡ Some new_session)
+HasNoInput None = ⊤
+HasNoInput (Some s) = s ≡ new_session s.dialect
 
 -- the output that wasn't given yet, none of a session that isn't open
 abbrev pub out_of : Option SessionState → List ℕ

@@ -3,6 +3,7 @@ use Rattle.std.specs.Prelude.{◌≡◌, ℕ, ◌+◌, ◌<◌, ◌≤◌, ◌�
 use Rattle.std.specs.Prelude.{[], ◌∷◌, ◌++◌, length, drop, Option, Some, None, Result, Ok, Err}
 use Rattle.std.specs.Prelude.{is_some, ◌==◌, ◌&&◌, if◌then◌else◌}
 use Rattle.std.specs.List.{concat}
+use Rattle.proto.specs.declared.dialect.Dialect.{Dialect}
 use Rattle.proto.specs.declared.message.Request.{Request}
 use Rattle.proto.specs.declared.message.Reply.{Reply}
 use Rattle.proto.specs.declared.message.Message.{Message}
@@ -20,10 +21,11 @@ use Rattle.session_book.specs.declared.session.Read.{Read}
 use Rattle.session_book.specs.declared.session.Read.TheVariants as reads
 use Rattle.session_book.specs.declared.limits.TheConstants.{MAX_UNREAD, MAX_WAITING}
 
--- An open session: its unread bytes; the messages read, from its oldest unsettled request on; its output that
+-- An open session: the dialect of its lines; its unread bytes; the messages read, from its oldest unsettled request on; its output that
 -- wasn't given yet; whether it has read Quit or a fatal message; how many unread bytes there have to be
 -- before the parser is asked again; and the piece of input that is held until it fits, empty where none is.
 pub record SessionState : Type 0 where
+  pub dialect : Dialect
   pub unread : List ℕ
   pub queue : List Message
   pub out : List ℕ
@@ -32,8 +34,8 @@ pub record SessionState : Type 0 where
   pub held : List ℕ
 
 -- a session that was just opened
-abbrev pub new_session : SessionState
-new_session = record { unread = []; queue = []; out = []; ended = None; need = 1; held = [] }
+abbrev pub new_session : Dialect → SessionState
+new_session d = record { dialect = d; unread = []; queue = []; out = []; ended = None; need = 1; held = [] }
 
 -- the messages from the first request on for which no reply is left, where the requests use up the replies
 -- one after the other: those that `said` stops before
@@ -72,14 +74,15 @@ begins_asked (m ∷ ms) = is_ask m
 -- go behind the output. The need is what the parser said where it found no message in what is left.
 pub record ReadsOn (before : SessionState) (ms : List Message) (after : SessionState) : Type 0 where
   pub pieces : List (List ℕ)
-  pub spelled : SpellEach pieces ms
+  pub spelled : SpellEach before.dialect pieces ms
+  pub dialect : after.dialect ≡ before.dialect
   pub unread : before.unread ≡ concat pieces ++ after.unread
   pub ends_at_last : EndsAtLast ms
   pub not_ended : is_some before.ended ≡ true → ms ≡ []
   pub ended : after.ended ≡ ended_by before.ended ms
   pub queue : after.queue ≡ left (before.queue ++ ms) []
   pub out : after.out ≡ before.out ++ said (before.queue ++ ms) []
-  pub need : (after.need ≡ need_after before.need ms) ⊎ IsUnfinished after.unread after.need
+  pub need : (after.need ≡ need_after before.need ms) ⊎ IsUnfinished before.dialect after.unread after.need
   pub held : after.held ≡ before.held
 
 -- The queue's first request gets its reply; then the messages before the next request leave the queue, and
@@ -106,7 +109,14 @@ AskAtLast (m ∷ n ∷ ms) = (is_ask m ≡ false) × AskAtLast (n ∷ ms)
 pub data Stops (s : SessionState) : Type 0 where
   ended : is_some s.ended ≡ true → Stops s
   waiting : MAX_WAITING < length s.out → Stops s
-  no_message : length s.unread < s.need → SpellsNone s.unread → Stops s
+  no_message : length s.unread < s.need → SpellsNone s.dialect s.unread → Stops s
+
+-- the session has no output and no held piece, hasn't finished, and reads no further
+pub record IsEmptied (s : SessionState) : Type 0 where
+  pub out : s.out ≡ []
+  pub held : s.held ≡ []
+  pub unfinished : finished_by s ≡ None
+  pub stops : Stops s
 
 -- the piece doesn't fit behind the unread bytes; it always does once the session drops its input
 abbrev pub IsInputFull : SessionState → List ℕ → Type 0
@@ -168,7 +178,8 @@ pub record ReadsAsk (before : SessionState) (looks : ℕ) (result : Result (Opti
 -- A message is read: its spelling leaves the unread bytes, and it goes behind the queue.
 pub record ReadsMessage (before : SessionState) (m : Message) (after : SessionState) : Type 0 where
   pub piece : List ℕ
-  pub spells : Spells piece m
+  pub spells : Spells before.dialect piece m
+  pub dialect : after.dialect ≡ before.dialect
   pub unread : before.unread ≡ piece ++ after.unread
   pub ended : after.ended ≡ ended_by before.ended (m ∷ [])
   pub queue : after.queue ≡ left (before.queue ++ m ∷ []) []
@@ -189,7 +200,7 @@ pub record TakesAsk (before : SessionState) (q : Request) (after : SessionState)
 
 -- the parser finds no message, and the session keeps what it needs
 pub record TakesNothing (before after : SessionState) : Type 0 where
-  pub unfinished : IsUnfinished after.unread after.need
+  pub unfinished : IsUnfinished before.dialect after.unread after.need
   pub rest : after ≡ record before { need = after.need }
 
 -- what it comes to that a message is found

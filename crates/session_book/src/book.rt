@@ -1,8 +1,8 @@
 //! The sessions of one worker: reading what they were fed, and answering in the order of their messages.
 
-ghost use Rattle.std.specs.Prelude.{◌≡◌, ◌⊎◌, ◌+◌, ◌≤◌, ◌<◌, ◌↔◌, [], length, is_some, option_map};
+ghost use Rattle.std.specs.Prelude.{ℕ, ◌≡◌, ◌⊎◌, ◌+◌, ◌≤◌, ◌<◌, ◌↔◌, [], length, is_some, option_map};
 ghost use Rattle.std.specs.Prelude.{OnOk, OnErr, MatchOption};
-ghost use Rattle.session_book.specs.Session.{SessionState, new_session, gave, finished_by};
+ghost use Rattle.session_book.specs.Session.{SessionState, IsEmptied, new_session, gave, finished_by};
 ghost use Rattle.std.specs.Option.{option_and_then};
 ghost use Rattle.std.specs.VecDeque.{deque_len, deque_capacity};
 ghost use Rattle.proto.specs.declared.message.Request.{Request};
@@ -15,7 +15,7 @@ use crate::open_session::OpenSession;
 use crate::session::Session;
 use crate::upkeep::Upkeep;
 use bytes::Bytes;
-use proto::{Answered, NoMemory, Request};
+use proto::{Answered, Dialect, NoMemory, Request};
 use std::alloc::Global;
 use std::collections::{HashMap, VecDeque};
 use std::marker::Model;
@@ -37,6 +37,7 @@ pub struct Offer<'a> {
 pub struct Book {
     alloc: Global,
     worker: usize,
+    dialect: Dialect,
     sessions: HashMap<u64, OpenSession>,
     posted: u64,
     unsettled: VecDeque<Unsettled>,
@@ -53,6 +54,7 @@ impl Model for Book {
 
     ghost view = { λ a. record {
       worker = a.worker;
+      dialect = a.dialect;
       sessions = a.sessions.entries;
       posted = a.posted;
       unsettled = a.unsettled.items;
@@ -63,6 +65,7 @@ impl Model for Book {
 
     ghost invariant = { λ a. IsBook (record {
       worker = a.worker;
+      dialect = a.dialect;
       sessions = a.sessions.entries;
       posted = a.posted;
       unsettled = a.unsettled.items;
@@ -77,9 +80,10 @@ impl Book {
     ghost use Rattle.session_book.specs.Book.{HasNoInput, OnlyAt, IsKnown, NextAsk, Settles};
 
     /// No session is open yet. The worker's number is kept for its owner.
-    pub fn new(alloc: Global, worker: usize) -> Self
+    pub fn new(alloc: Global, worker: usize, dialect: Dialect) -> Self
         ensures { result ≡ record {
           worker = worker;
+          dialect = dialect;
           sessions = [];
           posted = 0;
           unsettled = [];
@@ -91,6 +95,7 @@ impl Book {
         Book {
             alloc,
             worker,
+            dialect,
             sessions: HashMap::new(alloc),
             posted: 0,
             unsettled: VecDeque::new(alloc),
@@ -110,7 +115,7 @@ impl Book {
     /// Opens a session. Numbers are above 0 and rise.
     pub fn open(&mut self, session: u64) -> Result<(), OpenFault>
         ensures known { (result ≡ Err OpenFault.Known) ↔ IsKnown self.old session }
-        ensures ok { OnOk result (OnlyAt self.old self.new session (Some new_session)) }
+        ensures ok { OnOk result (OnlyAt self.old self.new session (Some (new_session self.old.dialect))) }
         ensures rest { OnOk result (self.new
             ≡ record self.old { sessions = self.new.sessions; greatest = session; opened = self.old.opened + 1 }) }
         ensures err { OnErr result (self.new ≡ self.old) }
@@ -121,7 +126,10 @@ impl Book {
         if self.upkeep.ready.reserve(self.sessions.len() + 1).is_err() {
             return Err(OpenFault::NoMemory);
         }
-        match self.sessions.insert(session, OpenSession::new()) {
+        match self
+            .sessions
+            .insert(session, OpenSession::new(self.dialect))
+        {
             Ok(_) => {}
             Err(_) => return Err(OpenFault::NoMemory),
         }
@@ -282,6 +290,18 @@ impl Book {
         if let Some(open) = self.sessions.remove(&session) {
             self.upkeep.load.output_changed(open.waiting(), 0);
         }
+    }
+
+    /// A session that has input or output left, or has finished, if there is one.
+    pub fn find_unemptied(&self) -> Option<u64>
+        ensures { result ≡ None → (session : ℕ) (s : SessionState) → session_of self.now session ≡ Some s → IsEmptied s }
+    {
+        for (session, open) in &self.sessions {
+            if !open.is_emptied() {
+                return Some(*session);
+            }
+        }
+        None
     }
 
     /// The session is asked again.

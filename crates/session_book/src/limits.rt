@@ -5,7 +5,7 @@ use proto::WINDOW;
 /// Requests of a worker that may be unsettled at a time, over all its sessions.
 pub const MAX_UNSETTLED: usize = WINDOW as usize;
 
-/// Unread bytes of a session. It is above the longest spelling, a line of 2,048 bytes and a data block of
+/// Unread bytes of a session. It is above the longest spelling, a line of 32,768 bytes and a data block of
 /// 131,072 with its end, so a session whose input is full always has a message to read.
 pub const MAX_UNREAD: usize = 262_144;
 

@@ -1,6 +1,7 @@
 //! What a book's table has of an open session.
 
 ghost use Rattle.std.specs.Prelude.{◌≡◌, ◌<◌, ◌≤◌, length, OnOk, Ok, Some};
+ghost use Rattle.std.specs.Bool.{OnTrue};
 ghost use Rattle.std.specs.VecDeque.{deque_len, deque_capacity};
 ghost use Rattle.proto.specs.declared.message.Request.{Request};
 ghost use Rattle.proto.specs.Reading.{asks};
@@ -9,7 +10,7 @@ use crate::causes::{EndCause, Received, Unsettled};
 use crate::session::Session;
 use crate::upkeep::Upkeep;
 use bytes::Bytes;
-use proto::{Answered, NoMemory, Request};
+use proto::{Answered, Dialect, NoMemory, Request};
 use std::alloc::Global;
 use std::collections::VecDeque;
 use std::marker::Model;
@@ -18,6 +19,7 @@ use std::marker::Model;
 /// session is closed: before that there is nothing to read, to answer or to give.
 #[derive(Drop)]
 pub struct OpenSession {
+    dialect: Dialect,
     pub state: Option<Box<Session>>,
 }
 
@@ -28,16 +30,19 @@ impl Model for OpenSession {
 
     ghost Value = { SessionState };
 
-    ghost view = { λ a. option_map_or box_value a.state new_session };
+    ghost view = { λ a. option_map_or box_value a.state (new_session a.dialect) };
 }
 
 impl OpenSession {
     ghost use Rattle.session_book.specs.Session.{new_session};
 
-    pub fn new() -> Self
-        ensures { result ≡ new_session }
+    pub fn new(dialect: Dialect) -> Self
+        ensures { result ≡ new_session dialect }
     {
-        OpenSession { state: None }
+        OpenSession {
+            dialect,
+            state: None,
+        }
     }
 
     /// Takes the memory for the state, if there is none.
@@ -45,7 +50,7 @@ impl OpenSession {
         ensures { self.new ≡ self.old }
     {
         if self.state.is_none() {
-            self.state = Some(Box::new(alloc, Session::new(alloc))?);
+            self.state = Some(Box::new(alloc, Session::new(alloc, self.dialect))?);
         }
         Ok(())
     }
@@ -61,7 +66,7 @@ impl OpenSession {
 
 /// What a book does with an open session, which has nothing to do before its first input.
 impl OpenSession {
-    ghost use Rattle.session_book.specs.Session.{TakesPiece, FeedsHeld, ReadsAsk, with_reply, gave, finished_by};
+    ghost use Rattle.session_book.specs.Session.{TakesPiece, FeedsHeld, ReadsAsk, IsEmptied, with_reply, gave, finished_by};
 
     /// Feeds a piece that came, or holds it until it fits. The first one takes the memory for the state.
     pub fn receive(
@@ -133,6 +138,16 @@ impl OpenSession {
         };
         state.gave(session, n, upkeep);
         state.finished()
+    }
+
+    /// Whether nothing is left to be read and to be given.
+    pub fn is_emptied(&self) -> bool
+        ensures { OnTrue result (IsEmptied self.now) }
+    {
+        match &self.state {
+            Some(state) => state.is_emptied(),
+            None => true,
+        }
     }
 
     pub fn ask_later(&mut self, session: u64, upkeep: &mut Upkeep)

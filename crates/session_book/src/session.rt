@@ -17,7 +17,9 @@ use crate::ready_queues::Tickets;
 use crate::spare_buffers::SpareBuffers;
 use crate::upkeep::Upkeep;
 use bytes::Bytes;
-use proto::{Answered, Message, NextView, NoMemory, Reply, Request, next_view, to_message};
+use proto::{
+    Answered, Dialect, Message, NextView, NoMemory, Reply, Request, next_view_behind, to_message,
+};
 use std::alloc::Global;
 use std::collections::VecDeque;
 use std::marker::Model;
@@ -35,7 +37,10 @@ const WORTH_FEEDING: usize = 65_536;
 #[derive(Drop)]
 pub struct Session {
     alloc: Global,
+    dialect: Dialect,
     input: Buffer,
+    /// So many bytes in front of the input were searched for a line's end, and none was there.
+    searched: usize,
     queue: VecDeque<PendingAnswer>,
     output: Buffer,
     ended: Option<EndCause>,
@@ -46,12 +51,14 @@ pub struct Session {
 
 impl Model for Session {
     ghost use Rattle.std.specs.Prelude.{◌≡◌, true, [], unwrap_or};
+    ghost use Rattle.proto.specs.Lines.{IsSearched};
     ghost use Rattle.proto.specs.Needs.{NeedsMore};
     ghost use Rattle.session_book.specs.Session.{SessionState, begins_asked};
 
     ghost Value = { SessionState };
 
     ghost view = { λ a. record {
+      dialect = a.dialect;
       unread = a.input;
       queue = a.queue.items;
       out = a.output;
@@ -60,7 +67,8 @@ impl Model for Session {
       held = unwrap_or a.held [];
     } };
 
-    ghost invariant = { λ a. (begins_asked a.queue.items ≡ true) × NeedsMore a.input a.need };
+    ghost invariant = { λ a. (begins_asked a.queue.items ≡ true) × NeedsMore a.dialect a.input a.need
+        × IsSearched a.input a.searched };
 }
 
 /// What one call of the parser came to.
@@ -73,14 +81,16 @@ pub enum Read {
 
 impl Session {
     ghost use Rattle.session_book.specs.Session.{new_session, once_fed, IsInputFull, TakesPiece, FeedsHeld};
-    ghost use Rattle.session_book.specs.Session.{with_reply, finished_by, IsReady, Stops, ReadsOne, ReadsAsk};
+    ghost use Rattle.session_book.specs.Session.{with_reply, finished_by, IsReady, IsEmptied, Stops, ReadsOne, ReadsAsk};
 
-    pub fn new(alloc: Global) -> Self
-        ensures { result ≡ new_session }
+    pub fn new(alloc: Global, dialect: Dialect) -> Self
+        ensures { result ≡ new_session dialect }
     {
         Session {
             alloc,
+            dialect,
             input: Buffer::new(alloc),
+            searched: 0,
             queue: VecDeque::new(alloc),
             output: Buffer::new(alloc),
             ended: None,
@@ -180,12 +190,23 @@ impl Session {
         self.need <= self.input.len()
     }
 
-    /// Calls the parser once. The bytes are read in place, and a request is copied out of them once.
+    /// Whether nothing is left to be read and to be given.
+    pub fn is_emptied(&self) -> bool
+        ensures { OnTrue result (IsEmptied self.now) }
+    {
+        self.out().is_empty()
+            && self.held().is_empty()
+            && self.finished().is_none()
+            && !self.is_ready()
+    }
+
+    /// Calls the parser once. The bytes are read in place, and a request is copied out of them once. A line that isn't
+    /// whole yet is searched for its end from where the last call stopped.
     fn read(&mut self, alloc: Global) -> Result<Read, NoMemory>
         requires { IsReady self.old }
         ensures { ReadsOne self.old result self.new }
     {
-        match next_view(self.input.as_slice()) {
+        match next_view_behind(self.dialect, self.input.as_slice(), &mut self.searched) {
             NextView::More(need) => {
                 self.need = need;
                 Ok(Read::Nothing)
@@ -194,6 +215,7 @@ impl Session {
                 let message = to_message(alloc, view)?;
                 put_behind(&mut self.queue, &mut self.output, &message)?;
                 self.input.discard(length);
+                self.searched = 0;
                 self.need = 1;
                 self.ended = cause_of(&message);
                 Ok(read_of(message))

@@ -3,6 +3,7 @@
 use crate::player::Player;
 use crate::same::check_same;
 use bytes::Bytes;
+use proto::Dialect;
 use session_book::{Book, OpenFault, Received, Settled};
 use std::alloc::Global;
 use std::process::Abort;
@@ -90,7 +91,7 @@ const IN_ORDER: [Step; 8] = [
 
 #[test]
 fn settles_in_order(rt: HostRuntime) -> Result<(), Fail> {
-    let mut player = Player::new(rt.alloc(), None);
+    let mut player = Player::new(rt.alloc(), Dialect::Strict, None);
     let checked = check_steps(&rt, &mut player, &IN_ORDER);
     drop(player);
     checked
@@ -112,7 +113,7 @@ fn check_full(rt: &impl Abort, alloc: Global, book: &mut Book, piece: &[u8]) -> 
 #[test]
 fn holds_so_much_input(rt: HostRuntime) -> Result<(), Fail> {
     let piece = vec![in rt.alloc(); b'k'; 16384]?;
-    let mut book = Book::new(rt.alloc(), 3);
+    let mut book = Book::new(rt.alloc(), 3, Dialect::Strict);
     let checked = check_full(&rt, rt.alloc(), &mut book, piece.as_slice());
     drop(book);
     drop(piece);
@@ -145,7 +146,7 @@ fn check_64(rt: &impl Abort, player: &mut Player) -> Result<(), Fail> {
 
 #[test]
 fn asks_64_at_a_time(rt: HostRuntime) -> Result<(), Fail> {
-    let mut player = Player::new(rt.alloc(), None);
+    let mut player = Player::new(rt.alloc(), Dialect::Strict, None);
     let checked = check_64(&rt, &mut player);
     drop(player);
     checked
@@ -165,7 +166,7 @@ fn check_rising(rt: &impl Abort, book: &mut Book) {
 
 #[test]
 fn opens_rising_numbers(rt: HostRuntime) {
-    let mut book = Book::new(rt.alloc(), 0);
+    let mut book = Book::new(rt.alloc(), 0, Dialect::Strict);
     check_rising(&rt, &mut book);
     drop(book);
 }
@@ -196,8 +197,71 @@ fn check_large_block(rt: &impl Abort, player: &mut Player) -> Result<(), Fail> {
 
 #[test]
 fn looks_twice_at_a_large_block(rt: HostRuntime) -> Result<(), Fail> {
-    let mut player = Player::new(rt.alloc(), None);
+    let mut player = Player::new(rt.alloc(), Dialect::Strict, None);
     let checked = check_large_block(&rt, &mut player);
+    drop(player);
+    checked
+}
+
+/// Feeds so many bytes one by one, before each of which no request is found.
+fn feed_bytes(rt: &impl Abort, player: &mut Player, byte: &[u8], count: u64) -> Result<(), Fail> {
+    for _ in 0..count {
+        check_ask(rt, player, 1, None)?;
+        player.feed(1, byte)?;
+    }
+    Ok(())
+}
+
+/// The longest line that the lenient dialect has, of so many bytes behind what it begins with.
+fn check_long_line(
+    rt: &impl Abort,
+    player: &mut Player,
+    begins: &'static [u8],
+    byte: &'static [u8],
+    count: u64,
+    number: Option<u64>,
+) -> Result<(), Fail> {
+    check_steps(rt, player, &[Step::Open(1), Step::Feed(1, begins)])?;
+    feed_bytes(rt, player, byte, count)?;
+    check_ask(rt, player, 1, None)?;
+    player.feed(1, b"\r")?;
+    check_ask(rt, player, 1, None)?;
+    player.feed(1, b"\n")?;
+    check_ask(rt, player, 1, number)
+}
+
+/// A `get` with 32,761 spaces behind its key.
+fn check_spaces(rt: &impl Abort, player: &mut Player) -> Result<(), Fail> {
+    check_long_line(rt, player, b"get a", b" ", 32_761, Some(1))?;
+    check_steps(
+        rt,
+        player,
+        &[
+            Step::Settle(0, Settled::Kept),
+            Step::Output(1, "VALUE a 0 1\r\nx\r\nEND\r\n"),
+        ],
+    )
+}
+
+/// 32,766 bytes each of which may begin a line's end.
+fn check_returns(rt: &impl Abort, player: &mut Player) -> Result<(), Fail> {
+    check_long_line(rt, player, b"", b"\r", 32_766, None)?;
+    check_output(rt, player, 1, "ERROR\r\n");
+    Ok(())
+}
+
+#[test]
+fn reads_a_long_line_that_comes_byte_by_byte(rt: HostRuntime) -> Result<(), Fail> {
+    let mut player = Player::new(rt.alloc(), Dialect::Lenient, Some("x"));
+    let checked = check_spaces(&rt, &mut player);
+    drop(player);
+    checked
+}
+
+#[test]
+fn reads_a_line_of_carriage_returns(rt: HostRuntime) -> Result<(), Fail> {
+    let mut player = Player::new(rt.alloc(), Dialect::Lenient, None);
+    let checked = check_returns(&rt, &mut player);
     drop(player);
     checked
 }
@@ -219,7 +283,7 @@ const TO_CLOSED: [Step; 12] = [
 
 #[test]
 fn drops_answers_of_closed_sessions(rt: HostRuntime) -> Result<(), Fail> {
-    let mut player = Player::new(rt.alloc(), Some("x"));
+    let mut player = Player::new(rt.alloc(), Dialect::Strict, Some("x"));
     let checked = check_steps(&rt, &mut player, &TO_CLOSED);
     drop(player);
     checked

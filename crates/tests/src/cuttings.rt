@@ -2,6 +2,7 @@
 
 use crate::player::Player;
 use crate::same::check_same;
+use proto::Dialect;
 use session_book::EndCause;
 use std::alloc::Global;
 use std::process::Abort;
@@ -63,6 +64,28 @@ const ROWS: [Row; 8] = [
         input: "gets a\r\nfoo\r\nget a\r\nset a 0 0 131073\r\n",
         found: Some("x"),
         output: "VALUE a 0 1 1\r\nx\r\nEND\r\nERROR\r\nVALUE a 0 1\r\nx\r\nEND\r\nSERVER_ERROR object too large for cache\r\n",
+        ends: Some(EndCause::Fatal),
+    },
+];
+
+/// The same of the lenient dialect.
+const LENIENT_ROWS: [Row; 3] = [
+    Row {
+        input: "set a 0 0 2 \r\nx \r\nget a  \r\nfoo \r\n",
+        found: Some("x "),
+        output: "STORED\r\nVALUE a 0 2\r\nx \r\nEND\r\nERROR\r\n",
+        ends: None,
+    },
+    Row {
+        input: "get \r\n \r\nget  a\r\nquit \r\nget a\r\n",
+        found: None,
+        output: "CLIENT_ERROR bad command line format\r\nERROR\r\nCLIENT_ERROR bad command line format\r\n",
+        ends: Some(EndCause::Quit),
+    },
+    Row {
+        input: "set b 0 0 1 \r\ny\r\nset a 0 0 1 noreply  \r\nx \r\nget a\r\n",
+        found: None,
+        output: "STORED\r\nCLIENT_ERROR bad data chunk\r\n",
         ends: Some(EndCause::Fatal),
     },
 ];
@@ -152,18 +175,24 @@ fn outcome(
     Ok((is_given, player.finished(7)))
 }
 
-fn check_row(rt: &impl Abort, alloc: Global, row: &Row, seed: u64) -> Result<(), Fail> {
-    let mut player = Player::new(alloc, row.found);
+fn check_row(
+    rt: &impl Abort,
+    alloc: Global,
+    dialect: Dialect,
+    row: &Row,
+    seed: u64,
+) -> Result<(), Fail> {
+    let mut player = Player::new(alloc, dialect, row.found);
     let outcome = outcome(alloc, &mut player, row, seed);
     drop(player);
     check_same(rt, outcome?, (true, row.ends), (row.input, seed));
     Ok(())
 }
 
-fn check_rows(rt: &impl Abort, alloc: Global, rows: &[Row]) -> Result<(), Fail> {
+fn check_rows(rt: &impl Abort, alloc: Global, dialect: Dialect, rows: &[Row]) -> Result<(), Fail> {
     for row in rows {
         for seed in 0..50 {
-            check_row(rt, alloc, row, seed)?;
+            check_row(rt, alloc, dialect, row, seed)?;
         }
     }
     Ok(())
@@ -171,5 +200,6 @@ fn check_rows(rt: &impl Abort, alloc: Global, rows: &[Row]) -> Result<(), Fail> 
 
 #[test]
 fn cuttings_give_one_output(rt: HostRuntime) -> Result<(), Fail> {
-    check_rows(&rt, rt.alloc(), &ROWS)
+    check_rows(&rt, rt.alloc(), Dialect::Strict, &ROWS)?;
+    check_rows(&rt, rt.alloc(), Dialect::Lenient, &LENIENT_ROWS)
 }

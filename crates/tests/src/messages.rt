@@ -1,4 +1,4 @@
-//! Bytes through `next_message` and `show`, as a table of inputs and outcomes.
+//! Bytes through `next_message_in` and `show`, as a table of inputs and outcomes.
 
 ghost use Rattle.std.specs.Prelude.{◌≡◌, is_some};
 ghost use Rattle.proto.specs.Answers.{is_ask};
@@ -6,8 +6,8 @@ ghost use Rattle.proto.specs.Answers.{is_ask};
 use crate::player::push_hit;
 use crate::same::{check_bytes, check_same};
 use proto::{
-    ByteString, HitWriter, Hits, Keys, Message, Next, NextView, NoMemory, Put, Reply, Request,
-    SpareBuffer, next_message, next_view, show,
+    ByteString, Dialect, HitWriter, Hits, Keys, Message, Next, NextView, NoMemory, Put, Reply,
+    Request, SpareBuffer, next_message_in, next_view, next_view_in, show,
 };
 use std::alloc::{AllocError, Global};
 use std::process::Abort;
@@ -62,7 +62,7 @@ const REQUESTS: [(&[u8], Given, &[u8]); 16] = [
 ];
 
 /// Lines that are answered without the cache.
-const FAULTS: [(&[u8], &[u8]); 20] = [
+const FAULTS: [(&[u8], &[u8]); 22] = [
     (b"foo\r\n", b"ERROR\r\n"),
     (b"\r\n", b"ERROR\r\n"),
     (b" get a\r\n", b"ERROR\r\n"),
@@ -75,6 +75,11 @@ const FAULTS: [(&[u8], &[u8]); 20] = [
         b"CLIENT_ERROR bad command line format\r\n",
     ),
     (b"quit \r\n", b"CLIENT_ERROR bad command line format\r\n"),
+    (b"get a \r\n", b"CLIENT_ERROR bad command line format\r\n"),
+    (
+        b"set a 0 0 1 \r\n",
+        b"CLIENT_ERROR bad command line format\r\n",
+    ),
     (
         b"incr a 18446744073709551616\r\n",
         b"CLIENT_ERROR bad command line format\r\n",
@@ -110,6 +115,46 @@ const FAULTS: [(&[u8], &[u8]); 20] = [
     (b"set a 0 0 2\r\nxyz\r", b"CLIENT_ERROR bad data chunk\r\n"),
     (b"set a 0 0 1\r\nx\ry", b"CLIENT_ERROR bad data chunk\r\n"),
     (b"quit\r\n", b""),
+];
+
+/// Leniently spaces before a line's end don't count; a data block is as it was sent.
+const LENIENT_REQUESTS: [(&[u8], Given, &[u8]); 11] = [
+    (b"get a \r\n", Given::Hit, b"VALUE a 0 1\r\nx\r\nEND\r\n"),
+    (b"get a   \r\n", Given::Hit, b"VALUE a 0 1\r\nx\r\nEND\r\n"),
+    (
+        b"gets a b \r\n",
+        Given::Hit,
+        b"VALUE a 0 1 18446744073709551615\r\nx\r\nEND\r\n",
+    ),
+    (b"get a\r\n", Given::Hit, b"VALUE a 0 1\r\nx\r\nEND\r\n"),
+    (b"delete a \r\n", Given::Deleted, b"DELETED\r\n"),
+    (b"incr n 1 \r\n", Given::Zero, b"0\r\n"),
+    (b"flush_all \r\n", Given::Flushed, b"OK\r\n"),
+    (b"flush_all 0 noreply \r\n", Given::Flushed, b""),
+    (b"set a 0 0 1 \r\nx\r\n", Given::Stored, b"STORED\r\n"),
+    (b"set a 0 0 1 noreply \r\nx\r\n", Given::Stored, b""),
+    (b"set a 0 0 2\r\nx \r\n", Given::Stored, b"STORED\r\n"),
+];
+
+/// Other faults stay, also leniently.
+const LENIENT_FAULTS: [(&[u8], &[u8]); 11] = [
+    (b"get \r\n", b"CLIENT_ERROR bad command line format\r\n"),
+    (b"get  \r\n", b"CLIENT_ERROR bad command line format\r\n"),
+    (b" \r\n", b"ERROR\r\n"),
+    (b"foo \r\n", b"ERROR\r\n"),
+    (b" get a\r\n", b"ERROR\r\n"),
+    (b"get  a\r\n", b"CLIENT_ERROR bad command line format\r\n"),
+    (b"get a\t\r\n", b"CLIENT_ERROR bad command line format\r\n"),
+    (
+        b"get a\nget a\r\n",
+        b"CLIENT_ERROR bad command line format\r\n",
+    ),
+    (
+        b"set a 00 0 1 \r\n",
+        b"CLIENT_ERROR bad command line format\r\n",
+    ),
+    (b"set a 0 0 1 \r\nx \r", b"CLIENT_ERROR bad data chunk\r\n"),
+    (b"quit \r\n", b""),
 ];
 
 #[derive(Clone, Copy)]
@@ -160,8 +205,8 @@ fn check_length(rt: &impl Abort, length: usize, wanted: usize, input: &[u8]) {
 }
 
 /// The message that the whole input spells.
-fn whole(rt: &impl Abort, alloc: Global, input: &[u8]) -> Result<Message, Fail> {
-    match next_message(alloc, input)? {
+fn whole(rt: &impl Abort, alloc: Global, dialect: Dialect, input: &[u8]) -> Result<Message, Fail> {
+    match next_message_in(alloc, dialect, input)? {
         Next::Found(message, n) => {
             check_length(rt, n, input.len(), input);
             Ok(message)
@@ -208,10 +253,15 @@ fn check_reply(
     Ok(())
 }
 
-fn check_request(rt: &impl Abort, alloc: Global, row: &(&[u8], Given, &[u8])) -> Result<(), Fail> {
+fn check_request(
+    rt: &impl Abort,
+    alloc: Global,
+    dialect: Dialect,
+    row: &(&[u8], Given, &[u8]),
+) -> Result<(), Fail> {
     let (input, given, answer) = row;
-    check_spelling(rt, alloc, input)?;
-    let message = whole(rt, alloc, input)?;
+    check_spelling(rt, alloc, dialect, input)?;
+    let message = whole(rt, alloc, dialect, input)?;
     let checked = check_reply(rt, alloc, &message, *given, answer);
     drop(message);
     checked
@@ -220,17 +270,25 @@ fn check_request(rt: &impl Abort, alloc: Global, row: &(&[u8], Given, &[u8])) ->
 fn check_requests(
     rt: &impl Abort,
     alloc: Global,
+    dialect: Dialect,
     rows: &[(&[u8], Given, &[u8])],
 ) -> Result<(), Fail> {
     for row in rows {
-        check_request(rt, alloc, row)?;
+        check_request(rt, alloc, dialect, row)?;
     }
     Ok(())
 }
 
 #[test]
 fn requests_are_read_and_answered(rt: HostRuntime) -> Result<(), Fail> {
-    check_requests(&rt, rt.alloc(), &REQUESTS)
+    check_requests(&rt, rt.alloc(), Dialect::Strict, &REQUESTS)?;
+    check_requests(&rt, rt.alloc(), Dialect::Lenient, &REQUESTS)
+}
+
+#[test]
+fn spaces_before_the_end_do_not_count_leniently(rt: HostRuntime) -> Result<(), Fail> {
+    check_requests(&rt, rt.alloc(), Dialect::Lenient, &LENIENT_REQUESTS)?;
+    check_faults(&rt, rt.alloc(), Dialect::Lenient, &LENIENT_FAULTS)
 }
 
 /// The answer to a message that isn't a request.
@@ -253,50 +311,74 @@ fn check_local(
     Ok(())
 }
 
-fn check_fault(rt: &impl Abort, alloc: Global, input: &[u8], answer: &[u8]) -> Result<(), Fail> {
-    check_spelling(rt, alloc, input)?;
-    let message = whole(rt, alloc, input)?;
+fn check_fault(
+    rt: &impl Abort,
+    alloc: Global,
+    dialect: Dialect,
+    input: &[u8],
+    answer: &[u8],
+) -> Result<(), Fail> {
+    check_spelling(rt, alloc, dialect, input)?;
+    let message = whole(rt, alloc, dialect, input)?;
     let checked = check_local(rt, alloc, &message, answer);
     drop(message);
     checked
 }
 
-fn check_faults(rt: &impl Abort, alloc: Global, rows: &[(&[u8], &[u8])]) -> Result<(), Fail> {
+fn check_faults(
+    rt: &impl Abort,
+    alloc: Global,
+    dialect: Dialect,
+    rows: &[(&[u8], &[u8])],
+) -> Result<(), Fail> {
     for (input, answer) in rows {
-        check_fault(rt, alloc, input, answer)?;
+        check_fault(rt, alloc, dialect, input, answer)?;
     }
     Ok(())
 }
 
 #[test]
 fn faults_are_answered(rt: HostRuntime) -> Result<(), Fail> {
-    check_faults(&rt, rt.alloc(), &FAULTS)
+    check_faults(&rt, rt.alloc(), Dialect::Strict, &FAULTS)
 }
 
 /// How long the message is that stands at the beginning of the input.
-fn message_length(alloc: Global, input: &[u8]) -> Result<Option<usize>, NoMemory> {
-    match next_message(alloc, input)? {
+fn message_length(
+    alloc: Global,
+    dialect: Dialect,
+    input: &[u8],
+) -> Result<Option<usize>, NoMemory> {
+    match next_message_in(alloc, dialect, input)? {
         Next::Found(_, n) => Ok(Some(n)),
         Next::More => Ok(None),
     }
 }
 
 /// The shortest beginning that spells a message, and how long that message is.
-fn first_spelled(alloc: Global, input: &[u8]) -> Result<Option<(usize, usize)>, NoMemory> {
+fn first_spelled(
+    alloc: Global,
+    dialect: Dialect,
+    input: &[u8],
+) -> Result<Option<(usize, usize)>, NoMemory> {
     for n in 0..input.len() {
-        if let Some(length) = message_length(alloc, &input[..n])? {
+        if let Some(length) = message_length(alloc, dialect, &input[..n])? {
             return Ok(Some((n, length)));
         }
     }
-    match message_length(alloc, input)? {
+    match message_length(alloc, dialect, input)? {
         Some(length) => Ok(Some((input.len(), length))),
         None => Ok(None),
     }
 }
 
 /// The input spells a message, and no shorter beginning of it spells anything.
-fn check_spelling(rt: &impl Abort, alloc: Global, input: &[u8]) -> Result<(), Fail> {
-    let spelled = first_spelled(alloc, input)?;
+fn check_spelling(
+    rt: &impl Abort,
+    alloc: Global,
+    dialect: Dialect,
+    input: &[u8],
+) -> Result<(), Fail> {
+    let spelled = first_spelled(alloc, dialect, input)?;
     check_same(rt, spelled, Some((input.len(), input.len())), input);
     Ok(())
 }
@@ -358,7 +440,7 @@ fn check_spelled(
 ) -> Result<(), Fail> {
     let mut input = Vec::new(alloc);
     spell(&mut input, row)?;
-    check_spelling(rt, alloc, input.as_slice())
+    check_spelling(rt, alloc, Dialect::Strict, input.as_slice())
 }
 
 fn check_spellings(
@@ -387,42 +469,73 @@ fn spell(input: &mut Vec<u8>, row: &(&str, u8, usize, &str)) -> Result<(), Alloc
     input.extend_from_slice(behind.as_bytes())
 }
 
-/// The input's first 2,048 bytes are a line that is answered so.
-fn check_long(rt: &impl Abort, alloc: Global, input: &[u8], answer: &[u8]) -> Result<(), Fail> {
-    let Next::Found(message, n) = next_message(alloc, input)? else {
+/// As many bytes of the input as the longest line has are a line that is answered so.
+fn check_long(
+    rt: &impl Abort,
+    alloc: Global,
+    dialect: Dialect,
+    longest: usize,
+    input: &[u8],
+    answer: &[u8],
+) -> Result<(), Fail> {
+    let Next::Found(message, n) = next_message_in(alloc, dialect, input)? else {
         return Err(Fail::from("a message"));
     };
-    check_length(rt, n, 2048, input);
+    check_same(rt, n, longest, "the length of a line");
     let checked = check_local(rt, alloc, &message, answer);
     drop(message);
     checked
 }
 
-/// What a line of so many letters with these bytes behind it is answered; 2,048 bytes are read of it.
+/// What a line of so many letters with these bytes behind it is answered; it is read as far as the longest line goes.
 fn check_long_line(
     rt: &impl Abort,
     alloc: Global,
+    dialect: Dialect,
     count: usize,
     behind: &str,
     answer: &[u8],
 ) -> Result<(), Fail> {
+    let longest = match dialect {
+        Dialect::Strict => 2048,
+        Dialect::Lenient => 32_768,
+    };
     let mut input = Vec::new(alloc);
     spell(&mut input, &("", b'a', count, behind))?;
-    check_long(rt, alloc, input.as_slice(), answer)
+    check_long(rt, alloc, dialect, longest, input.as_slice(), answer)
 }
 
 #[test]
 fn lines_end_within_2048_bytes(rt: HostRuntime) -> Result<(), Fail> {
     let alloc = rt.alloc();
     let too_long = b"CLIENT_ERROR line too long\r\n";
-    check_long_line(&rt, alloc, 2046, "\r\nget a\r\n", b"ERROR\r\n")?;
-    check_long_line(&rt, alloc, 2047, "\r\n", too_long)?;
-    check_long_line(&rt, alloc, 2048, "", too_long)
+    check_long_line(
+        &rt,
+        alloc,
+        Dialect::Strict,
+        2046,
+        "\r\nget a\r\n",
+        b"ERROR\r\n",
+    )?;
+    check_long_line(&rt, alloc, Dialect::Strict, 2047, "\r\n", too_long)?;
+    check_long_line(&rt, alloc, Dialect::Strict, 2048, "", too_long)
 }
 
-/// How many bytes are needed, where the input spells no message.
-fn need_of(input: &[u8]) -> Option<usize> {
-    match next_view(input) {
+#[test]
+fn lines_end_within_32768_bytes_leniently(rt: HostRuntime) -> Result<(), Fail> {
+    let alloc = rt.alloc();
+    let lenient = Dialect::Lenient;
+    let too_long = b"CLIENT_ERROR line too long\r\n";
+    check_long_line(&rt, alloc, lenient, 32_766, "\r\nget a\r\n", b"ERROR\r\n")?;
+    check_long_line(&rt, alloc, lenient, 32_767, "\r\n", too_long)?;
+    check_long_line(&rt, alloc, lenient, 32_768, "", too_long)?;
+    // The spaces are counted.
+    check_long_line(&rt, alloc, lenient, 32_765, "  \r\n", too_long)
+}
+
+/// How many bytes are needed, where no message was found.
+fn need_of(view: NextView) -> Option<usize> {
+    match view {
         NextView::Found(..) => None,
         NextView::More(need) => Some(need),
     }
@@ -438,15 +551,32 @@ const NEEDS: [(&[u8], usize); 6] = [
     (b"set a 0 0 100000\r\n", 100_020),
 ];
 
+/// The same where the lines end in spaces.
+const LENIENT_NEEDS: [(&[u8], usize); 4] = [
+    (b"get a ", 7),
+    (b"set a 0 0 1 \r", 14),
+    (b"set a 0 0 1 \r\n", 17),
+    (b"set a 0 0 2  \r\nx ", 19),
+];
+
 fn check_needs(rt: &impl Abort, rows: &[(&[u8], usize)]) {
     for (input, need) in rows {
-        check_same(rt, need_of(input), Some(*need), *input);
+        check_same(rt, need_of(next_view(input)), Some(*need), *input);
+    }
+}
+
+fn check_lenient_needs(rt: &impl Abort, rows: &[(&[u8], usize)]) {
+    for (input, need) in rows {
+        let view = next_view_in(Dialect::Lenient, input);
+        check_same(rt, need_of(view), Some(*need), *input);
     }
 }
 
 #[test]
 fn a_storage_line_says_how_much_is_needed(rt: HostRuntime) {
     check_needs(&rt, &NEEDS);
+    check_lenient_needs(&rt, &NEEDS);
+    check_lenient_needs(&rt, &LENIENT_NEEDS);
 }
 
 fn check_copy(rt: &impl Abort, alloc: Global, key: &ByteString) -> Result<(), Fail> {
@@ -478,7 +608,7 @@ fn check_cas_message(rt: &impl Abort, alloc: Global, message: &Message) -> Resul
 #[test]
 fn a_cas_is_read_whole(rt: HostRuntime) -> Result<(), Fail> {
     let input = b"cas key 7 -5 3 18446744073709551615\r\na\r\n\r\n";
-    let message = whole(&rt, rt.alloc(), input)?;
+    let message = whole(&rt, rt.alloc(), Dialect::Strict, input)?;
     let checked = check_cas_message(&rt, rt.alloc(), &message);
     drop(message);
     checked
@@ -513,7 +643,7 @@ fn check_gets(rt: &impl Abort, message: &Message, wanted: &Keys) -> Result<(), F
 }
 
 fn check_noreply(rt: &impl Abort, alloc: Global, wanted: &Keys) -> Result<(), Fail> {
-    let message = whole(rt, alloc, b"gets a noreply\r\n")?;
+    let message = whole(rt, alloc, Dialect::Strict, b"gets a noreply\r\n")?;
     let checked = check_gets(rt, &message, wanted);
     drop(message);
     checked

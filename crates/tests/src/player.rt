@@ -1,7 +1,7 @@
 //! A book with the requests that it has given, and a store that knows one value.
 
 use bytes::Bytes;
-use proto::{Answered, HitRef, HitWriter, NoMemory, Posted, Reply, Request, SpareBuffer};
+use proto::{Answered, Dialect, HitRef, HitWriter, NoMemory, Posted, Reply, Request, SpareBuffer};
 use session_book::{Book, EndCause, Received, Settled};
 use std::alloc::Global;
 use std::test::Fail;
@@ -15,10 +15,10 @@ pub struct Player {
 }
 
 impl Player {
-    pub fn new(alloc: Global, found: Option<&'static str>) -> Self {
+    pub fn new(alloc: Global, dialect: Dialect, found: Option<&'static str>) -> Self {
         Player {
             alloc,
-            book: Book::new(alloc, 0),
+            book: Book::new(alloc, 0, dialect),
             asked: Vec::new(alloc),
             found,
         }

@@ -1,7 +1,13 @@
 use Rattle.std.proofs.Common.{arith}
-use Rattle.proto.proofs.LineSearch.{search_finds, search_goes_on, search_ends}
+use Rattle.proto.proofs.LineSearch.{search_begins, search_finds, search_goes_on, search_ends}
 use Rattle.proto.proofs.view.find_line_end.Goals as goal
 use Rattle.proto.proofs.view.find_line_end.Goals.{else-at-bytes-via-then-at-bytes+else-bytes-at-eq10, else-at-bytes-via-else-at-bytes}
+
+pub loop-i-init : goal.loop-i-init
+loop-i-init c = record {
+  within = let within = c.requires.within in omega (arith, within, c.saturating_sub-from.ensures);
+  before = rw c.saturating_sub-from.ensures (search_begins c.args.bytes.now c.args.searched c.requires);
+}
 
 pub returns-then-bytes-at-eq10 : goal.returns-then-bytes-at-eq10
 returns-then-bytes-at-eq10 c =

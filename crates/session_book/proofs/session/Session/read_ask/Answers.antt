@@ -1,7 +1,13 @@
-use Rattle.std.proofs.Common.{arith}
+use Rattle.std.proofs.Common.{◌≡◌, true, subst, arith}
 use Rattle.std.proofs.lemmas.Result.{err_from_is_err_and}
-use Rattle.session_book.proofs.Steps.{reads_refused, reads_none, reads_local, reads_ask, reads_stops}
+use Rattle.session_book.specs.Session.{SessionState, begins_asked}
+use Rattle.session_book.proofs.Steps.{starts_locals, reads_refused, reads_none, reads_local, reads_ask, reads_stops}
 use Rattle.session_book.proofs.session.Session.read_ask.Goals as goal
+
+pub loop-alloc-init : goal.loop-alloc-init
+loop-alloc-init c =
+    starts_locals c.args.self.now c.args.looks.now
+    (subst (λ (s : SessionState). begins_asked s.queue ≡ true) c.self.view_is c.self.invariant.0)
 
 pub returns-in_err-read : goal.returns-in_err-read
 returns-in_err-read c =

@@ -6,4 +6,5 @@ pub invariant_of-self : goal.invariant_of-self
 invariant_of-self c = (
   begins_asked_by _ c.self.inside.queue.items (c.args.reply.now ∷ []) c.in-Ok.ensures.queue,
   c.self.invariant.1,
+  c.self.invariant.2,
 )

@@ -1,0 +1,28 @@
+-- The spaces at the end of a line.
+use Rattle.std.proofs.Common.{◌≡◌, ℕ, false, true, eqb, ◌&&◌, List, [], ◌∷◌, ◌++◌, refl, ◌∙◌}
+use Rattle.std.specs.List.{list_all}
+use Rattle.std.proofs.lemmas.Bool.{and_right}
+use Rattle.std.proofs.lemmas.List.Folds.{list_all-append}
+use Rattle.proto.specs.Lines.{space, without_last_spaces}
+
+-- one space more at the end
+pub last_space : (line : List ℕ) → without_last_spaces (line ++ space ∷ []) ≡ without_last_spaces line
+last_space [] = refl
+last_space (b ∷ line) = rw (all_more (b ∷ line), last_space line) refl
+  where
+    and_true : (x : _) → (x && true) ≡ x
+    and_true true = refl
+    and_true false = refl
+
+    all_more : (line : List ℕ) → list_all (λ c. eqb c space) (line ++ space ∷ []) ≡ list_all (λ c. eqb c space) line
+    all_more line = list_all-append (λ c. eqb c space) line (space ∷ []) ∙ and_true _
+
+-- another byte at the end
+pub last_other : (line : List ℕ) (b : ℕ) → eqb b space ≡ false → without_last_spaces (line ++ b ∷ []) ≡ line ++ b ∷ []
+last_other [] b other = rw other refl
+last_other (a ∷ line) b other = rw (not_all (a ∷ line), last_other line b other) refl
+  where
+    not_all : (line : List ℕ) → list_all (λ c. eqb c space) (line ++ b ∷ []) ≡ false
+    not_all line =
+        list_all-append (λ c. eqb c space) line (b ∷ [])
+        ∙ and_right (list_all (λ c. eqb c space) line) (eqb b space && true) (rw other refl)

@@ -47,7 +47,7 @@ fn room_with(room: usize, hit: HitRef) -> Option<usize>
     room.checked_add(hit.room()?)
 }
 
-/// Looks the keys up once: those that are there, and the room that their hits take.
+/// Looks each key up: those that are there, and the room that their hits take.
 fn find_keys<'k, M: LiveMap>(
     map: &M,
     keys: &'k Keys,
@@ -62,7 +62,7 @@ fn find_keys<'k, M: LiveMap>(
     while let Some(key) = words.next() {
         if let Some((entry, place)) = map.get(key) {
             room = room_with(room, hit_of(key, entry)).ok_or(NoMemory)?;
-            // With the first key that is there, memory for all is taken.
+            // With the first key that is there, the list takes memory for all of them.
             let wanted = if found.is_empty() { keys.len() } else { 1 };
             found.reserve(wanted)?;
             found.push(found_at(key, place))?;
@@ -117,7 +117,8 @@ fn read_ahead<M: LiveMap>(map: &M, keys: &Keys) {
     }
 }
 
-/// The hits of the keys, each of which is looked up once, and for which all memory is taken at once. The writer is new.
+/// The hits of the keys, each of which is looked up once. Memory is taken in two steps: for the list of the keys that
+/// are there, and then for all their hits, whose room the list's making has summed. The writer is new.
 fn hits_of_keys<M: LiveMap>(
     map: &mut M,
     keys: &Keys,
@@ -135,8 +136,8 @@ fn hits_of_keys<M: LiveMap>(
     Ok(hits_found(map, found.as_slice(), hits))
 }
 
-/// The hits of the keys, in the room that they were lent where that is large enough; a read of each is counted. Where none
-/// of the keys is there no memory is taken, and where memory is refused no read is counted.
+/// The hits of the keys, in the room that they were lent where that is large enough; a read of each is counted. Where
+/// none of the keys is there no memory is taken, and where memory is refused no read is counted.
 pub fn hits_of<M: LiveMap>(map: &mut M, keys: &mut Keys) -> Result<HitWriter, NoMemory>
     ensures same { keys.new ≡ keys.old }
     ensures ok { IfOk result (λ written. HasShown M.LiveMap map.old keys.old map.new written) }

@@ -1,5 +1,5 @@
-//! The commands of the cache, over any map of live entries; what the storage thread asks of a store and of a clock; and the
-//! plain store, which forgets nothing and is there to be compared with.
+//! The commands of the cache, over any map of live entries; what the storage thread asks of a store and of a clock;
+//! and the plain store, which forgets nothing and is there to be compared with.
 #![tactic(auto)]
 
 mod clock;
@@ -7,6 +7,7 @@ mod commands;
 mod deadline;
 mod entry_ref;
 mod hits;
+mod laws;
 mod live_entries;
 mod live_map;
 mod number;
@@ -21,6 +22,7 @@ pub use clock::Clock;
 pub use commands::Engine;
 pub use deadline::has_arrived;
 pub use entry_ref::EntryRef;
+pub use laws::limits;
 pub use live_map::LiveMap;
 pub use plain_map::{PlainMap, PlainStore};
 pub use storage_engine::{MAX_MOMENT, StorageEngine};

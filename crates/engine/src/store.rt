@@ -65,13 +65,6 @@ impl<M: StoreMap> Engine<M> {
 impl<M: LiveMap> Engine<M> {
     ghost use Rattle.engine.specs.Engines.{cache_in};
 
-    /// The moment of the last request in seconds, 0 before the first one.
-    pub fn last_moment(&self) -> u64
-        ensures { result ≡ M.moment self.now.map }
-    {
-        self.map.last_moment()
-    }
-
     /// The moment of a flush that is still to come.
     pub fn pending(&self) -> Option<u64>
         ensures { result ≡ (cache_in M.entries self.now).pending }
@@ -92,7 +85,7 @@ impl<M: StoreMap> StorageEngine for Engine<M> {
     ghost keeps = { λ s items. M.keeps s.map items };
 
     fn last_moment(&self) -> u64 {
-        Engine::last_moment(self)
+        self.map.last_moment()
     }
 
     fn key_hasher(&self) -> FoldHasher {

@@ -20,8 +20,8 @@ use Rattle.index.specs.Keys.{key_at}
 use Rattle.index.specs.Slots.{used_in}
 use Rattle.index.specs.Sizing.{most_items}
 use Rattle.index.specs.Table.{Table, IsIndex}
-use Rattle.index.proofs.Counting.{few_used}
-use Rattle.index.proofs.Agreeing.{held_key}
+use Rattle.index.proofs.UsedSlots.{few_used}
+use Rattle.index.proofs.KeptKeys.{held_key}
 use Rattle.index.proofs.PoolKeys.{some_key}
 use Rattle.segments.proofs.MergeLemmas.{length_standing}
 use Rattle.proto.proofs.Options.{value_there}

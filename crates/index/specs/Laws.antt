@@ -4,7 +4,7 @@ use Rattle.segments.specs.declared.place.Place.{Place}
 use Rattle.segments.specs.Pools.{PoolState, Plan, IsPool, Liveness}
 use Rattle.segments.specs.Merges.{IsPlan, planned, carried_out}
 use Rattle.index.specs.Keys.{KeysOf, key_at}
-use Rattle.index.specs.Following.{CanFollow, HoldsLive, keys_behind}
+use Rattle.index.specs.Relocating.{CanRelocate, HoldsLive, keys_behind}
 use Rattle.index.specs.Layouts.{IsLayoutOf}
 use Rattle.index.specs.Slots.{used_in}
 use Rattle.index.specs.Table.{Table, IsIndex, HasPlace, IsMap, places}
@@ -21,10 +21,10 @@ EachPlaceOnce =
     (keys : KeysOf) (t : Table) (all : List Place) → IsIndex keys t → ((p : Place) → HasPlace t p → Contains all p)
     → used_in t.slots ≤ length all
 
--- a table of the live items' places can follow the merge that was planned for them
-abbrev pub PlansCanBeFollowed : Type 0
-PlansCanBeFollowed =
+-- a table of the live items' places can be relocated by the merge that was planned for them
+abbrev pub PlansCanRelocate : Type 0
+PlansCanRelocate =
     (lives : Liveness) (p : PoolState) (plan : Plan) (t : Table) → IsPool p → IsPlan lives p plan
     → IsPool (carried_out (planned p plan) plan)
     → IsLayoutOf p.sizes t.layout → IsIndex (key_at p) t → HoldsLive lives p t
-    → CanFollow (key_at (planned p plan)) (keys_behind (planned p plan)) t plan.moves
+    → CanRelocate (key_at (planned p plan)) (keys_behind (planned p plan)) t plan.moves

@@ -3,8 +3,8 @@ pub mod Layouts
 pub mod Keys
 pub mod Table
 pub mod Searches
-pub mod Closing
-pub mod Settling
+pub mod BackwardShift
+pub mod Reinserting
 pub mod Laws
 pub mod Sizing
-pub mod Following
+pub mod Relocating

@@ -1,4 +1,4 @@
-//! Rows that get longer, a slot at a time.
+//! Linear hashing: a row gets longer by a slot at a time, and the keys of one home are split.
 
 ghost use Rattle.std.specs.Prelude.{◌≡◌, ◌⊎◌, ◌+◌, ◌*◌, ◌<◌, ◌≤◌, length};
 ghost use Rattle.index.specs.Keys.{key_at};
@@ -6,7 +6,7 @@ ghost use Rattle.index.specs.Slots.{used_in};
 ghost use Rattle.index.specs.Table.{hashing, AreIndexed, places_in};
 
 use crate::hash::split_home;
-use crate::settling::settle;
+use crate::reinserting::reinsert;
 use crate::slots::Slots;
 use segments::Pool;
 use std::hash::FoldHasher;
@@ -37,12 +37,12 @@ fn grow(slots: &mut Slots, hasher: FoldHasher, pool: &Pool)
     } else {
         count
     };
-    settle(slots, front, count, hasher, pool);
+    reinsert(slots, front, count, hasher, pool);
     let more = slots.len();
-    settle(slots, split_home(count), more, hasher, pool);
+    reinsert(slots, split_home(count), more, hasher, pool);
 }
 
-/// Makes a row longer for so many keys, while it has fewer slots than they ask for and than there is room for.
+/// Makes a row longer for `keys` keys, while it has fewer slots than they ask for and than there is room for.
 pub fn grow_for(slots: &mut Slots, keys: usize, hasher: FoldHasher, pool: &Pool)
     requires room { 2 * keys ≤ slots.old.room }
     requires half { 2 * keys ≤ length slots.old.slots + 2 }

@@ -1,6 +1,6 @@
 //! The index.
 
-ghost use Rattle.std.specs.Prelude.{◌≡◌, ◌≢◌, ◌+◌, ◌*◌, ◌<◌, ◌≤◌, List, ℕ, length, IfOk, Some, None, IsTrue, ◌↔◌};
+ghost use Rattle.std.specs.Prelude.{◌≡◌, ◌≢◌, ◌+◌, ◌*◌, ◌<◌, ◌≤◌, List, ℕ, length, IfOk, Some, None};
 ghost use Rattle.std.specs.Prelude.{◌⊎◌, ◌∷◌, [], IfSome, IsSome};
 ghost use Rattle.std.specs.FinMap as map;
 ghost use Rattle.segments.specs.declared.place.Place.{Place as Spot};
@@ -8,10 +8,10 @@ ghost use Rattle.segments.specs.Pools.{item_in};
 ghost use Rattle.index.specs.Keys.{KeysOf, key_at, seeded};
 ghost use Rattle.index.specs.Slots.{used_in, empty_slot};
 ghost use Rattle.index.specs.Layouts.{IsLayout, IsInLayout};
-ghost use Rattle.index.specs.Following.{IsFollowed, forget_place};
+ghost use Rattle.index.specs.Relocating.{IsRelocated, forget_place};
 ghost use Rattle.index.specs.Table.{IsIndex, IsMap, IsSameSize, IsTable, places, place_at, HasPlace};
 
-use crate::closing;
+use crate::backward_shift::delete;
 use crate::growing::grow_for;
 use crate::hash::{hash_of, home_of, seeded};
 use crate::layout::Layout;
@@ -58,8 +58,8 @@ impl Model for Index {
 }
 
 impl Index {
-    /// A table without a key, with room for so many slots. The seed is hashed before each key, so that who doesn't know it
-    /// can't choose keys that meet in few slots.
+    /// A table without a key, with room for `count` slots. The seed is hashed before each key, so that who doesn't
+    /// know it can't choose keys that meet in few slots.
     pub fn new(alloc: Global, count: usize, layout: Layout, seed: u64) -> Result<Index, NoMemory>
         requires some { 1 ≤ count }
         requires layout { IsLayout layout }
@@ -82,8 +82,8 @@ impl Index {
         self.hasher
     }
 
-    /// Reads what a look-up of a key with this hash reads first: the slot where it begins, and what stands at that slot's
-    /// place, where that may be the key's. It answers some of what it read.
+    /// Reads what a look-up of a key with this hash reads first: the slot where it begins, and what stands at that
+    /// slot's place, where that may be the key's. It answers some of what it read.
     pub fn prefetch(&self, pool: &Pool, hash: u64) -> u64 {
         let home = home_of(self.slots.len(), hash);
         let slot = self.slots.get(home);
@@ -95,28 +95,13 @@ impl Index {
     }
 
     /// Reads the slots at which searches begin for keys with these hashes, all at once.
-    pub(crate) fn touch(&self, hashes: &[u64]) {
+    pub(crate) fn prefetch_slots(&self, hashes: &[u64]) {
         let mut read: u64 = 0;
         for hash in hashes {
             let home = home_of(self.slots.len(), *hash);
             read = read.wrapping_add(self.slots.peek(home));
         }
         self.read_ahead.store(read, Ordering::Relaxed);
-    }
-
-    /// How many keys have a place.
-    pub fn len(&self) -> usize
-        ensures count { result ≡ used_in self.now.slots }
-        ensures half { IsTable self.now }
-    {
-        self.used
-    }
-
-    /// Whether one more key may have a place: half of all slots that there is room for may.
-    pub fn has_room(&self) -> bool
-        ensures { IsTrue result ↔ (2 * (used_in self.now.slots + 1) ≤ self.now.room) }
-    {
-        self.used < self.slots.room() / 2
     }
 
     /// The place of the key.
@@ -137,7 +122,7 @@ impl Index {
 
     /// Gives the key this place in place of the one that it had, by one search. Where it had none, the used part of the
     /// table grows first, up to three slots for each key.
-    pub fn put(&mut self, pool: &Pool, key: &[u8], place: Place) -> Option<Place>
+    pub fn insert(&mut self, pool: &Pool, key: &[u8], place: Place) -> Option<Place>
         requires index { IsIndex (key_at pool.now) self.old }
         requires key { key_at pool.now place ≡ Some key.now }
         requires place { IsInLayout self.old.layout place }
@@ -146,6 +131,7 @@ impl Index {
         ensures map { IsMap (key_at pool.now) self.new (map.insert (places (key_at pool.now) self.old) key.now place) }
         ensures size { IsSameSize self.old self.new }
         ensures few { (length self.new.slots ≡ length self.old.slots) ⊎ (length self.new.slots ≤ 3 * used_in self.new.slots) }
+        ensures half { IsTable self.new }
     {
         let hash = hash_of(self.hasher, key);
         let home = home_of(self.slots.len(), hash);
@@ -168,7 +154,7 @@ impl Index {
     }
 
     /// Gives the key another place.
-    pub fn replace(&mut self, key: &[u8], source: Place, target: Place)
+    pub(crate) fn replace(&mut self, key: &[u8], source: Place, target: Place)
         requires target { IsInLayout self.old.layout target }
         requires there { (keys : KeysOf) × IsIndex keys self.old × (place_at keys self.old key.now ≡ Some source) }
         ensures map { (before after : KeysOf) → IsIndex before self.old → place_at before self.old key.now ≡ Some source
@@ -196,20 +182,20 @@ impl Index {
         let hash = hash_of(self.hasher, key);
         let home = home_of(self.slots.len(), hash);
         let at = find_place(&self.slots, home, place).unwrap();
-        closing::empty(&mut self.slots, at, self.hasher, pool);
+        delete(&mut self.slots, at, self.hasher, pool);
         self.used -= 1;
     }
 
     /// Takes a key out where this is its place.
-    pub fn take_out(&mut self, pool: &Pool, key: &[u8], place: Place)
+    pub(crate) fn take_out(&mut self, pool: &Pool, key: &[u8], place: Place)
         requires index { IsIndex (key_at pool.now) self.old }
         requires key { key_at pool.now place ≡ Some key.now }
-        ensures followed { IsFollowed (key_at pool.now) (key_at pool.now) (forget_place place) self.old self.new }
+        ensures relocated { IsRelocated (key_at pool.now) (key_at pool.now) (forget_place place) self.old self.new }
         ensures size { IsSameSize self.old self.new }
     {
         let home = home_of(self.slots.len(), hash_of(self.hasher, key));
         if let Some(at) = find_place(&self.slots, home, place) {
-            closing::empty(&mut self.slots, at, self.hasher, pool);
+            delete(&mut self.slots, at, self.hasher, pool);
             self.used -= 1;
         }
     }

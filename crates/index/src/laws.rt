@@ -1,6 +1,6 @@
 //! Laws of the index, over the definitions alone.
 
-ghost use Rattle.index.specs.Laws.{KeysMayChangeElsewhere, EachPlaceOnce, PlansCanBeFollowed};
+ghost use Rattle.index.specs.Laws.{KeysMayChangeElsewhere, EachPlaceOnce, PlansCanRelocate};
 
 /// What happens to other places of the pool changes nothing of the index.
 pub fn keys_may_change_elsewhere()
@@ -12,7 +12,7 @@ pub fn each_place_once()
     ensures { EachPlaceOnce }
 {}
 
-/// A table of the live items' places can follow the merge that was planned for them.
-pub fn plans_can_be_followed()
-    ensures { PlansCanBeFollowed }
+/// A table of the live items' places can be relocated by the merge that was planned for them.
+pub fn plans_can_relocate()
+    ensures { PlansCanRelocate }
 {}

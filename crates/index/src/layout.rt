@@ -6,15 +6,18 @@ ghost use Rattle.index.specs.Layouts.{IsLayout, IsLayoutOf, CanHold, word_limit,
 use crate::slot::{EMPTY, Slot};
 use proto::Geometry;
 
-/// How many bits an offset takes, counted in eight bytes, and how many a place takes. What these leave of a number's four
-/// bytes is the tag's; where they leave less than nothing, numbers have eight bytes.
+/// How many bits an offset takes, counted in eight bytes, and how many a place takes. What these leave of a number's
+/// four bytes is the tag's; where they leave less than nothing, numbers have eight bytes.
 #[derive(Clone, Copy)]
 pub struct Layout {
     pub offset_bits: u32,
     pub place_bits: u32,
 }
 
-/// The least number of bits, at least one, in which so many numbers go.
+/// The most segments of a pool.
+const MAX_SEGMENTS: u64 = 65_536;
+
+/// The least number of bits, at least one, in which the numbers below `count` go.
 fn bits_for(count: u64, most: u32) -> u32
     requires count { count ≤ 2 ^ most }
     requires some { 1 ≤ most }
@@ -63,8 +66,9 @@ impl Layout {
         }
     }
 
-    /// How many of a hash's lowest bits stand in a slot. They say most of what the key's home is: so keys of other homes
-    /// are told apart, and a gap is mostly closed without a look at keys. The other bits tell apart keys of one home.
+    /// How many of a hash's lowest bits stand in a slot. They say most of what the key's home is: so keys of other
+    /// homes are told apart, and a backward shift mostly looks at no keys. The other bits tell apart keys of one
+    /// home.
     pub fn home_bits(self) -> u32
         requires { IsLayout self }
         ensures value { result ≡ home_bits self }
@@ -121,7 +125,7 @@ impl Layout {
         let number = (word & ((1u64 << self.place_bits) - 1)).saturating_sub(1);
         Slot {
             tag: (word >> self.place_bits) + 1,
-            segment: ((number >> self.offset_bits) % 65_536) as u32,
+            segment: ((number >> self.offset_bits) % MAX_SEGMENTS) as u32,
             offset: 8 * (number & ((1u64 << self.offset_bits) - 1)) as u32,
         }
     }

@@ -2,16 +2,16 @@
 //! key's hash. It stores no keys; they are compared where they stand, in the segments.
 #![tactic(auto)]
 
-mod closing;
-mod follow;
+mod backward_shift;
 mod growing;
 mod hash;
 mod index;
 mod keys;
 mod laws;
 mod layout;
+mod reinserting;
+mod relocating;
 mod search;
-mod settling;
 mod sizing;
 mod slot;
 mod slots;

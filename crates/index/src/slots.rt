@@ -31,7 +31,7 @@ impl Model for Slots {
 }
 
 impl Slots {
-    /// One empty slot, with room for so many.
+    /// One empty slot, with room for `count`.
     pub fn new(alloc: Global, count: usize, layout: Layout) -> Result<Slots, NoMemory>
         requires some { 1 ≤ count }
         requires layout { IsLayout layout }

@@ -6,5 +6,3 @@ mod rows;
 #[cfg(test)]
 mod same;
 pub mod shelf;
-#[cfg(test)]
-mod small;

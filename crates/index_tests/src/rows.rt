@@ -2,7 +2,6 @@
 
 use crate::same::check_same;
 use crate::shelf::Shelf;
-use crate::small::Small;
 use proto::Geometry;
 use std::alloc::{AllocError, Global};
 use std::collections::BTreeMap;
@@ -16,10 +15,10 @@ fn next(state: u64) -> u64 {
         .wrapping_add(1_442_695_040_888_963_407)
 }
 
-/// One write or delete of a key by chance, of 40 keys for which there are 32 places.
+/// One write or delete of a key by chance, of 40 keys.
 fn check_step(
     rt: &impl Abort,
-    shelf: &mut Small,
+    shelf: &mut Shelf,
     map: &mut BTreeMap<u64, u64>,
     state: u64,
     step: u64,
@@ -29,26 +28,25 @@ fn check_step(
     if (state >> 20) % 4 == 0 {
         let was_there = map.remove(&number).is_some();
         check_same(rt, shelf.delete(&key), was_there, step);
-    } else if shelf.put(&key, step) {
-        map.insert(number, step)?;
     } else {
-        check_same(rt, shelf.len(), 32, step);
+        check_same(rt, shelf.put(&key, b"value", step), true, step);
+        map.insert(number, step)?;
     }
     Ok(())
 }
 
-/// Each of so many keys is found as the map has it.
-fn check_keys(rt: &impl Abort, shelf: &Small, map: &BTreeMap<u64, u64>, keys: u64) {
+/// Each of these keys is found as the map has it.
+fn check_keys(rt: &impl Abort, shelf: &Shelf, map: &BTreeMap<u64, u64>, keys: u64) {
     for number in 0..keys {
         let given = shelf.cas_of(&number.to_le_bytes());
         check_same(rt, given, map.get(&number).copied(), number);
     }
 }
 
-/// So many writes and deletes, after each of which all 40 keys are looked up; at the end the table is emptied.
+/// `steps` writes and deletes, after each of which all 40 keys are looked up; at the end the table is emptied.
 fn check_steps(
     rt: &impl Abort,
-    shelf: &mut Small,
+    shelf: &mut Shelf,
     map: &mut BTreeMap<u64, u64>,
     steps: u64,
 ) -> Result<(), Fail> {
@@ -57,25 +55,25 @@ fn check_steps(
         state = next(state);
         check_step(rt, shelf, map, state, step)?;
         check_keys(rt, shelf, map, 40);
-        check_same(rt, shelf.len(), map.len(), step);
     }
     shelf.clear();
-    check_same(rt, shelf.len(), 0, "the end");
+    map.clear();
+    check_keys(rt, shelf, map, 40);
     Ok(())
 }
 
-/// In a table of 64 slots, with up to 32 of 40 keys: keys meet, runs of used slots go over the end, and most deletes
-/// have places behind them.
+/// With up to 40 keys in a table that grows to at most 120 slots: keys meet, clusters of used slots go over the end,
+/// and many deletes have places behind them.
 #[test]
 fn small_table(rt: HostRuntime) -> Result<(), Fail> {
     let geometry = Geometry::new(65_536, 8)?;
-    let mut shelf = Small::new(rt.alloc(), geometry, 64, 88_172_645_463_325_252)?;
+    let mut shelf = Shelf::new(rt.alloc(), geometry, 88_172_645_463_325_252)?;
     let mut map: BTreeMap<u64, u64> = BTreeMap::new(rt.alloc());
     check_steps(&rt, &mut shelf, &mut map, 10_000)
 }
 
-/// Whether each of so many keys is found as the map has it.
-fn agree(shelf: &Small, map: &BTreeMap<u64, u64>, keys: u64) -> bool {
+/// Whether each of these keys is found as the map has it.
+fn agree(shelf: &Shelf, map: &BTreeMap<u64, u64>, keys: u64) -> bool {
     for number in 0..keys {
         if shelf.cas_of(&number.to_le_bytes()) != map.get(&number).copied() {
             return false;
@@ -86,7 +84,7 @@ fn agree(shelf: &Small, map: &BTreeMap<u64, u64>, keys: u64) -> bool {
 
 /// One write or delete of a key by chance: whether the shelf did the same as the map.
 fn step(
-    shelf: &mut Small,
+    shelf: &mut Shelf,
     map: &mut BTreeMap<u64, u64>,
     state: u64,
     cas: u64,
@@ -94,16 +92,16 @@ fn step(
     let number = (state >> 40) % 1_500;
     if (state >> 20) % 4 != 0 {
         map.insert(number, cas)?;
-        Ok(shelf.put(&number.to_le_bytes(), cas))
+        Ok(shelf.put(&number.to_le_bytes(), b"value", cas))
     } else {
         let was_there = map.remove(&number).is_some();
         Ok(shelf.delete(&number.to_le_bytes()) == was_there)
     }
 }
 
-/// So many writes and deletes by chance of 1,500 keys, all of which are compared with a map at each 64th.
+/// `steps` writes and deletes by chance of 1,500 keys, all of which are compared with a map at each 64th.
 fn chance(
-    shelf: &mut Small,
+    shelf: &mut Shelf,
     map: &mut BTreeMap<u64, u64>,
     seed: u64,
     steps: u64,
@@ -118,12 +116,12 @@ fn chance(
             return Ok(false);
         }
     }
-    Ok(agree(shelf, map, 1_500) && shelf.len() == map.len())
+    Ok(agree(shelf, map, 1_500))
 }
 
 fn check_doublings(
     rt: &impl Abort,
-    shelf: &mut Small,
+    shelf: &mut Shelf,
     map: &mut BTreeMap<u64, u64>,
 ) -> Result<(), Fail> {
     check_same(rt, chance(shelf, map, 3, 6_000)?, true, "the first run");
@@ -134,32 +132,32 @@ fn check_doublings(
     Ok(())
 }
 
-/// A table with room for 4,096 slots goes from one slot through twelve doublings, is emptied, and does it again.
+/// A table goes from one slot through eleven doublings, is emptied, and does it again.
 #[test]
 fn through_doublings(rt: HostRuntime) -> Result<(), Fail> {
     let geometry = Geometry::new(65_536, 32)?;
-    let mut shelf = Small::new(rt.alloc(), geometry, 4_096, 5)?;
+    let mut shelf = Shelf::new(rt.alloc(), geometry, 5)?;
     let mut map: BTreeMap<u64, u64> = BTreeMap::new(rt.alloc());
     check_doublings(&rt, &mut shelf, &mut map)
 }
 
 /// Writes a key with five others behind it.
 fn write_six(
-    shelf: &mut Small,
+    shelf: &mut Shelf,
     map: &mut BTreeMap<u64, u64>,
     number: u64,
 ) -> Result<(), AllocError> {
     for key in 0..6 {
         let key = number.wrapping_add(key * 1_000_000);
         map.insert(key, number)?;
-        shelf.put(&key.to_le_bytes(), number);
+        shelf.put(&key.to_le_bytes(), b"value", number);
     }
     Ok(())
 }
 
-/// Writes the keys below a count whose hash leaves this home of 1,024, and behind each five others. Answers how many have
-/// that home.
-fn crowd(shelf: &mut Small, map: &mut BTreeMap<u64, u64>, home: u64) -> Result<u64, AllocError> {
+/// Writes the keys below a count whose hash leaves this home of 1,024, and behind each five others. Answers how many
+/// have that home.
+fn crowd(shelf: &mut Shelf, map: &mut BTreeMap<u64, u64>, home: u64) -> Result<u64, AllocError> {
     let mut crowded: u64 = 0;
     for number in 0..100_000u64 {
         if shelf.hash_of(&number.to_le_bytes()) % 1_024 == home {
@@ -170,18 +168,18 @@ fn crowd(shelf: &mut Small, map: &mut BTreeMap<u64, u64>, home: u64) -> Result<u
     Ok(crowded)
 }
 
-/// Whether each key of the map is found, and how many slots are used.
-fn all_found(shelf: &Small, map: &BTreeMap<u64, u64>) -> bool {
+/// Whether each key of the map is found, and no other one below 100,000.
+fn all_found(shelf: &Shelf, map: &BTreeMap<u64, u64>) -> bool {
     for (key, cas) in map {
         if shelf.cas_of(&key.to_le_bytes()) != Some(*cas) {
             return false;
         }
     }
-    shelf.len() == map.len()
+    agree(shelf, map, 100_000)
 }
 
 /// Deletes each key below a count, of which every other one is in the map and then isn't.
-fn thin(shelf: &mut Small, map: &mut BTreeMap<u64, u64>) {
+fn thin(shelf: &mut Shelf, map: &mut BTreeMap<u64, u64>) {
     for number in 0..50_000u64 {
         let key = number.wrapping_mul(2);
         if map.remove(&key).is_some() {
@@ -192,7 +190,7 @@ fn thin(shelf: &mut Small, map: &mut BTreeMap<u64, u64>) {
 
 fn check_home(
     rt: &impl Abort,
-    shelf: &mut Small,
+    shelf: &mut Shelf,
     map: &mut BTreeMap<u64, u64>,
     home: u64,
 ) -> Result<(), Fail> {
@@ -206,22 +204,22 @@ fn check_home(
 
 fn check_new_home(rt: &impl Abort, alloc: Global, home: u64) -> Result<(), Fail> {
     let geometry = Geometry::new(65_536, 32)?;
-    let mut shelf = Small::new(alloc, geometry, 2_048, 11)?;
+    let mut shelf = Shelf::new(alloc, geometry, 11)?;
     let mut map: BTreeMap<u64, u64> = BTreeMap::new(alloc);
     check_home(rt, &mut shelf, &mut map, home)
 }
 
-/// About a hundred keys have one home while there are up to 1,024 slots, then two, while the table grows under them: the
-/// first slots of their homes, and the last ones, from which their searches go over the end.
+/// About a hundred keys have one home while there are up to 1,024 slots, then two, while the table grows under them:
+/// the first slots of their homes, and the last ones, from which their searches go over the end.
 #[test]
 fn at_one_home(rt: HostRuntime) -> Result<(), Fail> {
     check_new_home(&rt, rt.alloc(), 0)?;
     check_new_home(&rt, rt.alloc(), 1_023)
 }
 
-fn check_read_ahead(rt: &impl Abort, shelf: &mut Small) {
+fn check_read_ahead(rt: &impl Abort, shelf: &mut Shelf) {
     check_same(rt, shelf.read_ahead(b"alpha"), 0, "no key");
-    check_same(rt, shelf.put(b"alpha", 9), true, "alpha");
+    check_same(rt, shelf.put(b"alpha", b"value", 9), true, "alpha");
     check_same(rt, shelf.read_ahead(b"alpha"), 9, "alpha");
     check_same(rt, shelf.read_ahead(b"beta"), 0, "beta");
 }
@@ -230,12 +228,12 @@ fn check_read_ahead(rt: &impl Abort, shelf: &mut Small) {
 #[test]
 fn a_key_is_read_ahead(rt: HostRuntime) -> Result<(), Fail> {
     let geometry = Geometry::new(65_536, 8)?;
-    let mut shelf = Small::new(rt.alloc(), geometry, 64, 77)?;
+    let mut shelf = Shelf::new(rt.alloc(), geometry, 77)?;
     check_read_ahead(&rt, &mut shelf);
     Ok(())
 }
 
-/// Writes so many keys, each with its number, and for the next one there is no room.
+/// Writes the keys below a count, each with its number, and for the next one there is no room.
 fn check_filling(rt: &impl Abort, shelf: &mut Shelf, keys: u64) {
     for n in 0..keys {
         check_same(rt, shelf.put(&n.to_le_bytes(), b"", n), true, n);
@@ -243,35 +241,19 @@ fn check_filling(rt: &impl Abort, shelf: &mut Shelf, keys: u64) {
     check_same(rt, shelf.put(&keys.to_le_bytes(), b"", keys), false, keys);
 }
 
-/// So many keys are found with their numbers.
+/// The keys below a count are found with their numbers.
 fn check_filled(rt: &impl Abort, shelf: &Shelf, keys: u64) {
     for n in 0..keys {
         check_same(rt, shelf.cas_of(&n.to_le_bytes()), Some(n), n);
     }
 }
 
-/// How many of so many keys are found, each with its number.
-fn count_found(rt: &impl Abort, shelf: &Shelf, keys: u64) -> u64 {
-    let mut found: u64 = 0;
-    for n in 0..keys {
-        if let Some(cas) = shelf.cas_of(&n.to_le_bytes()) {
-            check_same(rt, cas, n, n);
-            found = found.wrapping_add(1);
-        }
-    }
-    found
-}
-
 fn check_full_pool(rt: &impl Abort, shelf: &mut Shelf) {
     check_filling(rt, shelf, 1_024);
     check_filled(rt, shelf, 1_024);
-    shelf.forget(3);
-    check_same(rt, shelf.len(), 896, "used slots");
-    check_same(rt, count_found(rt, shelf, 1_024), 896, "keys found");
 }
 
 /// A pool of eight segments of 4,096 bytes is full with 1,024 items of 32 bytes, which use half of the 2,048 slots.
-/// Then the keys of one segment are forgotten, which are as many as the bytes of a segment hold.
 #[test]
 fn a_full_pool(rt: HostRuntime) -> Result<(), Fail> {
     let geometry = Geometry::new(4096, 8)?;

@@ -4,6 +4,7 @@ use index::{Index, layout_for, slots_for};
 use proto::{Geometry, NoMemory};
 use segments::{ItemRef, LASTING, Pool, size_of};
 use std::alloc::Global;
+use std::hash::Hasher;
 use std::marker::Model;
 
 /// The values of keys, each in the segments, with its place in the index.
@@ -65,7 +66,7 @@ impl Shelf {
         let Ok(place) = self.pool.append(LASTING, 0, item) else {
             return false;
         };
-        self.index.put(&self.pool, key, place);
+        self.index.insert(&self.pool, key, place);
         true
     }
 
@@ -73,6 +74,18 @@ impl Shelf {
     pub fn cas_of(&self, key: &[u8]) -> Option<u64> {
         let place = self.index.look_up(&self.pool, key)?;
         Some(self.pool.item(place).cas)
+    }
+
+    /// The hash by which the index finds the key.
+    pub fn hash_of(&self, key: &[u8]) -> u64 {
+        let mut hasher = self.index.hasher();
+        hasher.write(key);
+        hasher.finish()
+    }
+
+    /// What the index reads ahead for the key.
+    pub fn read_ahead(&self, key: &[u8]) -> u64 {
+        self.index.prefetch(&self.pool, self.hash_of(key))
     }
 
     /// Takes the key out.
@@ -84,19 +97,8 @@ impl Shelf {
         true
     }
 
-    /// Takes out the keys whose items stand in a segment.
-    pub fn forget(&mut self, segment: u32) {
-        if segment < self.geometry.segments() {
-            self.index.forget(&self.pool, segment);
-        }
-    }
-
     /// Takes all keys out.
     pub fn clear(&mut self) {
         self.index.clear();
-    }
-
-    pub fn len(&self) -> usize {
-        self.index.len()
     }
 }

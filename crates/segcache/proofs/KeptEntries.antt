@@ -28,9 +28,9 @@ use Rattle.segcache.specs.Living.{live_others}
 use Rattle.segcache.specs.Writes.{unread, WritesToSegments}
 use Rattle.segcache.specs.Forgetting.{PlacesItem, keys_forgotten}
 use Rattle.segcache.specs.Keeping.{AllLast, KeepsStored}
-use Rattle.segcache.proofs.Showing.{get-live_in, entry_is}
-use Rattle.segcache.proofs.Appending.{appended_here}
-use Rattle.segcache.proofs.Keeping.{kept_with, holds_little, written_more, all_last, last_appended}
+use Rattle.segcache.proofs.ShownItems.{get-live_in, entry_is}
+use Rattle.segcache.proofs.AppendNeeds.{appended_here}
+use Rattle.segcache.proofs.WritesWithRoom.{kept_with, holds_little, written_more, all_last, last_appended}
 use Rattle.segments.proofs.MarkedPlaces.{nothing_at}
 
 -- ---- no entry has a deadline where all segments are of the bucket of what has none

@@ -16,7 +16,7 @@ use Rattle.proto.specs.Cache.{has_arrived}
 use Rattle.segments.specs.Places.{same_place}
 use Rattle.segments.proofs.Places.{standing_by, mark_within}
 use Rattle.segments.proofs.MovedPlaces.{same_place_is, same_place_itself}
-use Rattle.segments.proofs.Agreeing.{in_segment}
+use Rattle.segments.proofs.AgreeingTests.{in_segment}
 use Rattle.segments.proofs.PlanLemmas.{found_from}
 use Rattle.segments.specs.Marks.{Marks, KnowsPool, mark_at, is_marked}
 use Rattle.index.specs.Layouts.{IsLayoutOf}
@@ -26,8 +26,8 @@ use Rattle.segcache.specs.Shown.{current, live_entries, shown_entries}
 use Rattle.segcache.specs.Kept.{IsTied}
 use Rattle.segcache.specs.Leaving.{HasLeft, HaveExpiredLeft}
 use Rattle.segcache.specs.State.{MapState, IsSegmentedMap}
-use Rattle.segcache.proofs.Showing.{shown_remove}
-use Rattle.segcache.proofs.Tying.{current_item, removed_at, removed_other}
+use Rattle.segcache.proofs.ShownItems.{shown_remove}
+use Rattle.segcache.proofs.TiedParts.{current_item, removed_at, removed_other}
 
 -- whether a place is among those that are left of a walk
 abbrev pub is_left : List Standing → Place → Bool

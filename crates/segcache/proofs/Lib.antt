@@ -1,21 +1,42 @@
-pub mod Showing
-pub mod Tying
-pub mod Opening
+-- what a map shows: `find`, `entry_at`, `advance`, `clear`, `count_read`, `seeded`
+pub mod ShownItems
+-- the invariant of `SegmentMap` and its change by each call
+pub mod TiedParts
+-- the invariant of `SegmentMap`: no segment was opened later than the last moment
+pub mod OpeningMoments
+-- the contracts of `leave_segment`, `leave_expired`, `leave_all` and `remove`
 pub mod LeftPlaces
-pub mod Starting
+-- the contract of `seeded`
+pub mod NewMaps
+-- for `append`: that the index has room for one more key
 pub mod PlaceCounts
-pub mod Appending
-pub mod Evicting
-pub mod Giving
+-- the contract of `append`, and what `Index::insert` requires there
+pub mod AppendNeeds
+-- the contract of `clear_oldest`: which keys are forgotten, and how many
+pub mod EvictedKeys
+-- the contract of `free_segment` where something is given back
+pub mod GivenBack
+-- the contract of `free_segment`: steps that make room, one after the other
 pub mod RoomMade
-pub mod Putting
-pub mod Written
+-- the contracts of `append_to_freed` and `write_item`: `put`
+pub mod AppendedItems
+-- the contract of `write`: `written`
+pub mod WriteParts
+-- the contract of `merge`: what ties pool, index and marks
 pub mod MergedMarks
+-- the contract of `merge`: `made`
 pub mod MergedRoom
+-- the contract of `evict`, whose plan is of no account
 pub mod MergePlans
-pub mod Forgotten
+-- the contracts of `evict`, `free_segment` and `write_item`: `evicted`, `room`, `placed`
+pub mod ForgottenKeys
+-- the contracts of `merge` and `clear_oldest`: `evicted`
 pub mod MergedKeys
-pub mod Keeping
+-- for `write`: `kept`, where little is held
+pub mod WritesWithRoom
+-- the clauses `kept` of `write`, `remove` and `count_read`, and `keeps` of `seeded`
 pub mod KeptEntries
-pub mod Handling
+-- the promise `HandlesSegments` of `Store::handle`
+pub mod HandledRequests
+-- the promise `StaysFilled` of `Store::handle`
 pub mod StayingFilled

@@ -15,8 +15,8 @@ use Rattle.segcache.specs.Shown.{current, shown_entries, live_entries, entry_at}
 use Rattle.segcache.specs.Kept.{IsTied, IsPast}
 use Rattle.segcache.specs.Room.{IsCrowded, IsRoomMade}
 use Rattle.segcache.specs.Merging.{HasPlan}
-use Rattle.segcache.proofs.Showing.{shown_same}
-use Rattle.segcache.proofs.Tying.{tied_same}
+use Rattle.segcache.proofs.ShownItems.{shown_same}
+use Rattle.segcache.proofs.TiedParts.{tied_same}
 use Rattle.segcache.proofs.MergedMarks.{planned_again}
 use Rattle.segcache.proofs.RoomMade.{IsSwept, swept_evicted}
 

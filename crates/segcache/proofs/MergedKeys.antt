@@ -15,17 +15,17 @@ use Rattle.segments.specs.Merges.{Judged, NoneQualifies, moves_into, front, merg
 use Rattle.segments.proofs.PlanLemmas.{standing_in, plan_after}
 use Rattle.segments.specs.Marks.{Marks, is_marked, lives_by}
 use Rattle.index.specs.Table.{Table}
-use Rattle.index.specs.Following.{AreInTurn}
-use Rattle.index.proofs.InTurn.{plan_in_turn}
+use Rattle.index.specs.Relocating.{AreInTurn}
+use Rattle.index.proofs.MoveOrder.{plan_in_turn}
 use Rattle.segcache.specs.Shown.{current, shown_entries}
 use Rattle.segcache.specs.Kept.{IsTied}
 use Rattle.segcache.specs.Leaving.{HasLeft}
 use Rattle.segcache.specs.Forgetting.{IsEvicted}
 use Rattle.segcache.proofs.LeftPlaces.{standing_all}
-use Rattle.segcache.proofs.Evicting.{IsCurrent, key_in, left_entries, current_among, cleared_stayed}
-use Rattle.segcache.proofs.MergedMarks.{IsMergeFollowed, moved_at}
+use Rattle.segcache.proofs.EvictedKeys.{IsCurrent, key_in, left_entries, current_among, cleared_stayed}
+use Rattle.segcache.proofs.MergedMarks.{IsMergeRelocated, moved_at}
 use Rattle.segcache.proofs.MergedRoom.{lost, live_current, merged_stayed}
-use Rattle.segcache.proofs.Forgotten.{merged_replanned}
+use Rattle.segcache.proofs.ForgottenKeys.{merged_replanned}
 
 -- ---- which judged items go nowhere
 
@@ -85,9 +85,9 @@ lost_keys moves (j ∷ js) all =
           rw (z, n) (ap (λ ks. j.item.key ∷ ks) rest))
     ]
 
--- a merge that was followed evicts, and forgets exactly those keys
+-- a merge by which the index was relocated evicts, and forgets exactly those keys
 pub merged_evicted : (p : PoolState) (plan : Plan) (after : PoolState) (index found : Table) (marks : Marks)
-    → IsMergeFollowed p plan after index found marks
+    → IsMergeRelocated p plan after index found marks
     → IsEvicted (lives_by marks) p index after found
 merged_evicted p plan after index found marks w =
     let h = w.is_plan in

@@ -1,4 +1,4 @@
--- What ties pool, index and marks together, behind a merge that index and marks followed.
+-- What ties pool, index and marks together, behind a merge by which the index was relocated and the marks carried.
 use Rattle.std.proofs.Common.{◌≡◌, ℕ, zero, suc, ◌*◌, ◌/◌, ◌<◌, ◌≤◌, Bool, true, false, List, [], ◌∷◌, length, get_or, Option, Some, None, refl, sym, ap}
 use Rattle.std.proofs.Common.{subst, ◌∙◌, inl, inr, arith}
 use Rattle.std.specs.Prelude.{IsSome, IfSome, All, option_map, option_and_then, if◌then◌else◌}
@@ -22,14 +22,14 @@ use Rattle.segments.proofs.MarkedPlaces.{carried_at, is_target_of, mark_found, k
 use Rattle.index.specs.Keys.{KeysOf, key_at}
 use Rattle.index.specs.Layouts.{IsLayoutOf}
 use Rattle.index.specs.Table.{Table, IsSameSize}
-use Rattle.index.specs.Following.{IsFollowed, CanFollow, HoldsLive, AreInTurn, keys_behind}
-use Rattle.index.proofs.FollowedPlans.{StandsLive, starts_live, plan_followed}
-use Rattle.index.proofs.InTurn.{plan_in_turn}
-use Rattle.index.proofs.Mapping.{stands_from_get}
+use Rattle.index.specs.Relocating.{IsRelocated, CanRelocate, HoldsLive, AreInTurn, keys_behind}
+use Rattle.index.proofs.RelocatablePlans.{StandsLive, starts_live, plan_relocates}
+use Rattle.index.proofs.MoveOrder.{plan_in_turn}
+use Rattle.index.proofs.SlotsAsMap.{stands_from_get}
 use Rattle.segcache.specs.Shown.{current}
 use Rattle.segcache.specs.Kept.{IsTied}
 use Rattle.segcache.specs.Merging.{HasPlan}
-use Rattle.segcache.proofs.Tying.{current_item, same_mark, held_place, mark_itself, one_place}
+use Rattle.segcache.proofs.TiedParts.{current_item, same_mark, held_place, mark_itself, one_place}
 use Rattle.segments.proofs.MarkedPlaces.{kept_mark}
 
 -- ---- a pool with another plan
@@ -134,17 +134,17 @@ target_place : (o : Option Place) (n k : ℕ) → option_map_or (λ (place : Pla
 target_place None n k h = absurd (false≢true h)
 target_place (Some x) n k h = (x, refl, h)
 
--- ---- a merge that index and marks followed
+-- ---- a merge by which the index was relocated and the marks carried
 
--- What is known where a planned merge was carried out, and the index and the marks followed it.
-pub record IsMergeFollowed (p : PoolState) (plan : Plan) (after : PoolState) (index found : Table)
+-- What is known where a planned merge was carried out, the index relocated by it and the marks carried.
+pub record IsMergeRelocated (p : PoolState) (plan : Plan) (after : PoolState) (index found : Table)
     (marks : Marks) : Type 0 where
   pub tied : IsTied p index marks
   pub is_plan : IsPlan (lives_by marks) p plan
   pub after_is : after ≡ carried_out p plan
   pub out : IsCarriedOut p plan after
   pub pool : IsPool after
-  pub followed : IsFollowed (key_at p) (key_at after) (moved_by plan.moves) index found
+  pub relocated : IsRelocated (key_at p) (key_at after) (moved_by plan.moves) index found
   pub size : IsSameSize index found
 
 -- each move starts where an item stands
@@ -165,7 +165,7 @@ one_item e = cc
 
 -- a mark behind the merge
 mark_now : (p : PoolState) (plan : Plan) (after : PoolState) (index found : Table) (marks : Marks)
-    → IsMergeFollowed p plan after index found marks
+    → IsMergeRelocated p plan after index found marks
     → (r : Place)
     → is_marked (carried_marks marks plan.moves) r
     ≡ (if list_any (λ (m : Move). is_target_of m r.segment (r.offset / 32)) plan.moves then true
@@ -179,7 +179,7 @@ mark_now p plan after index found marks w r =
 
 -- a current place behind the merge is marked
 held_now : (p : PoolState) (plan : Plan) (after : PoolState) (index found : Table) (marks : Marks)
-    → IsMergeFollowed p plan after index found marks
+    → IsMergeRelocated p plan after index found marks
     → (q : List ℕ) (s r : Place)
     → finite.get (current p index) q ≡ Some s → moved_by plan.moves s ≡ Some r
     → is_marked (carried_marks marks plan.moves) r ≡ true
@@ -199,7 +199,7 @@ held_now p plan after index found marks w q s r e m =
 
 -- an item at a target is current
 target_current : (p : PoolState) (plan : Plan) (after : PoolState) (index found : Table) (marks : Marks)
-    → IsMergeFollowed p plan after index found marks
+    → IsMergeRelocated p plan after index found marks
     → (r : Place) (i : Item)
     → item_in after r ≡ Some i → list_any (λ (m : Move). is_target_of m r.segment (r.offset / 32)) plan.moves ≡ true
     → finite.get (current after found) i.key ≡ Some r
@@ -220,13 +220,13 @@ target_current p plan after index found marks w r i e h =
     let same = same_mark after x.0 r (halved start.item) i w.pool there e x.2 in
     let item = one_item (sym there ∙ ap (item_in after) same ∙ e) in
     let key : start.item.key ≡ i.key = ap (λ (y : Item). y.key) item in
-    w.followed.places i.key ∙ ap (option_and_then (moved_by moves))
+    w.relocated.places i.key ∙ ap (option_and_then (moved_by moves))
     (ap (finite.get (current p index)) (sym key) ∙ w.tied.marked m.source start.item start.stands start.live)
     ∙ moved_at moves a.0 a.1 (plan_in_turn (lives_by marks) p plan w.tied.known.pool w.is_plan) a.2 ∙ x.1 ∙ ap Some same
 
 -- and so is one that was marked and isn't where a move starts
 other_current : (p : PoolState) (plan : Plan) (after : PoolState) (index found : Table) (marks : Marks)
-    → IsMergeFollowed p plan after index found marks
+    → IsMergeRelocated p plan after index found marks
     → (r : Place) (i : Item)
     → item_in after r ≡ Some i → list_any (λ (m : Move). is_mark_of m.source r.segment (r.offset / 32)) plan.moves
     ≡ false → is_marked marks r ≡ true
@@ -252,7 +252,7 @@ other_current p plan after index found marks w r i e free h =
           ∙ mark_itself x.place in
           let same = same_mark after x.place r j.0 i w.pool there e mark in
           let key : j.0.key ≡ i.key = ap (λ (y : Item). y.key) (one_item (sym there ∙ ap (item_in after) same ∙ e)) in
-          w.followed.places i.key ∙ ap (option_and_then (moved_by moves))
+          w.relocated.places i.key ∙ ap (option_and_then (moved_by moves))
           (ap (finite.get (current p index)) (sym key) ∙ w.tied.marked x.place j.0 j.1 is)
           ∙ o.0 ∙ ap Some same
     ]
@@ -263,14 +263,14 @@ other_current p plan after index found marks w r i e free h =
 
 -- all stays tied
 pub tied_merged : (p : PoolState) (plan : Plan) (after : PoolState) (index found : Table) (marks : Marks)
-    → IsMergeFollowed p plan after index found marks
+    → IsMergeRelocated p plan after index found marks
     → IsTied after found (carried_marks marks plan.moves)
 tied_merged p plan after index found marks w =
     record {
       known = knows_carried marks p plan after w.tied.known w.pool w.is_plan w.out (some_starts marks p plan w.is_plan);
-      indexed = w.followed.index;
+      indexed = w.relocated.index;
       held = λ q r h. option_and_then_some (moved_by plan.moves) (finite.get (current p index) q) r
-          (sym (w.followed.places q) ∙ h)
+          (sym (w.relocated.places q) ∙ h)
           (λ s e m. held_now p plan after index found marks w q s r e m);
       marked = λ r i e h.
           (let at = sym (mark_now p plan after index found marks w r) ∙ h in
@@ -301,26 +301,26 @@ holds_marked p index marks tied =
           (tied.marked r i e h) in record { at = s.at; in_range = s.in_range; used = s.used; place_is = s.place_is });
     }
 
--- what following requires
-pub can_follow : (p : PoolState) (index : Table) (marks : Marks) → IsTied p index marks → HasPlan p marks
+-- what relocating requires
+pub can_relocate : (p : PoolState) (index : Table) (marks : Marks) → IsTied p index marks → HasPlan p marks
     → IfSome p.plan (λ plan. IsPool (carried_out p plan))
-    → CanFollow (key_at p) (keys_behind p) index (planned_moves p.plan)
-can_follow p index marks tied h behind =
+    → CanRelocate (key_at p) (keys_behind p) index (planned_moves p.plan)
+can_relocate p index marks tied h behind =
     let is = has_planned p h.plan h.planned in
     let pool : IsPool (carried_out p h.plan) =
     subst (λ (o : Option Plan). IfSome o (λ plan. IsPool (carried_out p plan))) h.planned behind in
-    subst (λ (r : PoolState). CanFollow (key_at r) (keys_behind r) index (planned_moves r.plan)) (sym is)
-    (plan_followed (lives_by marks) p h.plan index tied.known.pool h.is_plan
+    subst (λ (r : PoolState). CanRelocate (key_at r) (keys_behind r) index (planned_moves r.plan)) (sym is)
+    (plan_relocates (lives_by marks) p h.plan index tied.known.pool h.is_plan
     (subst (λ (r : PoolState). IsPool (carried_out r h.plan)) is pool) tied.layout tied.indexed
     (holds_marked p index marks tied))
 
 -- what is known behind all calls
-pub merge_followed : (p after : PoolState) (index found : Table) (marks : Marks) → IsTied p index marks
+pub merge_relocated : (p after : PoolState) (index found : Table) (marks : Marks) → IsTied p index marks
     → (h : HasPlan p marks)
     → IfSome p.plan (λ plan. after ≡ carried_out p plan) → IsPool after
-    → IsFollowed (key_at p) (keys_behind p) (moved_by (planned_moves p.plan)) index found → IsSameSize index found
-    → IsMergeFollowed p h.plan after index found marks
-merge_followed p after index found marks tied h merged pool f size =
+    → IsRelocated (key_at p) (keys_behind p) (moved_by (planned_moves p.plan)) index found → IsSameSize index found
+    → IsMergeRelocated p h.plan after index found marks
+merge_relocated p after index found marks tied h merged pool f size =
     let is : after ≡ carried_out p h.plan =
     subst (λ (o : Option Plan). IfSome o (λ plan. after ≡ carried_out p plan)) h.planned merged in
     let keys : keys_behind p ≡ key_at after =
@@ -333,8 +333,8 @@ merge_followed p after index found marks tied h merged pool f size =
       out = carried (lives_by marks) p h.plan after tied.known.pool h.is_plan
           (is ∙ ap (λ (r : PoolState). carried_out r h.plan) (has_planned p h.plan h.planned));
       pool = pool;
-      followed = subst (λ (k : KeysOf). IsFollowed (key_at p) k (moved_by h.plan.moves) index found) keys
-          (subst (λ (moves : List Move). IsFollowed (key_at p) (keys_behind p) (moved_by moves) index found)
+      relocated = subst (λ (k : KeysOf). IsRelocated (key_at p) k (moved_by h.plan.moves) index found) keys
+          (subst (λ (moves : List Move). IsRelocated (key_at p) (keys_behind p) (moved_by moves) index found)
           (ap planned_moves h.planned) f);
       size = size;
     }

@@ -26,11 +26,11 @@ use Rattle.index.specs.Table.{Table}
 use Rattle.segcache.specs.Shown.{current, entry_at, kept_entry}
 use Rattle.segcache.specs.Kept.{IsTied, IsPast}
 use Rattle.segcache.specs.Room.{IsCrowded, IsRoomMade}
-use Rattle.segcache.proofs.Showing.{entry_is}
-use Rattle.segcache.proofs.Tying.{current_item}
+use Rattle.segcache.proofs.ShownItems.{entry_is}
+use Rattle.segcache.proofs.TiedParts.{current_item}
 use Rattle.segcache.proofs.LeftPlaces.{is_left, standing_all}
-use Rattle.segcache.proofs.Evicting.{IsCurrent, HaveStayed, size_in, segment_sizes, evicted_kept, current_among}
-use Rattle.segcache.proofs.MergedMarks.{IsMergeFollowed}
+use Rattle.segcache.proofs.EvictedKeys.{IsCurrent, HaveStayed, size_in, segment_sizes, evicted_kept, current_among}
+use Rattle.segcache.proofs.MergedMarks.{IsMergeRelocated}
 
 -- ---- when segments were opened
 
@@ -135,7 +135,7 @@ any_at f r (x ∷ xs) = ap (λ (b : Bool). same_place (f x) r || b) (any_at f r 
 
 -- a marked place of a merged segment is that of one of them
 merged_left : (p : PoolState) (plan : Plan) (after : PoolState) (index found : Table) (marks : Marks)
-    → IsMergeFollowed p plan after index found marks
+    → IsMergeRelocated p plan after index found marks
     → (r : Place) (i : Item)
     → item_in p r ≡ Some i → is_marked marks r ≡ true → contains_number (merged_segments p plan.bucket) r.segment ≡ true
     → is_left (live_items (lives_by marks) p (merged_segments p plan.bucket)) r ≡ true
@@ -179,7 +179,7 @@ live_sizes p marks (n ∷ numbers) k =
 
 -- a moved item's entry stays
 moved_entry : (p : PoolState) (plan : Plan) (after : PoolState) (index found : Table) (marks : Marks)
-    → IsMergeFollowed p plan after index found marks
+    → IsMergeRelocated p plan after index found marks
     → (q : List ℕ) (r s : Place)
     → finite.get (current p index) q ≡ Some r → moved_by plan.moves r ≡ Some s → entry_at after s ≡ entry_at p r
 moved_entry p plan after index found marks w q r s e m =
@@ -202,14 +202,14 @@ moved_entry p plan after index found marks w q r s e m =
 
 -- each key's entry stays but for the lost ones
 pub merged_stayed : (p : PoolState) (plan : Plan) (after : PoolState) (index found : Table) (marks : Marks)
-    → IsMergeFollowed p plan after index found marks
+    → IsMergeRelocated p plan after index found marks
     → HaveStayed p (current p index) after (current after found)
     (lost plan.moves (live_items (lives_by marks) p (merged_segments p plan.bucket)))
 merged_stayed p plan after index found marks w =
     let all = live_items (lives_by marks) p (merged_segments p plan.bucket) in
     record {
-      none = λ q none. w.followed.places q ∙ ap (option_and_then (moved_by plan.moves)) none;
-      gone = λ q r e yes. w.followed.places q ∙ ap (option_and_then (moved_by plan.moves)) e
+      none = λ q none. w.relocated.places q ∙ ap (option_and_then (moved_by plan.moves)) none;
+      gone = λ q r e yes. w.relocated.places q ∙ ap (option_and_then (moved_by plan.moves)) e
           ∙ lost_none plan.moves all r yes;
       stays = λ q r e apart. by q r e apart (moved_by plan.moves r) refl;
     }
@@ -220,7 +220,7 @@ merged_stayed p plan after index found marks w =
         → (s : Place) × (finite.get (current after found) q ≡ Some s) × (entry_at after s ≡ entry_at p r)
     by q r e apart (Some s) m = (
       s,
-      w.followed.places q ∙ ap (option_and_then (moved_by plan.moves)) e
+      w.relocated.places q ∙ ap (option_and_then (moved_by plan.moves)) e
           ∙ m,
       moved_entry p plan after index found marks w q r s e m,
     )
@@ -236,7 +236,7 @@ merged_stayed p plan after index found marks w =
 
 -- room is made
 pub merged_made : (p : PoolState) (plan : Plan) (after : PoolState) (index found : Table) (marks : Marks) (t : ℕ)
-    → IsMergeFollowed p plan after index found marks
+    → IsMergeRelocated p plan after index found marks
     → IsCrowded p index t → IsRoomMade p index t after found
 merged_made p plan after index found marks t w crowded =
     let all = live_items (lives_by marks) p (merged_segments p plan.bucket) in
@@ -245,7 +245,7 @@ merged_made p plan after index found marks t w crowded =
       sizes = w.out.sizes;
       past = past_merged p plan after t w.is_plan.next.qualifying w.after_is crowded.past;
       free = w.out.has_free;
-      absent = λ q none. w.followed.places q ∙ ap (option_and_then (moved_by plan.moves)) none;
+      absent = λ q none. w.relocated.places q ∙ ap (option_and_then (moved_by plan.moves)) none;
       kept = evicted_kept p index after found t ss crowded
           (All-filter (λ (s : Standing). not (is_some (moved_by plan.moves s.place))) (IsCurrent p index) all
           (live_current p index marks (merged_segments p plan.bucket) w.tied))

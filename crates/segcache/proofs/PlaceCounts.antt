@@ -16,7 +16,7 @@ use Rattle.segments.proofs.MergeLemmas.{length_standing}
 use Rattle.index.specs.Keys.{key_at}
 use Rattle.index.specs.Slots.{used_in}
 use Rattle.index.specs.Table.{Table, IsIndex, HasPlace}
-use Rattle.index.proofs.Counting.{few_used}
+use Rattle.index.proofs.UsedSlots.{few_used}
 
 -- the place at which an item stands
 abbrev place_in : Standing → Place

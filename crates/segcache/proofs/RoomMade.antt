@@ -20,11 +20,11 @@ use Rattle.segcache.specs.Kept.{IsTied, IsPast}
 use Rattle.segcache.specs.State.{MapState, IsSegmentedMap}
 use Rattle.segcache.specs.Leaving.{HaveExpiredLeft}
 use Rattle.segcache.specs.Room.{AllWait, IsCrowded, IsRoomMade, AreKept}
-use Rattle.segcache.proofs.Showing.{shown_same, shown_left, entry_is}
-use Rattle.segcache.proofs.Tying.{current_item, tied_given}
-use Rattle.segcache.proofs.Opening.{past_given}
-use Rattle.segcache.proofs.Giving.{all_alive}
-use Rattle.segcache.proofs.Evicting.{many_shown, still_none}
+use Rattle.segcache.proofs.ShownItems.{shown_same, shown_left, entry_is}
+use Rattle.segcache.proofs.TiedParts.{current_item, tied_given}
+use Rattle.segcache.proofs.OpeningMoments.{past_given}
+use Rattle.segcache.proofs.GivenBack.{all_alive}
+use Rattle.segcache.proofs.EvictedKeys.{many_shown, still_none}
 
 -- What was found where the expired keys left and segments were given back: the same is shown, and no key came.
 pub record IsSwept (p : PoolState) (index : Table) (t : ℕ) (after : PoolState) (found : Table)

@@ -33,7 +33,7 @@ use Rattle.segcache.specs.Writes.{WritesToSegments, IsReadAgain, unread}
 use Rattle.segcache.specs.Handling.{LeavesSegments, HandlesSegments}
 use Rattle.segcache.specs.Handling.LeavesSegments.{writes, reads, stays, refuses}
 use Rattle.segcache.specs.StayingFilled.{StaysFilled}
-use Rattle.segcache.proofs.Keeping.{kept_with}
+use Rattle.segcache.proofs.WritesWithRoom.{kept_with}
 
 -- reads leave segments filled, and holding what they held
 counted_filled : (keys : List (List ℕ)) (old new : MapState) → CountsEach IsReadAgain old keys new → IsFilled old.pool

@@ -17,7 +17,7 @@ use Rattle.segcache.specs.State.{MapState, IsSegmentedMap}
 use Rattle.segcache.specs.StoreState.{sizes_in, segmented_cache}
 use Rattle.segcache.specs.Writes.{WritesToSegments, IsReadAgain}
 
--- What a request finds at the moment t: the pool as it was, and an index and a marks of what is live then.
+-- What a request finds at the moment t: the pool as it was, and an index and marks of what is live then.
 pub record FindsLive (before : Engine SegmentMap) (t : ℕ) (found : MapState) : Type 0 where
   pub pool : found.pool ≡ before.map.pool
   pub kept : IsSegmentedMap found

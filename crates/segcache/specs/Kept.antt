@@ -1,6 +1,7 @@
 -- What a segmented map keeps.
-use Rattle.std.specs.Prelude.{◌≡◌, ℕ, ◌*◌, ◌/◌, ◌≤◌, ◌^◌, true, List, Some}
+use Rattle.std.specs.Prelude.{◌≡◌, ℕ, ◌*◌, ◌/◌, ◌≤◌, true, List, Some}
 use Rattle.std.specs.FinMap as finite
+use Rattle.proto.specs.History.{max_moment}
 use Rattle.segments.specs.declared.place.Place.{Place}
 use Rattle.segments.specs.Items.{Item}
 use Rattle.segments.specs.Pools.{PoolState, Used, segment_at, item_in}
@@ -11,7 +12,7 @@ use Rattle.index.specs.Table.{Table, IsIndex}
 use Rattle.index.specs.Keys.{key_at}
 use Rattle.segcache.specs.Shown.{current}
 
--- The marks marks exactly the current places, those that the index has, each of which holds an item of its key; and
+-- The marks are exactly at the current places, those that the index has, each of which holds an item of its key; and
 -- the index has a slot to spare for each item that fits into the pool, and its slots can say each place of the pool.
 pub record IsTied (p : PoolState) (index : Table) (marks : Marks) : Type 0 where
   pub known : KnowsPool marks p
@@ -26,6 +27,6 @@ pub record IsTied (p : PoolState) (index : Table) (marks : Marks) : Type 0 where
 -- no segment was opened after the moment t, which is within its limit, and those of chains stand in the order of their
 -- opening moments
 pub record IsPast (p : PoolState) (t : ℕ) : Type 0 where
-  pub within : t ≤ 2 ^ 62
+  pub within : t ≤ max_moment
   pub opened : (n : ℕ) (u : Used) → segment_at p n ≡ Some u → u.opened ≤ t
   pub in_order : IsInOrder p

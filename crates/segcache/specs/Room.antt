@@ -45,26 +45,23 @@ pub record IsRoomMade (p : PoolState) (index : Table) (t : ℕ) (after : PoolSta
   pub absent : (key : List ℕ) → finite.get (current p index) key ≡ None → finite.get (current after found) key ≡ None
   pub kept : AreKept p.sizes (shown_entries p index t) (shown_entries after found t)
 
--- The item was written at the moment t with a deadline that it may get in place of the one asked for; of the entries
--- before it some may have been forgotten.
-pub record IsPut (p : PoolState) (index : Table) (t : ℕ) (i : Item) (asked : Option ℕ) (after : PoolState)
+-- The item was written at the moment t with a deadline that it may get in place of the one asked for, beside these other
+-- entries, of which some may have been forgotten.
+pub record IsPutBeside (others : Entries) (s : Sizes) (t : ℕ) (i : Item) (asked : Option ℕ) (after : PoolState)
     (found : Table) : Type 0 where
-  pub sizes : after.sizes ≡ p.sizes
+  pub sizes : after.sizes ≡ s
   pub past : IsPast after t
   pub deadline : Option ℕ
   pub may_live : MayLive t asked deadline
   pub kept : Entries
-  pub are_kept : AreKept p.sizes (shown_entries p index t) kept
+  pub are_kept : AreKept s others kept
   pub entries : shown_entries after found t ≡ finite.insert kept i.key (kept_entry deadline i)
 
--- The item was written at the moment t in place of its key's, with a deadline that it may get in place of the one asked for;
--- of the other entries some may have been forgotten.
-pub record IsPutOver (p : PoolState) (index : Table) (t : ℕ) (i : Item) (asked : Option ℕ) (after : PoolState)
-    (found : Table) : Type 0 where
-  pub sizes : after.sizes ≡ p.sizes
-  pub past : IsPast after t
-  pub deadline : Option ℕ
-  pub may_live : MayLive t asked deadline
-  pub kept : Entries
-  pub are_kept : AreKept p.sizes (finite.remove (shown_entries p index t) i.key) kept
-  pub entries : shown_entries after found t ≡ finite.insert kept i.key (kept_entry deadline i)
+-- beside the entries before it
+abbrev pub IsPut : PoolState → Table → ℕ → Item → Option ℕ → PoolState → Table → Type 0
+IsPut p index t i asked after found = IsPutBeside (shown_entries p index t) p.sizes t i asked after found
+
+-- in place of its key's
+abbrev pub IsPutOver : PoolState → Table → ℕ → Item → Option ℕ → PoolState → Table → Type 0
+IsPutOver p index t i asked after found =
+    IsPutBeside (finite.remove (shown_entries p index t) i.key) p.sizes t i asked after found

@@ -22,7 +22,7 @@ impl SegmentMap {
         ensures moment { self.new.moment ≡ self.old.moment }
     {
         let moves = self.pool.moves();
-        self.index.follow(&self.pool);
+        self.index.relocate(&self.pool);
         self.marks.carry(moves);
         self.pool.merge_next();
     }

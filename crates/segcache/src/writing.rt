@@ -50,16 +50,17 @@ impl SegmentMap {
         ensures moment { self.new.moment ≡ self.old.moment }
     {
         let place = self.pool.append(bucket, self.moment, item)?;
-        let source = self.index.put(&self.pool, item.key, place);
+        let source = self.index.insert(&self.pool, item.key, place);
         mark_instead(&mut self.marks, source, place);
         Ok(place)
     }
 
-    /// Puts an item, of a key that has none, into the pool, and makes a segment free for it where it has no room.
-    fn put(&mut self, bucket: usize, item: ItemRef)
+    /// Makes a segment free, and puts an item there, of a key that has none.
+    fn append_to_freed(&mut self, bucket: usize, item: ItemRef)
         requires bucket { bucket < bucket_count }
         requires storable { IsStorable (item_limit self.old.pool.sizes) (item_of item) }
         requires absent { map.get (current self.old.pool self.old.index) item.key.now ≡ None }
+        requires no_room { HasNoRoom self.old.pool bucket self.old.moment (item_of item) }
         requires waits { has_arrived item.deadline self.old.moment ≡ false }
         requires of_bucket { bucket ≡ bucket_of (time_to_live item.deadline self.old.moment) }
         ensures put { IsPut self.old.pool self.old.index self.old.moment (item_of item.entry) item.entry.deadline self.new.pool self.new.index }
@@ -67,10 +68,8 @@ impl SegmentMap {
             (item_of item.entry) self.new.pool self.new.index }
         ensures moment { self.new.moment ≡ self.old.moment }
     {
-        if self.append(bucket, item).is_err() {
-            self.free_segment();
-            let _ = self.append(bucket, item);
-        }
+        self.free_segment();
+        let _ = self.append(bucket, item);
     }
 
     /// Puts an item into the pool in place of the one that its key has: over it by one search of the index where that
@@ -87,7 +86,7 @@ impl SegmentMap {
     {
         if self.append(bucket, item).is_err() {
             self.leave_key(item.key);
-            self.put(bucket, item);
+            self.append_to_freed(bucket, item);
         }
     }
 }

@@ -37,7 +37,7 @@ impl Script {
         self.output.push_str(output)
     }
 
-    /// A value of so many of a letter is stored.
+    /// A value of `length` times a letter is stored.
     fn set(&mut self, alloc: Global, key: u64, letter: u8, length: u64) -> Result<(), Fail> {
         push_text(alloc, &mut self.input, "set ", key, " 0 0", letter, length)?;
         self.output.push_str("STORED\r\n")?;
@@ -95,7 +95,7 @@ fn push_line(alloc: Global, text: &mut String, word: &str, key: u64) -> Result<(
     text.push_str(line.as_str())
 }
 
-/// Adds a word, a key and what stands behind it, and so many of a letter as their value.
+/// Adds a word, a key and what stands behind it, and `length` times a letter as their value.
 fn push_text(
     alloc: Global,
     text: &mut String,
@@ -120,7 +120,7 @@ fn item_size(length: u64) -> u64 {
     (28u64.saturating_add(length).saturating_add(7) / 8).saturating_mul(8)
 }
 
-/// So many items are written, each of 512 bytes, and all are found.
+/// An item of 512 bytes is written for each key, and all are found.
 fn write_and_get(alloc: Global, script: &mut Script, keys: u64) -> Result<(), Fail> {
     for key in 1..=keys {
         script.set(alloc, key, b'v', 484)?;
@@ -168,7 +168,7 @@ fn worst_length(n: u64) -> u64 {
     }
 }
 
-/// So many such items are written, and the first ones are forgotten.
+/// `writes` such items are written, and the first ones are forgotten.
 fn write_worst(
     alloc: Global,
     script: &mut Script,
@@ -204,8 +204,8 @@ fn one_item_too_many(rt: HostRuntime) -> Result<(), Fail> {
 /// What a key is to be found with: a letter, and how many of it.
 type Found = Option<(u8, u64)>;
 
-/// A random key is deleted, or given a value of at most a length if that is within what is left of the bound. Gives what
-/// is left then, and None where it isn't.
+/// A random key is deleted, or given a value of at most a length if that is within what is left of the bound. Gives
+/// what is left then, and None where it isn't.
 fn push_turn(
     alloc: Global,
     script: &mut Script,
@@ -278,8 +278,8 @@ fn push_random(
     push_gets(alloc, script, there.as_slice())
 }
 
-/// Random values of at most a length are written, over others too, and deleted, as long as what is written is within the
-/// bound; then all that is there is found.
+/// Random values of at most a length are written, over others too, and deleted, as long as what is written is within
+/// the bound; then all that is there is found.
 fn check_random(
     rt: &impl Abort,
     alloc: Global,

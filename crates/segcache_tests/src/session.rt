@@ -72,8 +72,8 @@ fn push_all<S: StorageEngine>(
     Ok(())
 }
 
-/// Executes the messages that the bytes spell, each so many seconds after the one before, and gives what the session is
-/// sent.
+/// Executes the messages that the bytes spell, each `tick` seconds after the one before, and gives what the session
+/// is sent.
 pub fn answers<S: StorageEngine>(
     alloc: Global,
     store: &mut S,

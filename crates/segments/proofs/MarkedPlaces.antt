@@ -20,7 +20,7 @@ use Rattle.segments.specs.Places.{IsAppended, IsCarriedOut, same_place}
 use Rattle.segments.proofs.Places.{standing_by, live_stays, live_given, mark_within, cleared_item, touched_item}
 use Rattle.segments.proofs.MovedPlaces.{carried, same_place_is, same_place_itself, live_source, moved_other}
 use Rattle.segments.proofs.PlanLemmas.{found_from}
-use Rattle.segments.proofs.Agreeing.{in_segment}
+use Rattle.segments.proofs.AgreeingTests.{in_segment}
 use Rattle.segments.specs.Marks.{Marks, marked, row_of, mark_at, is_mark_of, is_marked, with_mark, without_marks, unmarked_sources}
 use Rattle.segments.specs.Marks.{mark_target, marked_targets, carried_marks, no_marks, lives_by, IsWithin, AreMarksSized, has_mark, KnowsPool}
 use Rattle.segments.proofs.MarkCounts.{marked_at, marked_some}
@@ -344,7 +344,7 @@ sized_none s =
           (length-replicate (s.segment_size / 32) false);
     }
 
--- a new marks has its sizes
+-- new marks are of the sizes that they are made for
 sizes_none : (s : Sizes) → (no_marks s).sizes ≡ s
 unfolding no_marks
 sizes_none s = refl
@@ -369,7 +369,7 @@ within_sizes s p q k e h =
     let w = mark_within p q i.0 k i.1 in
     subst (λ z. IsWithin z q) (sym e) (record { segment = w.0; offset = w.1 })
 
--- what the calls of a marks require
+-- what the calls on marks require
 pub item_within : (t : Marks) (p : PoolState) (q : Place) → KnowsPool t p → IsSome (item_in p q) → IsWithin t.sizes q
 item_within t p q known h = within_sizes t.sizes p q known.pool known.sizes h
 
@@ -428,7 +428,7 @@ fewer_by : (b x : Bool) → (if b then false else x) ≡ true → x ≡ true
 fewer_by true x h = absurd (false≢true h)
 fewer_by false x h = h
 
--- a marks that knows a pool still does with a mark less
+-- marks that know a pool still do with a mark less
 pub knows_unmark : (t : Marks) (p : PoolState) (place : Place) → KnowsPool t p → IsWithin t.sizes place
     → KnowsPool (with_mark false t place) p
 knows_unmark t p place known w =

@@ -1,4 +1,4 @@
--- A marks of a pool for which a merge was planned, or none could be.
+-- Marks of a pool for which a merge was planned, or none could be.
 use Rattle.std.proofs.Common.{◌≡◌, Bool, true, false, sym, ap, subst}
 use Rattle.std.specs.Prelude.{MatchBool}
 use Rattle.segments.specs.Pools.{PoolState, Plan, IsPool}

@@ -14,11 +14,11 @@ use std::test::Fail;
 /// What is done, or what has to be there. Writes have the numbers 1, 2 and so on; ranges have both their ends.
 #[derive(Clone, Copy)]
 pub enum Step {
-    /// So many writes with values of 476 bytes and no deadline, at the moment 1000.
+    /// This number of writes with values of 476 bytes and no deadline, at the moment 1000.
     Write(usize),
-    /// So many writes of a time to live at a moment.
+    /// At a moment, of a time to live, a number of writes.
     WriteFor(u64, u64, usize),
-    /// So many writes with values of this length and no deadline.
+    /// A number of writes with values of this length, the second one, and no deadline.
     WriteOf(usize, usize),
     Read(usize),
     /// The writes of a range aren't current any more.
@@ -29,9 +29,9 @@ pub enum Step {
     Segment(usize, usize, usize),
     Reads(usize, u8),
     Deadline(usize, Option<u64>),
-    /// So many segments have no item.
+    /// This number of segments has no item.
     Empty(usize),
-    /// So many segments were given back for want of a current item, and so many merges and clears were made.
+    /// How many segments were given back for want of a current item, how many merges were made, and how many clears.
     Made(usize, usize, usize),
 }
 
@@ -46,7 +46,8 @@ pub struct Run {
     clears: usize,
 }
 
-/// This holds, or it is said what doesn't, and at which write or number. Its proof, with that of the text, is made once.
+/// This holds, or it is said what doesn't, and at which write or number. Its proof, with that of the text, is made
+/// once.
 pub fn check(rt: &impl Abort, holds: bool, what: &str, place: usize) {
     assert!(rt; holds, "{what} at {place}");
 }

@@ -1,4 +1,4 @@
-//! A pool with a marks of its current items, and the steps that make room.
+//! A pool with marks of its current items, and the steps that make room.
 
 ghost use Rattle.std.specs.Prelude.{◌≡◌};
 ghost use Rattle.segments.specs.Marks.{KnowsPool};
@@ -20,7 +20,7 @@ pub struct Stock {
 }
 
 impl Stock {
-    /// An empty pool of so many segments of this size.
+    /// An empty pool of segments of this size.
     #[tactic(auto, unfolding(segments::specs::Changes::new_pool))]
     pub fn new(alloc: Global, segment_size: u32, segments: u32) -> Result<Stock, Fail> {
         let geometry = Geometry::new(segment_size, segments)?;

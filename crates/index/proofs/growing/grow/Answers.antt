@@ -2,16 +2,16 @@ use Rattle.std.proofs.Common.{◌≡◌, ◌⊎◌, ◌+◌, ◌-◌, ◌<◌, f
 use Rattle.index.specs.declared.slot.Slot.{Slot}
 use Rattle.index.specs.Keys.{key_at, KeysOf}
 use Rattle.index.specs.Layouts.{Row}
-use Rattle.index.specs.Settling.{AreNear}
+use Rattle.index.specs.Reinserting.{AreNear}
 use Rattle.index.specs.Slots.{used_in, is_used, slot_at}
 use Rattle.index.specs.Table.{hashing, places_in}
-use Rattle.index.proofs.Emptying.{homes_in_row}
-use Rattle.index.proofs.Grown.{longer, longer_length, longer_used, longer_places, same_slot, near_front, near_split}
+use Rattle.index.proofs.ShiftedSlots.{homes_in_row}
+use Rattle.index.proofs.OneSlotMore.{longer, longer_length, longer_used, longer_places, same_slot, near_front, near_split}
 use Rattle.index.proofs.growing.grow.Goals as goal
 use Rattle.index.proofs.growing.grow.Goals.{then-is_used, else-is_used}
 
-pub settle-requires : goal.settle-requires
-settle-requires c =
+pub reinsert-requires : goal.reinsert-requires
+reinsert-requires c =
     let slots : List Slot = c.args.slots.now.slots in
     let l = c.args.slots.now.layout in
     let keys : KeysOf = key_at c.args.pool.now in
@@ -41,20 +41,20 @@ settle-requires c =
       near = rw (n, layout_is, slots_are) near;
     }
 
-pub settle-requires-2-clause-near : goal.settle-requires-2-clause-near
-settle-requires-2-clause-near c =
+pub reinsert-requires-2-clause-near : goal.reinsert-requires-2-clause-near
+reinsert-requires-2-clause-near c =
     let n = c.len-count.ensures in
     let gap = c.requires.gap in
     let slots_are : c.push.new.self.slots ≡ longer c.args.slots.now.slots = ap (λ (r : Row). r.slots) c.push.ensures in
     let more : c.len-more.result ≡ c.len-count.result + 1 =
-    c.len-more.ensures ∙ c.settle.ensures.count ∙ ap length slots_are ∙ longer_length c.args.slots.now.slots
+    c.len-more.ensures ∙ c.reinsert.ensures.count ∙ ap length slots_are ∙ longer_length c.args.slots.now.slots
     ∙ ap (λ m. m + 1) (sym n) in
-    rw (more, c.settle.ensures.layout, c.split_home.ensures.value)
-    (near_split c.len-count.result c.push.new.self.layout c.args.hasher (key_at c.args.pool.now) c.settle.new.slots.slots
-    (omega (arith, n, gap)) c.settle.ensures.indexed)
+    rw (more, c.reinsert.ensures.layout, c.split_home.ensures.value)
+    (near_split c.len-count.result c.push.new.self.layout c.args.hasher (key_at c.args.pool.now) c.reinsert.new.slots.slots
+    (omega (arith, n, gap)) c.reinsert.ensures.indexed)
 
 pub returns-clause-places : goal.returns-clause-places
 returns-clause-places c =
     let keys : KeysOf = key_at c.args.pool.now in
-    c.settle-2.ensures.places ∙ c.settle.ensures.places
+    c.reinsert-2.ensures.places ∙ c.reinsert.ensures.places
     ∙ ap (λ (r : Row). places_in keys r.slots) c.push.ensures ∙ longer_places keys c.args.slots.now.slots

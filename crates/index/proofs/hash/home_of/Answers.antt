@@ -1,7 +1,7 @@
 use Rattle.std.proofs.Common.{◌≡◌, ◌-◌, ◌+◌, ◌*◌, ◌%◌, ap, ◌∙◌, inl, inr, arith}
 use Rattle.std.specs.Prelude.{bit_and}
 use Rattle.index.specs.Keys.{round}
-use Rattle.index.proofs.Homes.{masked, home_cases, home_below, round_small}
+use Rattle.index.proofs.SplitHomes.{masked, home_cases, home_below, round_small}
 use Rattle.index.proofs.hash.home_of.Goals as goal
 
 pub overflow_add-home : goal.overflow_add-home

@@ -4,7 +4,7 @@ use Rattle.std.proofs.Common.{ap}
 use Rattle.index.specs.declared.slot.Slot.{Slot}
 use Rattle.index.specs.Keys.{key_at}
 use Rattle.index.specs.Slots.{is_used, place_of, slot_at}
-use Rattle.index.proofs.Finding.{way_begins, way_goes_on, way_shortens, way_keeps, none_passed, other_key}
+use Rattle.index.proofs.SearchesUpToGap.{way_begins, way_goes_on, way_shortens, way_keeps, none_passed, other_key}
 use Rattle.index.proofs.search.find_key.Goals as goal
 use Rattle.index.proofs.search.find_key.Goals.{else-there-tag-via-then-there-tag+else-eq, else-there-tag-via-else-there-tag}
 

@@ -1,7 +1,7 @@
 use Rattle.std.proofs.Common.{ap, ◌≡◌, true, length, sym, ◌∙◌, arith}
 use Rattle.index.specs.Slots.{is_used, slot_at}
-use Rattle.index.proofs.Rounds.{distance_itself}
-use Rattle.index.proofs.Finding.{way_begins, way_goes_on, way_shortens, nears}
+use Rattle.index.proofs.RowDistances.{distance_itself}
+use Rattle.index.proofs.SearchesUpToGap.{way_begins, way_goes_on, way_shortens, nears}
 use Rattle.index.proofs.search.first_gap_before.Goals as goal
 
 pub loop-at-init : goal.loop-at-init

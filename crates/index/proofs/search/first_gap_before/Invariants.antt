@@ -1,6 +1,6 @@
 use Rattle.std.proofs.Common.{length, ◌-◌, ◌≤◌}
 use Rattle.index.specs.Slots.{distance}
-use Rattle.index.proofs.Finding.{IsOnWay}
+use Rattle.index.proofs.SearchesUpToGap.{IsOnWay}
 use Rattle.index.proofs.search.first_gap_before.Given as goal
 
 abbrev pub invariant-loop-at : goal.invariant-loop-at

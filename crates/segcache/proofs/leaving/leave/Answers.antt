@@ -2,7 +2,7 @@ use Rattle.std.proofs.Common.{sym, subst, refl}
 use Rattle.std.specs.Prelude.{IsSome}
 use Rattle.segments.proofs.MarkedPlaces.{item_within}
 use Rattle.segcache.specs.Kept.{IsTied}
-use Rattle.segcache.proofs.Tying.{current_item, tied_left}
+use Rattle.segcache.proofs.TiedParts.{current_item, tied_left}
 use Rattle.segcache.proofs.leaving.leave.Goals as goal
 
 pub unmark-requires : goal.unmark-requires

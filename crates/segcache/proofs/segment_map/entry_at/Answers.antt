@@ -1,7 +1,7 @@
 use Rattle.std.proofs.Common.{sym, ap, ◌∙◌, Option, ℕ}
 use Rattle.segments.specs.Shown.{item_of}
 use Rattle.segcache.specs.Shown.{kept_entry}
-use Rattle.segcache.proofs.Showing.{entry_is}
+use Rattle.segcache.proofs.ShownItems.{entry_is}
 use Rattle.segcache.proofs.segment_map.entry_at.Goals as goal
 
 pub returns-clause-entry : goal.returns-clause-entry

@@ -5,9 +5,9 @@ use Rattle.std.proofs.Math.Seq.{drop-cons}
 use Rattle.segments.specs.declared.place.Move.{Move}
 use Rattle.segments.specs.Shown.{item_of}
 use Rattle.index.specs.Keys.{key_at, KeysOf}
-use Rattle.index.specs.Following.{forget_lost}
+use Rattle.index.specs.Relocating.{forget_lost}
 use Rattle.index.proofs.PoolKeys.{item_key}
-use Rattle.index.proofs.FollowingLemmas.{IsLosing, loses, passes, followed_itself}
+use Rattle.index.proofs.RelocatedTables.{IsLosing, loses, passes, relocated_itself}
 use Rattle.index.proofs.index.Index.drop_lost.Goals as goal
 use Rattle.index.proofs.index.Index.drop_lost.Goals.{then-is_none, else-is_none}
 
@@ -34,7 +34,7 @@ loop-step-preserved c =
       | then-is_none w ↦
           subst (IsLosing keys moves rest c.args.self.now) (sym w.self-is)
           (loses keys moves m rest c.args.self.now c.loop-step.self w.take_out.new.self had
-          (c.is_none.ensures ∙ ap not w.if-is_none.true) w.take_out.ensures.followed w.take_out.ensures.size)
+          (c.is_none.ensures ∙ ap not w.if-is_none.true) w.take_out.ensures.relocated w.take_out.ensures.size)
       | else-is_none w ↦
           subst (IsLosing keys moves rest c.args.self.now) (sym w.self-is)
           (passes keys moves m rest c.args.self.now c.loop-step.self had
@@ -47,13 +47,13 @@ take_out-requires-clause-key c =
     item_key c.args.pool.now (get_or c.args.moves.now c.loop-step.step-index no_move).source
     (item_of c.item-item.result) (sym c.item-item.ensures.item)
 
-pub returns-clause-followed : goal.returns-clause-followed
-returns-clause-followed c =
+pub returns-clause-relocated : goal.returns-clause-relocated
+returns-clause-relocated c =
     let keys : KeysOf = key_at c.args.pool.now in
     let moves = c.args.moves.now in
     let le = c.loop-step-test.false in
     let none : drop c.loop-step.step-index moves ≡ [] = drop_of_length-le moves le in
     c.loop-step.invariant.ends c.loop-step.self
-    (followed_itself keys keys (forget_lost (drop c.loop-step.step-index moves)) c.loop-step.self
+    (relocated_itself keys keys (forget_lost (drop c.loop-step.step-index moves)) c.loop-step.self
     c.loop-step.invariant.index (λ q held. refl)
     (λ q held. ap (λ (l : List Move). forget_lost l q) none))

@@ -4,8 +4,8 @@ use Rattle.index.specs.Layouts.{tag_of}
 use Rattle.index.specs.Slots.{place_of, slot_at}
 use Rattle.index.specs.Table.{AreIndexed, hashing, Hashing}
 use Rattle.index.specs.Searches.{NoneUpTo, IsOfKey}
-use Rattle.index.proofs.Mapping.{get_none, get_from_stands, stands_once, Stands}
-use Rattle.index.proofs.Placing.{none_found}
+use Rattle.index.proofs.SlotsAsMap.{get_none, get_from_stands, stands_once, Stands}
+use Rattle.index.proofs.KeySlots.{none_found}
 use Rattle.index.proofs.PoolKeys.{some_key}
 use Rattle.index.proofs.index.Index.look_up.Goals as goal
 

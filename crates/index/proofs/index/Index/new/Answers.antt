@@ -1,6 +1,6 @@
 use Rattle.std.proofs.Common.{length}
 use Rattle.index.specs.Table.{hashing}
-use Rattle.index.proofs.Placing.{one_empty}
+use Rattle.index.proofs.KeySlots.{one_empty}
 use Rattle.index.proofs.index.Index.new.Goals as goal
 
 pub returns-clause-map : goal.returns-clause-map

@@ -5,9 +5,9 @@ use Rattle.index.specs.Keys.{key_at, home_of, KeysOf}
 use Rattle.index.specs.Slots.{slot_at, place_of}
 use Rattle.index.specs.Table.{AreIndexed, hashing, Hashing, places_in}
 use Rattle.index.specs.Searches.{NoneOfPlace, IsOfPlace}
-use Rattle.index.specs.Closing.{IsWithout}
-use Rattle.index.proofs.Mapping.{stands_from_get}
-use Rattle.index.proofs.Placing.{no_place_found, some_found, found_is}
+use Rattle.index.specs.BackwardShift.{IsWithout}
+use Rattle.index.proofs.SlotsAsMap.{stands_from_get}
+use Rattle.index.proofs.KeySlots.{no_place_found, some_found, found_is}
 use Rattle.index.proofs.index.Index.remove.Goals as goal
 
 pub unwrap-at-requires : goal.unwrap-at-requires
@@ -37,7 +37,7 @@ returns-clause-map c =
     let keys : KeysOf = key_at c.args.pool.now in
     let h : Hashing = hashing (length slots) c.self.inside.slots.layout c.self.inside.hasher in
     let at = c.unwrap-at.result in
-    let after = c.empty.new.slots.slots in
+    let after = c.delete.new.slots.slots in
     let of : IsOfPlace slots place at =
     found_is c.find_place.result at (NoneOfPlace slots c.home_of-home.result place)
     (IsOfPlace slots place) c.find_place.ensures c.unwrap-at.ensures in
@@ -45,10 +45,10 @@ returns-clause-map c =
     let has : keys (place_of (slot_at slots at)) ≡ Some key =
     ap keys of.place_is ∙ (stands_from_get keys slots key place is).key_is in
     let emptied : IfSome (keys (place_of (slot_at slots at))) (λ k. IsWithout h keys slots after k) =
-    c.empty.ensures.without in
+    c.delete.ensures.without in
     let without : IsWithout h keys slots after key = rw has at emptied in
-    let len : length after ≡ length slots = c.empty.ensures.count in
+    let len : length after ≡ length slots = c.delete.ensures.count in
     rw (← c.self.view_is) record {
-      index = rw (len, c.empty.ensures.layout) without.indexed;
+      index = rw (len, c.delete.ensures.layout) without.indexed;
       places_are = without.places_are;
     }

@@ -7,12 +7,12 @@ use Rattle.index.specs.Keys.{home_of, hash_of, KeysOf}
 use Rattle.index.specs.Slots.{slot_with, slot_at, place_of}
 use Rattle.index.specs.Table.{AreIndexed, hashing, Hashing, places_in}
 use Rattle.index.specs.Searches.{NoneOfPlace, IsOfPlace}
-use Rattle.index.proofs.Mapping.{stands_from_get}
+use Rattle.index.proofs.SlotsAsMap.{stands_from_get}
 use Rattle.std.proofs.Common.{sym}
 use Rattle.index.specs.Table.{Table}
 use Rattle.index.specs.Layouts.{tag_of, IsInLayout}
-use Rattle.index.proofs.Words.{some_tag, can_hold}
-use Rattle.index.proofs.Placing.{can_replace, put_indexed, put_places, set_at, no_place_found, slot_of_key, some_found, found_is}
+use Rattle.index.proofs.SlotWords.{some_tag, can_hold}
+use Rattle.index.proofs.KeySlots.{can_replace, put_indexed, put_places, set_at, no_place_found, slot_of_key, some_found, found_is}
 use Rattle.index.proofs.index.Index.replace.Goals as goal
 
 pub unwrap-at-requires : goal.unwrap-at-requires

@@ -5,21 +5,21 @@ use Rattle.index.specs.Keys.{key_at, home_of, KeysOf}
 use Rattle.index.specs.Slots.{slot_at, place_of}
 use Rattle.index.specs.Table.{AreIndexed, hashing, Hashing, places_in}
 use Rattle.index.specs.Searches.{NoneOfPlace, IsOfPlace}
-use Rattle.index.specs.Closing.{IsWithout}
-use Rattle.index.proofs.Mapping.{get_from_stands, stands_once, Stands}
-use Rattle.index.proofs.Placing.{no_place_found}
-use Rattle.index.proofs.FollowingLemmas.{forgotten, unforgotten}
+use Rattle.index.specs.BackwardShift.{IsWithout}
+use Rattle.index.proofs.SlotsAsMap.{get_from_stands, stands_once, Stands}
+use Rattle.index.proofs.KeySlots.{no_place_found}
+use Rattle.index.proofs.RelocatedTables.{forgotten, unforgotten}
 use Rattle.index.proofs.index.Index.take_out.Goals as goal
 
-pub returns-in-Some-clause-followed : goal.returns-in-Some-clause-followed
-returns-in-Some-clause-followed c =
+pub returns-in-Some-clause-relocated : goal.returns-in-Some-clause-relocated
+returns-in-Some-clause-relocated c =
     let slots = c.self.inside.slots.slots in
     let key = c.args.key.now in
     let place = c.args.place in
     let keys : KeysOf = key_at c.args.pool.now in
     let h : Hashing = hashing (length slots) c.self.inside.slots.layout c.self.inside.hasher in
     let at = c.in-Some.at in
-    let after = c.empty.new.slots.slots in
+    let after = c.delete.new.slots.slots in
     let index : AreIndexed h keys slots = rw (← c.self.view_is) at c.requires.index in
     let of : IsOfPlace slots place at = c.in-Some.ensures in
     let has : keys (place_of (slot_at slots at)) ≡ Some key = ap keys of.place_is ∙ c.requires.key in
@@ -28,16 +28,16 @@ returns-in-Some-clause-followed c =
     let held : map.get (places_in keys slots) key ≡ Some place = get_from_stands keys slots key place st
     (λ r. stands_once h keys slots index key place r st) in
     let emptied : IfSome (keys (place_of (slot_at slots at))) (λ k. IsWithout h keys slots after k) =
-    c.empty.ensures.without in
+    c.delete.ensures.without in
     let without : IsWithout h keys slots after key = rw has at emptied in
-    let len : length after ≡ length slots = c.empty.ensures.count in
+    let len : length after ≡ length slots = c.delete.ensures.count in
     rw (← c.self.view_is) record {
-      index = rw (len, c.empty.ensures.layout) without.indexed;
+      index = rw (len, c.delete.ensures.layout) without.indexed;
       places = λ q. rw without.places_are (forgotten keys slots key place c.requires.key held q);
     }
 
-pub returns-in_default-clause-followed : goal.returns-in_default-clause-followed
-returns-in_default-clause-followed c =
+pub returns-in_default-clause-relocated : goal.returns-in_default-clause-relocated
+returns-in_default-clause-relocated c =
     let slots = c.self.inside.slots.slots in
     let key = c.args.key.now in
     let place = c.args.place in

@@ -1,6 +1,6 @@
 use Rattle.std.proofs.Common.{◌≡◌, ◌^◌, ◌-◌, ◌%◌, arith, ap, ◌∙◌, refl}
 use Rattle.index.specs.Layouts.{slot_of}
-use Rattle.index.proofs.Words.{low_bits, offset_small, tag_counts}
+use Rattle.index.proofs.SlotWords.{low_bits, offset_small, tag_counts}
 use Rattle.index.proofs.layout.Layout.slot_of.Goals as goal
 
 pub returns-then-word-eq0 : goal.returns-then-word-eq0

@@ -1,6 +1,6 @@
 use Rattle.std.proofs.Common.{arith, refl}
 use Rattle.index.specs.Layouts.{slot_of}
-use Rattle.index.proofs.Words.{tag_counts}
+use Rattle.index.proofs.SlotWords.{tag_counts}
 use Rattle.index.proofs.layout.Layout.tag_in.Goals as goal
 
 pub returns-then-word-eq0 : goal.returns-then-word-eq0

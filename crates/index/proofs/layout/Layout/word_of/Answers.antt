@@ -1,4 +1,4 @@
-use Rattle.index.proofs.Words.{word_below, word_said}
+use Rattle.index.proofs.SlotWords.{word_below, word_said}
 use Rattle.index.proofs.layout.Layout.word_of.Goals as goal
 
 pub returns-clause-value : goal.returns-clause-value

@@ -1,4 +1,4 @@
-use Rattle.index.proofs.Rows.{zero_empty}
+use Rattle.index.proofs.SlotRows.{zero_empty}
 use Rattle.index.proofs.slots.Slots.empty.Goals as goal
 
 pub returns : goal.returns

@@ -1,6 +1,6 @@
 use Rattle.std.proofs.Common.{sym, ◌∙◌}
 use Rattle.std.specs.Prelude.{vec_capacity}
-use Rattle.index.proofs.Rows.{narrow_push, wide_push}
+use Rattle.index.proofs.SlotRows.{narrow_push, wide_push}
 use Rattle.index.proofs.slots.Slots.push.Goals as goal
 
 pub returns-then-is_narrow : goal.returns-then-is_narrow

@@ -2,7 +2,7 @@ use Rattle.std.proofs.Common.{◌≡◌, ap, ◌∙◌, List}
 use Rattle.std.specs.Prelude.{slice_set}
 use Rattle.index.specs.declared.slot.Slot.{Slot}
 use Rattle.index.specs.Layouts.{Row, slot_of, word_of}
-use Rattle.index.proofs.Words.{word_slot}
+use Rattle.index.proofs.SlotWords.{word_slot}
 use Rattle.index.proofs.slots.Slots.set.Goals as goal
 
 pub returns : goal.returns

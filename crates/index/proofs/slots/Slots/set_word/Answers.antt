@@ -1,6 +1,6 @@
 use Rattle.std.proofs.Common.{sym, ◌∙◌}
 use Rattle.std.specs.Prelude.{vec_capacity}
-use Rattle.index.proofs.Rows.{narrow_set, wide_set}
+use Rattle.index.proofs.SlotRows.{narrow_set, wide_set}
 use Rattle.index.proofs.slots.Slots.set_word.Goals as goal
 
 pub returns-then-is_narrow : goal.returns-then-is_narrow

@@ -5,14 +5,14 @@ use Rattle.index.specs.Keys.{key_at, KeysOf, IsKeyAdded}
 use Rattle.index.specs.Sizing.{most_items}
 use Rattle.index.specs.Slots.{used_in}
 use Rattle.index.specs.Table.{Table, IsIndex, IsMap, places}
-use Rattle.index.proofs.Agreeing.{keys_agree, held_key}
+use Rattle.index.proofs.KeptKeys.{keys_agree, held_key}
 use Rattle.index.proofs.PoolKeys.{key_added}
 use Rattle.index.proofs.PoolPlaces.{room_for_one}
-use Rattle.index.proofs.InLayout.{appended_in_layout}
+use Rattle.index.proofs.PlacesInLayout.{appended_in_layout}
 use Rattle.index_tests.proofs.shelf.Shelf.put.Goals as goal
 
-pub put-requires : goal.put-requires
-put-requires c =
+pub insert-requires : goal.insert-requires
+insert-requires c =
     let pool = c.self.inside.pool in
     let before : KeysOf = key_at pool in
     let after : KeysOf = key_at c.append.new.self in

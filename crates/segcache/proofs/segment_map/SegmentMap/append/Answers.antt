@@ -2,16 +2,16 @@ use Rattle.std.proofs.Common.{sym, subst}
 use Rattle.segments.specs.Shown.{item_of}
 use Rattle.segments.proofs.Places.{appended}
 use Rattle.segments.proofs.MarkedPlaces.{knows_longer, item_within}
-use Rattle.index.proofs.InLayout.{appended_in_layout}
+use Rattle.index.proofs.PlacesInLayout.{appended_in_layout}
 use Rattle.segcache.specs.Kept.{IsTied}
-use Rattle.segcache.proofs.Tying.{some_item, tied_put, source_within}
-use Rattle.segcache.proofs.Putting.{past_put, in_segment}
-use Rattle.segcache.proofs.Appending.{appended_here, appended_room, appended_index, appended_current, had_current}
+use Rattle.segcache.proofs.TiedParts.{some_item, tied_put, source_within}
+use Rattle.segcache.proofs.AppendedItems.{past_put, in_segment}
+use Rattle.segcache.proofs.AppendNeeds.{appended_here, appended_room, appended_index, appended_current, had_current}
 use Rattle.segcache.proofs.segment_map.SegmentMap.append.Goals as goal
 use Rattle.index.proofs.PoolKeys.{item_key}
 
-pub put-source-requires-clause-index : goal.put-source-requires-clause-index
-put-source-requires-clause-index c =
+pub insert-source-requires-clause-index : goal.insert-source-requires-clause-index
+insert-source-requires-clause-index c =
     let a = c.self.inside in
     let i = item_of c.args.item in
     let added = appended a.pool c.args.bucket a.moment i c.append.new.self c.in_ok-place.place
@@ -20,8 +20,8 @@ put-source-requires-clause-index c =
     (appended_current a.pool c.append.new.self c.args.bucket a.moment i c.in_ok-place.place a.index
     c.self.invariant.tied.indexed added).index
 
-pub put-source-requires-clause-key : goal.put-source-requires-clause-key
-put-source-requires-clause-key c =
+pub insert-source-requires-clause-key : goal.insert-source-requires-clause-key
+insert-source-requires-clause-key c =
     let a = c.self.inside in
     let i = item_of c.args.item in
     let added = appended a.pool c.args.bucket a.moment i c.append.new.self c.in_ok-place.place
@@ -30,8 +30,8 @@ put-source-requires-clause-key c =
     item_key c.append.new.self c.in_ok-place.place i
     (appended_here a.pool c.append.new.self c.args.bucket a.moment i c.in_ok-place.place added)
 
-pub put-source-requires-clause-place : goal.put-source-requires-clause-place
-put-source-requires-clause-place c =
+pub insert-source-requires-clause-place : goal.insert-source-requires-clause-place
+insert-source-requires-clause-place c =
     let a = c.self.inside in
     let i = item_of c.args.item in
     let added = appended a.pool c.args.bucket a.moment i c.append.new.self c.in_ok-place.place
@@ -41,8 +41,8 @@ put-source-requires-clause-place c =
     a.index.layout c.append.ensures.pool added
     c.self.invariant.tied.layout
 
-pub put-source-requires-clause-room : goal.put-source-requires-clause-room
-put-source-requires-clause-room c =
+pub insert-source-requires-clause-room : goal.insert-source-requires-clause-room
+insert-source-requires-clause-room c =
     let a = c.self.inside in
     let i = item_of c.args.item in
     let added = appended a.pool c.args.bucket a.moment i c.append.new.self c.in_ok-place.place
@@ -58,11 +58,11 @@ mark_instead-requires-clause-source c =
     let added = appended a.pool c.args.bucket a.moment i c.append.new.self c.in_ok-place.place
     c.self.invariant.tied.known.pool
     c.in_ok-place.ensures.appended in
-    source_within a.pool a.index a.marks c.args.item.key.now c.put-source.result
+    source_within a.pool a.index a.marks c.args.item.key.now c.insert-source.result
     c.self.invariant.tied
     (had_current a.pool c.append.new.self c.args.bucket a.moment i c.in_ok-place.place a.index
-    c.put-source.result
-    c.self.invariant.tied.indexed added c.put-source.ensures.had)
+    c.insert-source.result
+    c.self.invariant.tied.indexed added c.insert-source.ensures.had)
 
 pub mark_instead-requires-clause-place : goal.mark_instead-requires-clause-place
 mark_instead-requires-clause-place c =
@@ -85,17 +85,17 @@ invariant_of-self-2 c =
     let after = c.append.new.self in
     let added = appended p c.args.bucket a.moment i after c.in_ok-place.place c.self.invariant.tied.known.pool
     c.in_ok-place.ensures.appended in
-    let m = appended_index p after c.args.bucket a.moment i c.in_ok-place.place a.index c.put-source.new.self
+    let m = appended_index p after c.args.bucket a.moment i c.in_ok-place.place a.index c.insert-source.new.self
     c.self.invariant.tied.indexed added
-    c.put-source.ensures.map in
-    let had = had_current p after c.args.bucket a.moment i c.in_ok-place.place a.index c.put-source.result
+    c.insert-source.ensures.map in
+    let had = had_current p after c.args.bucket a.moment i c.in_ok-place.place a.index c.insert-source.result
     c.self.invariant.tied.indexed added
-    c.put-source.ensures.had in
+    c.insert-source.ensures.had in
     record {
-      tied = subst (IsTied after c.put-source.new.self) (sym c.mark_instead.ensures)
-          (tied_put p after c.args.bucket a.moment i c.in_ok-place.place a.index c.put-source.new.self
-          a.marks c.put-source.result
-          c.self.invariant.tied c.append.ensures.pool added had m c.put-source.ensures.size);
+      tied = subst (IsTied after c.insert-source.new.self) (sym c.mark_instead.ensures)
+          (tied_put p after c.args.bucket a.moment i c.in_ok-place.place a.index c.insert-source.new.self
+          a.marks c.insert-source.result
+          c.self.invariant.tied c.append.ensures.pool added had m c.insert-source.ensures.size);
       past = past_put p c.args.bucket a.moment i after c.in_ok-place.place c.self.invariant.tied.known.pool
           c.self.invariant.past c.in_ok-place.ensures.appended
           (in_segment p c.args.bucket a.moment i after c.in_ok-place.place c.self.invariant.tied.known.pool
@@ -110,7 +110,7 @@ returns-clause-appended c =
     let after = c.append.new.self in
     let added = appended p c.args.bucket a.moment i after c.in_ok-place.place c.self.invariant.tied.known.pool
     c.in_ok-place.ensures.appended in
-    let m = appended_index p after c.args.bucket a.moment i c.in_ok-place.place a.index c.put-source.new.self
+    let m = appended_index p after c.args.bucket a.moment i c.in_ok-place.place a.index c.insert-source.new.self
     c.self.invariant.tied.indexed added
-    c.put-source.ensures.map in
+    c.insert-source.ensures.map in
     rw (← c.self.view_is) (c.in_ok-place.ensures.appended, m.places_are)

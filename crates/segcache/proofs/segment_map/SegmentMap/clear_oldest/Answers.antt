@@ -6,8 +6,8 @@ use Rattle.segcache.specs.Leaving.{HasLeft}
 use Rattle.segcache.specs.Room.{IsCrowded}
 use Rattle.segcache.specs.Shown.{current}
 use Rattle.segcache.specs.State.{MapState}
-use Rattle.segcache.proofs.Evicting.{tied_cleared, cleared_made}
-use Rattle.segcache.proofs.Giving.{some_oldest}
+use Rattle.segcache.proofs.EvictedKeys.{tied_cleared, cleared_made}
+use Rattle.segcache.proofs.GivenBack.{some_oldest}
 use Rattle.segcache.proofs.MergedKeys.{cleared_evicted}
 use Rattle.segcache.proofs.segment_map.SegmentMap.clear_oldest.Goals as goal
 

@@ -6,8 +6,8 @@ use Rattle.proto.proofs.CacheLemmas.{if_live}
 use Rattle.segments.specs.declared.place.Place.{Place}
 use Rattle.segments.specs.Pools.{place_deadline}
 use Rattle.segcache.specs.Shown.{current, entry_at, shown_entries}
-use Rattle.segcache.proofs.Showing.{get-live_in, not_live, entry_live}
-use Rattle.segcache.proofs.Tying.{current_item}
+use Rattle.segcache.proofs.ShownItems.{get-live_in, not_live, entry_live}
+use Rattle.segcache.proofs.TiedParts.{current_item}
 use Rattle.segcache.proofs.segment_map.SegmentMap.find.Goals as goal
 
 pub returns-in_err-place-clause-found : goal.returns-in_err-place-clause-found

@@ -9,9 +9,9 @@ use Rattle.segcache.specs.Living.{live_marks}
 use Rattle.segcache.specs.Room.{IsCrowded, IsRoomMade}
 use Rattle.segcache.specs.Shown.{current}
 use Rattle.segcache.specs.State.{MapState}
-use Rattle.segcache.proofs.Giving.{full_given}
+use Rattle.segcache.proofs.GivenBack.{full_given}
 use Rattle.segcache.proofs.RoomMade.{swept_left, swept_made, swept_crowded, swept_evicted, alive_given}
-use Rattle.segcache.proofs.Forgotten.{expired_agree, room_evicted, room_given}
+use Rattle.segcache.proofs.ForgottenKeys.{expired_agree, room_evicted, room_given}
 use Rattle.segcache.proofs.segment_map.SegmentMap.free_segment.Goals as goal
 
 pub invariant_of-self : goal.invariant_of-self

@@ -1,7 +1,7 @@
 use Rattle.std.proofs.Common.{◌≡◌, ◌∙◌, sym, None}
 use Rattle.std.specs.FinMap as finite
 use Rattle.segcache.specs.Shown.{current}
-use Rattle.segcache.proofs.Tying.{removed_none}
+use Rattle.segcache.proofs.TiedParts.{removed_none}
 use Rattle.segcache.proofs.segment_map.SegmentMap.leave_key.Goals as goal
 
 pub returns-in_default-clause-left : goal.returns-in_default-clause-left

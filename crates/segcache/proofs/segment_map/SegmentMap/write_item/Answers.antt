@@ -7,37 +7,50 @@ use Rattle.proto.specs.Buckets.{bucket_of, time_to_live}
 use Rattle.segments.specs.Items.{IsStorable}
 use Rattle.segments.specs.Shown.{item_of}
 use Rattle.segments.specs.Pools.{PoolState}
+use Rattle.segments.specs.Changes.{HasNoRoom}
 use Rattle.index.specs.Table.{Places}
-use Rattle.index.proofs.Mapping.{get-remove}
+use Rattle.index.proofs.SlotsAsMap.{get-remove}
 use Rattle.segcache.specs.State.{MapState}
 use Rattle.segcache.specs.Shown.{current}
 use Rattle.segcache.specs.Living.{live_others}
-use Rattle.segcache.proofs.Forgotten.{placed_left, room_was, room_there}
-use Rattle.segcache.proofs.Putting.{put_over, put_left, put_placed, was_refused, was_done}
+use Rattle.segcache.proofs.ForgottenKeys.{placed_left, room_was, room_there}
+use Rattle.segcache.proofs.AppendedItems.{put_over, put_left, put_placed, was_refused, was_done}
 use Rattle.segcache.proofs.segment_map.SegmentMap.write_item.Goals as goal
 
-pub put-requires-clause-storable : goal.put-requires-clause-storable
-put-requires-clause-storable c =
+pub append_to_freed-requires-clause-storable : goal.append_to_freed-requires-clause-storable
+append_to_freed-requires-clause-storable c =
     let first = was_refused c.append.result _ _ c.append.ensures.appended
     (sym c.is_err.ensures.value ∙ c.if-is_err.true) in
     let pool : c.leave_key.new.self.pool ≡ c.args.self.now.pool =
     c.leave_key.ensures.same.pool ∙ ap (λ (x : MapState). x.pool) first.1 in
     subst (λ (q : PoolState). IsStorable (item_limit q.sizes) (item_of c.args.item)) (sym pool) c.requires.storable
 
-pub put-requires-clause-absent : goal.put-requires-clause-absent
-put-requires-clause-absent c =
+pub append_to_freed-requires-clause-absent : goal.append_to_freed-requires-clause-absent
+append_to_freed-requires-clause-absent c =
     let key = c.args.item.key.now in
     ap (λ (m : Places). finite.get m key) c.leave_key.ensures.left
     ∙ get-remove (current c.append.new.self.pool c.append.new.self.index) key key
     ∙ (let z = (bytes_eq-Decides key key).1 refl in rw z refl)
 
-pub put-requires-clause-waits : goal.put-requires-clause-waits
-put-requires-clause-waits c =
+pub append_to_freed-requires-clause-no_room : goal.append_to_freed-requires-clause-no_room
+append_to_freed-requires-clause-no_room c =
+    let left = c.leave_key.new.self in
+    let i = item_of c.args.item in
+    let first = was_refused c.append.result _ _ c.append.ensures.appended
+    (sym c.is_err.ensures.value ∙ c.if-is_err.true) in
+    let pool : left.pool ≡ c.args.self.now.pool =
+    c.leave_key.ensures.same.pool ∙ ap (λ (x : MapState). x.pool) first.1 in
+    let moment : left.moment ≡ c.args.self.now.moment = c.leave_key.ensures.moment ∙ c.append.ensures.moment in
+    subst (λ (q : PoolState). HasNoRoom q c.args.bucket left.moment i) (sym pool)
+    (subst (λ (t : ℕ). HasNoRoom c.args.self.now.pool c.args.bucket t i) (sym moment) first.0)
+
+pub append_to_freed-requires-clause-waits : goal.append_to_freed-requires-clause-waits
+append_to_freed-requires-clause-waits c =
     subst (λ (t : ℕ). has_arrived c.args.item.deadline t ≡ false)
     (sym (c.leave_key.ensures.moment ∙ c.append.ensures.moment)) c.requires.waits
 
-pub put-requires-clause-of_bucket : goal.put-requires-clause-of_bucket
-put-requires-clause-of_bucket c =
+pub append_to_freed-requires-clause-of_bucket : goal.append_to_freed-requires-clause-of_bucket
+append_to_freed-requires-clause-of_bucket c =
     subst (λ (t : ℕ). c.args.bucket ≡ bucket_of (time_to_live c.args.item.deadline t))
     (sym (c.leave_key.ensures.moment ∙ c.append.ensures.moment)) c.requires.of_bucket
 
@@ -51,9 +64,9 @@ returns-then-is_err-clause-put c =
     let is : current left.pool left.index ≡ finite.remove (current s.pool s.index) i.key =
     subst (λ (x : MapState). current left.pool left.index ≡ finite.remove (current x.pool x.index) i.key) first.1
     c.leave_key.ensures.left in
-    put_left s left i c.args.item.deadline c.put.new.self.pool c.put.new.self.index
+    put_left s left i c.args.item.deadline c.append_to_freed.new.self.pool c.append_to_freed.new.self.index
     (c.leave_key.ensures.same.pool ∙ ap (λ (x : MapState). x.pool) first.1)
-    (c.leave_key.ensures.moment ∙ c.append.ensures.moment) is c.put.ensures.put
+    (c.leave_key.ensures.moment ∙ c.append.ensures.moment) is c.append_to_freed.ensures.put
 
 pub returns-else-is_err-clause-put : goal.returns-else-is_err-clause-put
 returns-else-is_err-clause-put c =
@@ -75,9 +88,9 @@ returns-then-is_err-clause-placed c =
     let is : current left.pool left.index ≡ finite.remove (current s.pool s.index) i.key =
     subst (λ (x : MapState). current left.pool left.index ≡ finite.remove (current x.pool x.index) i.key) first.1
     c.leave_key.ensures.left in
-    placed_left s left c.args.bucket i c.put.new.self.pool c.put.new.self.index c.append.ensures.kept
+    placed_left s left c.args.bucket i c.append_to_freed.new.self.pool c.append_to_freed.new.self.index c.append.ensures.kept
     c.leave_key.ensures.same.kept (c.leave_key.ensures.same.pool ∙ ap (λ (x : MapState). x.pool) first.1)
-    (c.leave_key.ensures.moment ∙ c.append.ensures.moment) is c.put.ensures.placed
+    (c.leave_key.ensures.moment ∙ c.append.ensures.moment) is c.append_to_freed.ensures.placed
 
 pub returns-else-is_err-clause-placed : goal.returns-else-is_err-clause-placed
 returns-else-is_err-clause-placed c =

@@ -1,6 +1,6 @@
 use Rattle.segcache.specs.Shown.{current}
-use Rattle.segcache.proofs.Showing.{shown_later}
-use Rattle.segcache.proofs.Opening.{past_later}
+use Rattle.segcache.proofs.ShownItems.{shown_later}
+use Rattle.segcache.proofs.OpeningMoments.{past_later}
 use Rattle.segcache.proofs.segment_map.SegmentMapLiveMap.advance.Goals as goal
 
 pub returns-clause-entries : goal.returns-clause-entries

@@ -1,7 +1,7 @@
 use Rattle.std.proofs.Common.{ap, ◌∙◌}
 use Rattle.index.specs.Table.{Places}
 use Rattle.segcache.specs.Shown.{live_entries}
-use Rattle.segcache.proofs.Showing.{shown_empty}
+use Rattle.segcache.proofs.ShownItems.{shown_empty}
 use Rattle.segcache.proofs.segment_map.SegmentMapLiveMap.clear.Goals as goal
 
 pub returns-clause-entries : goal.returns-clause-entries

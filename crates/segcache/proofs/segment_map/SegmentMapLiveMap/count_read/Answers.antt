@@ -6,9 +6,9 @@ use Rattle.segcache.specs.Kept.{IsPast}
 use Rattle.segcache.specs.State.{MapState}
 use Rattle.segcache.proofs.KeptEntries.{keeps_read}
 use Rattle.segcache.specs.Shown.{current, live_entries}
-use Rattle.segcache.proofs.Showing.{shown_same, touched_entry}
-use Rattle.segcache.proofs.Tying.{tied_touched, current_some}
-use Rattle.segcache.proofs.Opening.{past_touched}
+use Rattle.segcache.proofs.ShownItems.{shown_same, touched_entry}
+use Rattle.segcache.proofs.TiedParts.{tied_touched, current_some}
+use Rattle.segcache.proofs.OpeningMoments.{past_touched}
 use Rattle.segcache.proofs.segment_map.SegmentMapLiveMap.count_read.Goals as goal
 
 pub touch-requires : goal.touch-requires

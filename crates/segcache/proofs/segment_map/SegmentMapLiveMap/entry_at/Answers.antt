@@ -2,8 +2,8 @@ use Rattle.std.proofs.Common.{◌≡◌, Some, ap, ◌∙◌}
 use Rattle.std.specs.Prelude.{IsSome}
 use Rattle.std.specs.FinMap as finite
 use Rattle.segcache.specs.Shown.{current, shown_entries}
-use Rattle.segcache.proofs.Showing.{shown_at}
-use Rattle.segcache.proofs.Tying.{current_some}
+use Rattle.segcache.proofs.ShownItems.{shown_at}
+use Rattle.segcache.proofs.TiedParts.{current_some}
 use Rattle.segcache.proofs.segment_map.SegmentMapLiveMap.entry_at.Goals as goal
 
 pub entry_at-requires : goal.entry_at-requires

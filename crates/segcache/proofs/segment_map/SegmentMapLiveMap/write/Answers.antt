@@ -9,7 +9,7 @@ use Rattle.segcache.specs.Living.{live_others}
 use Rattle.segcache.specs.Forgetting.{PlacesItem}
 use Rattle.segcache.specs.State.{IsSegmentedMap}
 use Rattle.segcache.proofs.KeptEntries.{keeps_entry, writes_to_segments}
-use Rattle.segcache.proofs.Written.{written_by, may_store}
+use Rattle.segcache.proofs.WriteParts.{written_by, may_store}
 use Rattle.segcache.proofs.segment_map.SegmentMapLiveMap.write.Goals as goal
 
 pub write_item-requires-clause-storable : goal.write_item-requires-clause-storable

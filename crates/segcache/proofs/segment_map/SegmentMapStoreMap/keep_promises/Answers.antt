@@ -1,6 +1,6 @@
 use Rattle.std.proofs.Common.{◌∙◌}
 use Rattle.engine.proofs.EngineLemmas.{step_from_handled}
-use Rattle.segcache.proofs.Handling.{members, handles_segments}
+use Rattle.segcache.proofs.HandledRequests.{members, handles_segments}
 use Rattle.segcache.proofs.StayingFilled.{stays_filled}
 use Rattle.segcache.proofs.segment_map.SegmentMapStoreMap.keep_promises.Goals as goal
 

@@ -8,8 +8,8 @@ use Rattle.index.specs.Table.{Places}
 use Rattle.segcache.specs.Shown.{live_entries}
 use Rattle.segcache.specs.State.{MapState}
 use Rattle.segcache.proofs.KeptEntries.{keeps_none}
-use Rattle.segcache.proofs.Showing.{shown_empty}
-use Rattle.segcache.proofs.Starting.{tied_start, past_start}
+use Rattle.segcache.proofs.ShownItems.{shown_empty}
+use Rattle.segcache.proofs.NewMaps.{tied_start, past_start}
 use Rattle.segcache.proofs.segment_map.SegmentMapStoreMap.seeded.Goals as goal
 
 pub invariant_of-result : goal.invariant_of-result

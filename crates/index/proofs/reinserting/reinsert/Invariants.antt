@@ -1,0 +1,24 @@
+use Rattle.std.proofs.Common.{◌≡◌, ◌+◌, ◌*◌, ◌<◌, length}
+use Rattle.index.specs.Keys.{key_at}
+use Rattle.index.specs.Slots.{used_in, distance}
+use Rattle.index.specs.Reinserting.{AreNear, IsStretch}
+use Rattle.index.specs.Table.{hashing, places_in}
+use Rattle.index.proofs.ReinsertedKeys.{spread, gap_index}
+use Rattle.index.proofs.reinserting.reinsert.Given as goal
+
+abbrev pub invariant-cluster : goal.invariant-cluster
+invariant-cluster l = record {
+  at_range : l.at < length l.initial.slots.slots;
+  near : AreNear (hashing l.count l.initial.slots.layout l.hasher) (key_at l.pool) l.slots.slots l.at;
+  known : IsStretch l.slots.slots l.known;
+  places : places_in (key_at l.pool) l.slots.slots ≡ places_in (key_at l.pool) l.initial.slots.slots;
+  used : used_in l.slots.slots ≡ used_in l.initial.slots.slots;
+  layout : l.slots.layout ≡ l.initial.slots.layout;
+  room : l.slots.room ≡ l.initial.slots.room;
+  len : length l.slots.slots ≡ length l.initial.slots.slots;
+}
+
+abbrev pub decreases-cluster : goal.decreases-cluster
+decreases-cluster l = spread (hashing l.count l.initial.slots.layout l.hasher) (key_at l.pool) (length l.initial.slots.slots) 0
+    l.slots.slots
+    * length l.initial.slots.slots + distance (length l.initial.slots.slots) l.at (gap_index l.slots.slots)

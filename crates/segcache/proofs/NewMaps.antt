@@ -1,0 +1,55 @@
+-- Pool, index and marks that were just made.
+use Rattle.std.proofs.Common.{◌≡◌, ℕ, zero, suc, ◌≤◌, ◌*◌, ◌/◌, false, get_or, replicate, [], None, refl, sym, ap, subst, ◌∙◌, arith}
+use Rattle.std.specs.FinMap as finite
+use Rattle.std.specs.Ordering.{nat_cmp}
+use Rattle.std.specs.Cmp.Lexicographic.{slice_cmp}
+use Rattle.std.proofs.lemmas.Bool.{false≢true}
+use Rattle.std.proofs.lemmas.Option.{none-some}
+use Rattle.proto.specs.Sizes.{Sizes}
+use Rattle.segments.specs.Pools.{PoolState, IsPool, segment_at}
+use Rattle.segments.specs.Changes.{new_pool}
+use Rattle.segments.specs.Filling.{IsInOrder}
+use Rattle.segments.specs.Marks.{Marks, KnowsPool, no_marks, mark_at}
+use Rattle.segments.proofs.MarkedPlaces.{knows_none, nothing_at}
+use Rattle.index.specs.Keys.{key_at}
+use Rattle.index.specs.Layouts.{IsLayoutOf}
+use Rattle.index.specs.Table.{Table, Places, IsMap}
+use Rattle.segcache.specs.Kept.{IsTied, IsPast}
+
+-- with no marks and no keys all is tied
+no_mark : (s : Sizes) (p : PoolState) (t : Marks) (n k : ℕ) → t ≡ no_marks s → mark_at t n k ≡ false
+unfolding no_marks
+no_mark s p t n k is = ap (λ (u : Marks). mark_at u n k) is ∙ rows s.segments n
+  where
+    rows : (count m : ℕ) → get_or (get_or (replicate count (replicate (s.segment_size / 32) false)) m []) k
+        false ≡ false
+    rows zero m = refl
+    rows (suc count) zero = nothing_at false (s.segment_size / 32) k
+    rows (suc count) (suc m) = rows count m
+
+-- an index without a key, with slots enough, and marks of which none is set are tied to a pool of their sizes
+pub tied_start : (p : PoolState) (index : Table) (t : Marks) → IsPool p → t ≡ no_marks p.sizes
+    → IsMap (key_at p) index finite.empty
+    → 2 * (p.sizes.segments * (p.sizes.segment_size / 32)) ≤ index.room → IsLayoutOf p.sizes index.layout
+    → IsTied p index t
+tied_start p index t pool is m roomy layout =
+    record {
+      known = subst (λ (u : Marks). KnowsPool u p) (sym is) (knows_none p pool);
+      indexed = m.index;
+      held = λ q r h. absurd (none-some r
+          (sym (ap (λ (n : Places). finite.get n q) m.places_are ∙ finite.get-empty (slice_cmp nat_cmp) q) ∙ h));
+      marked = λ r i e h. absurd (false≢true (sym (no_mark p.sizes p t r.segment (r.offset / 32) is) ∙ h));
+      roomy = roomy;
+      layout = layout;
+    }
+
+-- no segment is open
+pub past_start : (p : PoolState) (sizes : Sizes) → p ≡ new_pool sizes → IsPast p 0
+unfolding new_pool
+past_start p sizes is =
+    record {
+      within = omega arith;
+      opened = λ n u e. absurd (none-some u
+          (sym (ap (λ (q : PoolState). segment_at q n) is ∙ nothing_at None sizes.segments n) ∙ e));
+      in_order = subst IsInOrder (sym is) tt;
+    }

@@ -1,0 +1,199 @@
+-- A write by what the parts of it leave.
+use Rattle.std.proofs.Common.{◌≡◌, ℕ, ◌+◌, ◌-◌, ◌*◌, ◌/◌, ◌<◌, ◌≤◌, ◌^◌, Bool, true, false, cond, List, [], ◌∷◌, length, Option, Some, None, refl, sym, ap}
+use Rattle.std.proofs.Common.{◌∙◌, inl, inr, arith}
+use Rattle.std.specs.Prelude.{bytes_eq, ◌⊎◌, sum_by, is_some, option_map}
+use Rattle.std.specs.List.{list_all}
+use Rattle.std.specs.Option.{option_map_or}
+use Rattle.std.specs.FinMap as finite
+use Rattle.std.specs.Cmp.Lexicographic.{nat_list_cmp_total}
+use Rattle.std.proofs.lemmas.Bool.{cases_Bool, false≢true, and_parts}
+use Rattle.std.proofs.lemmas.Slice.Eq.{bytes_eq-Decides}
+use Rattle.std.proofs.lemmas.List.Sums.{sum_by-cons}
+use Rattle.proto.specs.Sizes.{Sizes, item_limit}
+use Rattle.proto.specs.Cache.{Entry, Entries, entry_size}
+use Rattle.proto.specs.Buckets.{MayLive}
+use Rattle.proto.specs.Steps.{without, contains_bytes, size_at, MayEvict}
+use Rattle.proto.proofs.CacheLemmas.{same_entries, get-insert, get-remove, get-without}
+use Rattle.segments.specs.declared.place.Place.{Place}
+use Rattle.segments.specs.Items.{Item, IsStorable}
+use Rattle.segments.specs.Pools.{PoolState}
+use Rattle.segments.proofs.Places.{item_storable}
+use Rattle.index.specs.Table.{Table}
+use Rattle.engine.specs.Written.{IsWritten, MayBeWritten}
+use Rattle.segcache.specs.Shown.{current, shown_entries, entry_at}
+use Rattle.segcache.specs.Kept.{IsTied}
+use Rattle.segcache.specs.Room.{AreKept, AreEvicted}
+use Rattle.segments.specs.Marks.{Marks}
+use Rattle.proto.proofs.CacheLemmas.{if_live}
+use Rattle.segcache.proofs.ShownItems.{get-live_in}
+use Rattle.segcache.proofs.TiedParts.{current_item}
+
+-- keys of a map without a key are other ones
+other_keys : (e : Entries) (key : List ℕ) (fs : List (List ℕ))
+    → list_all (finite.contains_key (finite.remove e key)) fs ≡ true → contains_bytes fs key ≡ false
+other_keys e key [] h = refl
+other_keys e key (f ∷ fs) h =
+    let parts = and_parts (finite.contains_key (finite.remove e key) f)
+    (list_all (finite.contains_key (finite.remove e key)) fs) h in
+    let rest = other_keys e key fs parts.1 in
+    elim (cases_Bool (bytes_eq key f)) [
+      | inl y ↦
+          let same : f ≡ key = sym ((bytes_eq-Decides key f).0 y) in
+          let none : finite.contains_key (finite.remove e key) f ≡ false = ap is_some (get-remove e key f)
+          ∙ (let z = (bytes_eq-Decides f key).1 same in rw z refl) in
+          absurd (false≢true (sym none ∙ parts.0))
+      | inr n ↦ rw n rest
+    ]
+
+-- what a map without a key has at a key, it has with another entry at that key
+kept_at : (e : Entries) (key : List ℕ) (w : Entry) (f : List ℕ) → finite.contains_key (finite.remove e key) f ≡ true
+    → finite.get (finite.insert e key w) f ≡ finite.get (finite.remove e key) f
+kept_at e key w f h =
+    elim (cases_Bool (bytes_eq f key)) [
+      | inl y ↦
+          let none : finite.contains_key (finite.remove e key) f ≡ false =
+          ap is_some (get-remove e key f) ∙ rw y refl in
+          absurd (false≢true (sym none ∙ h))
+      | inr n ↦ get-insert e key w f ∙ rw n (sym (get-remove e key f ∙ rw n refl))
+    ]
+
+-- keys that a map without some key has it also has with another entry at that key
+kept_all : (e : Entries) (key : List ℕ) (w : Entry) (fs : List (List ℕ))
+    → list_all (finite.contains_key (finite.remove e key)) fs ≡ true
+    → list_all (finite.contains_key (finite.insert e key w)) fs ≡ true
+kept_all e key w [] h = refl
+kept_all e key w (f ∷ fs) h =
+    let parts = and_parts (finite.contains_key (finite.remove e key) f)
+    (list_all (finite.contains_key (finite.remove e key)) fs) h in
+    let here : finite.contains_key (finite.insert e key w) f ≡ true =
+    ap is_some (kept_at e key w f parts.0) ∙ parts.0 in
+    rw here (kept_all e key w fs parts.1)
+
+-- the entries of such keys have the same sizes in sum, whether that key is taken out or has another entry
+kept_sizes : (e : Entries) (key : List ℕ) (w : Entry) (fs : List (List ℕ))
+    → list_all (finite.contains_key (finite.remove e key)) fs ≡ true
+    → sum_by (size_at (finite.insert e key w)) fs ≡ sum_by (size_at (finite.remove e key)) fs
+kept_sizes e key w [] h = refl
+kept_sizes e key w (f ∷ fs) h =
+    let parts = and_parts (finite.contains_key (finite.remove e key) f)
+    (list_all (finite.contains_key (finite.remove e key)) fs) h in
+    let here : size_at (finite.insert e key w) f ≡ size_at (finite.remove e key) f = ap
+    (λ (o : Option Entry). option_map_or (entry_size f) o 0) (kept_at e key w f parts.0) in
+    let rest = kept_sizes e key w fs parts.1 in
+    let one = sum_by-cons (size_at (finite.insert e key w)) f fs in
+    let other = sum_by-cons (size_at (finite.remove e key)) f fs in
+    omega (arith, here, rest, one, other)
+
+-- a map without a key has no more entries than with it
+fewer : (e : Entries) (key : List ℕ) → finite.len (finite.remove e key) ≤ finite.len e
+fewer e key =
+    let l = finite.len-remove nat_list_cmp_total e key in
+    elim (cases_Bool (finite.contains_key e key)) [
+      | inl y ↦ (let is : finite.len (finite.remove e key) ≡ finite.len e - 1 = l ∙ rw y refl in omega (arith, is))
+      | inr n ↦ (let is : finite.len (finite.remove e key) ≡ finite.len e = l ∙ rw n refl in omega (arith, is))
+    ]
+
+-- what may be forgotten of the other entries to make room may be forgotten where a key is written, which isn't forgotten itself
+forgets : (sizes : Sizes) (e : Entries) (key : List ℕ) (w : Entry) (fs : List (List ℕ))
+    → (fs ≡ []) ⊎ AreEvicted sizes (finite.remove e key) fs
+    → ((fs ≡ []) ⊎ MayEvict sizes e (finite.insert e key w) key fs) × (contains_bytes fs key ≡ false)
+forgets sizes e key w fs (inl none) = (inl none, ap (λ (xs : List (List ℕ)). contains_bytes xs key) none)
+forgets sizes e key w fs (inr h) =
+    let other = other_keys e key fs h.present in
+    let less = fewer e key in
+    let many = h.full in
+    let sums = kept_sizes e key w fs h.present in
+    let small = h.bounded in (
+      inr record {
+        not_stored = other;
+        present = kept_all e key w fs h.present;
+        full = omega (arith, less, many);
+        bounded = omega (arith, sums, small);
+      },
+      other,
+    )
+
+-- a key put into what was kept of the other entries
+inserted_kept : (e : Entries) (key : List ℕ) (w : Entry) (fs : List (List ℕ)) → contains_bytes fs key ≡ false
+    → finite.insert (without (finite.remove e key) fs) key w ≡ without (finite.insert e key w) fs
+inserted_kept e key w fs other =
+    same_entries _ _ (λ q. get-insert (without (finite.remove e key) fs) key w q
+    ∙ ap (cond (bytes_eq q key) (Some w)) (get-without (finite.remove e key) fs q)
+    ∙ elim (cases_Bool (bytes_eq q key)) [
+      | inl y ↦
+          let no : contains_bytes fs q ≡ false = ap (contains_bytes fs) ((bytes_eq-Decides q key).0 y) ∙ other in
+          rw y (sym (get-without (finite.insert e key w) fs q ∙ rw no (get-insert e key w q ∙ rw y refl)))
+      | inr n ↦
+          rw n (sym (get-without (finite.insert e key w) fs q
+          ∙ ap (cond (contains_bytes fs q) None) (get-insert e key w q ∙ rw n (sym (get-remove e key q ∙ rw n refl)))))
+    ])
+
+-- the old entry of a key left, some others were forgotten, and the key was written
+pub written_by : (sizes : Sizes) (t : ℕ) (e kept new : Entries) (key : List ℕ) (asked : Entry) (deadline : Option ℕ)
+    → AreKept sizes (finite.remove e key) kept → MayLive t asked.deadline deadline
+    → new ≡ finite.insert kept key (record asked { deadline = deadline }) → IsWritten sizes t e key asked new
+written_by sizes t e kept new key asked deadline k may is =
+    let w : Entry = record asked { deadline = deadline } in
+    let f = forgets sizes e key w k.forgotten k.evicted in
+    record {
+      deadline = deadline;
+      may_live = may;
+      forgotten = k.forgotten;
+      may_forget = f.0;
+      entries = is ∙ ap (λ (m : Entries). finite.insert m key w) k.entries ∙ inserted_kept e key w k.forgotten f.1;
+    }
+
+-- a key put where it was taken out is put
+pub insert_removed : (m : Entries) (key : List ℕ) (e : Entry)
+    → finite.insert (finite.remove m key) key e ≡ finite.insert m key e
+insert_removed m key e =
+    same_entries _ _ (λ q. get-insert (finite.remove m key) key e q
+    ∙ ap (cond (bytes_eq q key) (Some e)) (get-remove m key q)
+    ∙ twice (bytes_eq q key) (finite.get m q) ∙ sym (get-insert m key e q))
+  where
+    twice : (b : Bool) (o : Option Entry) → cond b (Some e) (cond b None o) ≡ cond b (Some e) o
+    twice true o = refl
+    twice false o = refl
+
+-- ---- what may be written can be stored
+
+-- where something is shown of what may be a place, there is a place
+some_of : (o : Option Place) (p : PoolState) (t : ℕ) → is_some (if_live t (option_map (entry_at p) o)) ≡ true
+    → (r : Place) × (o ≡ Some r)
+some_of None p t h = absurd (false≢true h)
+some_of (Some r) p t h = (r, refl)
+
+-- a segment can hold an item that may be written, whose cas number and flags are in range, and which nobody has read
+pub may_store : (p : PoolState) (index : Table) (marks : Marks) (t : ℕ) (i : Item) → IsTied p index marks
+    → MayBeWritten p.sizes (shown_entries p index t) i.key i.value
+    → i.cas < 2 ^ 64 → i.flags < 2 ^ 32 → i.reads ≡ 0 → IsStorable (item_limit p.sizes) i
+may_store p index marks t i tied (inl f) cas flags reads =
+    record {
+      cas = cas;
+      flags = flags;
+      some_key = f.some_key;
+      short_key = f.short_key;
+      reads = omega (arith, reads);
+      small = f.small;
+    }
+may_store p index marks t i tied (inr f) cas flags reads =
+    let r = some_of (finite.get (current p index) i.key) p t
+    (ap is_some (sym (get-live_in p (current p index) t i.key)) ∙ f.0) in
+    let x = current_item p index i.key r.0 r.1 in
+    let s = item_storable p r.0 x.0 tied.known.pool x.1 in
+    let key : length x.0.key ≡ length i.key = ap length x.2 in
+    let some = s.some_key in
+    let short = s.short_key in
+    let few = f.1 in
+    let g = tied.known.pool.geometry.smallest in
+    record {
+      cas = cas;
+      flags = flags;
+      some_key = omega (arith, some, key);
+      short_key = omega (arith, short, key);
+      reads = omega (arith, reads);
+      small = small_number (length i.key) (length i.value) p.sizes.segment_size (omega (arith, short, key)) few g;
+    }
+  where
+    small_number : (k v size : ℕ) → k ≤ 250 → v ≤ 20 → 4096 ≤ size → 8 * ((24 + k + v + 7) / 8) ≤ size / 8
+    small_number k v size a b c = omega (arith, a, b, c)

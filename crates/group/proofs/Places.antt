@@ -14,6 +14,17 @@ module _ {A : Type 0} (P : A → Type 0) where
   pub first_of_all : (ys : List A) (x : A) (xs : List A) → ys ≡ x ∷ xs → All P ys → P x × All P xs
   first_of_all ys x xs is h = cut x xs (subst (All P) is h)
 
+-- of lists that go together the first elements do, and the rest
+cut_each : {A B : Type 0} (P : A → B → Type 0) (x : A) (y : B) (xs : List A) (ys : List B) → AreEach P (x ∷ xs) (y ∷ ys)
+    → P x y × AreEach P xs ys
+cut_each P x y xs ys h =
+    let long = h.0 in (h.1 0 x y refl refl, (omega (arith, long), λ w a b at there. h.1 (suc w) a b at there))
+
+pub first_of_each : {A B : Type 0} (P : A → B → Type 0) (all : List A) (each : List B) (x : A) (y : B) (xs : List A)
+    (ys : List B) → all ≡ x ∷ xs → each ≡ y ∷ ys → AreEach P all each → P x y × AreEach P xs ys
+first_of_each {A} {B} P all each x y xs ys left right h =
+    cut_each P x y xs ys (subst (λ (p : List A × List B). AreEach P p.0 p.1) (λ i. (left i, right i)) h)
+
 -- lists that go together still do with one more in each
 pub each_more : {A B : Type 0} (P : A → B → Type 0) → (xs : List A) (ys : List B) (x : A) (y : B)
     → AreEach P xs ys → P x y

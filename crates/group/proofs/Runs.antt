@@ -1,23 +1,24 @@
 -- What the threads left makes the run of a group.
-use Rattle.std.proofs.Common.{◌≡◌, ℕ, zero, suc, ◌<◌, ◌≤◌, List, [], ◌∷◌, ◌++◌, length, map, Contains, Option, refl, sym, ap, subst, ◌∙◌, arith}
+use Rattle.std.proofs.Common.{◌≡◌, ℕ, zero, suc, ◌<◌, ◌≤◌, List, [], ◌∷◌, ◌++◌, length, map, Contains, Option, refl, sym, ap, subst, ◌∙◌, append-nil, arith}
 use Rattle.std.specs.Prelude.{All, slice_index, slice_index_or}
 use Rattle.std.proofs.lemmas.List.{length-map, map-append}
 use mathlib.Core.Option.{some}
 use lib.ListN.{get_elem?}
+use Rattle.proto.specs.declared.dialect.Dialect.{Dialect}
 use Rattle.proto.specs.Sizes.{Sizes}
 use Rattle.proto.specs.declared.history.Posted.{Posted}
 use Rattle.proto.specs.declared.history.Answered.{Answered}
 use Rattle.proto.specs.History.{worker_share, asked_posted}
 use Rattle.exchange.specs.declared.gathering.Gathered.{Gathered}
 use Rattle.exchange.specs.Ends.{WorkerView, StorageView, AreMade, AreTogether, AreCounted, new_worker_view, new_storage_view}
-use Rattle.exchange.proofs.Lists.{at_below, at_some}
+use Rattle.exchange.proofs.Lists.{at_below, at_some, starts_trans}
 use Rattle.storage_thread.specs.Serving.{IsTimed}
 use Rattle.storage_thread.specs.declared.serving.StorageReport.{StorageReport}
 use Rattle.worker_port.specs.Ports.{PortStory}
 use Rattle.worker.specs.declared.report.WorkerReport.{WorkerReport}
 use Rattle.worker.specs.Reports.{IsReported, IsSessionAnswered}
 use Rattle.group.specs.declared.report.GroupReport.{GroupReport}
-use Rattle.group.specs.Threads.{AreJoined, AreEach, HasSentNothing, IsLeftByStorage, KeepsWorker, KeepsStorage, ends_of, worker_of, workers_of}
+use Rattle.group.specs.Threads.{AreJoined, AreEach, HasSentNothing, IsPortOf, ArePortsOf, IsPortAt, IsLeftByStorage, KeepsWorker, KeepsStorage, ends_of, worker_of, workers_of}
 use Rattle.group.specs.Headline.{AreAnsweredIn, IsWorkerOf, IsRun}
 use Rattle.group.proofs.Places.{at_map, at_mapped}
 use Rattle.storage_thread.proofs.Callers.{or_at}
@@ -83,8 +84,8 @@ module _ {P : Type 0} (told : P → Option PortStory) (leads_to : P → P → Ty
   pub served : (h : List Answered) (w : ℕ) (r : WorkerReport P) → r.worker_end.worker ≡ w
       → r.worker_end.back ≡ worker_share h r.worker_end.worker
       → asked_posted (worker_share h r.worker_end.worker) ≡ r.worker_end.sent
-      → (story : PortStory) → IsReported story.events r.worker_end r.sessions.items r.unopened
-      → AreAnsweredIn story.events h w r.sessions.items r.unopened
+      → (story : PortStory) → IsReported story.dialect story.events r.worker_end r.sessions.items r.unopened
+      → AreAnsweredIn story.dialect story.events h w r.sessions.items r.unopened
   served h w r is back sent story told = record {
     ended = told.ended;
     once = told.once;
@@ -125,6 +126,9 @@ module _ {P : Type 0} (told : P → Option PortStory) (leads_to : P → P → Ty
             ∙ ap length kept.over.all_back);
         strangers = kept.strangers;
         served = λ story tells. served s.history w r is all.0 sent story (kept.reported story tells);
+        given_by = λ story tells. starts_trans s.history r.worker_end.seen story.history counted.compared.seen
+            (kept.whose story tells).later;
+        spelled = kept.spelled;
       }
 
   -- the report of a storage thread that was given the clock and the end as it was made
@@ -174,7 +178,27 @@ module _ {P : Type 0} (told : P → Option PortStory) (leads_to : P → P → Ty
       }
 
 -- ends as they are made have sent nothing
+-- the port of worker w is that of its end, as it was made
+port_at : {P : Type 0} (told : P → Option PortStory) (g : Sizes) (d : Dialect) (w : ℕ) (s : StorageView) (port : P) (end : WorkerView)
+    → IsPortOf told g d w port → end ≡ new_worker_view s.exchange g w → IsPortAt told d port end
+port_at told g d w s port end h is = subst (IsPortAt told d port) (sym is) (record {
+  whose = λ story e. let k = h.whose story e in record {
+    worker_is = k.0;
+    sizes_are = k.1;
+    later = ([], sym k.2 ∙ sym (append-nil story.history));
+  };
+  spelled = λ story e. (h.whose story e).3;
+})
+
+pub ports_at : {P : Type 0} (told : P → Option PortStory) (n : ℕ) (g : Sizes) (d : Dialect) (ports : List P) (ends : List WorkerView)
+    (s : StorageView) → AreMade n g ends s → length ports ≡ n → ArePortsOf told g d ports
+    → AreEach (IsPortAt told d) ports ends
+ports_at told n g d ports ends s made long h = (
+  long ∙ sym made.0,
+  λ w port end at there. port_at told g d w s port end (h w port at) (made.1 w end there),
+)
+
 pub fresh_ends : (n : ℕ) (g : Sizes) (ends : List WorkerView) (s : StorageView) → AreMade n g ends s
     → All HasSentNothing ends
 fresh_ends n g ends s made k d low = subst HasSentNothing
-    (sym (made.1 k (slice_index_or ends k d) (or_at ends k d low))) (refl, refl, refl)
+    (sym (made.1 k (slice_index_or ends k d) (or_at ends k d low))) (refl, refl, refl, refl)

@@ -2,12 +2,14 @@
 use Rattle.std.specs.Prelude.{◌≡◌, ℕ, ◌^◌, ◌-◌, ◌<◌, ◌≤◌, true, List, [], length, min, All, Contains, Option, Some, None, is_some, IsSome, slice_index}
 use mathlib.Core.Option.{some}
 use lib.ListN.{get_elem?}
+use Rattle.proto.specs.declared.dialect.Dialect.{Dialect}
 use Rattle.proto.specs.declared.message.Message.{Message}
 use Rattle.proto.specs.declared.history.Answered.{Answered}
 use Rattle.proto.specs.Sizes.{Sizes}
 use Rattle.proto.specs.History.{Legal, worker_share, asked_posted}
 use Rattle.proto.specs.Reading.{Reads}
 use Rattle.exchange.specs.declared.gathering.Gathered.{Gathered}
+use Rattle.exchange.specs.Beginnings.{StartsWith}
 use Rattle.session_book.specs.declared.causes.EndCause.{EndCause}
 use Rattle.storage_thread.specs.Keeping.{MayForgetNothing}
 use Rattle.storage_thread.specs.Serving.{IsTimed}
@@ -20,13 +22,13 @@ use Rattle.worker.specs.Reports.{IsSessionAnswered}
 use Rattle.group.specs.declared.report.GroupWorker.{GroupWorker}
 use Rattle.group.specs.declared.report.GroupReport.{GroupReport}
 
--- What the list of a port that tells it says of its worker's sessions, in this history: the port has ended; each
+-- What the list of a port that tells it says of its worker's sessions, in this history and dialect: the port has ended; each
 -- session of the report was opened; each session opened stands in the report once, or was shut and is counted as
 -- unopened; no bytes were accepted for a session after its close, nor for one that isn't in the report; each request
 -- of the history is of a session in the report; and each session's requests in the history are the first of those that
 -- its bytes spell, and what it was given a beginning of their answers there, complete after drain, quit or a fatal
 -- line, and its cause is one of it.
-pub record AreAnsweredIn (events : List PortRecord) (history : List Answered) (w : ℕ) (sessions : List (ℕ × EndCause))
+pub record AreAnsweredIn (d : Dialect) (events : List PortRecord) (history : List Answered) (w : ℕ) (sessions : List (ℕ × EndCause))
     (unopened : ℕ) : Type 0 where
   pub ended : has_ended events ≡ true
   pub once : Rises sessions
@@ -37,12 +39,12 @@ pub record AreAnsweredIn (events : List PortRecord) (history : List Answered) (w
   pub no_stranger : (s : ℕ) → cause_of sessions s ≡ None → given s events ≡ []
   pub placed : (e : Answered) → Contains (worker_share history w) e → IsSome (cause_of sessions e.session)
   pub answered : (s : ℕ) (cause : EndCause) → cause_of sessions s ≡ Some cause
-      → (messages : List Message) (rest : List ℕ) → Reads (fed s events) messages rest
+      → (messages : List Message) (rest : List ℕ) → Reads d (fed s events) messages rest
       → IsSessionAnswered events history w s cause messages
 
 -- What a group says of worker w, whose port this was: the history holds exactly the requests that it sent, once each
--- and in its order, and as many came back; the port is what the one handed in became; and its sessions were answered,
--- where the port tells.
+-- and in its order, and as many came back; the port is what the one handed in became; and, where the port tells, its sessions
+-- were answered in the dialect that it had at first, and the history begins with the one by which the port was given bytes last.
 pub record IsWorkerOf {P : Type 0} (told : P → Option PortStory) (leads_to : P → P → Type 0) (history : List Answered)
     (gathered : Gathered) (port : P) (w : ℕ) (worker : GroupWorker P) : Type 0 where
   pub leads : leads_to port worker.port
@@ -52,7 +54,10 @@ pub record IsWorkerOf {P : Type 0} (told : P → Option PortStory) (leads_to : P
   pub back : slice_index gathered.back w ≡ length worker.sent
   pub strangers : worker.strangers ≡ 0
   pub served : (story : PortStory) → told worker.port ≡ Some story
-      → AreAnsweredIn story.events history w worker.sessions.items worker.unopened
+      → AreAnsweredIn story.dialect story.events history w worker.sessions.items worker.unopened
+  pub given_by : (story : PortStory) → told worker.port ≡ Some story → StartsWith history story.history
+  pub spelled : (first story : PortStory) → told port ≡ Some first → told worker.port ≡ Some story
+      → story.dialect ≡ first.dialect
 
 -- The headline. Some legal history holds exactly the requests sent, each worker's once and in its order, and no other;
 -- each worker's sessions were answered in it; and its moments are the clock's. The clock is what the one handed in

@@ -2,6 +2,7 @@
 use Rattle.std.specs.Prelude.{◌≡◌, ℕ, ◌<◌, ◌^◌, ◌-◌, true, false, List, [], length, map, min, All, Option, Some, None, is_some, IsSome, IfSome}
 use mathlib.Core.Option.{some}
 use lib.ListN.{get_elem?}
+use Rattle.proto.specs.declared.dialect.Dialect.{Dialect}
 use Rattle.proto.specs.History.{Legal}
 use Rattle.proto.specs.Sizes.{Sizes}
 use Rattle.proto.specs.declared.history.Answered.{Answered}
@@ -10,6 +11,7 @@ use Rattle.storage_thread.specs.Keeping.{MayForgetNothing}
 use Rattle.storage_thread.specs.Serving.{IsTimed, IsSameExchange}
 use Rattle.storage_thread.specs.declared.serving.StorageReport.{StorageReport}
 use Rattle.worker_port.specs.Ports.{PortStory}
+use Rattle.worker_port.specs.Giving.{IsStoryOf}
 use Rattle.worker.specs.declared.report.WorkerReport.{WorkerReport}
 use Rattle.worker.specs.Reports.{IsReported, IsOver}
 use Rattle.group.specs.declared.start.Finished.{Finished}
@@ -24,7 +26,10 @@ pub record KeepsWorker {P : Type 0} (told : P → Option PortStory) (leads_to : 
   pub over : IsOver end report.worker_end
   pub strangers : report.strangers ≡ 0
   pub reported : (story : PortStory) → told report.port ≡ Some story
-      → IsReported story.events report.worker_end report.sessions.items report.unopened
+      → IsReported story.dialect story.events report.worker_end report.sessions.items report.unopened
+  pub whose : (story : PortStory) → told report.port ≡ Some story → IsStoryOf story report.worker_end
+  pub spelled : (first story : PortStory) → told port ≡ Some first → told report.port ≡ Some story
+      → story.dialect ≡ first.dialect
 
 -- what the storage thread leaves of the clock and the end that it was given, over a store that keeps what it stores where
 -- `keeps` says so
@@ -50,9 +55,25 @@ pub record IsFinished {T : Type 0} (id : ℕ) (keeps : T → Type 0) (finished :
 pub record IsSilent {P : Type 0} (told : P → Option PortStory) (port : P) : Type 0 where
   pub no_events : (story : PortStory) → told port ≡ Some story → story.events ≡ []
 
--- an end that has sent nothing
+-- an end that has sent nothing, and was told of nothing
 abbrev pub HasSentNothing : WorkerView → Type 0
-HasSentNothing end = (end.sent ≡ []) × (end.back ≡ []) × (end.said_bye ≡ false)
+HasSentNothing end = (end.sent ≡ []) × (end.back ≡ []) × (end.said_bye ≡ false) × (end.seen ≡ [])
+
+-- the port of worker w, over a store of these sizes and read in this dialect, by which nothing was given yet, where it
+-- tells
+pub record IsPortOf {P : Type 0} (told : P → Option PortStory) (sizes : Sizes) (d : Dialect) (w : ℕ) (port : P)
+    : Type 0 where
+  pub whose : (story : PortStory) → told port ≡ Some story
+      → (story.worker ≡ w) × (story.sizes ≡ sizes) × (story.history ≡ []) × (story.dialect ≡ d)
+
+-- the ports of workers 0, 1 and so on
+abbrev pub ArePortsOf : {P : Type 0} → (P → Option PortStory) → Sizes → Dialect → List P → Type 0
+ArePortsOf {P} told sizes d ports = (w : ℕ) (port : P) → get_elem? ports w ≡ some port → IsPortOf told sizes d w port
+
+-- the port of this end's worker, read in this dialect
+pub record IsPortAt {P : Type 0} (told : P → Option PortStory) (d : Dialect) (port : P) (end : WorkerView) : Type 0 where
+  pub whose : (story : PortStory) → told port ≡ Some story → IsStoryOf story end
+  pub spelled : (story : PortStory) → told port ≡ Some story → story.dialect ≡ d
 
 -- two lists of one length, whose elements go together place by place
 abbrev pub AreEach : {A B : Type 0} → (A → B → Type 0) → List A → List B → Type 0

@@ -1,14 +1,18 @@
 //! What a group is given, and what it leaves.
 
 use exchange::{Gathered, SentList};
-use proto::Geometry;
-use session_book::EndCause;
+use proto::{Dialect, Geometry};
+use worker::SessionList;
 
 /// What a group runs for.
 #[derive(Clone, Copy)]
 pub struct Config {
     /// The sizes of the store that the storage thread owns.
     pub geometry: Geometry,
+    /// How lines are written that sessions send.
+    pub dialect: Dialect,
+    /// Whether the report's lists of sessions are stored. Who serves without end has no use for them.
+    pub stores_sessions: bool,
 }
 
 /// What a group leaves of one worker.
@@ -18,7 +22,7 @@ pub struct GroupWorker<P> {
     /// The requests that it sent, for clauses alone: it has no bytes.
     pub sent: SentList,
     /// The sessions that were opened, by rising numbers, and why each ended.
-    pub sessions: Vec<(u64, EndCause)>,
+    pub sessions: SessionList,
     /// Sessions that were shut at once, as they found no room. It stays at the greatest number.
     pub unopened: u64,
     /// Answers that no session waited for.

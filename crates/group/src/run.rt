@@ -4,7 +4,7 @@ ghost use Rattle.proto.specs.Sizes.{Sizes};
 ghost use Rattle.proto.specs.Cache.{empty_cache};
 ghost use Rattle.exchange.specs.Ends.{AreTogether, IsCount};
 ghost use Rattle.group.specs.declared.fault.GroupFault.TheVariants.{BadConfig, NoMemory};
-ghost use Rattle.group.specs.Threads.{IsSilent, AreJoined, IsLeftByStorage, ends_of, workers_of};
+ghost use Rattle.group.specs.Threads.{IsSilent, ArePortsOf, AreJoined, IsLeftByStorage, ends_of, workers_of};
 ghost use Rattle.group.specs.Headline.{IsRun};
 
 use crate::fault::GroupFault;
@@ -127,6 +127,7 @@ fn run_in<
     gate: &'s G,
 ) -> Result<GroupReport<P, C>, GroupFault>
     requires ports { All (IsSilent P.told) ports.items }
+    requires whose { ArePortsOf P.told config.geometry config.dialect ports.items }
     requires empty { (E.cache store ≡ empty_cache 0) × (E.moment store ≡ 0) }
     requires sizes { E.sizes store ≡ config.geometry }
     requires count { IsCount (vec_len ports) }
@@ -138,7 +139,19 @@ fn run_in<
     let handles = Vec::with_capacity(alloc, count)?;
     let room = make_room(alloc, count)?;
     let storage = start_storage(rt, scope, start, store, clock, storage_end, signals)?;
-    match start_workers(rt, alloc, scope, start, ports, ends, gate, signals, handles) {
+    match start_workers(
+        rt,
+        alloc,
+        scope,
+        start,
+        ports,
+        ends,
+        config.stores_sessions,
+        config.dialect,
+        gate,
+        signals,
+        handles,
+    ) {
         Ok(handles) => {
             let told = announce_start(rt, start, true);
             if !*start.value(&told) {
@@ -180,6 +193,7 @@ pub fn run_group<
     gate: &G,
 ) -> Result<GroupReport<P, C>, GroupFault>
     requires ports { All (IsSilent P.told) ports.items }
+    requires whose { ArePortsOf P.told config.geometry config.dialect ports.items }
     requires empty { (E.cache store ≡ empty_cache 0) × (E.moment store ≡ 0) }
     requires sizes { E.sizes store ≡ config.geometry }
     ensures run { IfOk result (λ report. IsRun P.told P.leads_to C.told C.leads_to (E.keeps store []) (E.sizes store) ports.items clock report) }
@@ -198,6 +212,7 @@ pub fn run_group<
         rt,
         move |scope| -> Result<GroupReport<P, C>, GroupFault>
             requires ports { All (IsSilent P.told) ports.items × IsCount (vec_len ports) }
+            requires whose { ArePortsOf P.told config.geometry config.dialect ports.items }
             requires store { (E.cache store ≡ empty_cache 0) × (E.moment store ≡ 0) × (E.sizes store ≡ config.geometry) }
             ensures run { IfOk result (λ report. IsRun P.told P.leads_to C.told C.leads_to (E.keeps store []) (E.sizes store) ports.items clock report) }
             ensures fault { IfErr result (λ fault. fault ≢ BadConfig) }

@@ -5,18 +5,19 @@ ghost use Rattle.worker.specs.declared.report.WorkerReport.{WorkerReport};
 ghost use Rattle.storage_thread.specs.Serving.{IsUnused};
 ghost use Rattle.exchange.specs.Ends.{WorkerView};
 ghost use Rattle.group.specs.declared.fault.GroupFault.TheVariants.{NoThread};
-ghost use Rattle.group.specs.Threads.{IsFinished, HasSentNothing, IsSilent, KeepsWorker, KeepsStorage, AreEach};
+ghost use Rattle.group.specs.Threads.{IsFinished, HasSentNothing, IsSilent, IsPortAt, KeepsWorker, KeepsStorage, AreEach};
 
 use crate::fault::GroupFault;
 use crate::start::{Finished, wait_for_start};
 use engine::{Clock, StorageEngine};
 use exchange::{StorageEnd, StorageSignals, WorkerEnd};
+use proto::Dialect;
 use std::alloc::Global;
 use std::snapshot::Snapshot;
 use std::sync::{OnceLock, OnceToken, Wait};
 use std::thread::{Promise, PromisedHandle, Scope, Threads};
 use storage_thread::{StorageReport, run_storage};
-use worker::{Gate, WorkerReport, run_worker};
+use worker::{Gate, SessionList, WorkerReport, run_worker};
 use worker_port::Port;
 
 /// What a worker's thread promises: what it leaves of the port and the end that it was given, if it was told to begin.
@@ -57,6 +58,17 @@ pub type StorageHandle<'a, E, C> = PromisedHandle<
     StoragePromise<'a, E, C>,
 >;
 
+/// A worker's list of sessions, before there are any.
+fn session_list(alloc: Global, is_stored: bool) -> SessionList
+    ensures { result.items ≡ [] }
+{
+    if is_stored {
+        SessionList::stored(alloc)
+    } else {
+        SessionList::unstored()
+    }
+}
+
 /// Runs a worker once it is told to begin.
 fn work<'a, P: Port, G: Gate, R: Wait>(
     rt: &R,
@@ -64,16 +76,20 @@ fn work<'a, P: Port, G: Gate, R: Wait>(
     start: &'a OnceLock<bool>,
     port: P,
     end: WorkerEnd,
+    stores_sessions: bool,
+    dialect: Dialect,
     gate: &G,
     signals: &StorageSignals,
 ) -> Finished<'a, WorkerReport<P>>
     requires port { IsSilent P.told port }
+    requires whose { IsPortAt P.told dialect port end }
     requires fresh { HasSentNothing end }
     ensures { IsFinished start.now.id (KeepsWorker P.told P.leads_to port end) result }
 {
     let told = wait_for_start(rt, start);
     let ran = if *start.value(&told) {
-        Some(run_worker(rt, alloc, port, end, gate, signals))
+        let sessions = session_list(alloc, stores_sessions);
+        Some(run_worker(rt, alloc, port, end, sessions, dialect, gate, signals))
     } else {
         None
     };
@@ -150,10 +166,13 @@ fn start_worker<'s, 'e, P: Port + Send + 's, G: Gate + Sync, R: Threads + Wait +
     start: &'s OnceLock<bool>,
     port: P,
     end: WorkerEnd,
+    stores_sessions: bool,
+    dialect: Dialect,
     gate: &'s G,
     signals: &'s StorageSignals,
 ) -> Result<WorkerHandle<'s, P>, GroupFault>
     requires port { IsSilent P.told port }
+    requires whose { IsPortAt P.told dialect port end }
     requires fresh { HasSentNothing end }
     ensures fault { IfErr result (λ fault. fault ≡ NoThread) }
     ensures start { IfOk result (λ h. h.promise.start.now.id ≡ start.now.id) }
@@ -164,10 +183,19 @@ fn start_worker<'s, 'e, P: Port + Send + 's, G: Gate + Sync, R: Threads + Wait +
         port: Snapshot::of(&port),
         end: Snapshot::of(&end),
     };
-    match scope.spawn_with(
-        promise,
-        move || work(rt, alloc, start, port, end, gate, signals),
-    ) {
+    match scope.spawn_with(promise, move || {
+        work(
+            rt,
+            alloc,
+            start,
+            port,
+            end,
+            stores_sessions,
+            dialect,
+            gate,
+            signals,
+        )
+    }) {
         Ok(handle) => Ok(handle),
         Err(_) => Err(GroupFault::NoThread),
     }
@@ -181,11 +209,14 @@ pub fn start_workers<'s, 'e, P: Port + Send + 's, G: Gate + Sync, R: Threads + W
     start: &'s OnceLock<bool>,
     ports: Vec<P>,
     ends: Vec<WorkerEnd>,
+    stores_sessions: bool,
+    dialect: Dialect,
     gate: &'s G,
     signals: &'s StorageSignals,
     mut handles: Vec<WorkerHandle<'s, P>>,
 ) -> Result<Vec<WorkerHandle<'s, P>>, GroupFault>
     requires ports { All (IsSilent P.told) ports.items }
+    requires whose { AreEach (IsPortAt P.told dialect) ports.items ends.items }
     requires ends { All HasSentNothing ends.items }
     requires lengths { vec_len ports ≡ vec_len ends }
     requires room { (handles.items ≡ []) × (vec_len ends ≤ vec_capacity handles) }
@@ -199,7 +230,18 @@ pub fn start_workers<'s, 'e, P: Port + Send + 's, G: Gate + Sync, R: Threads + W
         let Some(port) = ports.next() else {
             unreachable!()
         };
-        let handle = start_worker(rt, alloc, scope, start, port, end, gate, signals)?;
+        let handle = start_worker(
+            rt,
+            alloc,
+            scope,
+            start,
+            port,
+            end,
+            stores_sessions,
+            dialect,
+            gate,
+            signals,
+        )?;
         handles.push_reserved(handle);
     }
     Ok(handles)

@@ -2,7 +2,7 @@
 
 use anyhow::{Result, bail};
 use bytes::Bytes;
-use proto::{Answered, Hits, Reply, Request};
+use proto::{Answered, Dialect, Hits, Reply, Request};
 use session_book::{Book, Received, Settled};
 use std::alloc::Global;
 use std::fmt;
@@ -15,11 +15,11 @@ const FEW: u64 = 1000;
 /// What a book is to do.
 #[derive(Clone, Copy)]
 enum Work {
-    /// So many sessions, open at the same time, with one request each.
+    /// This number of sessions, open at the same time, with one request each.
     Sessions(u64),
-    /// So many requests, over few sessions that are open at the same time, one of each in turn.
+    /// This number of requests, over few sessions that are open at the same time, one of each in turn.
     Asks(u64),
-    /// One session with so many such pieces unread.
+    /// One session with this number of such pieces unread.
     Pieces(u64, &'static str),
 }
 
@@ -41,7 +41,7 @@ fn send(book: &mut Book, session: u64, piece: Bytes) -> Result<()> {
     Ok(())
 }
 
-/// Settles a request with no hit, and gives the output: so many bytes.
+/// Settles a request with no hit, gives the output, and answers how many bytes that is.
 fn answer(alloc: Global, book: &mut Book, session: u64, asked: (Request, u64)) -> Result<usize> {
     let (request, number) = asked;
     let settled = book.settle(&Answered {
@@ -74,7 +74,7 @@ fn finish(alloc: Global, book: &mut Book, session: u64) -> Result<usize> {
     Ok(given.saturating_add(n))
 }
 
-/// Opens sessions 1 to so many.
+/// Opens `sessions` sessions, from number 1 on.
 fn open(book: &mut Book, sessions: u64) -> Result<()> {
     for session in 0..sessions {
         book.open(session + 1)?;
@@ -117,7 +117,7 @@ fn long_input(alloc: Global, book: &mut Book, pieces: u64, piece: &str) -> Resul
 
 /// Does the work in a new book, and says how many bytes were given.
 fn run(alloc: Global, work: Work) -> Result<usize> {
-    let mut book = Book::new(alloc, 0);
+    let mut book = Book::new(alloc, 0, Dialect::Strict);
     match work {
         Work::Sessions(count) => many_sessions(alloc, &mut book, count),
         Work::Asks(count) => many_requests(alloc, &mut book, count),

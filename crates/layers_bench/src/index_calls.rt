@@ -11,7 +11,7 @@ use std::time::{Clock, Duration, Instant};
 /// What each index hashes before a key.
 pub const SEED: u64 = 88_172_645_463_325_252;
 
-/// An index and a pool of so many segments of this size, both empty.
+/// An index and a pool of segments of this size, both empty.
 pub fn shelf_of(alloc: Global, segment_size: u32, segments: u32) -> Result<Shelf> {
     let geometry = Geometry::new(segment_size, segments)?;
     Ok(Shelf::new(alloc, geometry, SEED)?)
@@ -29,7 +29,7 @@ fn below(state: u64, count: u64) -> u64 {
     (state >> 32) % count.max(1)
 }
 
-/// Puts so many keys.
+/// Puts the keys below a count.
 fn fill(shelf: &mut Shelf, value: &[u8], count: u64) -> u64 {
     let mut put: u64 = 0;
     for n in 0..count {
@@ -40,7 +40,7 @@ fn fill(shelf: &mut Shelf, value: &[u8], count: u64) -> u64 {
     put
 }
 
-/// How many of so many look-ups find something, of keys from a number on.
+/// How many of `rounds` look-ups find something, of `count` keys from a number on.
 fn look_up(shelf: &Shelf, from: u64, count: u64, rounds: u64) -> u64 {
     let mut state = 88_172_645_463_325_252;
     let mut found: u64 = 0;
@@ -56,7 +56,7 @@ fn look_up(shelf: &Shelf, from: u64, count: u64, rounds: u64) -> u64 {
     found
 }
 
-/// Deletes so many keys.
+/// Deletes the keys below a count.
 fn delete(shelf: &mut Shelf, count: u64) -> u64 {
     let mut deleted: u64 = 0;
     for n in 0..count {
@@ -73,7 +73,7 @@ pub fn time_fill<R: Clock>(rt: &R, shelf: &mut Shelf, value: &[u8], count: u64) 
     Timed::since(rt, start, put)
 }
 
-/// The longest of so many writes.
+/// The longest write of the keys below a count.
 pub fn longest_put<R: Clock>(
     rt: &R,
     shelf: &mut Shelf,

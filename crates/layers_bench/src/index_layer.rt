@@ -1,5 +1,5 @@
-//! How long writes, look-ups, misses, deletes and emptying take in an index: that of 64 segments of 64 KiB, nearly full, and
-//! that of 512 segments of 1 MiB, nearly empty; and writes and look-ups of keys that meet in few slots.
+//! How long writes, look-ups, misses, deletes and emptying take in an index: that of 64 segments of 64 KiB, nearly
+//! full, and that of 512 segments of 1 MiB, nearly empty; and writes and look-ups of keys that meet in few slots.
 
 use crate::index_calls::{longest_put, shelf_of, time_clear, time_delete, time_fill, time_look_up};
 use crate::items::value_of;
@@ -11,7 +11,7 @@ use std::alloc::Global;
 use std::io::{Eprint, Print};
 use std::time::Clock;
 
-/// So many items with values of so many bytes, in segments of this size.
+/// `count` items with values of `value_length` bytes, and the sizes of the pool.
 #[derive(Clone, Copy)]
 struct Load {
     count: u64,
@@ -106,7 +106,7 @@ fn run_longest<R: Eprint + Clock>(rt: &R, alloc: Global, load: Load) -> Result<(
     longest(rt, &mut shelf, &value, load.count)
 }
 
-/// Measures the index, by so many look-ups of each kind.
+/// Measures the index, by `rounds` look-ups of each kind.
 pub fn measure_index<R: Print + Eprint + Clock>(rt: &R, alloc: Global, rounds: u64) -> Result<()> {
     for load in LOADS {
         run(rt, alloc, load, rounds)?;

@@ -18,7 +18,7 @@ fn hash_of(key: &[u8]) -> u64 {
     hasher.finish()
 }
 
-/// So many numbers whose keys have their homes among the first 64 of 65,536 slots, and so of fewer.
+/// `count` numbers whose keys have their homes among the first 64 of 65,536 slots, and so of fewer.
 fn neighbours(alloc: Global, count: usize) -> Result<Vec<u64>> {
     let mut numbers = Vec::new(alloc);
     for n in 0..u64::MAX {
@@ -76,7 +76,7 @@ fn write_and_find<R: Print + Eprint + Clock>(
     Ok(())
 }
 
-/// Times writes and look-ups of so many keys that meet in few slots.
+/// Times writes and look-ups of `count` keys that meet in few slots.
 pub fn measure_neighbours<R: Print + Eprint + Clock>(
     rt: &R,
     alloc: Global,

@@ -61,7 +61,7 @@ fn push_gets(
     Ok(())
 }
 
-/// A set of each key from a number on, to a value of so many bytes.
+/// A set of each of `count` keys from a number on, to a value of this length.
 pub fn sets(alloc: Global, from: u64, count: u64, length: usize) -> Result<Vec<Request>, NoMemory> {
     let value = value_of(alloc, length)?;
     let mut requests = Vec::with_capacity(alloc, count as usize)?;

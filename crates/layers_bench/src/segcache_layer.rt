@@ -1,5 +1,6 @@
-//! How long requests take on the segmented store, of 64 segments of 64 KiB, beside the plain store: gets that find their
-//! key, gets that find none, sets of keys that are there, and sets of so many keys that segments are merged.
+//! How long requests take on the segmented store, of 64 segments of 64 KiB, beside the plain store: gets that find
+//! their key, gets that find none, sets of keys that are there, and sets of more keys than find room, for which
+//! segments are merged.
 
 use crate::requests::{gets, sets};
 use crate::sending::{measure, send};
@@ -11,7 +12,7 @@ use std::alloc::Global;
 use std::io::{Eprint, Print};
 use std::time::Clock;
 
-/// As many keys as find room, and so many that their items take four times the segments' bytes.
+/// As many keys as find room, and more, whose items take four times the segments' bytes.
 const FEW: u64 = 10_000;
 
 const MANY: u64 = 120_000;
@@ -112,7 +113,7 @@ fn run_plain<R: Print + Eprint + Clock>(
     run(rt, alloc, "plain", &mut store, rounds)
 }
 
-/// Measures the segmented store, and then the plain one, by so many requests of each kind.
+/// Measures the segmented store, and then the plain one, by `rounds` requests of each kind.
 pub fn measure_segcache<R: Print + Eprint + Clock>(
     rt: &R,
     alloc: Global,

@@ -35,8 +35,8 @@ fn send_one<E: StorageEngine>(
     is_done
 }
 
-/// Sends so many of the requests, over and over, and counts those that stored or showed an item. The memory of the hits
-/// goes round, as between a worker and the storage thread.
+/// Sends the requests over and over, `rounds` of them, and counts those that stored or showed an item. The memory of
+/// the hits goes round, as between a worker and the storage thread.
 pub fn send<E: StorageEngine>(store: &mut E, requests: &mut [Request], rounds: u64) -> u64 {
     let mut done: u64 = 0;
     let mut spare: Option<SpareBuffer> = None;

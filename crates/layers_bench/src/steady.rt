@@ -1,11 +1,14 @@
 //! How long sets of ever new keys take on the segmented store and on the plain one, each timed alone, and a flush.
+//! Sets that merge segments are counted apart from the others.
 
+use crate::items::value_of;
 use crate::requests::sets;
 use crate::timing::nanos_each;
 use anyhow::Result;
 use engine::{PlainStore, StorageEngine};
 use proto::{Geometry, Reply, Request};
 use segcache::Store;
+use segments::{ItemRef, size_of};
 use std::alloc::Global;
 use std::io::{Eprint, Print};
 use std::time::{Clock, Duration, Instant};
@@ -13,7 +16,8 @@ use std::time::{Clock, Duration, Instant};
 /// How many requests are made at once, before they are sent.
 const BATCH: u64 = 50_000;
 
-/// So many keys at first, and as many further ones, with values of so many bytes, and the sizes of the segmented store.
+/// `keys` keys at first, and as many further ones, with values of `value_length` bytes, and the sizes of the
+/// segmented store.
 #[derive(Clone, Copy)]
 pub struct SteadyLoad {
     pub keys: u64,
@@ -36,6 +40,65 @@ const NONE: Times = Times {
     longest: Duration::ZERO,
 };
 
+impl Times {
+    /// With those of one more request.
+    fn with(self, is_done: bool, time: Duration) -> Times {
+        Times {
+            done: self.done.wrapping_add(u64::from(is_done)),
+            all: self.all.saturating_add(time),
+            longest: self.longest.max(time),
+        }
+    }
+}
+
+/// The times of the sets that merged segments, and of all other requests.
+#[derive(Clone, Copy)]
+struct Split {
+    merges: Times,
+    others: Times,
+}
+
+const NO_REQUEST: Split = Split {
+    merges: NONE,
+    others: NONE,
+};
+
+/// Which of the sets of ever new keys, by their number, find no segment free and merge: the first one when all
+/// segments are full, and then one each time that the three segments which a merge of four frees are full again.
+#[derive(Clone, Copy)]
+struct Merges {
+    first: u64,
+    every: u64,
+}
+
+impl Merges {
+    fn has(self, number: u64) -> bool {
+        number >= self.first && (number - self.first) % self.every.max(1) == 0
+    }
+}
+
+/// How many items of sets of this load go into a segment.
+fn items_in_segment(alloc: Global, load: SteadyLoad) -> Result<u64> {
+    let value = value_of(alloc, load.value_length.min(131_072))?;
+    let item = ItemRef {
+        key: b"8 bytes.",
+        value: &value,
+        flags: 0,
+        deadline: None,
+        cas: 0,
+        reads: 0,
+    };
+    Ok(u64::from(load.segment_size / size_of(item).max(1)))
+}
+
+fn merges_of(alloc: Global, load: SteadyLoad) -> Result<Merges> {
+    let items = items_in_segment(alloc, load)?;
+    Ok(Merges {
+        first: items.wrapping_mul(u64::from(load.segments)),
+        every: items.wrapping_mul(3),
+    })
+}
+
 /// Sends a request, and says whether it did what it asked.
 fn is_done<E: StorageEngine>(store: &mut E, request: &mut Request) -> bool {
     if store.last_moment() > 0 {
@@ -45,25 +108,30 @@ fn is_done<E: StorageEngine>(store: &mut E, request: &mut Request) -> bool {
     matches!(&reply, Reply::Stored | Reply::Flushed)
 }
 
-/// Sends the requests, and times each.
+/// Sends the requests, the first of which has this number, and times each.
 fn time_each<E: StorageEngine, R: Clock>(
     rt: &R,
     store: &mut E,
     requests: &mut [Request],
-    before: Times,
-) -> Result<Times> {
-    let mut times = before;
+    first: u64,
+    merges: Option<Merges>,
+    before: Split,
+) -> Result<Split> {
+    let mut split = before;
+    let mut number = first;
     let mut last = Instant::now(rt)?;
     for request in requests {
         let is_done = is_done(store, request);
         let now = Instant::now(rt)?;
         let time = now.saturating_duration_since(last);
         last = now;
-        times.done = times.done.wrapping_add(u64::from(is_done));
-        times.all = times.all.saturating_add(time);
-        times.longest = times.longest.max(time);
+        match merges {
+            Some(merges) if merges.has(number) => split.merges = split.merges.with(is_done, time),
+            _ => split.others = split.others.with(is_done, time),
+        }
+        number = number.wrapping_add(1);
     }
-    Ok(times)
+    Ok(split)
 }
 
 /// Makes sets of the keys of a batch, and times each.
@@ -73,13 +141,33 @@ fn time_batch<E: StorageEngine, R: Clock>(
     store: &mut E,
     first: u64,
     length: usize,
-    before: Times,
-) -> Result<Times> {
+    merges: Option<Merges>,
+    before: Split,
+) -> Result<Split> {
     let mut requests = sets(alloc, first, BATCH, length)?;
-    time_each(rt, store, requests.as_mut_slice(), before)
+    time_each(rt, store, requests.as_mut_slice(), first, merges, before)
 }
 
-/// Sets so many keys from a number on, and writes how many were stored, the time of each, and the longest one.
+/// Times sets of `keys.1` keys from the number `keys.0` on, in whole batches.
+fn time_sets<E: StorageEngine, R: Clock>(
+    rt: &R,
+    alloc: Global,
+    store: &mut E,
+    keys: (u64, u64),
+    length: usize,
+    merges: Option<Merges>,
+) -> Result<Split> {
+    let (from, count) = keys;
+    let mut split = NO_REQUEST;
+    for batch in 0..count / BATCH {
+        let first = from.wrapping_add(batch.wrapping_mul(BATCH));
+        split = time_batch(rt, alloc, store, first, length, merges, split)?;
+    }
+    Ok(split)
+}
+
+/// Sets these keys, and writes how many were stored, and the mean and the longest time of those sets that merged and
+/// of the others.
 fn set_many<E: StorageEngine, R: Print + Eprint + Clock>(
     rt: &R,
     alloc: Global,
@@ -87,41 +175,59 @@ fn set_many<E: StorageEngine, R: Print + Eprint + Clock>(
     store: &mut E,
     keys: (u64, u64),
     length: usize,
+    merges: Option<Merges>,
 ) -> Result<()> {
-    let (from, count) = keys;
-    let mut times = NONE;
-    for batch in 0..count / BATCH {
-        let first = from.wrapping_add(batch.wrapping_mul(BATCH));
-        times = time_batch(rt, alloc, store, first, length, times)?;
+    let split = time_sets(rt, alloc, store, keys, length, merges)?;
+    println!(rt;
+        "{name}: {} stored",
+        split.merges.done.wrapping_add(split.others.done)
+    )?;
+    write_times(rt, name, split.others)?;
+    if split.merges.done > 0 {
+        write_times(rt, "of these merged", split.merges)?;
     }
-    println!(rt; "{name}: {} stored", times.done)?;
+    Ok(())
+}
+
+fn time_flush<E: StorageEngine, R: Clock>(rt: &R, store: &mut E) -> Result<Times> {
+    let mut flush = [Request::FlushAll { delay: 0 }];
+    let split = time_each(rt, store, &mut flush, 0, None, NO_REQUEST)?;
+    Ok(split.others)
+}
+
+fn write_times<R: Eprint>(rt: &R, name: &str, times: Times) -> Result<()> {
     eprintln!(rt;
-        "{name}: {} ns each, the longest {} us",
+        "{name}: {}, {} ns each, the longest {} us",
+        times.done,
         nanos_each(times.all, times.done),
         times.longest.as_micros(),
     )?;
     Ok(())
 }
 
-fn time_flush<E: StorageEngine, R: Clock>(rt: &R, store: &mut E) -> Result<Times> {
-    let mut flush = [Request::FlushAll { delay: 0 }];
-    time_each(rt, store, &mut flush, NONE)
-}
-
-/// Sets so many keys, then as many others, and flushes the store.
+/// Sets the load's keys, then as many others, in whole batches, and flushes the store.
 fn run<E: StorageEngine, R: Print + Eprint + Clock>(
     rt: &R,
     alloc: Global,
     name: &str,
     store: &mut E,
     load: SteadyLoad,
+    merges: Option<Merges>,
 ) -> Result<()> {
-    let count = load.keys;
+    let count = load.keys / BATCH * BATCH;
     let length = load.value_length;
     println!(rt; "{name}")?;
     eprintln!(rt; "{name}")?;
-    set_many(rt, alloc, "first sets", store, (0, count), length)?;
-    set_many(rt, alloc, "further sets", store, (count, count), length)?;
+    set_many(rt, alloc, "first sets", store, (0, count), length, merges)?;
+    set_many(
+        rt,
+        alloc,
+        "further sets",
+        store,
+        (count, count),
+        length,
+        merges,
+    )?;
     let times = time_flush(rt, store)?;
     println!(rt; "flush_all: {} done", times.done)?;
     eprintln!(rt; "flush_all: {} us", times.longest.as_micros())?;
@@ -135,7 +241,7 @@ fn run_plain<R: Print + Eprint + Clock>(
     load: SteadyLoad,
 ) -> Result<()> {
     let mut store = PlainStore::new(alloc, geometry)?;
-    run(rt, alloc, "plain", &mut store, load)
+    run(rt, alloc, "plain", &mut store, load, None)
 }
 
 /// Runs in the segmented store, and, beside what that one holds, in the plain one.
@@ -146,7 +252,8 @@ fn run_both<R: Print + Eprint + Clock>(
     store: &mut Store,
     load: SteadyLoad,
 ) -> Result<()> {
-    run(rt, alloc, "segmented", store, load)?;
+    let merges = merges_of(alloc, load)?;
+    run(rt, alloc, "segmented", store, load, Some(merges))?;
     run_plain(rt, alloc, geometry, load)
 }
 

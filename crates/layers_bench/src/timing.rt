@@ -11,7 +11,7 @@ pub struct Timed {
 }
 
 impl Timed {
-    /// So many that were done since the start.
+    /// `done` calls that did what they were to do, and the time since the start.
     pub fn since<R: Clock>(clock: &R, start: Instant, done: u64) -> Result<Timed> {
         Ok(Timed {
             done,
@@ -20,12 +20,12 @@ impl Timed {
     }
 }
 
-/// The nanoseconds of one of so many.
+/// The nanoseconds of each of `count`.
 pub fn nanos_each(time: Duration, count: u64) -> u128 {
     time.as_nanos() / count.max(1) as u128
 }
 
-/// The tenths of nanoseconds of one of so many.
+/// The tenths of nanoseconds of each of `count`.
 pub fn tenths_each(time: Duration, count: u64) -> u128 {
     time.as_nanos() * 10 / count.max(1) as u128
 }

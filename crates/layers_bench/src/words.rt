@@ -13,11 +13,11 @@ const FEW: u64 = 1000;
 #[derive(Clone, Copy)]
 pub enum Layer {
     Book,
-    /// The pool of segments, filled so many times. With no number it is filled once, and no time is written.
+    /// The pool of segments, filled `passes` times. With no number it is filled once, and no time is written.
     Segments { passes: Option<u64> },
-    /// The index, by so many look-ups of each kind.
+    /// The index, by `rounds` look-ups of each kind.
     Index { rounds: u64 },
-    /// The segmented store beside the plain one, by so many requests of each kind.
+    /// The segmented store beside the plain one, by `rounds` requests of each kind.
     Segcache { rounds: u64 },
     /// The same by sets of ever new keys.
     SegcacheSteady(SteadyLoad),

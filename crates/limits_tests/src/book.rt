@@ -2,7 +2,7 @@
 
 use crate::same::check_same;
 use bytes::Bytes;
-use proto::{Answered, HitRef, HitWriter, NoMemory, Reply, Request, SpareBuffer};
+use proto::{Answered, Dialect, HitRef, HitWriter, NoMemory, Reply, Request, SpareBuffer};
 use session_book::{Book, Received, Settled};
 use std::alloc::Global;
 use std::process::Abort;
@@ -51,7 +51,7 @@ fn check_pieces(
     rows: &[(usize, usize, Received)],
 ) -> Result<(), Fail> {
     for row in rows {
-        let mut book = Book::new(alloc, 0);
+        let mut book = Book::new(alloc, 0, Dialect::Strict);
         let checked = check_piece(rt, alloc, &mut book, row);
         drop(book);
         checked?;
@@ -137,7 +137,7 @@ fn check_outputs(
     rows: &[(usize, usize, bool)],
 ) -> Result<(), Fail> {
     for row in rows {
-        let mut book = Book::new(alloc, 0);
+        let mut book = Book::new(alloc, 0, Dialect::Strict);
         let checked = check_output(rt, alloc, &mut book, row);
         drop(book);
         checked?;
@@ -167,7 +167,7 @@ fn check_waiting(rt: &impl Abort, alloc: Global, book: &mut Book) -> Result<(), 
 
 #[test]
 fn answers_are_kept_while_8_mb_wait(rt: HostRuntime) -> Result<(), Fail> {
-    let mut book = Book::new(rt.alloc(), 0);
+    let mut book = Book::new(rt.alloc(), 0, Dialect::Strict);
     check_waiting(&rt, rt.alloc(), &mut book)
 }
 
@@ -187,7 +187,7 @@ fn count_asked(book: &mut Book, sessions: u64) -> Result<u64, Fail> {
 
 fn check_unsettled(rt: &impl Abort, alloc: Global, rows: &[u64]) -> Result<(), Fail> {
     for sessions in rows {
-        let mut book = Book::new(alloc, 0);
+        let mut book = Book::new(alloc, 0, Dialect::Strict);
         let asked = count_asked(&mut book, *sessions);
         drop(book);
         check_same(rt, asked?, 64, *sessions);

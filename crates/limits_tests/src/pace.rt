@@ -5,7 +5,7 @@ use crate::runs::SteadyClock;
 use bytes::Bytes;
 use engine::{Clock as Moments, PlainStore};
 use group::{Config, run_group};
-use proto::Geometry;
+use proto::{Dialect, Geometry};
 use std::alloc::Global;
 use std::process::Abort;
 use std::sync::Wait;
@@ -13,7 +13,7 @@ use std::thread;
 use std::thread::Threads;
 use std::time::{Clock, Duration, Instant};
 use worker::OpenGate;
-use worker_port::{Gone, Port, PortEvent};
+use worker_port::{Gone, Port, PortEvent, ToldHistory};
 
 /// How many requests come.
 const REQUESTS: usize = 200;
@@ -85,7 +85,7 @@ impl<R: Clock + Drop> Port for OneAtATime<R> {
         PortEvent::Ended
     }
 
-    fn give(&mut self, _session: u64, bytes: &[u8]) -> Result<usize, Gone> {
+    fn give(&mut self, _session: u64, bytes: &[u8], _history: ToldHistory) -> Result<usize, Gone> {
         self.given = self.given.saturating_add(bytes.len());
         Ok(bytes.len())
     }
@@ -116,7 +116,11 @@ where
         given: 0,
     };
     let geometry = Geometry::new(65_536, 64).expect(rt, "a geometry");
-    let config = Config { geometry };
+    let config = Config {
+        geometry,
+        dialect: Dialect::Strict,
+        stores_sessions: false,
+    };
     let store = PlainStore::new(alloc, geometry).expect(rt, "memory");
     let mut ports = Vec::new(alloc);
     ports.push(port).expect(rt, "memory");

@@ -5,6 +5,7 @@ ghost use Rattle.worker_port.specs.Ports.{IsOpenIn};
 ghost use Rattle.script.specs.States.{story_told};
 
 use bytes::Bytes;
+use proto::{Dialect, Geometry};
 use script::{ScriptEvent, ScriptPort};
 use std::alloc::Global;
 use std::process::Abort;
@@ -27,7 +28,8 @@ fn is_next(rt: &impl Abort, port: &mut ScriptPort, wanted: &str) {
 fn with_session_1(rt: &impl Abort, alloc: Global, events: Vec<ScriptEvent>) -> ScriptPort
     ensures { IsOpenIn 1 (story_told result) }
 {
-    let mut port = ScriptPort::new(alloc, events);
+    let geometry = Geometry::new(65_536, 64).expect(rt, "a geometry");
+    let mut port = ScriptPort::new(alloc, geometry, Dialect::Strict, 0, events);
     match port.next(false) {
         PortEvent::Opened(1) => port,
         _ => panic!(rt; "session 1 isn't opened first"),

@@ -4,7 +4,7 @@ use crate::same::check_same;
 use crate::serving::serve;
 use crate::talk::{Shape, Talk, script_of, talk_of};
 use engine::{Clock, PlainStore};
-use proto::Geometry;
+use proto::{Dialect, Geometry};
 use script::{ScriptClock, ScriptPort, WorkerScript, read_script, replay_sequentially};
 use session_book::EndCause;
 use std::alloc::Global;
@@ -100,15 +100,18 @@ where
     R: Abort + Threads + Wait + time::Clock + Copy + Drop + Send + Sync + 'static,
 {
     let events = events_of(rt, alloc, case.script).into_events();
-    let port = ScriptPort::new(alloc, events).with_faults(accept, fail_give);
+    let port = ScriptPort::new(alloc, case.geometry, Dialect::Strict, 0, events).with_faults(
+        accept, fail_give,
+    );
     serve(rt, alloc, case.geometry, port, &OpenGate)
 }
 
 /// Each session of the case drained, and was given its output.
 fn check_report<R: Abort>(rt: &R, worker: &WorkerReport<ScriptPort>, case: &Case) {
-    let counts = (worker.unopened, worker.sessions.len() as u64);
+    let sessions = worker.sessions.entries().unwrap_or(&[]);
+    let counts = (worker.unopened, sessions.len() as u64);
     check_same(rt, counts, (0, case.sessions), "sessions");
-    for (session, cause) in worker.sessions.as_slice() {
+    for (session, cause) in sessions {
         let is_given = worker.port.given(*session) == case.output;
         check_same(rt, (*cause, is_given), (EndCause::Drained, true), *session);
     }

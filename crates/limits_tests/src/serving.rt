@@ -1,6 +1,7 @@
 //! One worker over a port, with a storage thread beside it.
 
 ghost use Rattle.std.specs.Prelude.{◌≡◌, [], false, Some};
+ghost use Rattle.proto.specs.declared.dialect.Dialect.TheVariants.{Strict};
 ghost use Rattle.proto.specs.Cache.{empty_cache};
 ghost use Rattle.engine.specs.PlainState.{plain_sizes, plain_cache, plain_moment};
 ghost use Rattle.storage_thread.specs.Serving.{IsUnused};
@@ -9,7 +10,7 @@ ghost use Rattle.worker_port.specs.Ports.{PortStory};
 use crate::runs::SteadyClock;
 use engine::PlainStore;
 use exchange::{StorageEnd, StorageSignals, WorkerEnd, make};
-use proto::Geometry;
+use proto::{Dialect, Geometry};
 use std::alloc::Global;
 use std::hash::FoldHasher;
 use std::process::Abort;
@@ -17,12 +18,13 @@ use std::sync::{Arc, Wait};
 use std::thread::Threads;
 use std::{thread, time};
 use storage_thread::{StorageReport, run_storage};
-use worker::{Gate, WorkerReport, run_worker};
+use worker::{Gate, SessionList, WorkerReport, run_worker};
 use worker_port::Port;
 
 /// The ends of an exchange of one worker, and an empty store.
 fn made<R: Abort>(rt: &R, alloc: Global, geometry: Geometry) -> (WorkerEnd, StorageEnd, PlainStore)
     ensures worker { (result.0.sent ≡ []) × (result.0.back ≡ []) × (result.0.said_bye ≡ false) }
+    ensures whose { (result.0.worker ≡ 0) × (result.0.geometry ≡ geometry) × (result.0.seen ≡ []) }
     ensures storage { IsUnused result.1 }
     ensures sizes { plain_sizes result.2 ≡ result.1.geometry }
     ensures store { (plain_cache result.2 ≡ empty_cache 0) × (plain_moment result.2 ≡ 0) }
@@ -45,7 +47,10 @@ where
     R: Abort + Threads + Wait + time::Clock + Copy + Drop + Send + Sync + 'static,
     P: Port,
     G: Gate,
-    requires { (story : PortStory) → P.told port ≡ Some story → story.events ≡ [] }
+    requires spelled { (story : PortStory) → P.told port ≡ Some story → story.dialect ≡ Strict }
+    requires silent { (story : PortStory) → P.told port ≡ Some story → story.events ≡ [] }
+    requires whose { (story : PortStory) → P.told port ≡ Some story
+        → (story.worker ≡ 0) × (story.sizes ≡ geometry) × (story.history ≡ []) }
 {
     let handle = *rt;
     let signals = StorageSignals::new(alloc, FoldHasher::default(), 1).expect(rt, "memory");
@@ -61,7 +66,16 @@ where
         { run_storage(&handle, store, SteadyClock, storage_end, &of_storage) },
     )
     .expect(rt, "a thread");
-    let report = run_worker(rt, alloc, port, end, gate, &signals);
+    let report = run_worker(
+        rt,
+        alloc,
+        port,
+        end,
+        SessionList::stored(alloc),
+        Dialect::Strict,
+        gate,
+        &signals,
+    );
     child.join(rt);
     report
 }

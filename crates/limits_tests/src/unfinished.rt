@@ -14,7 +14,7 @@ use std::sync::atomic::{AtomicU64, Ordering};
 use std::thread::Threads;
 use std::time::Clock;
 use worker::Gate;
-use worker_port::{Gone, Port, PortEvent};
+use worker_port::{Gone, Port, PortEvent, ToldHistory};
 
 /// The most bytes of one piece.
 const MAX_PIECE: usize = 16_384;
@@ -89,7 +89,7 @@ impl Port for StepPort {
         }
     }
 
-    fn give(&mut self, session: u64, bytes: &[u8]) -> Result<usize, Gone> {
+    fn give(&mut self, session: u64, bytes: &[u8], _history: ToldHistory) -> Result<usize, Gone> {
         if session == 1 {
             self.offered = self.offered.max(bytes.len());
             if !self.accepts {
@@ -307,7 +307,8 @@ where
     let counts = (report.port.offered, report.port.given);
     check_same(rt, counts, (waiting, accepted.saturating_add(200)), waiting);
     let causes = [(1, cause), (2, EndCause::Drained)];
-    check_same(rt, report.sessions.as_slice(), causes.as_slice(), waiting);
+    let sessions = report.sessions.entries().unwrap_or(&[]);
+    check_same(rt, sessions, causes.as_slice(), waiting);
 }
 
 #[test]

@@ -1,2 +1,6 @@
-pub mod Events
 pub mod Listening
+pub mod Notes
+pub mod Seen
+pub mod Shown
+pub mod Stories
+pub mod Ties

@@ -1,18 +1,27 @@
-//! A worker's port over the streams that its hand is given. It doesn't tell: no clause says what a socket delivers.
+//! A worker's port over the streams that its hand is given. What it tells is what was read from its streams
+//! and what they took; no clause says what a socket delivers.
 
-ghost use Rattle.std.specs.Prelude.{◌≡◌, ◌≤◌, length, IfOk, OnErr, OnOk, MatchOption};
-ghost use Rattle.net.specs.Events.{HasServedNone, IsNextEvent, KeepsSessions, ClosesSession};
+ghost use Rattle.std.specs.Prelude.{◌≡◌, ◌≤◌, [], ◌∷◌, true, false, length, IfOk, MatchOption, Some};
+ghost use Rattle.std.specs.Option.{option_map};
+ghost use Rattle.worker_port.specs.declared.events.PortRecord.TheVariants.{Shut};
+ghost use Rattle.worker_port.specs.Ports.{PortStory, then_told, with_pause, event_records, then_gave, IsOpenIn, MayCome, is_open};
+ghost use Rattle.net.specs.Stories.{story_of, IsNew, GoesOn, Tells, PausesAgree};
+ghost use Rattle.net.specs.Shown.{shown};
+ghost use Rattle.net.specs.Ties.{OpenAgrees, BytesAgree};
 
 use crate::ceasing::CeasingSessions;
 use crate::fault::NetFault;
 use crate::hand::{Hand, WAKER};
-use crate::streams::{Reading, Streams};
+use crate::owner::Owner;
+use crate::served::Served;
+use crate::silent::SilentSessions;
+use crate::streams::Reading;
 use mio::{Events, Poll};
 use std::alloc::Global;
 use std::net::Net;
 use std::sync::Wait;
 use std::time::{Clock, Duration};
-use worker_port::{Gone, Port, PortEvent};
+use worker_port::{Gone, Port, PortEvent, ToldHistory};
 
 /// Events of one poll.
 const EVENTS: usize = 256;
@@ -41,8 +50,9 @@ pub struct MioPort<R: Drop> {
     hand: Hand,
     poll: Poll,
     events: Events,
-    streams: Streams,
+    served: Served,
     ceasing: CeasingSessions,
+    silent: SilentSessions,
     // Idle calls in a row.
     quiet: u32,
 }
@@ -53,8 +63,8 @@ impl<R: Wait + Clock + Net + Drop> MioPort<R> {
     /// # Errors
     ///
     /// Poll, NoMemory.
-    pub fn new(rt: R, alloc: Global, mut hand: Hand) -> Result<MioPort<R>, NetFault>
-        ensures { IfOk result (λ port. HasServedNone port.streams) }
+    pub fn new(rt: R, alloc: Global, mut hand: Hand, owner: Owner) -> Result<MioPort<R>, NetFault>
+        ensures { IfOk result (λ port. IsNew owner.geometry owner.dialect owner.worker (story_of port.served)) }
     {
         let Ok(poll) = Poll::new(&rt) else {
             return Err(NetFault::Poll);
@@ -67,58 +77,104 @@ impl<R: Wait + Clock + Net + Drop> MioPort<R> {
             hand,
             poll,
             events: Events::with_capacity(alloc, EVENTS)?,
-            streams: Streams::new(alloc)?,
+            served: Served::new(alloc, owner)?,
             ceasing: CeasingSessions::new(alloc),
+            silent: SilentSessions::new(alloc),
             quiet: 0,
         })
     }
 }
 
 impl<R: Wait + Clock + Drop> MioPort<R> {
+    /// What the port told agrees with its streams: the open sessions are those with a stream, the data of each is what was
+    /// read from its stream, joined, and what was accepted for it is what its stream took.
+    pub fn agrees(&self)
+        ensures open { OpenAgrees (shown self.now.served.streams) (story_of self.now.served).events }
+        ensures bytes { BytesAgree (shown self.now.served.streams) (story_of self.now.served).events }
+        ensures paused { PausesAgree (shown self.now.served.streams) (story_of self.now.served) }
+    {
+        self.served.agrees();
+    }
+
+    /// Whether the session is open.
+    pub fn is_open(&self, session: u64) -> bool
+        ensures { is_open session (story_of self.now.served).events ≡ result }
+    {
+        self.served.is_open(session)
+    }
+
+    /// A session that opens from now on is ended, as one whose peer has gone, once nothing came from it for so many
+    /// seconds, and an eighth of that longer at most, while nothing is to be given to it.
+    pub fn set_idle_limit(&mut self, seconds: u64)
+        ensures { story_of self.new.served ≡ story_of self.old.served }
+    {
+        self.silent.set_limit(seconds);
+    }
+
     /// The next event. Sessions are numbered from 1, and no number is given twice.
     pub fn next_event(&mut self, may_wait: bool) -> PortEvent
-        ensures { IsNextEvent self.old.streams self.new.streams result }
+        ensures { Tells (story_of self.old.served) result (story_of self.new.served) }
     {
+        if self.served.is_over() {
+            return PortEvent::Idle;
+        }
         if let Some(event) = self.known_event(may_wait) {
             return event;
+        }
+        let has_all = self.hand.is_over() && !self.served.has_lingering();
+        if self.served.is_empty() && has_all {
+            self.served.end();
+            return PortEvent::Ended;
         }
         if !may_wait && self.quiet % CALLS_EACH_POLL < CALLS_EACH_POLL - 1 {
             return PortEvent::Idle;
         }
-        let millis = self.wait_millis(may_wait);
-        self.look(millis);
-        if let Some(event) = self.known_event(may_wait) {
-            return event;
+        match self.looked_event(may_wait) {
+            Some(event) => event,
+            None => PortEvent::Idle,
         }
-        if self.streams.is_empty() && self.hand.is_over() {
-            return PortEvent::Ended;
-        }
-        PortEvent::Idle
     }
 
     // How long the next look at the sockets may wait.
     fn wait_millis(&self, may_wait: bool) -> u64 {
         match may_wait {
-            true if self.ceasing.is_empty() => WAIT_MILLIS,
+            true if self.ceasing.is_empty() && !self.served.is_draining() => WAIT_MILLIS,
             true => CEASING_WAIT_MILLIS,
             false if self.quiet < STALLED_CALLS => 0,
             false => STALLED_WAIT_MILLIS,
         }
     }
 
+    // An event that a look at the sockets brings: a session that was silent for long enough, of which nothing is to be
+    // read, comes before what can be read.
+    fn looked_event(&mut self, may_wait: bool) -> Option<PortEvent>
+        requires { GoesOn (story_of self.old.served) }
+        ensures { MatchOption result (story_of self.new.served ≡ story_of self.old.served)
+            (λ event. Tells (story_of self.old.served) event (story_of self.new.served)) }
+    {
+        let millis = self.wait_millis(may_wait);
+        self.look(millis);
+        if let Some(session) = self.silent.next_silent(&self.rt, &mut self.served) {
+            self.served.end_session(session);
+            return Some(PortEvent::Gone(session));
+        }
+        self.known_event(may_wait)
+    }
+
     // An event that needs no poll: streams that wait in the hand come before what can be read.
     fn known_event(&mut self, may_wait: bool) -> Option<PortEvent>
-        ensures { MatchOption result (KeepsSessions self.old.streams self.new.streams)
-            (λ event. IsNextEvent self.old.streams self.new.streams event) }
+        requires { GoesOn (story_of self.old.served) }
+        ensures { MatchOption result (story_of self.new.served ≡ story_of self.old.served)
+            (λ event. Tells (story_of self.old.served) event (story_of self.new.served)) }
     {
         if let Some(event) = self.open_next() {
             return Some(event);
         }
         if let Some(session) = self
             .ceasing
-            .next_ceased(&self.rt, &mut self.streams, may_wait)
+            .next_ceased(&self.rt, &mut self.served, may_wait)
         {
-            self.streams.close(session);
+            self.served.end_session(session);
             return Some(PortEvent::Gone(session));
         }
         self.read_ready()
@@ -126,29 +182,33 @@ impl<R: Wait + Clock + Drop> MioPort<R> {
 
     // Looks which streams are ready, and waits so long for one.
     fn look(&mut self, millis: u64)
-        ensures { KeepsSessions self.old.streams self.new.streams }
+        ensures { story_of self.new.served ≡ story_of self.old.served }
     {
         let limit = Some(Duration::from_millis(millis));
         if self.poll.poll(&mut self.events, limit).is_ok() {
             if self.events.iter().any(|event| event.token() == WAKER) {
                 self.hand.clear_wakes();
             }
-            if self.streams.mark(&self.events) {
+            if self.served.mark(&self.events) {
                 self.quiet = 0;
             }
         }
+        self.served.drain(&self.rt);
+        self.hand.tell_held(self.served.len());
     }
 
     fn open_next(&mut self) -> Option<PortEvent>
-        ensures { MatchOption result (KeepsSessions self.old.streams self.new.streams)
-            (λ event. IsNextEvent self.old.streams self.new.streams event) }
+        requires { GoesOn (story_of self.old.served) }
+        ensures { MatchOption result (story_of self.new.served ≡ story_of self.old.served)
+            (λ event. Tells (story_of self.old.served) event (story_of self.new.served)) }
     {
         for _ in 0..EVENTS {
-            if self.streams.is_full() {
+            if self.served.is_full() {
                 return None;
             }
             let stream = self.hand.take(&self.rt)?;
-            if let Some(number) = self.streams.open(&self.poll, stream) {
+            if let Some(number) = self.served.open(&self.poll, stream) {
+                self.silent.add(&self.rt, number);
                 return Some(PortEvent::Opened(number));
             }
         }
@@ -156,17 +216,18 @@ impl<R: Wait + Clock + Drop> MioPort<R> {
     }
 
     fn read_ready(&mut self) -> Option<PortEvent>
-        ensures { MatchOption result (KeepsSessions self.old.streams self.new.streams)
-            (λ event. IsNextEvent self.old.streams self.new.streams event) }
+        requires { GoesOn (story_of self.old.served) }
+        ensures { MatchOption result (story_of self.new.served ≡ story_of self.old.served)
+            (λ event. Tells (story_of self.old.served) event (story_of self.new.served)) }
     {
         for _ in 0..EVENTS {
-            let number = self.streams.next_ready()?;
-            match self.streams.read(number) {
+            let number = self.served.next_ready()?;
+            match self.served.read(number) {
                 Reading::Bytes(piece) => return Some(PortEvent::Data(number, piece)),
                 Reading::Nothing => {}
                 Reading::Ended if self.ceasing.add(&self.rt, number) => {}
                 Reading::Ended => {
-                    self.streams.close(number);
+                    self.served.end_session(number);
                     return Some(PortEvent::Gone(number));
                 }
                 Reading::Gone => return Some(PortEvent::Gone(number)),
@@ -177,9 +238,10 @@ impl<R: Wait + Clock + Drop> MioPort<R> {
 }
 
 impl<R: Wait + Clock + Drop> Port for MioPort<R> {
-    ghost use Rattle.std.specs.Prelude.{⊤, None};
+    ghost use Rattle.std.specs.Prelude.{⊤, Some};
+    ghost use Rattle.net.specs.Stories.{story_of};
 
-    ghost told = { λ _. None };
+    ghost told = { λ port. Some (story_of port.served) };
 
     ghost leads_to = { λ _ _. ⊤ };
 
@@ -187,9 +249,7 @@ impl<R: Wait + Clock + Drop> Port for MioPort<R> {
 
     ghost leads_transitive = { λ _ _ _ _ _. tt };
 
-    fn next(&mut self, may_wait: bool) -> PortEvent
-        ensures numbers { IsNextEvent self.old.streams self.new.streams result }
-    {
+    fn next(&mut self, may_wait: bool) -> PortEvent {
         let event = self.next_event(may_wait);
         match &event {
             PortEvent::Idle => self.quiet = self.quiet.saturating_add(1),
@@ -198,12 +258,8 @@ impl<R: Wait + Clock + Drop> Port for MioPort<R> {
         event
     }
 
-    fn give(&mut self, session: u64, bytes: &[u8]) -> Result<usize, Gone>
-        ensures within { IfOk result (λ n. n ≤ length bytes.now) }
-        ensures keeps { OnOk result (KeepsSessions self.old.streams self.new.streams) }
-        ensures ends { OnErr result (ClosesSession session self.old.streams self.new.streams) }
-    {
-        let accepted = self.streams.write(session, bytes)?;
+    fn give(&mut self, session: u64, bytes: &[u8], history: ToldHistory) -> Result<usize, Gone> {
+        let accepted = self.served.write(session, bytes, history)?;
         if accepted > 0 {
             self.quiet = 0;
             self.ceasing.count_give();
@@ -211,21 +267,15 @@ impl<R: Wait + Clock + Drop> Port for MioPort<R> {
         Ok(accepted)
     }
 
-    fn pause(&mut self, session: u64)
-        ensures keeps { KeepsSessions self.old.streams self.new.streams }
-    {
-        self.streams.pause(session);
+    fn pause(&mut self, session: u64) {
+        self.served.pause(session);
     }
 
-    fn resume(&mut self, session: u64)
-        ensures keeps { KeepsSessions self.old.streams self.new.streams }
-    {
-        self.streams.resume(session);
+    fn resume(&mut self, session: u64) {
+        self.served.resume(session);
     }
 
-    fn shut(&mut self, session: u64)
-        ensures ends { ClosesSession session self.old.streams self.new.streams }
-    {
-        self.streams.close(session);
+    fn shut(&mut self, session: u64) {
+        self.served.shut(&self.rt, session);
     }
 }

@@ -1,127 +1,79 @@
-//! Groups of workers over sockets.
+//! Workers that serve clients over sockets.
 
-use crate::clients::{ANSWER_A, ANSWER_B, ROW_A, ROW_B, ask, connect, send};
-use group::{Config, GroupWorker, run_group};
-use net::{Hand, ListenReport, Listener, MioPort};
-use proto::Geometry;
-use segcache::Store;
-use session_book::EndCause;
+use crate::clients::{ANSWER_A, ANSWER_B, ROW_A, ROW_B, ask, connect, read_all, send};
+use command_line::ServeOptions;
+use net::Listener;
+use proto::{Dialect, Geometry};
+use serving::serve;
 use std::alloc::Global;
-use std::net::{Net, TcpStream};
+use std::io::Eprint;
+use std::net::{Net, Shutdown, TcpStream};
 use std::process::Abort;
 use std::sync::Wait;
 use std::thread::{self, Threads};
-use std::time::Clock;
-use storage_thread::UnixClock;
-use worker::OpenGate;
+use std::time::{Clock, Duration};
 
-/// What serves two workers' sessions.
-#[derive(Drop)]
-struct Parts<R: Drop> {
-    listener: Listener,
-    hands: Vec<Hand>,
-    ports: Vec<MioPort<R>>,
+/// A port of this machine that is free.
+fn free_port<R: Net + Abort>(rt: &R, alloc: Global) -> u16 {
+    let listener = Listener::bind(rt, alloc, "127.0.0.1:0").expect(rt, "a listener");
+    listener.port()
 }
 
-/// Parts for two workers that are given so many streams each at most.
-fn two_workers<R>(rt: R, alloc: Global, most: u64) -> Parts<R>
+/// Serves so many sessions by two workers.
+fn serve_some<R>(rt: R, alloc: Global, port: u16, sessions: u64)
 where
-    R: Wait + Clock + Net + Abort + Copy + Drop,
+    R: Threads + Wait + Net + Clock + Eprint + Abort + Copy + Drop + Send + Sync + 'static,
 {
-    let listener = Listener::bind(&rt, alloc, "127.0.0.1:0").expect(&rt, "a listener");
-    let mut hands = Vec::new(alloc);
-    let mut ports = Vec::new(alloc);
-    for _ in 0..2 {
-        let (of_listener, of_port) = Hand::pair(&rt, alloc, most).expect(&rt, "a hand");
-        hands.push(of_listener).expect(&rt, "memory");
-        let port = MioPort::new(rt, alloc, of_port).expect(&rt, "a port");
-        ports.push(port).expect(&rt, "memory");
-    }
-    Parts {
-        listener,
-        hands,
-        ports,
-    }
+    let options = ServeOptions {
+        listen: format!(in alloc; "127.0.0.1:{port}").expect(&rt, "memory"),
+        workers: 2,
+        sessions: Some(sessions),
+        idle: None,
+        segment_size: 65_536,
+        segments: 64,
+        dialect: Dialect::Strict,
+    };
+    let geometry = Geometry::new(65_536, 64).expect(&rt, "a geometry");
+    let mut out = Vec::new(alloc);
+    let served = serve(rt, alloc, &options, geometry, 0, &mut out);
+    assert!(rt; served.is_ok());
 }
 
-/// Serves so many sessions, and returns what the listener and the workers report.
-fn serve_some<R>(
-    rt: R,
-    alloc: Global,
-    parts: Parts<R>,
-    limit: Option<u64>,
-) -> (ListenReport, Vec<GroupWorker<MioPort<R>>>)
+/// Waits until the port takes connections: the one that is taken is served too.
+fn await_listener<R>(rt: &R, alloc: Global, port: u16)
 where
-    R: Threads + Wait + Clock + Abort + Copy + Drop + Send + Sync + 'static,
+    R: Net<Stream = TcpStream> + Clock + Abort,
 {
-    let Parts {
-        mut listener,
-        mut hands,
-        ports,
-    } = parts;
-    let listening = thread::spawn(&rt, move || {
-        listener.run(&rt, hands.as_mut_slice(), limit)
+    let addr = format!(in alloc; "127.0.0.1:{port}").expect(rt, "memory");
+    for _ in 0..1000 {
+        if TcpStream::connect(rt, addr.as_str()).is_ok() {
+            return;
+        }
+        thread::sleep(rt, Duration::from_millis(10));
+    }
+    panic!(*rt; "nobody listens")
+}
+
+#[test]
+fn each_of_two_clients_is_served(rt: HostRuntime) {
+    let alloc: Global = rt.alloc();
+    let port = free_port(&rt, alloc);
+    let clients = thread::spawn(&rt, move || {
+        await_listener(&rt, alloc, port);
+        (ask(&rt, alloc, port, ROW_A), ask(&rt, alloc, port, ROW_B))
     })
     .expect(&rt, "a thread");
-    let geometry = Geometry::new(65_536, 64).expect(&rt, "a geometry");
-    let config = Config { geometry };
-    let clock = UnixClock::new(rt);
-    let store = Store::new(alloc, geometry).expect(&rt, "memory");
-    let report = run_group(&rt, alloc, ports, config, store, clock, &OpenGate).expect(
-        &rt, "a group",
-    );
-    (listening.join(&rt), report.workers)
-}
-
-/// Each worker had session 1 alone, which ended so.
-fn had_one_session<R: Drop>(workers: &[GroupWorker<MioPort<R>>], cause: EndCause) -> bool {
-    workers.iter().all(|worker| worker.sessions.as_slice() == [(1, cause)].as_slice())
-}
-
-/// Each of two workers served one of two clients.
-fn check_served<R: Abort + Drop>(
-    rt: &R,
-    answers: &(Vec<u8>, Vec<u8>),
-    listened: &ListenReport,
-    workers: &[GroupWorker<MioPort<R>>],
-) {
-    assert!(*rt; answers.0.as_slice() == ANSWER_A && answers.1.as_slice() == ANSWER_B);
-    assert!(*rt; listened.accepted == 2 && listened.closed == 0 && listened.failed == 0);
-    assert!(*rt; workers.len() == 2 && had_one_session(workers, EndCause::Quit));
-}
-
-#[test]
-fn each_of_two_workers_serves_a_client(rt: HostRuntime) {
-    let alloc: Global = rt.alloc();
-    let parts = two_workers(rt, alloc, 2);
-    let port = parts.listener.port();
-    let clients = thread::spawn(
-        &rt,
-        move || (ask(&rt, alloc, port, ROW_A), ask(&rt, alloc, port, ROW_B)),
-    )
-    .expect(&rt, "a thread");
-    let (listened, workers) = serve_some(rt, alloc, parts, Some(2));
+    serve_some(rt, alloc, port, 3);
     let answers = clients.join(&rt);
-    check_served(&rt, &answers, &listened, workers.as_slice());
-}
-
-#[test]
-fn a_group_ends_once_each_worker_was_given_all_its_streams(rt: HostRuntime) {
-    let alloc: Global = rt.alloc();
-    let parts = two_workers(rt, alloc, 1);
-    let port = parts.listener.port();
-    let clients = thread::spawn(
-        &rt,
-        move || (ask(&rt, alloc, port, ROW_A), ask(&rt, alloc, port, ROW_B)),
-    )
-    .expect(&rt, "a thread");
-    let (listened, workers) = serve_some(rt, alloc, parts, None);
-    let answers = clients.join(&rt);
-    check_served(&rt, &answers, &listened, workers.as_slice());
+    assert!(rt; answers.0.as_slice() == ANSWER_A && answers.1.as_slice() == ANSWER_B);
 }
 
 /// A client that closes without reading, and then one that asks for the first one's key.
-fn leave_and_ask<R: Net<Stream = TcpStream> + Abort>(rt: &R, alloc: Global, port: u16) -> Vec<u8> {
+fn leave_and_ask<R>(rt: &R, alloc: Global, port: u16) -> Vec<u8>
+where
+    R: Net<Stream = TcpStream> + Clock + Abort,
+{
+    await_listener(rt, alloc, port);
     let first = connect(rt, alloc, port);
     send(rt, &first, b"set a 0 0 1\r\nx\r\nget a\r\n");
     drop(first);
@@ -131,14 +83,75 @@ fn leave_and_ask<R: Net<Stream = TcpStream> + Abort>(rt: &R, alloc: Global, port
 #[test]
 fn a_client_that_closes_without_reading_harms_nobody(rt: HostRuntime) {
     let alloc: Global = rt.alloc();
-    let parts = two_workers(rt, alloc, 2);
-    let port = parts.listener.port();
+    let port = free_port(&rt, alloc);
     let clients = thread::spawn(&rt, move || leave_and_ask(&rt, alloc, port)).expect(
         &rt, "a thread",
     );
-    let (listened, _workers) = serve_some(rt, alloc, parts, Some(2));
+    serve_some(rt, alloc, port, 3);
     let answer = clients.join(&rt);
     let missed = answer.as_slice() == b"END\r\n".as_slice();
     assert!(rt; missed || answer.as_slice() == b"VALUE a 0 1\r\nx\r\nEND\r\n".as_slice());
-    assert!(rt; listened.accepted == 2 && listened.closed == 0);
+}
+
+/// A client that sends a request and then no more.
+fn ask_and_end<R>(rt: &R, alloc: Global, port: u16) -> Vec<u8>
+where
+    R: Net<Stream = TcpStream> + Clock + Abort,
+{
+    await_listener(rt, alloc, port);
+    let stream = connect(rt, alloc, port);
+    send(rt, &stream, b"get a\r\n");
+    stream.shutdown(Shutdown::Write).expect(rt, "a closed half");
+    read_all(rt, alloc, &stream)
+}
+
+#[test]
+fn a_client_that_sends_no_more_gets_its_answer(rt: HostRuntime) {
+    let alloc: Global = rt.alloc();
+    let port = free_port(&rt, alloc);
+    let clients = thread::spawn(&rt, move || ask_and_end(&rt, alloc, port)).expect(&rt, "a thread");
+    serve_some(rt, alloc, port, 2);
+    let answer = clients.join(&rt);
+    assert!(rt; answer.as_slice() == b"END\r\n".as_slice());
+}
+
+/// A client that sends a block that is too large, in pieces of 8 KB, and then reads: whether it sees why it is shut.
+fn sees_why<R>(rt: &R, alloc: Global, port: u16) -> bool
+where
+    R: Net<Stream = TcpStream> + Abort,
+{
+    let piece = Vec::from_elem(alloc, b'x', 8192).expect(rt, "memory");
+    let stream = connect(rt, alloc, port);
+    send(rt, &stream, b"set a 0 0 1048576\r\n");
+    for _ in 0..128 {
+        send(rt, &stream, piece.as_slice());
+    }
+    let answer = read_all(rt, alloc, &stream);
+    answer.as_slice() == b"SERVER_ERROR object too large for cache\r\n".as_slice()
+}
+
+/// How many of 20 such clients see it.
+fn send_too_much<R>(rt: &R, alloc: Global, port: u16) -> u64
+where
+    R: Net<Stream = TcpStream> + Clock + Abort,
+{
+    await_listener(rt, alloc, port);
+    let mut seen: u64 = 0;
+    for _ in 0..20 {
+        if sees_why(rt, alloc, port) {
+            seen = seen.saturating_add(1);
+        }
+    }
+    seen
+}
+
+#[test]
+fn a_client_that_sends_too_much_sees_why_it_is_shut(rt: HostRuntime) {
+    let alloc: Global = rt.alloc();
+    let port = free_port(&rt, alloc);
+    let clients = thread::spawn(&rt, move || send_too_much(&rt, alloc, port)).expect(
+        &rt, "a thread",
+    );
+    serve_some(rt, alloc, port, 21);
+    assert!(rt; clients.join(&rt) == 20);
 }

@@ -1,13 +1,14 @@
 //! Hands that are full, or used up.
 
 use crate::clients::{connect_all, read_all};
-use net::{Hand, Listener, MioPort};
+use net::{Hand, Listener, MioPort, Notices, Owner};
+use proto::{Dialect, Geometry};
 use std::alloc::Global;
 use std::net::{Net, TcpStream};
 use std::process::Abort;
 use std::sync::Wait;
-use std::thread;
-use std::time::Clock;
+use std::thread::{self, Threads};
+use std::time::{Clock, Duration, Instant};
 use worker_port::{Port, PortEvent};
 
 /// So often a port is asked until it has to have ended.
@@ -38,6 +39,43 @@ fn a_full_hand_has_64_streams_and_the_next_is_closed(rt: HostRuntime) {
     drop(of_port);
 }
 
+#[test]
+fn streams_that_no_hand_takes_are_closed_within_a_second_or_so(rt: HostRuntime) {
+    let alloc: Global = rt.alloc();
+    let mut listener = Listener::bind(&rt, alloc, "127.0.0.1:0").expect(&rt, "a listener");
+    let clients = connect_all(&rt, alloc, listener.port(), 264);
+    let since = Instant::now(&rt).expect(&rt, "a clock");
+    let (of_listener, of_port) = Hand::pair(&rt, alloc, 1000).expect(&rt, "a hand");
+    let report = listener.run(&rt, &mut [of_listener], Some(264));
+    assert!(rt; since.elapsed(&rt).expect(&rt, "a clock") < Duration::from_millis(1100));
+    assert!(rt; report.accepted == 264 && report.closed == 200 && report.failed == 0);
+    drop((of_port, clients));
+}
+
+/// A port for the port's end of a hand.
+fn port_of<R: Wait + Clock + Net + Abort + Copy + Drop>(
+    rt: R,
+    alloc: Global,
+    hand: Hand,
+) -> MioPort<R> {
+    let owner = Owner {
+        geometry: Geometry::new(65_536, 64).expect(&rt, "a geometry"),
+        dialect: Dialect::Strict,
+        worker: 0,
+    };
+    MioPort::new(rt, alloc, hand, owner).expect(&rt, "a port")
+}
+
+/// How many sessions the port of a hand opens until it has ended, if it does.
+fn sessions_of<R: Wait + Clock + Net + Abort + Copy + Drop>(
+    rt: R,
+    alloc: Global,
+    hand: Hand,
+) -> Option<u64> {
+    let mut port = port_of(rt, alloc, hand);
+    sessions_opened(&mut port)
+}
+
 /// Runs a listener over a hand for one stream and one for two, and gives the ports' ends of both.
 fn used_up<R>(rt: &R, alloc: Global, listener: &mut Listener) -> (Hand, Hand)
 where
@@ -61,16 +99,6 @@ fn a_listener_ends_once_all_hands_are_used_up(rt: HostRuntime) {
     assert!(rt; sessions_of(rt, alloc, of_large) == Some(2));
 }
 
-/// How many sessions the port of a hand opens until it has ended, if it does.
-fn sessions_of<R: Wait + Clock + Net + Abort + Copy + Drop>(
-    rt: R,
-    alloc: Global,
-    hand: Hand,
-) -> Option<u64> {
-    let mut port = MioPort::new(rt, alloc, hand).expect(&rt, "a port");
-    sessions_opened(&mut port)
-}
-
 /// How many sessions a port opens until it has ended, if it does.
 fn sessions_opened<R: Wait + Clock + Drop>(port: &mut MioPort<R>) -> Option<u64> {
     let mut opened = 0;
@@ -82,4 +110,157 @@ fn sessions_opened<R: Wait + Clock + Drop>(port: &mut MioPort<R>) -> Option<u64>
         }
     }
     None
+}
+
+/// As many sessions as a port has open at most.
+const SESSIONS: u64 = 1024;
+
+/// So many sessions are opened, or end.
+fn await_sessions<R>(rt: &R, port: &mut MioPort<R>, opened: u64, ended: u64)
+where
+    R: Wait + Clock + Abort + Drop,
+{
+    let mut left = (opened, ended);
+    for _ in 0..CALLS {
+        if left == (0, 0) {
+            return;
+        }
+        match port.next(true) {
+            PortEvent::Opened(_) => left.0 = left.0.saturating_sub(1),
+            PortEvent::Gone(_) => left.1 = left.1.saturating_sub(1),
+            _ => {}
+        }
+    }
+    panic!(*rt; "some sessions are missing")
+}
+
+/// How many of so many further streams one of two ports is given, where the other is given the rest.
+fn share_of_first<R>(
+    rt: &R,
+    alloc: Global,
+    listener: &mut Listener,
+    hands: &mut [Hand],
+    ports: (&mut MioPort<R>, &mut MioPort<R>),
+    count: u64,
+) -> u64
+where
+    R: Wait + Clock + Net<Stream = TcpStream> + Abort + Drop,
+{
+    let clients = connect_all(rt, alloc, listener.port(), count);
+    let report = listener.run(rt, hands, Some(count));
+    assert!(*rt; report.accepted == count && report.closed == 0);
+    let first = opened_now(ports.0);
+    let second = opened_now(ports.1);
+    assert!(*rt; first.saturating_add(second) == count);
+    drop(clients);
+    first
+}
+
+/// How many sessions a port opens before nothing comes for a while.
+fn opened_now<R: Wait + Clock + Drop>(port: &mut MioPort<R>) -> u64 {
+    let mut opened: u64 = 0;
+    for _ in 0..CALLS {
+        match port.next(false) {
+            PortEvent::Opened(_) => opened = opened.saturating_add(1),
+            PortEvent::Idle => return opened,
+            _ => {}
+        }
+    }
+    opened
+}
+
+/// A worker's port that has all the sessions that it takes, with what gave it them.
+#[derive(Drop)]
+struct FullWorker<R: Drop> {
+    listener: Listener,
+    hands: Vec<Hand>,
+    port: MioPort<R>,
+    clients: Vec<TcpStream>,
+}
+
+fn full_worker<R>(rt: R, alloc: Global) -> FullWorker<R>
+where
+    R: Threads + Wait + Clock + Net<Stream = TcpStream> + Abort + Copy + Drop + Send + 'static,
+{
+    let mut listener = Listener::bind(&rt, alloc, "127.0.0.1:0").expect(&rt, "a listener");
+    let (of_listener, of_port) = Hand::pair(&rt, alloc, 2 * SESSIONS).expect(&rt, "a hand");
+    let mut port = port_of(rt, alloc, of_port);
+    let clients = connect_all(&rt, alloc, listener.port(), SESSIONS);
+    let listening = thread::spawn(&rt, move || {
+        let mut hands = vec![in alloc; of_listener].expect(&rt, "memory");
+        let report = listener.run(&rt, hands.as_mut_slice(), Some(SESSIONS));
+        assert!(rt; report.closed == 0);
+        (listener, hands)
+    })
+    .expect(&rt, "a thread");
+    await_sessions(&rt, &mut port, SESSIONS, 0);
+    let (listener, hands) = listening.join(&rt);
+    FullWorker {
+        listener,
+        hands,
+        port,
+        clients,
+    }
+}
+
+#[test]
+fn streams_go_to_the_worker_that_has_room(rt: HostRuntime) {
+    let alloc: Global = rt.alloc();
+    let FullWorker {
+        mut listener,
+        mut hands,
+        port: mut full,
+        clients,
+    } = full_worker(rt, alloc);
+    let (of_listener, of_port) = Hand::pair(&rt, alloc, 2 * SESSIONS).expect(&rt, "a hand");
+    let mut empty = port_of(rt, alloc, of_port);
+    hands.push(of_listener).expect(&rt, "memory");
+    let ports = (&mut full, &mut empty);
+    let share = share_of_first(&rt, alloc, &mut listener, hands.as_mut_slice(), ports, 20);
+    assert!(rt; share == 0);
+    drop(clients);
+    await_sessions(&rt, &mut full, 0, SESSIONS);
+    let ports = (&mut full, &mut empty);
+    let share = share_of_first(&rt, alloc, &mut listener, hands.as_mut_slice(), ports, 20);
+    assert!(rt; share == 10);
+}
+
+/// What a listener said.
+#[derive(Clone, Copy)]
+struct Said {
+    full: u64,
+    waiting: usize,
+    failed: u64,
+}
+
+impl Notices for Said {
+    fn workers_are_full(&mut self, waiting: usize, _closed: u64) {
+        self.full = self.full.saturating_add(1);
+        self.waiting = waiting;
+    }
+
+    fn accepts_fail(&mut self, _failed: u64) {
+        self.failed = self.failed.saturating_add(1);
+    }
+}
+
+#[test]
+fn that_all_workers_are_full_is_said_once(rt: HostRuntime) {
+    let alloc: Global = rt.alloc();
+    let FullWorker {
+        mut listener,
+        mut hands,
+        port,
+        clients,
+    } = full_worker(rt, alloc);
+    let more = connect_all(&rt, alloc, listener.port(), 70);
+    let mut said = Said {
+        full: 0,
+        waiting: 0,
+        failed: 0,
+    };
+    let report = listener.run_heard(&rt, hands.as_mut_slice(), Some(70), &mut said);
+    assert!(rt; report.accepted == 70 && report.closed == 6);
+    assert!(rt; said.full == 1 && said.waiting == 6 && said.failed == 0);
+    drop((port, clients, more));
 }

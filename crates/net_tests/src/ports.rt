@@ -1,12 +1,14 @@
 //! One port, asked by the tests in place of a worker.
 
-use crate::clients::{connect_all, send};
-use net::{Hand, Listener, MioPort};
+use crate::clients::{connect_all, read_all, send};
+use net::{Hand, Listener, MioPort, Owner};
+use proto::{Dialect, Geometry};
 use std::alloc::Global;
-use std::net::{Net, Shutdown, TcpStream};
+use std::net::{Net, TcpStream};
 use std::process::Abort;
 use std::sync::Wait;
-use std::time::Clock;
+use std::thread;
+use std::time::{Clock, Duration, Instant};
 use worker_port::{Port, PortEvent};
 
 /// So often a port is asked for an event that has to come.
@@ -49,7 +51,12 @@ where
     let (of_listener, of_port) = Hand::pair(&rt, alloc, count).expect(&rt, "a hand");
     let report = listener.run(&rt, &mut [of_listener], Some(count));
     assert!(rt; report.accepted == count && report.closed == 0);
-    let port = MioPort::new(rt, alloc, of_port).expect(&rt, "a port");
+    let owner = Owner {
+        geometry: Geometry::new(65_536, 64).expect(&rt, "a geometry"),
+        dialect: Dialect::Strict,
+        worker: 0,
+    };
+    let port = MioPort::new(rt, alloc, of_port, owner).expect(&rt, "a port");
     (port, clients)
 }
 
@@ -93,9 +100,11 @@ fn all_streams_are_taken_before_bytes_are_read(rt: HostRuntime) {
 
 fn check_paused<R: Wait + Clock + Abort + Drop>(rt: &R, port: &mut MioPort<R>, client: &TcpStream) {
     check_next(rt, port, CALLS, Came::Opened(1), "the session opens");
+    assert!(*rt; port.is_open(1));
     port.pause(1);
     send(rt, client, b"get a\r\n");
     check_next(rt, port, FEW_CALLS, Came::Nothing, "while it is paused");
+    assert!(*rt; port.is_open(1));
     port.resume(1);
     check_next(rt, port, CALLS, Came::Data(1, 7), "its request");
 }
@@ -106,36 +115,74 @@ fn a_paused_session_has_no_data(rt: HostRuntime) {
     check_paused(&rt, &mut port, &client);
 }
 
-/// Session 1 sends a request and then no more. It is open until it was given the answer.
-fn check_half_closed<R: Wait + Clock + Abort + Drop>(rt: &R, port: &mut MioPort<R>) {
+/// The stream of a session that was shut is ended at once, and closed once its peer has closed it.
+fn check_shut<R>(rt: &R, alloc: Global, port: &mut MioPort<R>, client: TcpStream)
+where
+    R: Wait + Clock + Abort + Drop,
+{
     check_next(rt, port, CALLS, Came::Opened(1), "the session opens");
-    check_next(rt, port, CALLS, Came::Data(1, 7), "its request");
-    check_next(rt, port, 8, Came::Nothing, "before the answer");
-    assert!(*rt; matches!(port.give(1, b"END\r\n"), Ok(5)));
-    check_next(rt, port, CALLS, Came::Gone(1), "behind the answer");
-    assert!(*rt; port.give(1, b"END\r\n").is_err());
-    check_next(rt, port, CALLS, Came::Ended, "the end");
-}
-
-#[test]
-fn a_peer_that_sends_no_more_is_gone_once_it_is_given_nothing(rt: HostRuntime) {
-    let (mut port, client) = port_with_one(rt, rt.alloc());
-    send(&rt, &client, b"get a\r\n");
-    client
-        .shutdown(Shutdown::Write)
-        .expect(&rt, "a closed half");
-    check_half_closed(&rt, &mut port);
-}
-
-fn check_shut<R: Wait + Clock + Abort + Drop>(rt: &R, port: &mut MioPort<R>, client: &TcpStream) {
-    check_next(rt, port, CALLS, Came::Opened(1), "the session opens");
-    send(rt, client, b"get a\r\n");
+    send(rt, &client, b"get a\r\n");
+    assert!(*rt; port.is_open(1));
     port.shut(1);
+    assert!(*rt; !port.is_open(1));
+    assert!(*rt; read_all(rt, alloc, &client).is_empty());
+    check_next(rt, port, 8, Came::Nothing, "while its stream is read");
+    drop(client);
     check_next(rt, port, CALLS, Came::Ended, "the end");
 }
 
 #[test]
 fn a_session_that_was_shut_has_ended(rt: HostRuntime) {
-    let (mut port, client) = port_with_one(rt, rt.alloc());
-    check_shut(&rt, &mut port, &client);
+    let alloc: Global = rt.alloc();
+    let (mut port, client) = port_with_one(rt, alloc);
+    check_shut(&rt, alloc, &mut port, client);
+}
+
+/// The time until the next event, which is this one.
+fn time_until<R: Wait + Clock + Abort + Drop>(
+    rt: &R,
+    port: &mut MioPort<R>,
+    wanted: Came,
+    what: &str,
+) -> Duration {
+    let since = Instant::now(rt).expect(rt, "a clock");
+    check_next(rt, port, CALLS, wanted, what);
+    since.elapsed(rt).expect(rt, "a clock")
+}
+
+/// The time until session 1 is gone, while session 2 goes on asking.
+fn time_of_first_end<R>(rt: &R, port: &mut MioPort<R>, second: &TcpStream) -> Duration
+where
+    R: Wait + Clock + Abort + Drop,
+{
+    let since = Instant::now(rt).expect(rt, "a clock");
+    for _ in 0..100 {
+        send(rt, second, b"get a\r\n");
+        let came = next(port, CALLS);
+        if came == Came::Gone(1) {
+            return since.elapsed(rt).expect(rt, "a clock");
+        }
+        assert!(*rt; came == Came::Data(2, 7));
+        thread::sleep(rt, Duration::from_millis(30));
+    }
+    panic!(*rt; "session 1 goes on")
+}
+
+/// Its second has passed, and not much more.
+fn is_about_a_second(time: Duration) -> bool {
+    Duration::from_millis(900) < time && time < Duration::from_millis(1600)
+}
+
+#[test]
+fn a_silent_session_is_gone_after_its_time(rt: HostRuntime) {
+    let (mut port, clients) = port_with(rt, rt.alloc(), 2);
+    port.set_idle_limit(1);
+    check_next(&rt, &mut port, CALLS, Came::Opened(1), "the first opens");
+    check_next(&rt, &mut port, CALLS, Came::Opened(2), "the second opens");
+    let Some(second) = clients.last() else {
+        panic!(rt; "no client")
+    };
+    assert!(rt; is_about_a_second(time_of_first_end(&rt, &mut port, second)));
+    check_next(&rt, &mut port, CALLS, Came::Data(2, 7), "a request");
+    assert!(rt; is_about_a_second(time_until(&rt, &mut port, Came::Gone(2), "the other one")));
 }

@@ -1,7 +1,7 @@
 //! Sessions are opened, fed, read and answered after a refusal.
 
 use bytes::Bytes;
-use proto::{Answered, NoMemory, Reply, Request};
+use proto::{Answered, Dialect, NoMemory, Reply, Request};
 use session_book::{Book, EndCause, OpenFault, Received, Settled};
 use std::alloc::Global;
 
@@ -95,7 +95,7 @@ fn play(book: &mut Book) -> Option<Course> {
 }
 
 fn run(alloc: Global) -> Option<Course> {
-    let mut book = Book::new(alloc, 0);
+    let mut book = Book::new(alloc, 0, Dialect::Strict);
     play(&mut book)
 }
 

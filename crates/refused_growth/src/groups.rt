@@ -4,7 +4,7 @@ use crate::counters::{Counters, SteadyClock};
 use crate::quiet_port::QuietPort;
 use crate::served::{Outcome, Session, outcome_of};
 use group::{Config, GroupFault, GroupReport, run_group};
-use proto::Geometry;
+use proto::{Dialect, Geometry};
 use segcache::Store;
 use std::alloc::Global;
 use std::sync::Wait;
@@ -84,7 +84,11 @@ fn run<R: Threads + Wait + time::Clock + Sync>(rt: &R, alloc: Global) -> Outcome
         rt,
         alloc,
         ports,
-        Config { geometry },
+        Config {
+            geometry,
+            dialect: Dialect::Strict,
+            stores_sessions: true,
+        },
         store,
         clock,
         &OpenGate,

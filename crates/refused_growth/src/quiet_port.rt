@@ -2,7 +2,7 @@
 
 use crate::counters::Counters;
 use bytes::Bytes;
-use worker_port::{Gone, Port, PortEvent};
+use worker_port::{Gone, Port, PortEvent, ToldHistory};
 
 /// The most bytes that are kept of a session's output.
 const ROOM: usize = 64;
@@ -92,7 +92,7 @@ impl Port for QuietPort<'_> {
         }
     }
 
-    fn give(&mut self, session: u64, bytes: &[u8]) -> Result<usize, Gone> {
+    fn give(&mut self, session: u64, bytes: &[u8], _history: ToldHistory) -> Result<usize, Gone> {
         self.output(session).keep(bytes);
         Ok(bytes.len())
     }

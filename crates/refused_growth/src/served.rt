@@ -65,7 +65,7 @@ fn causes_in(sessions: &[(u64, EndCause)]) -> Option<(Option<EndCause>, Option<E
 
 /// What the sessions of a worker come to. One that the report doesn't name is counted as unopened.
 pub fn outcome_of(worker: &GroupWorker<QuietPort<'_>>, sessions: &[Session; 2]) -> Outcome {
-    let Some((first, second)) = causes_in(worker.sessions.as_slice()) else {
+    let Some((first, second)) = causes_in(worker.sessions.entries().unwrap_or(&[])) else {
         return Outcome::Wrong;
     };
     let left_out = u64::from(first.is_none()) + u64::from(second.is_none());

@@ -1,9 +1,12 @@
 -- The lines of a run, one after the other.
 use Rattle.std.proofs.Common.{◌≡◌, ◌≢◌, cond, ℕ, zero, suc, ◌+◌, ◌<◌, List, [], ◌∷◌, ◌++◌, length, map, take, Option, Some, None, refl, sym, ap, ◌∙◌, subst}
-use Rattle.std.proofs.Common.{arith, append_assoc, append-nil}
+use Rattle.std.proofs.Common.{arith, append_assoc, append-nil, length-append, ⊎_elim}
 use Rattle.std.specs.Prelude.{flat_map, slice_index_or}
 use Rattle.std.specs.Io.KnownBytes.{Appends, Keeps}
-use Rattle.exchange.proofs.Lists.{at_some}
+use Rattle.exchange.proofs.Lists.{at_some, at_below, at_end}
+use Rattle.proto.specs.declared.dialect.Dialect.{Dialect}
+use Rattle.proto.specs.Sizes.{Sizes}
+use Rattle.script.specs.declared.event.ScriptEvent.{ScriptEvent}
 use Rattle.script.specs.Scripts.{Workers}
 use Rattle.script.specs.PortSessions.{ScriptSessionState, numbers}
 use Rattle.script.specs.States.{PortState, story_of, story_told}
@@ -11,13 +14,13 @@ use Rattle.script.specs.PortEvents.{is_playable}
 use Rattle.script.proofs.EventLemmas.{bool_cases}
 use Rattle.worker_port.specs.Ports.{PortStory}
 use Rattle.group.specs.declared.report.GroupWorker.{GroupWorker}
-use Rattle.group.specs.Threads.{AreEach, IsSilent}
+use Rattle.group.specs.Threads.{IsSilent, ArePortsOf}
 use Rattle.std.specs.List.{All}
 use mathlib.Core.Logic.{dite}
 use mathlib.Core.Option.{some, some-injective}
 use native.Mathlib.Decide.{ℕ_discrete}
 use lib.ListN.{get_elem?}
-use Rattle.replay.specs.Printed.{printed_lines, lines_from, events_of, IsPort, IsPlayedAt}
+use Rattle.replay.specs.Printed.{printed_lines, lines_from, events_of, IsPort, ArePorts, IsPlayedAt}
 use Rattle.storage_thread.proofs.Callers.{or_at, take_zero}
 
 -- the bytes joined for each session of a table by its number are those joined for the list of its numbers
@@ -105,20 +108,66 @@ one_played_more ws n x low is before here k y small at =
     subst (λ (z : GroupWorker PortState). IsPlayedAt z.port) (some-injective x y there) here)
     (λ other. let apart : k ≢ n = other in before k y (omega arith) at)
 
--- nothing has happened yet at the ports of a run
-pub silent : (accept fail_give : ℕ) (scripts : Workers) (ports : List PortState)
-    → AreEach (IsPort accept fail_give) scripts ports
-    → All (IsSilent story_told) ports
-silent accept fail_give scripts ports each k d low =
-    let s = at_some scripts k (subst (λ n. k < n) (sym each.0) low) in
-    let is = each.1 k s.0 (slice_index_or ports k d) s.1 (or_at ports k d low) in record {
-      no_events = λ story told.
-          bool_cases (is_playable (slice_index_or ports k d).script)
-          (λ yes.
-          let same : Some (story_of (slice_index_or ports k d)) ≡ Some story = sym
-          (ap (λ b. cond b (Some (story_of (slice_index_or ports k d))) None) yes) ∙ told in
-          let story_is : story_of (slice_index_or ports k d) ≡ story = cc in
-          ap (λ (z : PortStory). z.events) (sym story_is) ∙ ap (λ (p : PortState). p.records) is.1)
-          (λ no. let wrong : None ≡ Some story = sym
-          (ap (λ b. cond b (Some (story_of (slice_index_or ports k d))) None) no) ∙ told in absurd (cc));
-    }
+-- the story that a port tells is its own
+story_is : (port : PortState) (story : PortStory) → story_told port ≡ Some story → story_of port ≡ story
+story_is port story told =
+    bool_cases (is_playable port.player.script)
+    (λ yes.
+    let same : Some (story_of port) ≡ Some story = sym
+    (ap (λ b. cond b (Some (story_of port)) None) yes) ∙ told in cc)
+    (λ no. let wrong : None ≡ Some story = sym (ap (λ b. cond b (Some (story_of port)) None) no) ∙ told in absurd (cc))
+
+-- ---- the ports of a run
+
+-- one more, of the worker behind the last
+pub ports_more : (sizes : Sizes) (d : Dialect) (accept fail_give : ℕ) (scripts : Workers) (ports : List PortState)
+    (events : List ScriptEvent) (port : PortState)
+    → ArePorts sizes d accept fail_give scripts ports → IsPort sizes d accept fail_give (length ports) events port
+    → ArePorts sizes d accept fail_give (scripts ++ events ∷ []) (ports ++ port ∷ [])
+ports_more sizes d accept fail_give scripts ports events port old new = (
+  length-append scripts (events ∷ []) ∙ ap (λ n. n + 1) old.0 ∙ sym (length-append ports (port ∷ [])),
+  λ w e p left right.
+      ⊎_elim
+      (λ (l : get_elem? scripts w ≡ some e). ⊎_elim (λ (r : get_elem? ports w ≡ some p). old.1 w e p l r)
+      (λ (r : (w ≡ length ports) × (port ≡ p)). let low : w < length scripts = at_below scripts w e l in
+      let high : length ports ≡ w = sym r.0 in
+      absurd (omega (arith, low, high, old.0))) (at_end ports port w p right))
+      (λ (l : (w ≡ length scripts) × (events ≡ e)). ⊎_elim
+      (λ (r : get_elem? ports w ≡ some p). let low : w < length ports = at_below ports w p r in
+      let high : length scripts ≡ w = sym l.0 in
+      absurd (omega (arith, low, high, old.0)))
+      (λ (r : (w ≡ length ports) × (port ≡ p)).
+      subst (λ (q : ℕ × List ScriptEvent × PortState). IsPort sizes d accept fail_give q.0 q.1 q.2)
+      (λ i. (sym r.0 i, l.1 i, r.1 i)) new)
+      (at_end ports port w p right))
+      (at_end scripts events w e left),
+)
+
+module _ (sizes : Sizes) (d : Dialect) (accept fail_give : ℕ) (scripts : Workers) (ports : List PortState)
+    (each : ArePorts sizes d accept fail_give scripts ports) where
+  -- each is one of them
+  port_at : (w : ℕ) (port : PortState) → get_elem? ports w ≡ some port
+      → (events : List ScriptEvent) × IsPort sizes d accept fail_give w events port
+  port_at w port at =
+      let s = at_some scripts w (subst (λ n. w < n) (sym each.0) (at_below ports w port at)) in
+      (s.0, each.1 w s.0 port s.1 at)
+
+  -- nothing has happened yet there
+  pub silent : All (IsSilent story_told) ports
+  silent k e low =
+      let port = slice_index_or ports k e in let is = (port_at k port (or_at ports k e low)).1 in record {
+        no_events = λ story told.
+            ap (λ (z : PortStory). z.events) (sym (story_is port story told))
+            ∙ ap (λ (p : PortState). p.player.records) is.1;
+      }
+
+  -- and they are the ports of their workers, by which nothing was given yet
+  pub owned : ArePortsOf story_told sizes d ports
+  owned w port at = let is = (port_at w port at).1 in record {
+    whose = λ story told. let same = sym (story_is port story told) in (
+      ap (λ (z : PortStory). z.worker) same ∙ ap (λ (p : PortState). p.worker) is.1,
+      ap (λ (z : PortStory). z.sizes) same ∙ ap (λ (p : PortState). p.sizes) is.1,
+      ap (λ (z : PortStory). z.history) same ∙ ap (λ (p : PortState). p.history) is.1,
+      ap (λ (z : PortStory). z.dialect) same ∙ ap (λ (p : PortState). p.dialect) is.1,
+    );
+  }

@@ -5,6 +5,7 @@ use Rattle.std.specs.Prelude.{⊤, flat_map}
 use Rattle.std.specs.List.{list_any}
 use Rattle.std.proofs.lemmas.List.{length-map}
 use Rattle.std.proofs.Common.{length-append}
+use Rattle.proto.specs.declared.dialect.Dialect.{Dialect}
 use Rattle.proto.specs.declared.message.Message.{Message}
 use Rattle.proto.specs.declared.history.Answered.{Answered}
 use Rattle.proto.specs.Sizes.{Sizes}
@@ -15,7 +16,6 @@ use Rattle.session_book.specs.declared.causes.EndCause.TheVariants as causes
 use Rattle.engine.specs.Reaching.{moments, moment_after, moments_after}
 use Rattle.storage_thread.specs.Serving.{IsTimed}
 use Rattle.script.specs.declared.event.ScriptEvent.{ScriptEvent}
-use Rattle.script.specs.Events as script
 use Rattle.script.specs.Clocks.{ClockState, answer_of, first_answers}
 use Rattle.script.specs.Scripts.{Workers, AreEventsOf}
 use Rattle.worker_port.specs.declared.events.PortRecord.{PortRecord}
@@ -33,10 +33,9 @@ use Rattle.script.proofs.EventLemmas.{lt_true}
 use Rattle.script.specs.States.{PortState, story_of, story_told, PlaysOn}
 use Rattle.group.specs.declared.report.GroupWorker.{GroupWorker}
 use Rattle.group.specs.declared.report.GroupReport.{GroupReport}
-use Rattle.group.specs.Threads.{AreEach}
 use Rattle.group.specs.Headline.{AreAnsweredIn, IsRun}
 use Rattle.group.proofs.Places.{at_mapped}
-use Rattle.replay.specs.Printed.{printed_line, lines_from, events_of, IsPort, ArePlayed}
+use Rattle.replay.specs.Printed.{printed_line, lines_from, events_of, IsPort, ArePorts, ArePlayed}
 use Rattle.replay.specs.Replayed.{SessionOutcome, MayEnd, IsOutcomeOf, AreOutcomesOf, outcome_lines, IsReplayOf}
 
 -- ---- what a worker leaves, session by session
@@ -45,14 +44,14 @@ use Rattle.replay.specs.Replayed.{SessionOutcome, MayEnd, IsOutcomeOf, AreOutcom
 abbrev outcome_of : GroupWorker PortState → ℕ → SessionOutcome
 outcome_of worker s = record {
   number = s;
-  came = fed s worker.port.records;
-  given = given s worker.port.records;
+  came = fed s worker.port.player.records;
+  given = given s worker.port.player.records;
   cause = cause_of worker.sessions.items s;
 }
 
 -- what came of each session that a worker's port opened, in order
 abbrev outcomes_of : GroupWorker PortState → List SessionOutcome
-outcomes_of worker = map (outcome_of worker) (opened worker.port.records)
+outcomes_of worker = map (outcome_of worker) (opened worker.port.player.records)
 
 -- the bytes joined for a changed list are those joined for what each element changes to
 flat_map-map : {A B : Type 0} (f : B → List ℕ) (g : A → B) (xs : List A)
@@ -66,7 +65,7 @@ lines_are : (w : ℕ) (workers : List (GroupWorker PortState))
 lines_are w [] = refl
 lines_are w (x ∷ workers) =
     (λ i. sym (flat_map-map (λ (o : SessionOutcome). printed_line w o.number o.given) (outcome_of x)
-    (opened x.port.records)) i ++ lines_are (w + 1) workers i)
+    (opened x.port.player.records)) i ++ lines_are (w + 1) workers i)
 
 -- the outcomes of some sessions have their numbers, in the same order
 numbers_are : (worker : GroupWorker PortState) (xs : List ℕ)
@@ -100,13 +99,13 @@ may_end events s messages causes.Gone caused = tt
 may_end events s messages causes.NoMemory caused = tt
 
 -- one worker
-module _ (history : List Answered) (w : ℕ) (events : List ScriptEvent) (worker : GroupWorker PortState)
-    (fail_give : ℕ) (can_fail : Bool) (answered : AreAnsweredIn worker.port.records history w worker.sessions.items
+module _ (d : Dialect) (history : List Answered) (w : ℕ) (events : List ScriptEvent) (worker : GroupWorker PortState)
+    (fail_give : ℕ) (can_fail : Bool) (answered : AreAnsweredIn d worker.port.player.records history w worker.sessions.items
     worker.unopened)
-    (played : IsPlayed events worker.port.records can_fail) (asked_to : can_fail ≡ true → 0 < fail_give) where
-  one_outcome : (s : ℕ) → IsOutcomeOf history w fail_give events (outcome_of worker s)
+    (played : IsPlayed events worker.port.player.records can_fail) (asked_to : can_fail ≡ true → 0 < fail_give) where
+  one_outcome : (s : ℕ) → IsOutcomeOf d history w fail_give events (outcome_of worker s)
   one_outcome s =
-      let l = worker.port.records in let reading = has_reading (fed s l) in record {
+      let l = worker.port.player.records in let reading = has_reading d (fed s l) in record {
         came_first = played.fed_first s;
         came_all = λ found. let caused =
             (answered.answered s causes.Drained found reading.0 reading.1 reading.2).caused in
@@ -125,14 +124,14 @@ module _ (history : List Answered) (w : ℕ) (events : List ScriptEvent) (worker
             (played.gone_by s (answered.answered s causes.Gone found reading.0 reading.1 reading.2).caused);
       }
 
-  worker_outcomes : AreOutcomesOf history w fail_give events (outcomes_of worker)
+  worker_outcomes : AreOutcomesOf d history w fail_give events (outcomes_of worker)
   worker_outcomes = record {
-    opened_are = numbers_are worker (opened worker.port.records) ∙ played.opened_all answered.ended;
-    each = all_mapped (IsOutcomeOf history w fail_give events) (outcome_of worker)
-        (opened worker.port.records) one_outcome;
+    opened_are = numbers_are worker (opened worker.port.player.records) ∙ played.opened_all answered.ended;
+    each = all_mapped (IsOutcomeOf d history w fail_give events) (outcome_of worker)
+        (opened worker.port.player.records) one_outcome;
     no_other = λ e has.
         ap (list_any (λ s. s == e.session)) (sym (played.opened_all answered.ended))
-        ∙ any_opened e.session worker.port.records
+        ∙ any_opened e.session worker.port.player.records
         ∙ answered.opened e.session (answered.placed e has);
   }
 
@@ -192,15 +191,15 @@ keeping_run told leads_to clock_told clock_leads keeps found sizes ports clock r
 
 -- the lines of the sessions in a group's run over ports that play a script
 -- are what is printed for the script's bytes
-pub replayed : (sizes : Sizes) (clock : ClockState) (workers accept fail_give : ℕ) (text : List ℕ) (scripts : Workers)
+pub replayed : (sizes : Sizes) (d : Dialect) (clock : ClockState) (workers accept fail_give : ℕ) (text : List ℕ) (scripts : Workers)
     → AreEventsOf workers text scripts
-    → (ports : List PortState) → AreEach (IsPort accept fail_give) scripts ports → (told : RecordingClock)
+    → (ports : List PortState) → ArePorts sizes d accept fail_give scripts ports → (told : RecordingClock)
     → told.clock ≡ clock → readings_in_order told.answers ≡ []
     → (report : GroupReport PortState RecordingClock) → IsRun story_told PlaysOn
     (λ (c : RecordingClock). Some (readings_in_order c.answers)) GivesAnswers ⊤ sizes ports told report
     → ArePlayed report.workers.items
-    → IsReplayOf sizes clock workers fail_give text (lines_from 0 (map events_of report.workers.items))
-replayed sizes clock workers accept fail_give text scripts read ports ports_are told clock_is none report run played =
+    → IsReplayOf sizes d clock workers fail_give text (lines_from 0 (map events_of report.workers.items))
+replayed sizes d clock workers accept fail_give text scripts read ports ports_are told clock_is none report run played =
     record {
       scripts = scripts;
       read = read;
@@ -213,16 +212,23 @@ replayed sizes clock workers accept fail_give text scripts read ports ports_are 
       each = λ w events os there at.
           let x = at_mapped outcomes_of report.workers.items w os at in
           let port = at_some ports w (subst (λ n. w < n) run.one_each (at_below report.workers.items w x.0 x.1)) in
-          let is : IsPort accept fail_give events port.0 = ports_are.1 w events port.0 there port.1 in
+          let is : IsPort sizes d accept fail_give w events port.0 = ports_are.1 w events port.0 there port.1 in
           let of = run.each w port.0 x.0 port.1 x.1 in
-          let script_is : x.0.port.script ≡ events = of.leads.0 ∙ ap (λ (p : PortState). p.script) is.1 in
-          let plays : is_playable x.0.port.script ≡ true = ap is_playable script_is ∙ is.0 in
-          let answered = of.served (story_of x.0.port) (ap (λ b. cond b (Some (story_of x.0.port)) None) plays) in
-          let can_fail_is : x.0.port.can_fail ≡ nat_lt 0 fail_give =
-          of.leads.2 ∙ ap (λ (p : PortState). p.can_fail) is.1 in
-          subst (AreOutcomesOf run.history w fail_give events) x.2
-          (worker_outcomes run.history w events x.0 fail_give x.0.port.can_fail answered
-          (subst (λ (s : List ScriptEvent). IsPlayed s x.0.port.records x.0.port.can_fail) script_is
+          let script_is : x.0.port.player.script ≡ events = of.leads.0 ∙ ap (λ (p : PortState). p.player.script) is.1 in
+          let plays : is_playable x.0.port.player.script ≡ true = ap is_playable script_is ∙ is.0 in
+          let told_is = ap (λ b. cond b (Some (story_of x.0.port)) None) plays in
+          let first : is_playable port.0.player.script ≡ true =
+          ap (λ (p : PortState). is_playable p.player.script) is.1 ∙ is.0 in
+          let dialect_is : x.0.port.dialect ≡ d =
+          of.spelled (story_of port.0) (story_of x.0.port) (ap (λ b. cond b (Some (story_of port.0)) None) first) told_is
+          ∙ ap (λ (p : PortState). p.dialect) is.1 in
+          let answered : AreAnsweredIn d x.0.port.player.records run.history w x.0.sessions.items x.0.unopened =
+          rw dialect_is at (of.served (story_of x.0.port) told_is) in
+          let can_fail_is : x.0.port.player.can_fail ≡ nat_lt 0 fail_give =
+          of.leads.2 ∙ ap (λ (p : PortState). p.player.can_fail) is.1 in
+          subst (AreOutcomesOf d run.history w fail_give events) x.2
+          (worker_outcomes d run.history w events x.0 fail_give x.0.port.player.can_fail answered
+          (subst (λ (s : List ScriptEvent). IsPlayed s x.0.port.player.records x.0.port.player.can_fail) script_is
           (played w x.0 x.1 plays))
           (λ could. lt_true 0 fail_give (sym can_fail_is ∙ could)));
       bounded = run.bounded tt;

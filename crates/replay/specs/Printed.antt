@@ -1,8 +1,9 @@
 -- What `segcached replay` prints for a script.
-use Rattle.std.specs.Prelude.{◌≡◌, ℕ, ◌+◌, nat_lt, true, List, [], ◌∷◌, ◌++◌, ◌==◌, length, codes, decimal, flat_map, map, if◌then◌else◌, Some, ⊤}
+use Rattle.std.specs.Prelude.{◌≡◌, ℕ, ◌+◌, true, List, [], ◌∷◌, ◌++◌, ◌==◌, length, codes, decimal, flat_map, map, if◌then◌else◌, Some, ⊤}
 use mathlib.Core.Option.{some}
 use lib.ListN.{get_elem?}
 use Rattle.hex.specs.Hex.{encode_lower}
+use Rattle.proto.specs.declared.dialect.Dialect.{Dialect}
 use Rattle.proto.specs.Sizes.{Sizes}
 use Rattle.script.specs.declared.event.ScriptEvent.{ScriptEvent}
 use Rattle.script.specs.Clocks.{ClockState}
@@ -15,10 +16,9 @@ use Rattle.script.specs.ClockLeading.{GivesAnswers}
 use Rattle.script.specs.PortEvents.{is_playable}
 use Rattle.script.specs.Records.{opened}
 use Rattle.script.specs.Following.{IsPlayed}
-use Rattle.script.specs.States.{PortState, story_told, PlaysOn}
+use Rattle.script.specs.States.{PortState, new_player, with_faults, story_told, PlaysOn}
 use Rattle.group.specs.declared.report.GroupWorker.{GroupWorker}
 use Rattle.group.specs.declared.report.GroupReport.{GroupReport}
-use Rattle.group.specs.Threads.{AreEach}
 use Rattle.group.specs.Headline.{IsRun}
 
 -- the bytes in hexadecimal, or a dash where there are none
@@ -41,25 +41,32 @@ lines_from worker [] = []
 lines_from worker (events ∷ more) = printed_lines worker events ++ lines_from (worker + 1) more
 
 abbrev pub events_of : GroupWorker PortState → List PortRecord
-events_of worker = worker.port.records
+events_of worker = worker.port.player.records
 
--- a port that tells, with all these events left to play, and with these faults
-abbrev pub IsPort : ℕ → ℕ → List ScriptEvent → PortState → Type 0
-IsPort accept fail_give events port =
+-- a worker's port that tells, over a store of these sizes and in this dialect, with all these events left to play, and with
+-- these faults
+abbrev pub IsPort : Sizes → Dialect → ℕ → ℕ → ℕ → List ScriptEvent → PortState → Type 0
+IsPort sizes d accept fail_give worker events port =
     (is_playable events ≡ true)
     × (port ≡ record {
-      script = events;
-      left = events;
-      sessions = [];
-      records = [];
-      accept = accept;
-      fail_give = fail_give;
-      can_fail = nat_lt 0 fail_give;
+      player = with_faults accept fail_give (new_player events);
+      sizes = sizes;
+      dialect = d;
+      worker = worker;
+      history = [];
     })
+
+-- a port for the events of each worker
+abbrev pub ArePorts : Sizes → Dialect → ℕ → ℕ → Workers → List PortState → Type 0
+ArePorts sizes d accept fail_give scripts ports =
+    (length scripts ≡ length ports)
+    × ((w : ℕ) (events : List ScriptEvent) (port : PortState) → get_elem? scripts w ≡ some events
+    → get_elem? ports w ≡ some port → IsPort sizes d accept fail_give w events port)
 
 -- where the script may be played as it stands, the port's list is what the script does
 abbrev pub IsPlayedAt : PortState → Type 0
-IsPlayedAt port = is_playable port.script ≡ true → IsPlayed port.script port.records port.can_fail
+IsPlayedAt port = is_playable port.player.script ≡ true
+    → IsPlayed port.player.script port.player.records port.player.can_fail
 
 -- it is so at the port of each of these workers
 abbrev pub ArePlayed : List (GroupWorker PortState) → Type 0
@@ -67,12 +74,12 @@ ArePlayed workers = (k : ℕ) (x : GroupWorker PortState) → get_elem? workers 
 
 -- The script has these events for so many workers. A group of them ran over ports with these events, and over a new
 -- clock; and what each session was given is printed, in order of worker and session.
-pub record IsPrinted (sizes : Sizes) (clock : ClockState) (workers accept fail_give : ℕ)
+pub record IsPrinted (sizes : Sizes) (d : Dialect) (clock : ClockState) (workers accept fail_give : ℕ)
     (text printed : List ℕ) : Type 0 where
   pub scripts : Workers
   pub read : AreEventsOf workers text scripts
   pub ports : List PortState
-  pub ports_are : AreEach (IsPort accept fail_give) scripts ports
+  pub ports_are : ArePorts sizes d accept fail_give scripts ports
   pub told : RecordingClock
   pub told_is : (told.clock ≡ clock) × (readings_in_order told.answers ≡ [])
   pub report : GroupReport PortState RecordingClock

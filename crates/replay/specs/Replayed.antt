@@ -3,6 +3,7 @@ use Rattle.std.specs.Prelude.{◌≡◌, ℕ, ◌+◌, ◌<◌, ◌⊎◌, ⊤, 
 use Rattle.std.specs.List.{list_any}
 use mathlib.Core.Option.{some}
 use lib.ListN.{get_elem?}
+use Rattle.proto.specs.declared.dialect.Dialect.{Dialect}
 use Rattle.proto.specs.declared.message.Message.{Message}
 use Rattle.proto.specs.declared.history.Answered.{Answered}
 use Rattle.proto.specs.Sizes.{Sizes}
@@ -38,13 +39,13 @@ MayEnd messages causes.Fatal = ended_by None messages ≡ Some causes.Fatal
 MayEnd messages causes.Gone = ⊤
 MayEnd messages causes.NoMemory = ⊤
 
--- What came of a session spells some messages. Its requests in the history are the first of theirs, and it was given a
+-- What came of a session spells some messages in this dialect. Its requests in the history are the first of theirs, and it was given a
 -- beginning of their answers there; of all messages, and all answers, where it drained or ended by Quit or a fatal line.
-pub record GivesAnswersOf (history : List Answered) (worker : ℕ) (outcome : SessionOutcome)
+pub record GivesAnswersOf (d : Dialect) (history : List Answered) (worker : ℕ) (outcome : SessionOutcome)
     (cause : EndCause) : Type 0 where
   pub messages : List Message
   pub rest : List ℕ
-  pub reads : Reads outcome.came messages rest
+  pub reads : Reads d outcome.came messages rest
   pub first : StartsWith (asks messages) (asked (session_share history worker outcome.number))
   pub beginning : StartsWith (said messages (had (session_share history worker outcome.number))) outcome.given
   pub complete : is_complete cause ≡ true
@@ -55,20 +56,20 @@ pub record GivesAnswersOf (history : List Answered) (worker : ℕ) (outcome : Se
 -- A beginning of the bytes that the script sends a session came, and all of them where it drained. One that found no
 -- room was given nothing; each other one was given its answers. It ended as gone only where the script says that its peer
 -- goes, or a `give` was asked to fail.
-pub record IsOutcomeOf (history : List Answered) (worker fail_give : ℕ) (script : List ScriptEvent)
+pub record IsOutcomeOf (d : Dialect) (history : List Answered) (worker fail_give : ℕ) (script : List ScriptEvent)
     (outcome : SessionOutcome) : Type 0 where
   pub came_first : StartsWith (sent script outcome.number) outcome.came
   pub came_all : outcome.cause ≡ Some causes.Drained → outcome.came ≡ sent script outcome.number
   pub no_room : outcome.cause ≡ None → outcome.given ≡ []
-  pub answered : (cause : EndCause) → outcome.cause ≡ Some cause → GivesAnswersOf history worker outcome cause
+  pub answered : (cause : EndCause) → outcome.cause ≡ Some cause → GivesAnswersOf d history worker outcome cause
   pub gone_by : outcome.cause ≡ Some causes.Gone → (goes_in_script script outcome.number ≡ true) ⊎ (0 < fail_give)
 
 -- Each session that the script opens has its outcome, once and in order, and each request of the worker in the history is
 -- of one of them.
-pub record AreOutcomesOf (history : List Answered) (worker fail_give : ℕ) (script : List ScriptEvent)
+pub record AreOutcomesOf (d : Dialect) (history : List Answered) (worker fail_give : ℕ) (script : List ScriptEvent)
     (outcomes : List SessionOutcome) : Type 0 where
   pub opened_are : map (λ (o : SessionOutcome). o.number) outcomes ≡ sessions_opened script
-  pub each : All (IsOutcomeOf history worker fail_give script) outcomes
+  pub each : All (IsOutcomeOf d history worker fail_give script) outcomes
   pub no_other : (e : Answered) → Contains (worker_share history worker) e
       → list_any (λ s. s == e.session) (sessions_opened script) ≡ true
 
@@ -83,7 +84,7 @@ outcome_lines worker (outcomes ∷ more) =
 -- worker's sessions, those that the script opens, have their outcomes; it may be read as one that forgets nothing, where no
 -- request sets a deadline and little is stored; and a line for each session tells what it was given, in order of worker and
 -- session.
-pub record IsReplayOf (sizes : Sizes) (clock : ClockState) (workers fail_give : ℕ)
+pub record IsReplayOf (sizes : Sizes) (d : Dialect) (clock : ClockState) (workers fail_give : ℕ)
     (text printed : List ℕ) : Type 0 where
   pub scripts : Workers
   pub read : AreEventsOf workers text scripts
@@ -94,6 +95,6 @@ pub record IsReplayOf (sizes : Sizes) (clock : ClockState) (workers fail_give : 
   pub outcomes : List (List SessionOutcome)
   pub one_each : length outcomes ≡ length scripts
   pub each : (w : ℕ) (script : List ScriptEvent) (os : List SessionOutcome) → get_elem? scripts w ≡ some script
-      → get_elem? outcomes w ≡ some os → AreOutcomesOf history w fail_give script os
+      → get_elem? outcomes w ≡ some os → AreOutcomesOf d history w fail_give script os
   pub bounded : MayForgetNothing sizes history
   pub printed_is : printed ≡ outcome_lines 0 outcomes

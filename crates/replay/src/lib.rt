@@ -2,7 +2,9 @@
 #![tactic(auto)]
 
 mod fault;
+mod reading;
 mod replaying;
 
 pub use fault::Fault;
-pub use replaying::{cannot_read, replay};
+pub use reading::cannot_read;
+pub use replaying::replay;

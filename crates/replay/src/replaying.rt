@@ -1,70 +1,40 @@
 //! `segcached replay`.
 
-ghost use Rattle.std.specs.Prelude.{◌≡◌, ℕ, List, IfOk, OnOk, IfSome, map, take};
-ghost use Rattle.replay.specs.Faults.{IsReadFault};
+ghost use Rattle.std.specs.Prelude.{◌≡◌, ℕ, List, IfOk, OnOk, IfSome, map};
 ghost use Rattle.std.specs.String.{string_bytes};
 ghost use Rattle.std.specs.Io.KnownBytes.{Appends};
 ghost use Rattle.script.specs.Clocks.{clock_at};
 ghost use Rattle.script.specs.Scripts.{AreEventsOf};
-ghost use Rattle.group.specs.Threads.{AreEach};
-ghost use Rattle.replay.specs.Printed.{in_hexadecimal, printed_line, printed_lines, lines_from, events_of, IsPort};
+ghost use Rattle.replay.specs.Printed.{in_hexadecimal, printed_line, printed_lines, lines_from, events_of, ArePorts};
 ghost use Rattle.replay.specs.Printed.{IsPlayedAt, ArePlayed, IsPrinted};
 ghost use Rattle.replay.specs.Replayed.{IsReplayOf};
 
 use crate::fault::Fault;
-use command_line::{Options, on_one_line};
+use crate::reading::script_bytes;
+use command_line::Options;
 use group::{Config, GroupWorker, run_group};
 use proto::Geometry;
-use script::{MAX_SCRIPT, RecordingClock, ScriptClock, ScriptPort, WorkerScript, read_script};
+use script::{RecordingClock, ScriptClock, ScriptPort, WorkerScript, read_script};
 use segcache::Store;
 use std::alloc::{AllocError, Global};
-use std::io::{self, ErrorKind, Read, Write};
+use std::io::{Read, Write};
 use std::sync::Wait;
 use std::thread::Threads;
+use trace::Trace;
 use worker::OpenGate;
 
-/// One byte more than a script may have.
-const TOO_MANY: u64 = MAX_SCRIPT as u64 + 1;
-
-/// That the options' file can't be read, for this reason: want of memory, or else the file is named.
-pub fn cannot_read(alloc: Global, options: &Options, error: &io::Error) -> Fault
-    ensures { IsReadFault result }
-{
-    if error.kind() == ErrorKind::OutOfMemory {
-        return Fault::NoMemory;
-    }
-    match on_one_line(alloc, options.file.as_str()) {
-        Ok(file) => Fault::CannotRead(file),
-        Err(_) => Fault::NoMemory,
-    }
-}
-
-/// All bytes of the script, or more than a script may have.
-fn script_bytes<R: Read + Drop>(
-    alloc: Global,
-    options: &Options,
-    script: R,
-) -> Result<Vec<u8>, Fault>
-    ensures { IfOk result (λ bytes. IfSome (R.remaining script) (λ text. bytes.items ≡ take 16777217 text)) }
-{
-    let mut bytes = Vec::new(alloc);
-    match script.take(TOO_MANY).read_to_end(&mut bytes) {
-        Ok(_) => Ok(bytes),
-        Err(error) => Err(cannot_read(alloc, options, &error)),
-    }
-}
-
-/// The events of the script, by worker.
+/// The events of the script, by worker, and the bytes that its reads gave.
 fn read_events<R: Read + Drop>(
     alloc: Global,
     options: &Options,
     script: R,
-) -> Result<Vec<WorkerScript>, Fault>
-    ensures { IfOk result (λ scripts. IfSome (R.remaining script) (λ text. AreEventsOf options.entry.now.workers text scripts.items)) }
+) -> Result<(Vec<WorkerScript>, Trace<u8>), Fault>
+    ensures events { IfOk result (λ r. AreEventsOf options.entry.now.workers r.1.items r.0.items) }
+    ensures all { IfOk result (λ r. IfSome (R.remaining script) (λ text. r.1.items ≡ text)) }
 {
-    let bytes = script_bytes(alloc, options, script)?;
+    let (bytes, text) = script_bytes(alloc, options, script)?;
     match read_script(alloc, bytes.as_slice(), options.workers as usize) {
-        Ok(scripts) => Ok(scripts),
+        Ok(scripts) => Ok((scripts, text)),
         Err(fault) => Err(Fault::Script(fault)),
     }
 }
@@ -100,7 +70,7 @@ fn write_worker<W: Write>(
     worker: usize,
     port: &ScriptPort,
 ) -> Result<(), Fault>
-    ensures lines { OnOk result (Appends (W.contents out.old) (W.contents out.new) (printed_lines worker port.now.records)) }
+    ensures lines { OnOk result (Appends (W.contents out.old) (W.contents out.new) (printed_lines worker port.now.player.records)) }
     ensures played { IsPlayedAt port.now }
 {
     for session in port.sessions() {
@@ -135,13 +105,21 @@ fn write_lines<W: Write>(
 fn ports_of(
     alloc: Global,
     options: &Options,
+    geometry: Geometry,
     scripts: Vec<WorkerScript>,
 ) -> Result<Vec<ScriptPort>, Fault>
-    ensures { IfOk result (λ ports. AreEach (IsPort options.entry.now.accept options.entry.now.fail_give) scripts.items ports.items) }
+    ensures { IfOk result (λ ports. ArePorts geometry options.entry.now.dialect options.entry.now.accept options.entry.now.fail_give scripts.items ports.items) }
 {
     let mut ports = Vec::with_capacity(alloc, scripts.len())?;
     for script in scripts {
-        let port = ScriptPort::new(alloc, script.into_events());
+        let worker = ports.len();
+        let port = ScriptPort::new(
+            alloc,
+            geometry,
+            options.dialect,
+            worker,
+            script.into_events(),
+        );
         ports.push(port.with_faults(options.accept as usize, options.fail_give))?;
     }
     Ok(ports)
@@ -150,8 +128,7 @@ fn ports_of(
 /// Reads the script, runs a group of workers over it, and prints what each session was given: its worker, its number
 /// and the bytes, a line each, in order of worker and session. What was printed before a fault stays printed.
 ///
-/// The clauses speak of the bytes that the reader has left, where it tells them. A file doesn't (std's `File` states no
-/// `remaining`), and so they say nothing of what the program prints for one.
+/// Gives the bytes that the script's reads gave, for clauses alone.
 pub fn replay<H: Threads + Wait + Sync, R: Read + Drop, W: Write>(
     rt: &H,
     alloc: Global,
@@ -159,28 +136,35 @@ pub fn replay<H: Threads + Wait + Sync, R: Read + Drop, W: Write>(
     geometry: Geometry,
     script: R,
     out: &mut W,
-) -> Result<(), Fault>
-    ensures printed { OnOk result (IfSome (R.remaining script) (λ text. (printed : List ℕ)
-        × IsReplayOf geometry (clock_at options.entry.now.now options.entry.now.tick) options.entry.now.workers options.entry.now.fail_give text printed
-        × Appends (W.contents out.old) (W.contents out.new) printed)) }
+) -> Result<Trace<u8>, Fault>
+    // they are all that it had, where it tells
+    ensures read { IfOk result (λ read. IfSome (R.remaining script) (λ text. read.items ≡ text)) }
+    ensures printed { IfOk result (λ read. (printed : List ℕ)
+        × IsReplayOf geometry options.entry.now.dialect (clock_at options.entry.now.now options.entry.now.tick) options.entry.now.workers options.entry.now.fail_give read.items printed
+        × Appends (W.contents out.old) (W.contents out.new) printed) }
 
     // it is a group's run over ports with the faults that the options ask for
-    ensures ran { OnOk result (IfSome (R.remaining script) (λ text. (printed : List ℕ)
-        × IsPrinted geometry (clock_at options.entry.now.now options.entry.now.tick) options.entry.now.workers options.entry.now.accept options.entry.now.fail_give text printed
-        × Appends (W.contents out.old) (W.contents out.new) printed)) }
+    ensures ran { IfOk result (λ read. (printed : List ℕ)
+        × IsPrinted geometry options.entry.now.dialect (clock_at options.entry.now.now options.entry.now.tick) options.entry.now.workers options.entry.now.accept options.entry.now.fail_give read.items printed
+        × Appends (W.contents out.old) (W.contents out.new) printed) }
 {
-    let scripts = read_events(alloc, options, script)?;
-    let ports = ports_of(alloc, options, scripts)?;
+    let (scripts, text) = read_events(alloc, options, script)?;
+    let ports = ports_of(alloc, options, geometry, scripts)?;
     let clock = RecordingClock::new(ScriptClock::new(options.now, options.tick));
     let store = Store::new(alloc, geometry)?;
     let report = run_group(
         rt,
         alloc,
         ports,
-        Config { geometry },
+        Config {
+            geometry,
+            dialect: options.dialect,
+            stores_sessions: true,
+        },
         store,
         clock,
         &OpenGate,
     )?;
-    write_lines(alloc, out, report.workers.as_slice())
+    write_lines(alloc, out, report.workers.as_slice())?;
+    Ok(text)
 }

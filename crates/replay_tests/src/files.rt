@@ -42,6 +42,31 @@ impl Write for Failing {
     }
 }
 
+/// Gives one byte at a time, and is interrupted before each.
+#[derive(Drop)]
+struct Interrupted {
+    left: &'static [u8],
+    is_next: bool,
+}
+
+impl Read for Interrupted {
+    fn read(&mut self, buf: &mut [u8]) -> io::Result<usize> {
+        self.is_next = !self.is_next;
+        if self.is_next {
+            return Err(ErrorKind::Interrupted.into());
+        }
+        let Some((first, rest)) = self.left.split_first() else {
+            return Ok(0);
+        };
+        if buf.is_empty() {
+            return Ok(0);
+        }
+        buf[0] = *first;
+        self.left = rest;
+        Ok(1)
+    }
+}
+
 fn check_fault(rt: &impl Abort, alloc: Global, fault: &Fault, wanted: &str) -> Result<(), Fail> {
     let text = fault.to_string(alloc)?;
     check_same(rt, text.as_str(), wanted, "a fault");
@@ -59,7 +84,7 @@ fn check_reading<H: Abort + Threads + Wait + time::Clock + Sync>(
     let replayed = replay(rt, alloc, given, geometry, Failing { left: 3 }, &mut out);
     check_same(rt, out.as_slice(), b"".as_slice(), "the output");
     match &replayed {
-        Ok(()) => Err("read".into()),
+        Ok(_) => Err("read".into()),
         Err(fault) => check_fault(rt, alloc, fault, "fault: cannot read script"),
     }
 }
@@ -73,7 +98,7 @@ fn check_writing<H: Abort + Threads + Wait + time::Clock + Sync>(
     let script = b"open 0 1\n".as_slice();
     let mut out = Failing { left: 3 };
     match &replay(rt, alloc, given, geometry, script, &mut out) {
-        Ok(()) => Err("write".into()),
+        Ok(_) => Err("write".into()),
         Err(fault) => check_fault(rt, alloc, fault, "fault: cannot write"),
     }
 }
@@ -83,6 +108,26 @@ fn check_opening(rt: &impl Abort, alloc: Global) -> Result<(), Fail> {
     lines.file = String::from_str(alloc, "a\nb")?;
     let fault = cannot_read(alloc, &lines, &ErrorKind::NotFound.into());
     check_fault(rt, alloc, &fault, "fault: cannot read a\\nb")
+}
+
+#[test]
+fn an_interrupted_read_is_tried_again(rt: HostRuntime) -> Result<(), Fail> {
+    let alloc = rt.alloc();
+    let given = options(alloc, "")?;
+    let geometry = geometry_of(given.segment_size, given.segments).ok_or("geometry")?;
+    let script = Interrupted {
+        left: b"open 0 1\nopen 0 2",
+        is_next: false,
+    };
+    let mut out = Vec::new(alloc);
+    replay(&rt, alloc, &given, geometry, script, &mut out)?;
+    check_same(
+        &rt,
+        out.as_slice(),
+        b"0 1 -\n0 2 -\n".as_slice(),
+        "the output",
+    );
+    Ok(())
 }
 
 #[test]

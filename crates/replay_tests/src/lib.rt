@@ -12,6 +12,8 @@ mod files;
 #[cfg(test)]
 mod groups;
 #[cfg(test)]
+mod lenient;
+#[cfg(test)]
 mod scripts;
 #[cfg(test)]
 mod sessions;

@@ -2,6 +2,7 @@
 
 use crate::common::{check_same, options, push_words};
 use command_line::{Job, Options, WordsFault, parse_words, unreadable_words};
+use proto::Dialect;
 use std::alloc::{AllocError, Global};
 use std::io::{self, ErrorKind};
 use std::process::Abort;
@@ -52,7 +53,7 @@ const SHOWN: [&str; 6] = [
     "--version",
 ];
 
-const BAD: [&str; 18] = [
+const BAD: [&str; 20] = [
     "",
     "replay",
     "replay a b",
@@ -71,6 +72,15 @@ const BAD: [&str; 18] = [
     "replay a --accept 65537",
     "replay a --fail-give 0",
     "replay a --fail-give x",
+    "replay a --lenient yes",
+    "serve --listen 127.0.0.1:0 --lenient=yes",
+];
+
+/// Words behind `replay script` or a server's address, and whether they ask for the lenient dialect.
+const DIALECTS: [(&str, bool); 3] = [
+    ("", false),
+    ("--lenient", true),
+    ("--segments 8 --lenient --workers 2", true),
 ];
 
 /// Words, and in this order: the size of a segment, how many there are, the moment, the tick, how many workers run, how
@@ -112,6 +122,26 @@ fn check_options(rt: &impl Abort, alloc: Global, rows: &[(&str, [u64; 7])]) -> R
     Ok(())
 }
 
+/// The dialect of a server with these words.
+fn served_dialect(alloc: Global, words: &str) -> Result<Dialect, Fail> {
+    let mut all = Vec::new(alloc);
+    push_words(alloc, &mut all, "serve --listen 127.0.0.1:0")?;
+    push_words(alloc, &mut all, words)?;
+    match parse_words(alloc, all.as_slice())? {
+        Job::Serve(options) => Ok(options.dialect),
+        Job::Replay(_) | Job::Help(_) => Err(Fail::from("no server")),
+    }
+}
+
+fn check_dialects(rt: &impl Abort, alloc: Global, rows: &[(&str, bool)]) -> Result<(), Fail> {
+    for (words, is_lenient) in rows {
+        let replayed = options(alloc, words)?.dialect == Dialect::Lenient;
+        let served = served_dialect(alloc, words)? == Dialect::Lenient;
+        check_same(rt, (replayed, served), (*is_lenient, *is_lenient), *words);
+    }
+    Ok(())
+}
+
 /// What words that can't be read come to.
 fn unreadable(alloc: Global, kind: ErrorKind) -> &'static str {
     let error: io::Error = kind.into();
@@ -123,6 +153,7 @@ fn unreadable(alloc: Global, kind: ErrorKind) -> &'static str {
 fn words(rt: HostRuntime) -> Result<(), Fail> {
     let alloc = rt.alloc();
     check_options(&rt, alloc, &OPTIONS)?;
+    check_dialects(&rt, alloc, &DIALECTS)?;
     check_jobs(&rt, alloc, &SHOWN, "help")?;
     check_jobs(&rt, alloc, &BAD, "bad words")?;
     check_same(

@@ -2,6 +2,7 @@
 use Rattle.std.proofs.Common.{◌≡◌, ℕ, Bool, false, List, [], ◌∷◌, ◌++◌, length, Some, None, refl, sym, ap, ◌∙◌, arith, append_assoc}
 use Rattle.std.specs.List.{concat}
 use Rattle.std.proofs.lemmas.List.{append-nil}
+use Rattle.proto.specs.declared.dialect.Dialect.TheVariants.{Strict}
 use Rattle.proto.specs.declared.message.Request.{Request}
 use Rattle.proto.specs.declared.message.Reply.{Reply}
 use Rattle.proto.specs.declared.message.Message.{Message}
@@ -18,9 +19,9 @@ concat_more (p ∷ pieces) piece = ap (λ (x : List ℕ). p ++ x) (concat_more p
     ∙ sym (append_assoc p (concat pieces) piece)
 
 -- one piece more, which spells one message more
-pub spell_more : (pieces : List (List ℕ)) (ms : List Message) (piece : List ℕ) (m : Message) → SpellEach pieces ms
-    → Spells piece m
-    → SpellEach (pieces ++ piece ∷ []) (ms ++ m ∷ [])
+pub spell_more : (pieces : List (List ℕ)) (ms : List Message) (piece : List ℕ) (m : Message) → SpellEach Strict pieces ms
+    → Spells Strict piece m
+    → SpellEach Strict (pieces ++ piece ∷ []) (ms ++ m ∷ [])
 spell_more [] [] piece m h one = (one, tt)
 spell_more [] (n ∷ ms) piece m h one = absurd h
 spell_more (p ∷ pieces) [] piece m h one = absurd h

@@ -10,6 +10,7 @@ use Rattle.std.proofs.Math.ListN.{length-set}
 use Rattle.std.proofs.lemmas.List.Elements.{filter_map-append, All-push, All-weaker, All-contains, Contains-append_left, Contains-get_or, All-from_recursion}
 use Rattle.std.proofs.lemmas.List.Elements.{recursion_from_All}
 use Rattle.std.proofs.Math.Seq.{get_or-append_seam}
+use Rattle.proto.specs.declared.dialect.Dialect.TheVariants.{Strict}
 use Rattle.proto.proofs.MessageReader.{spelling_nonempty}
 use Rattle.proto.specs.declared.history.Answered.{Answered}
 use Rattle.proto.specs.Cache.{empty_cache}
@@ -196,7 +197,7 @@ served_new s n new = record {
     output_is = new.no_output;
   };
   unread_is = λ going. sym new.no_unread;
-  no_more = λ going k m spells. let some = spelling_nonempty (take k []) m spells in
+  no_more = λ going k m spells. let some = spelling_nonempty Strict (take k []) m spells in
       omega (arith, some, length-take k (nil ℕ));
 }
   where

@@ -4,6 +4,7 @@ use Rattle.std.proofs.Common.{arith, append_assoc}
 use Rattle.std.proofs.Math.Seq.{take-add}
 use Rattle.std.proofs.lemmas.Bool.{both_ways}
 use Rattle.std.proofs.lemmas.List.{append-nil, map-append, length-map, length-take, length-drop, take_all, take-append-drop}
+use Rattle.proto.specs.declared.dialect.Dialect.TheVariants.{Strict}
 use Rattle.proto.specs.declared.message.Request.{Request}
 use Rattle.proto.specs.declared.message.Reply.{Reply}
 use Rattle.proto.specs.declared.message.Message.{Message}
@@ -32,7 +33,7 @@ replies read share output ended a =
 -- a request that is answered
 answered_ask : (read : List ℕ) (share : List Answered) (output piece : List ℕ) (q : Request) (quiet : Bool)
     (e : Answered)
-    → AreBytesAnswered read share output false → Spells piece (Ask q quiet)
+    → AreBytesAnswered read share output false → Spells Strict piece (Ask q quiet)
     → e.request ≡ q → AreBytesAnswered (read ++ piece) (share ++ e ∷ [])
     (output ++ answer (Ask q quiet) (Some e.reply)) false
 answered_ask read share output piece q quiet e a spells is = record {
@@ -53,7 +54,7 @@ answered_ask read share output piece q quiet e a spells is = record {
 
 -- another message that is answered
 answered_other : (read : List ℕ) (share : List Answered) (output piece : List ℕ) (m : Message) → is_ask m ≡ false
-    → AreBytesAnswered read share output false → Spells piece m
+    → AreBytesAnswered read share output false → Spells Strict piece m
     → AreBytesAnswered (read ++ piece) share (output ++ answer m None) (ends_session m)
 answered_other read share output piece m other a spells = record {
   messages = a.messages ++ m ∷ [];
@@ -71,7 +72,7 @@ answered_other read share output piece m other a spells = record {
 led_other : (setup : Setup) (session : ℕ) (h : List Answered) (read output piece after : List ℕ) (old new : Execution)
     (m : Message) → is_ask m ≡ false → LedTo setup h old
     → AreBytesAnswered read (session_share h 0 session) output false → (new ≡ old) × (after ≡ output ++ answer m None)
-    → Spells piece m
+    → Spells Strict piece m
     → LedOnTo setup session h new (read ++ piece) after (ends_session m)
 led_other setup session h read output piece after old new m other led a is spells = record {
   history = h;
@@ -86,7 +87,7 @@ led_other setup session h read output piece after old new m other led a is spell
 pub led_message : (setup : Setup) (session : ℕ) (h : List Answered) (read output piece after : List ℕ)
     (old new : Execution) (m : Message) → LedTo setup h old
     → AreBytesAnswered read (session_share h 0 session) output false → AnswersBehind old m new output after
-    → Spells piece m
+    → Spells Strict piece m
     → LedOnTo setup session h new (read ++ piece) after (ends_session m)
 led_message setup session h read output piece after old new (Ask q quiet) led a (t, reply, x, is) spells =
     let e = entry_of h session t q reply in
@@ -153,7 +154,7 @@ answers_none old unread output = λ setup session history read led a. record {
 pub found_some : (mid new : Execution) (unread o1 o2 : List ℕ) (n : ℕ) (ended : Bool)
     → AnswersNext mid unread (Some (n, ended)) new o1 o2 → 0 < n
 found_some mid new unread o1 o2 n ended (m, within, spells, ended_is, x) =
-    omega (arith, spelling_nonempty (take n unread) m spells, length-take n unread)
+    omega (arith, spelling_nonempty Strict (take n unread) m spells, length-take n unread)
 
 -- ---- a session
 
@@ -181,7 +182,7 @@ fed_ended s before piece ended = record {
 pub fed_going : (old new : SequentialSession) (before after : Execution) (piece : List ℕ) (taken : ℕ) → old.ended ≡ false
     → new.number ≡ old.number
     → AnswersAll before (old.unread.items ++ piece) taken new.ended after old.output.items new.output.items
-    → (new.ended ≡ false → SpellsNone (drop taken (old.unread.items ++ piece)))
+    → (new.ended ≡ false → SpellsNone Strict (drop taken (old.unread.items ++ piece)))
     → new.unread.items ≡ drop taken (old.unread.items ++ piece) → Feeds old before piece new after
 fed_going old new before after piece taken going number_is all none left_is = record {
   number_stays = number_is;

@@ -6,10 +6,11 @@ use Rattle.worker_port.specs.declared.events.PortRecord.TheVariants as was
 use Rattle.worker_port.specs.declared.events.PortEvent.{PortEvent}
 use Rattle.worker_port.specs.declared.events.PortEvent.TheVariants as event
 use Rattle.worker_port.specs.declared.events.Gone.{Gone}
-use Rattle.worker_port.specs.Ports.{PortStory, then_told, event_records, give_records, are_end_of, IsOpenIn, MayCome}
+use Rattle.proto.specs.declared.history.Answered.{Answered}
+use Rattle.worker_port.specs.Ports.{PortStory, then_told, then_gave, with_pause, event_records, give_records, are_end_of, IsOpenIn, MayCome}
 use Rattle.worker_port.specs.Ports.{is_open}
 use Rattle.script.specs.PortEvents.{is_playable}
-use Rattle.script.specs.States.{PortState, is_held, story_of, story_told, Gives, DropsSession}
+use Rattle.script.specs.States.{PortState, PlayerState, is_held, story_of, story_told, Gives, DropsSession, SetsHeld}
 use Rattle.worker_port.specs.PortFacts.{PortFacts, port_facts}
 use Rattle.script.specs.declared.player.Player.{Player}
 use Rattle.script.specs.PortSessions.{ScriptSessionState, is_some_and, is_closed}
@@ -19,10 +20,10 @@ use Rattle.script.proofs.EventLemmas.{bool_cases, and_left, and_right}
 use Rattle.proto.proofs.CountLemmas.{either_way}
 
 -- where it tells, its story is as it is said; where it doesn't, it still doesn't
-pub told_step : (old new : PortState) (f : PortStory → PortStory) → new.script ≡ old.script
-    → (is_playable old.script ≡ true → story_of new ≡ f (story_of old)) → story_told new ≡ option_map f (story_told old)
+pub told_step : (old new : PortState) (f : PortStory → PortStory) → new.player.script ≡ old.player.script
+    → (is_playable old.player.script ≡ true → story_of new ≡ f (story_of old)) → story_told new ≡ option_map f (story_told old)
 told_step old new f script_is step =
-    bool_cases (is_playable old.script)
+    bool_cases (is_playable old.player.script)
     (λ yes.
     ap (λ b. cond b (Some (story_of new)) None) (ap is_playable script_is ∙ yes) ∙ ap Some (step yes)
     ∙ sym (ap (λ b. option_map f (cond b (Some (story_of old)) None)) yes))
@@ -31,8 +32,8 @@ told_step old new f script_is step =
     ∙ sym (ap (λ b. option_map f (cond b (Some (story_of old)) None)) no))
 
 -- what is asked of a call, where the port tells
-pub open_where_told : (port : PortState) (s : ℕ) → IsOpenIn s (story_told port) → is_playable port.script ≡ true
-    → is_open s port.records ≡ true
+pub open_where_told : (port : PortState) (s : ℕ) → IsOpenIn s (story_told port) → is_playable port.player.script ≡ true
+    → is_open s port.player.records ≡ true
 open_where_told port s asked tells = asked (story_of port) (ap (λ b. cond b (Some (story_of port)) None) tells)
 
 -- a session that is open in the list is open in the table too
@@ -43,19 +44,19 @@ facts_open None f agrees active = absurd (true≢false
 facts_open (Some x) f agrees active = sym (ap not agrees.1) ∙ and_right f.opened (not (f.gone || f.shut)) active
 
 -- where the port tells, a session that is open in its story is open in the player's table
-pub open_in_table : (port : PortState) (p : Player) (s : ℕ) → player_state p ≡ port → IsPlayerConsistent p
+pub open_in_table : (port : PortState) (p : Player) (s : ℕ) → player_state p ≡ port.player → IsPlayerConsistent p
     → IsOpenIn s (story_told port)
-    → is_playable port.script ≡ true → in_table.is_session_open p.sessions s ≡ true
+    → is_playable port.player.script ≡ true → in_table.is_session_open p.sessions s ≡ true
 open_in_table port p s same k asked tells =
     facts_open (in_table.session_entry p.sessions s) (port_facts p.records s) (k.each s)
-    (ap (λ (q : PortState). is_open s q.records) same ∙ open_where_told port s asked tells)
+    (ap (λ (q : PlayerState). is_open s q.records) same ∙ open_where_told port s asked tells)
 
 -- what may come, where the port tells
 pub may_where_told : (port : PortState) (result : PortEvent)
-    → (is_playable port.script ≡ true → MayCome (story_of port) result)
+    → (is_playable port.player.script ≡ true → MayCome (story_of port) result)
     → (story : PortStory) → story_told port ≡ Some story → MayCome story result
 may_where_told port result may story told =
-    bool_cases (is_playable port.script)
+    bool_cases (is_playable port.player.script)
     (λ yes.
     let same : Some (story_of port) ≡ Some story = sym (ap (λ b. cond b (Some (story_of port)) None) yes) ∙ told in
     let is : story_of port ≡ story = cc in
@@ -68,7 +69,7 @@ or_none true = refl
 or_none false = refl
 
 -- what ends a session leaves it paused no more, and the others as they are
-ends_held : (old new : PortState) (s t : ℕ) (ends : Bool) → ends ≡ (s == t) → is_held new s ≡ false
+ends_held : (old new : PlayerState) (s t : ℕ) (ends : Bool) → ends ≡ (s == t) → is_held new s ≡ false
     → ((u : ℕ) → u ≢ s → is_held new u ≡ is_held old u) → is_held new t ≡ cond ends false (is_held old t)
 ends_held old new s t ends ends_is here others =
     either_way t s
@@ -87,53 +88,134 @@ no_end s bytes n t b =
     (λ none. sym (ap (λ c. cond (are_end_of t (cond c [] (was.Accepted s (take n bytes) ∷ []))) false b) none))
     (λ some. sym (ap (λ c. cond (are_end_of t (cond c [] (was.Accepted s (take n bytes) ∷ []))) false b) some))
 
+-- this session is paused or not, and the others as they were
+now_held : (old new : PlayerState) (s t : ℕ) (held : Bool) → SetsHeld old s held new
+    → is_held new t ≡ cond (t == s) held (is_held old t)
+now_held old new s t held sets =
+    either_way t s
+    (λ same. ap (is_held new) same ∙ sets.here ∙ sym (ap (λ b. cond b held (is_held old t)) (eq-eqb t s same)))
+    (λ apart. sets.others t apart ∙ sym (ap (λ b. cond b held (is_held old t)) (ne_eqb t s apart)))
+
+-- these fields are the same
+pub record IsSameBeside (old new : PortState) : Type 0 where
+  pub sizes : new.sizes ≡ old.sizes
+  pub dialect : new.dialect ≡ old.dialect
+  pub worker : new.worker ≡ old.worker
+  pub history : new.history ≡ old.history
+
 -- an event came
-pub told_next : (old new : PortState) (result : PortEvent) → new.script ≡ old.script
-    → (is_playable old.script ≡ true → TellsNext old result new)
+pub told_next : (old new : PortState) (result : PortEvent) → IsSameBeside old new
+    → new.player.script ≡ old.player.script
+    → (is_playable old.player.script ≡ true → TellsNext old.player result new.player)
     → story_told new ≡ option_map (then_told (event_records result)) (story_told old)
-told_next old new (event.Opened s) script_is tells = told_step old new (then_told (was.Opened s ∷ [])) script_is
-    (λ yes i. record { events = (tells yes).records_are i; paused = λ t. (tells yes).goes_on.3 t i })
-told_next old new (event.Data s bytes) script_is tells = told_step old new (then_told (was.Data s bytes ∷ [])) script_is
-    (λ yes i. record { events = (tells yes).records_are i; paused = λ t. (tells yes).goes_on.3 t i })
-told_next old new event.Idle script_is tells = told_step old new (then_told []) script_is
-    (λ yes i. record { events = (tells yes).records_are i; paused = λ t. (tells yes).goes_on.3 t i })
-told_next old new event.Ended script_is tells = told_step old new (then_told (was.Ended ∷ [])) script_is
-    (λ yes i. record { events = (tells yes).records_are i; paused = λ t. (tells yes).goes_on.3 t i })
-told_next old new (event.Gone s) script_is tells =
+told_next old new (event.Opened s) same script_is tells = told_step old new (then_told (was.Opened s ∷ [])) script_is
+    (λ yes i. record {
+      events = (tells yes).records_are i;
+      paused = λ t. (tells yes).goes_on.3 t i;
+      sizes = same.sizes i;
+      dialect = same.dialect i;
+      worker = same.worker i;
+      history = same.history i;
+    })
+told_next old new (event.Data s bytes) same script_is tells =
+    told_step old new (then_told (was.Data s bytes ∷ [])) script_is
+    (λ yes i. record {
+      events = (tells yes).records_are i;
+      paused = λ t. (tells yes).goes_on.3 t i;
+      sizes = same.sizes i;
+      dialect = same.dialect i;
+      worker = same.worker i;
+      history = same.history i;
+    })
+told_next old new event.Idle same script_is tells = told_step old new (then_told []) script_is
+    (λ yes i. record {
+      events = (tells yes).records_are i;
+      paused = λ t. (tells yes).goes_on.3 t i;
+      sizes = same.sizes i;
+      dialect = same.dialect i;
+      worker = same.worker i;
+      history = same.history i;
+    })
+told_next old new event.Ended same script_is tells = told_step old new (then_told (was.Ended ∷ [])) script_is
+    (λ yes i. record {
+      events = (tells yes).records_are i;
+      paused = λ t. (tells yes).goes_on.3 t i;
+      sizes = same.sizes i;
+      dialect = same.dialect i;
+      worker = same.worker i;
+      history = same.history i;
+    })
+told_next old new (event.Gone s) same script_is tells =
     told_step old new (then_told (was.Gone s ∷ [])) script_is
     (λ yes i. record {
       events = (tells yes).records_are i;
-      paused = λ t. ends_held old new s t (((s == t) || false) || false) (by_gone s t)
+      paused = λ t. ends_held old.player new.player s t (((s == t) || false) || false) (by_gone s t)
           ((tells yes).goes_on.3 s ∙ (tells yes).plays.1.free) (λ u ne. (tells yes).goes_on.3 u) i;
+      sizes = same.sizes i;
+      dialect = same.dialect i;
+      worker = same.worker i;
+      history = same.history i;
     })
 
--- bytes were offered
-pub told_give : (old new : PortState) (s : ℕ) (bytes : List ℕ) (result : Result ℕ Gone) → new.script ≡ old.script
-    → (is_playable old.script ≡ true → (new.records ≡ old.records ++ give_records s bytes result)
-    × Gives old s bytes result new)
-    → story_told new ≡ option_map (then_told (give_records s bytes result)) (story_told old)
-told_give old new s bytes (Ok n) script_is tells =
-    told_step old new (then_told (give_records s bytes (Ok n))) script_is
+-- bytes were offered, by this history
+pub told_give : (old new : PortState) (s : ℕ) (bytes : List ℕ) (result : Result ℕ Gone) (history : List Answered)
+    → new.sizes ≡ old.sizes → new.dialect ≡ old.dialect → new.worker ≡ old.worker → new.history ≡ history
+    → new.player.script ≡ old.player.script
+    → (is_playable old.player.script ≡ true
+    → (new.player.records ≡ old.player.records ++ give_records s bytes result)
+    × Gives old.player s bytes result new.player)
+    → story_told new ≡ option_map (then_gave s bytes result history) (story_told old)
+told_give old new s bytes (Ok n) history sizes_are dialect_is worker_is history_is script_is tells =
+    told_step old new (then_gave s bytes (Ok n) history) script_is
     (λ yes i. record {
       events = (tells yes).0 i;
-      paused = λ t. ((tells yes).1.3 t ∙ no_end s bytes n t (is_held old t)) i;
+      paused = λ t. ((tells yes).1.3 t ∙ no_end s bytes n t (is_held old.player t)) i;
+      sizes = sizes_are i;
+      dialect = dialect_is i;
+      worker = worker_is i;
+      history = history_is i;
     })
-told_give old new s bytes (Err e) script_is tells =
-    told_step old new (then_told (was.Gone s ∷ [])) script_is
+told_give old new s bytes (Err e) history sizes_are dialect_is worker_is history_is script_is tells =
+    told_step old new (then_gave s bytes (Err e) history) script_is
     (λ yes i. record {
       events = (tells yes).0 i;
-      paused = λ t. ends_held old new s t (((s == t) || false) || false) (by_gone s t) (tells yes).1.2
+      paused = λ t. ends_held old.player new.player s t (((s == t) || false) || false) (by_gone s t) (tells yes).1.2
           (tells yes).1.3 i;
+      sizes = sizes_are i;
+      dialect = dialect_is i;
+      worker = worker_is i;
+      history = history_is i;
+    })
+
+-- a session was paused or resumed
+pub told_held : (old new : PortState) (s : ℕ) (held : Bool) → IsSameBeside old new
+    → new.player.script ≡ old.player.script
+    → (is_playable old.player.script ≡ true → SetsHeld old.player s held new.player)
+    → story_told new ≡ option_map (with_pause s held) (story_told old)
+told_held old new s held same script_is sets =
+    told_step old new (with_pause s held) script_is
+    (λ yes i. record {
+      events = ap (λ (p : PlayerState). p.records) (sets yes).rest i;
+      paused = λ t. now_held old.player new.player s t held (sets yes) i;
+      sizes = same.sizes i;
+      dialect = same.dialect i;
+      worker = same.worker i;
+      history = same.history i;
     })
 
 -- a session was shut
-pub told_shut : (old new : PortState) (s : ℕ) → new.script ≡ old.script
-    → (is_playable old.script ≡ true → (new.records ≡ old.records ++ was.Shut s ∷ []) × DropsSession old s new)
+pub told_shut : (old new : PortState) (s : ℕ) → IsSameBeside old new → new.player.script ≡ old.player.script
+    → (is_playable old.player.script ≡ true
+    → (new.player.records ≡ old.player.records ++ was.Shut s ∷ []) × DropsSession old.player s new.player)
     → story_told new ≡ option_map (then_told (was.Shut s ∷ [])) (story_told old)
-told_shut old new s script_is tells =
+told_shut old new s same script_is tells =
     told_step old new (then_told (was.Shut s ∷ [])) script_is
     (λ yes i. record {
       events = (tells yes).0 i;
-      paused = λ t. ends_held old new s t ((s == t) || false) (or_none (s == t)) (tells yes).1.here
+      paused = λ t. ends_held old.player new.player s t ((s == t) || false) (or_none (s == t)) (tells yes).1.here
           (tells yes).1.others i;
+      sizes = same.sizes i;
+      dialect = same.dialect i;
+      worker = same.worker i;
+      history = same.history i;
     })

@@ -3,6 +3,9 @@ use Rattle.std.specs.Prelude.{◌≡◌, ℕ, ◌<◌, ◌≤◌, ◌⊎◌, Boo
 use Rattle.std.specs.Prelude.{Option, Some, None, Result}
 use Rattle.std.specs.List.{AllByRecursion}
 use Rattle.script.specs.declared.event.ScriptEvent.{ScriptEvent}
+use Rattle.proto.specs.declared.dialect.Dialect.{Dialect}
+use Rattle.proto.specs.Sizes.{Sizes}
+use Rattle.proto.specs.declared.history.Answered.{Answered}
 use Rattle.worker_port.specs.declared.events.PortRecord.{PortRecord}
 use Rattle.worker_port.specs.declared.events.PortRecord.TheVariants as was
 use Rattle.worker_port.specs.declared.events.PortEvent.{PortEvent}
@@ -17,7 +20,7 @@ use Rattle.script.specs.PortSessions.{ScriptSessionState, numbers, newest, sessi
 use Rattle.script.specs.PortSessions.{is_session_open, is_paused}
 use Rattle.script.specs.Records.{opened}
 use Rattle.script.specs.Following.{Follows, MayGo}
-use Rattle.script.specs.States.{PortState, story_of, Plays, PortGoesOn, DropsSession, Gives, Fails, count_down}
+use Rattle.script.specs.States.{PlayerState, story_of, Plays, PortGoesOn, DropsSession, Gives, Fails, count_down}
 
 abbrev pub is_left : List ScriptSessionState → ScriptEvent → Bool
 is_left sessions e = not (was_closed sessions (event_session e))
@@ -33,7 +36,7 @@ is_ready sessions e = is_left sessions e && not (is_paused sessions (event_sessi
 abbrev pub NoneReady : List ScriptSessionState → List ScriptEvent → Type 0
 NoneReady sessions events = AllByRecursion (λ (e : ScriptEvent). is_ready sessions e ≡ false) events
 
-abbrev pub player_state : Player → PortState
+abbrev pub player_state : Player → PlayerState
 player_state p = record {
   script = p.script.value.items;
   left = events_left p.sessions (in_order p.events);
@@ -70,9 +73,16 @@ pub record IsFirst (p : Player) (e : ScriptEvent) : Type 0 where
   pub ready : is_ready p.sessions e ≡ true
 
 -- where the port tells, an event came as it may
-pub record TellsNext (old : PortState) (result : PortEvent) (new : PortState) : Type 0 where
+pub record TellsNext (old : PlayerState) (result : PortEvent) (new : PlayerState) : Type 0 where
   pub records_are : new.records ≡ old.records ++ list.event_records result
-  pub may : list.MayCome (story_of old) result
+  pub may : (sizes : Sizes) (dialect : Dialect) (worker : ℕ) (history : List Answered)
+      → list.MayCome (story_of (record {
+        player = old;
+        sizes = sizes;
+        dialect = dialect;
+        worker = worker;
+        history = history;
+      })) result
   pub plays : Plays old result new
   pub goes_on : PortGoesOn old new
 

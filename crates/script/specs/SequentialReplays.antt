@@ -2,6 +2,7 @@
 use Rattle.std.specs.Prelude.{◌≡◌, ℕ, ◌<◌, ◌≤◌, ◌++◌, ◌≢◌, false, List, [], ◌∷◌, length, map, slice_index, slice_index_or, slice_set, Contains, All}
 use Rattle.std.specs.Prelude.{MatchOption, Option}
 use Rattle.std.specs.List.{AllByRecursion}
+use Rattle.proto.specs.declared.dialect.Dialect.TheVariants.{Strict}
 use Rattle.proto.specs.declared.message.Message.{Message}
 use Rattle.proto.specs.declared.history.Answered.{Answered}
 use Rattle.proto.specs.Sizes.{Sizes}
@@ -23,7 +24,7 @@ use Rattle.script.specs.SequentialSessions.{Setup, LedTo, AreTimed, AreBytesServ
 pub record IsAnsweredIn (history : List Answered) (bytes : List ℕ) (given : SessionOutput) : Type 0 where
   pub messages : List Message
   pub rest : List ℕ
-  pub reads : Reads bytes messages rest
+  pub reads : Reads Strict bytes messages rest
   pub asked_all : asked (session_share history 0 given.session) ≡ asks messages
   pub output_is : given.output ≡ said messages (had (session_share history 0 given.session))
 

@@ -1,6 +1,7 @@
 -- One session of a run: what was executed, read and answered so far.
 use Rattle.std.specs.Prelude.{◌≡◌, ℕ, ◌+◌, ◌≤◌, Bool, false, List, [], ◌++◌, length, take, Option, Some, None}
 use Rattle.std.specs.List.{concat, AllByRecursion}
+use Rattle.proto.specs.declared.dialect.Dialect.TheVariants.{Strict}
 use Rattle.proto.specs.declared.message.Message.{Message}
 use Rattle.proto.specs.declared.history.Answered.{Answered}
 use Rattle.proto.specs.Grammar.{Spells, SpellsNone}
@@ -34,7 +35,7 @@ pub record AreBytesAnswered (read : List ℕ) (share : List Answered) (output : 
   pub messages : List Message
   pub pieces : List (List ℕ)
   pub whole : read ≡ concat pieces
-  pub spelled : SpellEach pieces messages
+  pub spelled : SpellEach Strict pieces messages
   pub ends_at_last : EndsAtLast messages
   pub ended_is : last_ends messages ≡ ended
   pub asked_is : asked share ≡ asks messages
@@ -63,9 +64,9 @@ pub record LedOnTo (setup : Setup) (session : ℕ) (old : List Answered) (now : 
 -- The bytes begin with a message of this length, which is executed and answered; or with none, and nothing
 -- changes. It is said whether the message ends its session.
 abbrev pub AnswersNext : Execution → List ℕ → Option (ℕ × Bool) → Execution → List ℕ → List ℕ → Type 0
-AnswersNext old unread None new output after = SpellsNone unread × (new ≡ old) × (after ≡ output)
+AnswersNext old unread None new output after = SpellsNone Strict unread × (new ≡ old) × (after ≡ output)
 AnswersNext old unread (Some (n, ended)) new output after =
-    (m : Message) × (n ≤ length unread) × Spells (take n unread) m × (ended ≡ ends_session m)
+    (m : Message) × (n ≤ length unread) × Spells Strict (take n unread) m × (ended ≡ ends_session m)
     × AnswersBehind old m new output after
 
 -- So many of the unread bytes are messages, which were executed and answered, whatever history and bytes of
@@ -91,7 +92,7 @@ pub record AreBytesServed (bytes : List ℕ) (share : List Answered) (session : 
   pub bytes_are : bytes ≡ read ++ rest
   pub answered : AreBytesAnswered read share session.output.items session.ended
   pub unread_is : session.ended ≡ false → rest ≡ session.unread.items
-  pub no_more : session.ended ≡ false → SpellsNone rest
+  pub no_more : session.ended ≡ false → SpellsNone Strict rest
 
 -- with further entries of the session the history leads to this, and the bytes of the session are served
 pub record ServedBy (setup : Setup) (old : List Answered) (now : Execution) (bytes : List ℕ)

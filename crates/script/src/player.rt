@@ -12,7 +12,7 @@ ghost use Rattle.script.specs.PortSessions as sessions;
 ghost use Rattle.script.specs.Players.{is_left, is_ready, events_left, NoneReady, player_state};
 ghost use Rattle.script.specs.Players.{IsPlayerConsistent, IsFirst, IsCausedAt, Played};
 ghost use Rattle.script.specs.Players.{RecordsClose, EndsSession, Keeps, SamePlayer, CountsOffer, GivesAs};
-ghost use Rattle.script.specs.States.{IsNewPort, CountsGive, SetsHeld, most_accepted};
+ghost use Rattle.script.specs.States.{CountsGive, SetsHeld, most_accepted, new_player, with_faults};
 ghost use Rattle.worker_port.specs.Ports.{given};
 
 use crate::ScriptEvent;
@@ -116,7 +116,7 @@ fn most_accepted(accept: usize, bytes: &[u8]) -> usize
 impl Player {
     pub(crate) fn new(alloc: Global, events: Vec<ScriptEvent>) -> Player
         ensures consistent { IsPlayerConsistent result }
-        ensures fresh { IsNewPort events.items (player_state result) }
+        ensures fresh { player_state result ≡ new_player events.items }
     {
         let script = Snapshot::of(&events);
         Player {
@@ -136,12 +136,7 @@ impl Player {
     pub(crate) fn set_faults(&mut self, accept: usize, fail_give: u64)
         requires consistent { IsPlayerConsistent self.old }
         ensures consistent { IsPlayerConsistent self.new }
-        ensures state { player_state self.new
-            ≡ record (player_state self.old) {
-              accept = accept;
-              fail_give = fail_give;
-              can_fail = self.old.can_fail || nat_lt 0 fail_give;
-            } }
+        ensures state { player_state self.new ≡ with_faults accept fail_give (player_state self.old) }
     {
         self.accept = accept;
         self.fail_give = fail_give;

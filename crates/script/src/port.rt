@@ -1,23 +1,26 @@
 //! A port that plays a script.
 
-ghost use Rattle.std.specs.Prelude.{◌≡◌, ℕ, ◌++◌, [], ◌∷◌, ◌≤◌, ◌↔◌, ◌||◌, nat_lt, length, true, false, IfOk, option_map, Some};
+ghost use Rattle.std.specs.Prelude.{◌≡◌, ℕ, ◌++◌, [], ◌∷◌, ◌≤◌, ◌↔◌, length, true, false, IfOk, option_map, Some};
 ghost use Rattle.script.specs.Events.{IsPlayable};
 ghost use Rattle.worker_port.specs.declared.events.PortRecord.TheVariants.{Shut};
-ghost use Rattle.worker_port.specs.Ports.{PortStory, then_told, with_pause, event_records, give_records, IsOpenIn, MayCome, given};
+ghost use Rattle.worker_port.specs.Ports.{PortStory, then_told, with_pause, event_records, then_gave, IsOpenIn, MayCome, given};
+ghost use Rattle.worker_port.specs.Giving.{MayBeOffered};
 ghost use Rattle.script.specs.PortEvents.{is_playable};
 ghost use Rattle.script.specs.PortSessions.{numbers};
 ghost use Rattle.script.specs.Records.{opened};
 ghost use Rattle.script.specs.Following.{IsPlayed};
 ghost use Rattle.script.specs.States.{story_told, PlaysOn, Plays, Gives, PortGoesOn, CountsGive, SetsHeld};
-ghost use Rattle.script.specs.States.{DropsSession, IsNewPort};
+ghost use Rattle.script.specs.States.{DropsSession, IsNewPort, with_faults};
 
 use crate::ScriptEvent;
 use crate::player::Player;
 use crate::sessions::ScriptSession;
 use crate::stage::Stage;
+use proto::{Dialect, Geometry};
 use std::alloc::Global;
 use std::marker::Model;
-use worker_port::{Gone, Port, PortEvent, PortRecord};
+use std::snapshot::Snapshot;
+use worker_port::{Gone, Port, PortEvent, PortRecord, ToldHistory};
 
 /// Plays the events of a script in order, and keeps what each session is given.
 ///
@@ -26,38 +29,57 @@ use worker_port::{Gone, Port, PortEvent, PortRecord};
 #[derive(Drop)]
 pub struct ScriptPort {
     player: Player,
+    geometry: Geometry,
+    dialect: Dialect,
+    worker: usize,
+    /// The history by which bytes were given last, for clauses alone.
+    history: Snapshot<Option<ToldHistory>>,
 }
 
 impl Model for ScriptPort {
+    ghost use Rattle.std.specs.Prelude.{[]};
+    ghost use Rattle.std.specs.Option.{unwrap_or};
     ghost use Rattle.script.specs.States.{PortState};
     ghost use Rattle.script.specs.Players.{player_state, IsPlayerConsistent};
 
     ghost Value = { PortState };
 
-    ghost view = { λ p. player_state p.player };
+    ghost view = { λ p. record {
+      player = player_state p.player;
+      sizes = p.geometry;
+      dialect = p.dialect;
+      worker = p.worker;
+      history = unwrap_or p.history.value [];
+    } };
 
     ghost invariant = { λ p. IsPlayerConsistent p.player };
 }
 
 impl ScriptPort {
-    /// All events are left, and none was played.
-    pub fn new(alloc: Global, events: Vec<ScriptEvent>) -> ScriptPort
-        ensures fresh { IsNewPort events.items result }
-        ensures tells { (is_playable result.script ≡ true) ↔ IsPlayable events.items }
+    /// The port of a worker, over a store of these sizes, whose sessions write in this dialect. All events are left, and none was played.
+    pub fn new(
+        alloc: Global,
+        geometry: Geometry,
+        dialect: Dialect,
+        worker: usize,
+        events: Vec<ScriptEvent>,
+    ) -> ScriptPort
+        ensures fresh { IsNewPort geometry dialect worker events.items result }
+        ensures tells { (is_playable result.player.script ≡ true) ↔ IsPlayable events.items }
     {
         ScriptPort {
             player: Player::new(alloc, events),
+            geometry,
+            dialect,
+            worker,
+            history: Snapshot::of(&None),
         }
     }
 
     /// From now on each `give` accepts at most `accept` bytes, and the `fail_give`th that is offered at least one
     /// byte accepts none and answers that the peer has gone. 0 is none for either.
     pub fn with_faults(mut self, accept: usize, fail_give: u64) -> ScriptPort
-        ensures { result ≡ record self {
-          accept = accept;
-          fail_give = fail_give;
-          can_fail = self.can_fail || nat_lt 0 fail_give;
-        } }
+        ensures { result ≡ record self { player = with_faults accept fail_give self.player } }
     {
         self.player.set_faults(accept, fail_give);
         self
@@ -65,16 +87,16 @@ impl ScriptPort {
 
     /// The bytes given to a session; none to one that wasn't opened.
     pub fn given(&self, session: u64) -> &[u8]
-        ensures { result.now ≡ given session self.now.records }
+        ensures { result.now ≡ given session self.now.player.records }
     {
         self.player.given(session)
     }
 
     /// The sessions that were opened, in order. The list tells what the script says of them.
     pub fn sessions(&self) -> &[ScriptSession]
-        ensures sessions { result.now ≡ self.now.sessions }
-        ensures opened { numbers result.now ≡ opened self.now.records }
-        ensures played { is_playable self.now.script ≡ true → IsPlayed self.now.script self.now.records self.now.can_fail }
+        ensures sessions { result.now ≡ self.now.player.sessions }
+        ensures opened { numbers result.now ≡ opened self.now.player.records }
+        ensures played { is_playable self.now.player.script ≡ true → IsPlayed self.now.player.script self.now.player.records self.now.player.can_fail }
     {
         self.player.sessions.as_slice()
     }
@@ -96,21 +118,22 @@ impl Port for ScriptPort {
         ensures leads { PlaysOn self.old self.new }
         ensures told { story_told self.new ≡ option_map (then_told (event_records result)) (story_told self.old) }
         ensures may { (story : PortStory) → story_told self.old ≡ Some story → MayCome story result }
-        ensures plays { is_playable self.old.script ≡ true → Plays self.old result self.new }
-        ensures goes_on { is_playable self.old.script ≡ true → PortGoesOn self.old self.new }
+        ensures plays { is_playable self.old.player.script ≡ true → Plays self.old.player result self.new.player }
+        ensures goes_on { is_playable self.old.player.script ≡ true → PortGoesOn self.old.player self.new.player }
     {
         self.player.next()
     }
 
-    fn give(&mut self, session: u64, bytes: &[u8]) -> Result<usize, Gone>
-        requires { IsOpenIn session (story_told self.old) }
+    fn give(&mut self, session: u64, bytes: &[u8], history: ToldHistory) -> Result<usize, Gone>
+        requires open { IsOpenIn session (story_told self.old) }
+        requires said { MayBeOffered session bytes.now history (story_told self.old) }
         ensures within { IfOk result (λ n. n ≤ length bytes.now) }
         ensures leads { PlaysOn self.old self.new }
-        ensures told { story_told self.new
-            ≡ option_map (then_told (give_records session bytes.now result)) (story_told self.old) }
-        ensures gives { is_playable self.old.script ≡ true → Gives self.old session bytes.now result self.new }
-        ensures counts { CountsGive self.old bytes.now self.new }
+        ensures told { story_told self.new ≡ option_map (then_gave session bytes.now result history) (story_told self.old) }
+        ensures gives { is_playable self.old.player.script ≡ true → Gives self.old.player session bytes.now result self.new.player }
+        ensures counts { CountsGive self.old.player bytes.now self.new.player }
     {
+        self.history = Snapshot::of(&Some(history));
         self.player.give(session, bytes)
     }
 
@@ -118,7 +141,7 @@ impl Port for ScriptPort {
         requires { IsOpenIn session (story_told self.old) }
         ensures leads { PlaysOn self.old self.new }
         ensures told { story_told self.new ≡ option_map (with_pause session true) (story_told self.old) }
-        ensures held { is_playable self.old.script ≡ true → SetsHeld self.old session true self.new }
+        ensures held { is_playable self.old.player.script ≡ true → SetsHeld self.old.player session true self.new.player }
     {
         self.player.hold(session, Stage::Paused);
     }
@@ -127,7 +150,7 @@ impl Port for ScriptPort {
         requires { IsOpenIn session (story_told self.old) }
         ensures leads { PlaysOn self.old self.new }
         ensures told { story_told self.new ≡ option_map (with_pause session false) (story_told self.old) }
-        ensures held { is_playable self.old.script ≡ true → SetsHeld self.old session false self.new }
+        ensures held { is_playable self.old.player.script ≡ true → SetsHeld self.old.player session false self.new.player }
     {
         self.player.hold(session, Stage::Playing);
     }
@@ -136,7 +159,7 @@ impl Port for ScriptPort {
         requires { IsOpenIn session (story_told self.old) }
         ensures leads { PlaysOn self.old self.new }
         ensures told { story_told self.new ≡ option_map (then_told (Shut session ∷ [])) (story_told self.old) }
-        ensures shuts { is_playable self.old.script ≡ true → DropsSession self.old session self.new }
+        ensures shuts { is_playable self.old.player.script ≡ true → DropsSession self.old.player session self.new.player }
     {
         self.player.close(session, PortRecord::Shut(session));
     }

@@ -1,6 +1,7 @@
 //! One session of a run.
 
 ghost use Rattle.std.specs.Prelude.{◌≡◌, ℕ, ◌≤◌, [], false, length, take, drop, IfOk, OnOk};
+ghost use Rattle.proto.specs.declared.dialect.Dialect.TheVariants.{Strict};
 ghost use Rattle.proto.specs.Grammar.{SpellsNone};
 ghost use Rattle.proto.specs.Reading.{ends_session};
 ghost use Rattle.script.specs.SequentialSessions.{AnswersNext, AnswersAll, IsNew, Feeds};
@@ -52,7 +53,7 @@ fn answer_all<E: StorageEngine + Drop>(
 ) -> Result<(usize, bool), NoMemory>
     ensures answered { IfOk result (λ r. AnswersAll executor.old unread.now r.0 r.1 executor.new output.old.items output.new.items) }
     ensures within { IfOk result (λ r. r.0 ≤ length unread.now) }
-    ensures more { IfOk result (λ r. r.1 ≡ false → SpellsNone (drop r.0 unread.now)) }
+    ensures more { IfOk result (λ r. r.1 ≡ false → SpellsNone Strict (drop r.0 unread.now)) }
 {
     let mut taken = 0;
     while let Some((length, ended)) = answer_next(alloc, executor, &unread[taken..], output)? {

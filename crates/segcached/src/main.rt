@@ -11,7 +11,7 @@ use proto::Geometry;
 use replay::{cannot_read, replay};
 use serving::{seed_of, serve};
 use std::fs::File;
-use std::io::{self, BufWriter};
+use std::io::{self, BufWriter, Eprint};
 use std::net::Net;
 use std::process::ExitCode;
 use std::sync::Wait;
@@ -38,7 +38,7 @@ fn replay_file<H: Threads + Wait + Sync>(
 }
 
 /// Serves as the options say.
-fn serve_at<H: Threads + Wait + Net + time::Clock + Copy + Drop + Send + Sync + 'static>(
+fn serve_at<H: Threads + Wait + Net + time::Clock + Eprint + Copy + Drop + Send + Sync + 'static>(
     rt: &HostRuntime,
     threads: &H,
     options: &ServeOptions,
@@ -64,7 +64,7 @@ fn job(rt: &HostRuntime) -> Result<Job, WordsFault> {
 }
 
 /// Does the job.
-fn run<H: Threads + Wait + Net + time::Clock + Copy + Drop + Send + Sync + 'static>(
+fn run<H: Threads + Wait + Net + time::Clock + Eprint + Copy + Drop + Send + Sync + 'static>(
     rt: &HostRuntime,
     threads: &H,
     job: Job,

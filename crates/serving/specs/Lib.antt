@@ -1,3 +1,4 @@
 pub mod Faults
 pub mod Listening
 pub mod NewStores
+pub mod Runs

@@ -2,9 +2,10 @@
 #![tactic(auto)]
 
 mod fault;
+mod operator;
 mod seed;
 mod service;
 
 pub use fault::Fault;
 pub use seed::seed_of;
-pub use service::serve;
+pub use service::{Report, serve};

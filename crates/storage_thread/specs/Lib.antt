@@ -1,2 +1,3 @@
 pub mod Serving
 pub mod Keeping
+pub mod Readings

@@ -1,21 +1,32 @@
 //! The system's clock.
 
-ghost use Rattle.std.specs.Prelude.{◌≡◌, ◌/◌};
+ghost use Rattle.std.specs.Prelude.{◌≡◌, ◌/◌, ◌++◌, ◌∷◌, [], All};
 ghost use Rattle.std.specs.Time.{system_time_nanos};
+ghost use Rattle.storage_thread.specs.Readings.{seconds_in, AreSeconds};
 
 use engine::Clock;
+use std::slice;
 use std::time::{self, SystemTime, UNIX_EPOCH};
+use trace::Trace;
 
-/// Unix seconds, 0 before 1970 or where the clock can't be read. It doesn't tell its answers: std says of
-/// `SystemTime::now` only that what it reads is within the clock's range, so no clause can say that time goes on.
+/// Unix seconds, 0 before 1970 or where the clock can't be read. It tells its answers, each the seconds of one reading of the
+/// system's clock; no clause says that what the system reads goes on.
 #[derive(Drop)]
 pub struct UnixClock<R: Drop> {
     rt: R,
+    // Each reading, with the answer that was given by it.
+    pub(crate) readings: Trace<(Option<SystemTime>, u64)>,
+    ghost seconds: { AreSeconds readings.items },
 }
 
 impl<R: time::Clock + Drop> UnixClock<R> {
-    pub fn new(rt: R) -> UnixClock<R> {
-        UnixClock { rt }
+    pub fn new(rt: R) -> UnixClock<R>
+        ensures { result.readings.items ≡ [] }
+    {
+        UnixClock {
+            rt,
+            readings: Trace::new(),
+        }
     }
 }
 
@@ -29,10 +40,30 @@ fn unix_seconds(reading: SystemTime) -> u64
     }
 }
 
-impl<R: time::Clock + Drop> Clock for UnixClock<R> {
-    ghost use Rattle.std.specs.Prelude.{⊤, None};
+/// The whole seconds of a reading, 0 where the clock couldn't be read.
+fn seconds_of(reading: &Option<SystemTime>) -> u64
+    ensures { result ≡ seconds_in reading.now }
+{
+    match reading {
+        Some(reading) => unix_seconds(*reading),
+        None => 0,
+    }
+}
 
-    ghost told = { λ _. None };
+impl<R: time::Clock + Drop> UnixClock<R> {
+    /// Each answer that was told is the seconds of its reading.
+    pub fn agrees(&self)
+        ensures { AreSeconds self.now.readings.items }
+    {
+        let _rt = &self.rt;
+    }
+}
+
+impl<R: time::Clock + Drop> Clock for UnixClock<R> {
+    ghost use Rattle.std.specs.Prelude.{⊤, Some, map};
+    ghost use Rattle.storage_thread.specs.Readings.{answers_in};
+
+    ghost told = { λ c. Some (answers_in c.readings.items) };
 
     ghost leads_to = { λ _ _. ⊤ };
 
@@ -41,9 +72,9 @@ impl<R: time::Clock + Drop> Clock for UnixClock<R> {
     ghost leads_transitive = { λ _ _ _ _ _. tt };
 
     fn now(&mut self) -> u64 {
-        match SystemTime::now(&self.rt) {
-            Ok(reading) => unix_seconds(reading),
-            Err(_) => 0,
-        }
+        let reading = SystemTime::now(&self.rt).ok();
+        let seconds = seconds_of(&reading);
+        self.readings.note(slice::from_ref(&(reading, seconds)));
+        seconds
     }
 }

@@ -9,24 +9,25 @@ use Rattle.proto.proofs.Options.{some_is}
 use Rattle.proto.specs.declared.no_memory.NoMemory.{NoMemory}
 use Rattle.proto.specs.declared.history.Posted.{Posted}
 use Rattle.proto.specs.declared.history.Answered.{Answered}
-use Rattle.proto.specs.History.{asked_posted}
+use Rattle.proto.specs.History.{asked_posted, worker_share}
 use Rattle.proto.specs.Reading.{asks}
 use Rattle.exchange.specs.Ends.{WorkerView, WorkerBatchView}
 use Rattle.session_book.specs.declared.causes.Unsettled.{Unsettled}
 use Rattle.session_book.specs.Session.{SessionState, ReadsOn}
-use Rattle.session_book.specs.Book.{BookState, session_of, NextAsk, held_of, GivesNone, given_in, OnlyAt, unsettled_of as unsettled_at}
+use Rattle.session_book.specs.Book.{BookState, session_of, NextAsk, held_of, given_in, unsettled_of as unsettled_at}
 use Rattle.worker_port.specs.Ports.{PortStory}
 use Rattle.worker.specs.declared.state.WorkerState.{WorkerState}
 use Rattle.worker.specs.Sessions.{RunView, facts, asked_by, AreFactsConsistent}
 use Rattle.worker_port.specs.PortFacts.{port_facts}
 use Rattle.worker.specs.EndCauses.{piece_of}
-use Rattle.worker.specs.Workers.{once_flushed, end_of, posted_by, unsettled_post, IsNumbered, IsSteady, IsStoryKnown, run_view, IsWorkerServing}
+use Rattle.worker.specs.Workers.{once_flushed, end_of, posted_by, unsettled_post, IsNumbered, IsSteady, IsStoryKnown, run_view, IsWorkerServing, WasToldOfHistory}
+use Rattle.exchange.proofs.Lists.{starts_longer}
 use Rattle.worker.proofs.Facts.{asked_here, asked_elsewhere}
-use Rattle.worker.proofs.SessionSteps.{not_both, runs, is_running, served_read}
+use Rattle.worker.proofs.SessionSteps.{runs, is_running, served_read}
 use Rattle.worker.proofs.RunViews.{facts_equal, change_at, at_other, at_same}
 use Rattle.worker.proofs.StoryLaws.{same_story, paused_kept}
 use Rattle.worker.proofs.PieceLaws.{pieces_kept}
-use Rattle.worker.proofs.WorkerSteps.{WorkerGoesOn, steps_on, steady_same, same_end}
+use Rattle.worker.proofs.WorkerSteps.{WorkerGoesOn, steps_on, steady_same, same_end, later_view, later_is}
 use Rattle.worker.proofs.OutputSteps.{told_within}
 
 -- a worker that went on from a to b, and from b to c, went on from a to c
@@ -38,6 +39,7 @@ goes_on_trans told a b c h k = record {
     exchange = k.same_end.exchange ∙ h.same_end.exchange;
     worker = k.same_end.worker ∙ h.same_end.worker;
   };
+  dialect = k.dialect ∙ h.dialect;
   serving = k.serving;
 }
 
@@ -53,17 +55,17 @@ pub told_read : (v v' : RunView) (unopened : ℕ) (ended : Bool) (t : ℕ) (s re
     → IsStoryKnown v unopened ended
     → session_of v.book t ≡ Some s → ReadsOn s ms read → asked_by v'.posted t ≡ asked_by v.posted t ++ asks ms
     → ((k : ℕ) → t ≢ k → asked_by v'.posted k ≡ asked_by v.posted k)
-    → v'.events ≡ v.events → v'.back ≡ v.back → v'.sessions ≡ v.sessions
+    → v'.dialect ≡ v.dialect → v'.events ≡ v.events → v'.back ≡ v.back → v'.sessions ≡ v.sessions
     → ((k : ℕ) → session_of v'.book k ≡ cond (k == t) (Some read) (session_of v.book k)) → v'.piece ≡ v.piece
     → IsStoryKnown v' unopened ended
-told_read v v' unopened ended t s read ms h open_is reads here_asked other_asked e b r book piece =
+told_read v v' unopened ended t s read ms h open_is reads here_asked other_asked d e b r book piece =
     let run = runs (facts v t) s (h.each t) open_is in
     let s_is : Some run.running.s ≡ Some s = sym run.running.state ∙ open_is in
     let reads' : ReadsOn run.running.s ms read =
     subst (λ (x : SessionState). ReadsOn x ms read) (some_is s run.running.s (sym s_is)) reads in
     let served = served_read (facts v t) run.running.s read (v.piece t) ms reads' run.running.served in
     let f' = record (facts v t) { asked = asked_by v.posted t ++ asks ms; state = Some read } in
-    let here : facts v' t ≡ f' = facts_equal (facts v' t) f' (ap (λ l. port_facts l t) e) here_asked
+    let here : facts v' t ≡ f' = facts_equal (facts v' t) f' d (ap (λ l. port_facts l t) e) here_asked
     (λ i. (facts (record v { back = b i }) t).had)
     (λ i. (facts (record v { sessions = r i }) t).cause) (book t ∙ at_same t (Some read) (session_of v.book t))
     (λ i. piece i t) in
@@ -83,7 +85,7 @@ told_read v v' unopened ended t s read ms h open_is reads here_asked other_asked
       };
     }) in
     let others : (k : ℕ) → t ≢ k → facts v' k ≡ facts v k =
-    λ k ne. facts_equal (facts v' k) (facts v k) (ap (λ l. port_facts l k) e) (other_asked k ne)
+    λ k ne. facts_equal (facts v' k) (facts v k) d (ap (λ l. port_facts l k) e) (other_asked k ne)
     (λ i. (facts (record v { back = b i }) k).had)
     (λ i. (facts (record v { sessions = r i }) k).cause) (book k ∙ at_other t k (Some read) (session_of v.book k) ne)
     (λ i. piece i k) in
@@ -105,8 +107,9 @@ none_goes_on told old new t s result port end request sessions unopened stranger
     let no_more : (k : ℕ) → asked_by (posted_by (end_of new) new.request) k
     ≡ asked_by (posted_by (end_of old) old.request) k = λ k i. asked_by
     (posted_by (end i) (request i)) k in
-    steps_on told old new (λ story. story) (same_story (told old.port) (told new.port) (ap told port)) (record {
+    steps_on told old new (λ story. story) (λ s q. q) (same_story (told old.port) (told new.port) (ap told port)) (record {
       same_end = same_end old new end;
+      later = later_is (end_of old) (end_of new) end;
       steady = subst (λ (y : WorkerView × Option Posted). IsSteady y.0 y.1 new.book) (λ i. (sym end i, sym request i))
           (steady_same (end_of old) old.request old.book new.book
           (ap (λ (x : BookState). x.posted) a.rest ∙ ap (λ (x : List (Request × ℕ)). old.book.posted + length x) none
@@ -114,6 +117,7 @@ none_goes_on told old new t s result port end request sessions unopened stranger
           (ap (λ (x : BookState). x.unsettled) a.rest
           ∙ ap (λ (x : List (Request × ℕ)). old.book.unsettled ++ map (unsettled_at t) x) none
           ∙ append-nil old.book.unsettled) h.steady);
+      dialect = ap (λ (x : BookState). x.dialect) a.rest;
       strangers = strangers ∙ h.strangers;
       unopened = unopened;
       ended = ended;
@@ -123,7 +127,7 @@ none_goes_on told old new t s result port end request sessions unopened stranger
           a.reading.reads
           (no_more t ∙ sym (append-nil (asked_by (posted_by (end_of old) old.request) t))
           ∙ ap (λ (x : List Request). asked_by (posted_by (end_of old) old.request) t ++ x) (sym no_asks))
-          (λ k ne. no_more k) refl
+          (λ k ne. no_more k) refl refl
           (ap (λ (w : WorkerView). w.back) end) (λ i. (sessions i).items) a.only_at (λ i q. pieces q i),
       paused_kept story story (piece_of old.book) (piece_of new.book) pieces (λ q. refl) was_so.1,
     ))
@@ -169,8 +173,9 @@ one_goes_on told old new t s q n port end was_none request sessions unopened str
     let le = back_le (end_of old) h.steady.back in
     let posted : old.book.posted ≡ length sent = h.steady.posted ∙ ap (length {A = Posted}) before in
     let numbered : n ≡ old.book.posted + 1 = ap (λ (l : List ℕ). get_or l 0 0) a.numbers in
-    steps_on told old new (λ story. story) (same_story (told old.port) (told new.port) (ap told port)) (record {
+    steps_on told old new (λ story. story) (λ s q. q) (same_story (told old.port) (told new.port) (ap told port)) (record {
       same_end = same_end old new end;
+      later = later_is (end_of old) (end_of new) end;
       steady = subst (λ (y : WorkerView × Option Posted). IsSteady y.0 y.1 new.book) (λ i. (sym end i, sym request i))
           (record {
             running = h.steady.running;
@@ -183,7 +188,9 @@ one_goes_on told old new t s q n port end was_none request sessions unopened str
                 ∙ sym (map-append unsettled_post (drop (length (end_of old).back) sent) (p ∷ []))
                 ∙ ap (map unsettled_post) (sym (drop-append-le (length (end_of old).back) sent (p ∷ []) le));
             back = h.steady.back;
+            told = h.steady.told;
           });
+      dialect = ap (λ (x : BookState). x.dialect) a.rest;
       strangers = strangers ∙ h.strangers;
       unopened = unopened;
       ended = ended;
@@ -191,7 +198,7 @@ one_goes_on told old new t s q n port end was_none request sessions unopened str
     (λ story e was_so. (
       told_read (run_view story old)
           (run_view story new) old.unopened old.ended t s a.read a.messages was_so.0 open_is a.reading.reads more
-          others refl
+          others refl refl
           (ap (λ (w : WorkerView). w.back) end) (λ i. (sessions i).items) a.only_at (λ i q. pieces q i),
       paused_kept story story (piece_of old.book) (piece_of new.book) pieces (λ q. refl) was_so.1,
     ))
@@ -209,16 +216,19 @@ quiet_goes_on told old new t (Some s) o port end request sessions unopened stran
 quiet_goes_on told old new t None o port end request sessions unopened strangers ended h closed open_is =
     let book = closed (sym o) in let pieces : (q : ℕ) → piece_of new.book q ≡ piece_of old.book q =
     λ q i. piece_of (book i) q in
-    steps_on told old new (λ story. story) (same_story (told old.port) (told new.port) (ap told port)) (record {
+    steps_on told old new (λ story. story) (λ s q. q) (same_story (told old.port) (told new.port) (ap told port)) (record {
       same_end = same_end old new end;
+      later = later_is (end_of old) (end_of new) end;
       steady = subst (λ (y : WorkerView × Option Posted × BookState). IsSteady y.0 y.1 y.2)
           (λ i. (sym end i, sym request i, sym book i)) h.steady;
+      dialect = ap (λ (x : BookState). x.dialect) book;
       strangers = strangers ∙ h.strangers;
       unopened = unopened;
       ended = ended;
     }) h
     (λ story e was_so. (
       subst (λ (v : RunView). IsStoryKnown v old.unopened old.ended) (λ i. record {
+        dialect = story.dialect;
         events = story.events;
         posted = posted_by (sym end i)
             (sym request i);
@@ -242,11 +252,13 @@ posted_goes_on told old batch request taken sent h =
     (λ i. posted_by (sent i) (taken i)) ∙ append-nil (posted_by w old.request) in
     let back : end.back ≡ w.back = ap (λ (x : WorkerView). x.back) sent in
     let le = back_le w h.steady.back in
-    steps_on told old new (λ story. story) (same_story (told old.port) (told old.port) refl) (record {
+    steps_on told old new (λ story. story) (λ s q. q) (same_story (told old.port) (told old.port) refl) (record {
       same_end = record {
         exchange = ap (λ (x : WorkerView). x.exchange) sent;
         worker = ap (λ (x : WorkerView). x.worker) sent;
       };
+      later = later_view w end (ap (λ (x : WorkerView). x.worker) sent) (ap (λ (x : WorkerView). x.geometry) sent)
+          (ap (λ (x : WorkerView). x.seen) sent);
       steady = record {
         running = ap (λ (x : WorkerView). x.said_bye) sent ∙ h.steady.running;
         posted = h.steady.posted ∙ ap (length {A = Posted}) (sym all);
@@ -254,7 +266,14 @@ posted_goes_on told old batch request taken sent h =
         unsettled = h.steady.unsettled ∙ (λ i. map unsettled_post (drop (length (sym back i)) (sym all i)));
         back = ap asked_posted back ∙ h.steady.back ∙ sym (take-append-le (length w.back) w.sent (option_to_list old.request) le)
             ∙ (λ i. take (length (sym back i)) ((sym sent i).sent));
+        told = subst WasToldOfHistory (sym sent) (record {
+          legal = h.steady.told.legal;
+          asked = starts_longer w.sent (asked_posted (worker_share w.seen w.worker))
+              (option_to_list old.request) h.steady.told.asked;
+          back = h.steady.told.back;
+        });
       };
+      dialect = refl;
       strangers = h.strangers;
       unopened = refl;
       ended = refl;
@@ -268,24 +287,9 @@ posted_goes_on told old batch request taken sent h =
 -- a worker that doesn't change goes on
 pub goes_on_same : {P : Type 0} (told : P → Option PortStory) (a : WorkerState P) → IsWorkerServing told a
     → WorkerGoesOn told a a
-goes_on_same told a h = record { tells = refl; same_end = record { exchange = refl; worker = refl }; serving = h }
-
--- what a session that gives no request leaves of the book
-pub quiet_elsewhere : (old new : BookState) (t s : ℕ) (o : Option SessionState) → o ≡ session_of old t → (s ≡ t → ⊥)
-    → (session_of old t ≡ None → new ≡ old)
-    → ((st : SessionState) → session_of old t ≡ Some st → (x : SessionState) × OnlyAt old new t (Some x))
-    → session_of new s ≡ session_of old s
-quiet_elsewhere old new t s None o ne closed only = ap (λ b. session_of b s) (closed (sym o))
-quiet_elsewhere old new t s (Some st) o ne closed only = let x = only st (sym o) in
-    x.1 s ∙ at_other t s (Some x.0) (session_of old s) (λ e. ne (sym e))
-
--- a session that is open after it was asked and gave no request has a reason to give none
-pub quiet_here : (old new : BookState) (t : ℕ) (s : SessionState) (o : Option SessionState) → o ≡ session_of old t
-    → session_of new t ≡ Some s
-    → (session_of old t ≡ None → new ≡ old)
-    → ((st : SessionState) → session_of old t ≡ Some st → NextAsk old t st (Ok None) new) → GivesNone old s
-quiet_here old new t s None o q closed open_is =
-    absurd (not_both (session_of new t) s (ap (λ b. session_of b t) (closed (sym o)) ∙ sym o) q)
-quiet_here old new t s (Some st) o q closed open_is =
-    let a = open_is st (sym o) in subst (λ (x : SessionState). GivesNone old x)
-    (some_is a.read s (sym (a.only_at t ∙ at_same t (Some a.read) (session_of old t)) ∙ q)) (a.none refl)
+goes_on_same told a h = record {
+  tells = refl;
+  same_end = record { exchange = refl; worker = refl };
+  dialect = refl;
+  serving = h;
+}

@@ -3,6 +3,7 @@ use Rattle.std.proofs.Common.{◌≡◌, ℕ, true≢false, cond, List, [], ◌+
 use Rattle.std.proofs.Common.{append_assoc, append-nil, take-append-drop, Option}
 use Rattle.std.proofs.Common.{Some, None, is_some}
 use Rattle.std.specs.List.{concat}
+use Rattle.proto.specs.declared.dialect.Dialect.{Dialect}
 use Rattle.proto.specs.declared.message.Reply.{Reply}
 use Rattle.proto.specs.declared.message.Message.{Message}
 use Rattle.session_book.specs.declared.causes.EndCause.{EndCause}
@@ -11,11 +12,12 @@ use Rattle.session_book.specs.Accounts.{HasRead, HasSaid, StartsAccounts, FeedKe
 
 -- of a new session, fed nothing, no message was read and nothing was said
 pub starts_accounts : StartsAccounts
-starts_accounts = (
+starts_accounts d = (
   record {
     pieces = [];
     dropped = [];
     whole = refl;
+    dialect = refl;
     spelled = tt;
     ends_at_last = tt;
     ended = refl;
@@ -25,12 +27,12 @@ starts_accounts = (
 )
 
 -- by whether the session has ended
-fed_by : (o : Option EndCause) (bytes piece given : List ℕ) (ms : List Message) (replies : List Reply)
+fed_by : (d : Dialect) (o : Option EndCause) (bytes piece given : List ℕ) (ms : List Message) (replies : List Reply)
     (s : SessionState) → s.ended ≡ o
-    → HasRead bytes ms s → HasSaid ms replies given s
-    → HasRead (bytes ++ piece) ms (cond (is_some o) s (record s { unread = s.unread ++ piece }))
+    → HasRead d bytes ms s → HasSaid ms replies given s
+    → HasRead d (bytes ++ piece) ms (cond (is_some o) s (record s { unread = s.unread ++ piece }))
     × HasSaid ms replies given (cond (is_some o) s (record s { unread = s.unread ++ piece }))
-fed_by None bytes piece given ms replies s e h k = (
+fed_by d None bytes piece given ms replies s e h k = (
   record {
     pieces = h.pieces;
     dropped = [];
@@ -38,6 +40,7 @@ fed_by None bytes piece given ms replies s e h k = (
         (h.whole ∙ ap (λ (x : List ℕ). (concat h.pieces ++ s.unread) ++ x) (h.nothing_dropped e)
         ∙ append-nil (concat h.pieces ++ s.unread)) ∙ append_assoc (concat h.pieces) s.unread piece
         ∙ sym (append-nil (concat h.pieces ++ (s.unread ++ piece)));
+    dialect = h.dialect;
     spelled = h.spelled;
     ends_at_last = h.ends_at_last;
     ended = h.ended;
@@ -45,11 +48,12 @@ fed_by None bytes piece given ms replies s e h k = (
   },
   record { whole = k.whole; queue = k.queue; replied = k.replied },
 )
-fed_by (Some c) bytes piece given ms replies s e h k = (
+fed_by d (Some c) bytes piece given ms replies s e h k = (
   record {
     pieces = h.pieces;
     dropped = h.dropped ++ piece;
     whole = ap (λ (x : List ℕ). x ++ piece) h.whole ∙ append_assoc (concat h.pieces ++ s.unread) h.dropped piece;
+    dialect = h.dialect;
     spelled = h.spelled;
     ends_at_last = h.ends_at_last;
     ended = h.ended;
@@ -60,15 +64,16 @@ fed_by (Some c) bytes piece given ms replies s e h k = (
 
 -- a session that is fed a piece has read the same messages of the longer input, and said the same
 pub feed_keeps : FeedKeeps
-feed_keeps bytes piece given ms replies s h k = fed_by s.ended bytes piece given ms replies s refl h k
+feed_keeps d bytes piece given ms replies s h k = fed_by d s.ended bytes piece given ms replies s refl h k
 
 -- a session that gives n bytes of its output has read the same messages, and all it gave and still has to give is what was said
 pub give_keeps : GiveKeeps
-give_keeps bytes given n ms replies s h k = (
+give_keeps d bytes given n ms replies s h k = (
   record {
     pieces = h.pieces;
     dropped = h.dropped;
     whole = h.whole;
+    dialect = h.dialect;
     spelled = h.spelled;
     ends_at_last = h.ends_at_last;
     ended = h.ended;

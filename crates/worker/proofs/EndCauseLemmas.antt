@@ -113,16 +113,38 @@ cause_here (x ∷ xs) s c old e =
     ∙ ap (λ b. cond b (Some x.1) (cause_of (with_cause xs s c) s)) (ne_eqb x.0 s ne)
     ∙ cause_here xs s c old (sym (ap (λ b. cond b (Some x.1) (cause_of xs s)) (ne_eqb x.0 s ne)) ∙ e))
 
+-- writing a cause leaves an entry's number
+number_stays : (e : ℕ × EndCause) (s : ℕ) (c : EndCause) → (cond (e.0 == s) (s, c) e).0 ≡ e.0
+number_stays e s c =
+    either_way e.0 s (λ (q : e.0 ≡ s). ap (λ (y : ℕ × EndCause). y.0) (written e s c q) ∙ sym q)
+    (λ (ne : e.0 ≢ s). ap (λ (y : ℕ × EndCause). y.0) (kept_apart e s c ne))
+
 -- numbers that rise from one above n do so after a cause is written
 with_rises : (n : ℕ) (xs : Report) (s : ℕ) (c : EndCause) → ReportRisesFrom n xs → ReportRisesFrom n (with_cause xs s c)
 with_rises n [] s c h = tt
-with_rises n (x ∷ xs) s c h =
-    let same : (cond (x.0 == s) (s, c) x).0 ≡ x.0 =
-    either_way x.0 s (λ (e : x.0 ≡ s). ap (λ (y : ℕ × EndCause). y.0) (written x s c e) ∙ sym e)
-    (λ (ne : x.0 ≢ s). ap (λ (y : ℕ × EndCause). y.0) (kept_apart x s c ne)) in (
-      subst (λ k. n < k) (sym same) h.0,
-      subst (λ k. ReportRisesFrom k (with_cause xs s c)) (sym same) (with_rises x.0 xs s c h.1),
-    )
+with_rises n (x ∷ xs) s c h = let same = number_stays x s c in (
+  subst (λ k. n < k) (sym same) h.0,
+  subst (λ k. ReportRisesFrom k (with_cause xs s c)) (sym same) (with_rises x.0 xs s c h.1),
+)
+
+-- and they did before, where they do afterwards
+rose_from : (n : ℕ) (xs : Report) (s : ℕ) (c : EndCause) → ReportRisesFrom n (with_cause xs s c) → ReportRisesFrom n xs
+rose_from n [] s c h = tt
+rose_from n (x ∷ xs) s c h = let same = number_stays x s c in (
+  subst (λ k. n < k) same h.0,
+  rose_from x.0 xs s c (subst (λ k. ReportRisesFrom k (with_cause xs s c)) same h.1),
+)
+
+pub rose : (xs : Report) (s : ℕ) (c : EndCause) → Rises (with_cause xs s c) → Rises xs
+rose xs s c h = rose_from 0 xs s c h
+
+-- numbers rise where they do with one more behind them
+before_from : (n : ℕ) (xs : Report) (e : ℕ × EndCause) → ReportRisesFrom n (xs ++ e ∷ []) → ReportRisesFrom n xs
+before_from n [] e h = tt
+before_from n (x ∷ xs) e h = (h.0, before_from x.0 xs e h.1)
+
+pub rose_before : (xs : Report) (e : ℕ × EndCause) → Rises (xs ++ e ∷ []) → Rises xs
+rose_before xs e h = before_from 0 xs e h
 
 -- the numbers of a report rise after a cause is written, if they rose before
 pub rises_with : (xs : Report) (s : ℕ) (c : EndCause) → Rises xs → Rises (with_cause xs s c)

@@ -4,6 +4,7 @@ pub mod Facts
 pub mod BookLaws
 pub mod SessionSteps
 pub mod EndCauseLemmas
+pub mod Listing
 pub mod RunViews
 pub mod StoryLaws
 pub mod PieceLaws
@@ -14,3 +15,4 @@ pub mod AskSteps
 pub mod SettleSteps
 pub mod DrainSteps
 pub mod ReportSteps
+pub mod GiveSteps

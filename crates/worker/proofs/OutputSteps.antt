@@ -1,10 +1,14 @@
 -- What giving output, feeding a held piece and closing leave true of a worker.
 use Rattle.std.proofs.Common.{◌≡◌, ◌≢◌, ℕ, ◌-◌, ◌^◌, ◌≤◌, ◌==◌, Bool, true, false, true≢false, cond, eq-eqb, ne_eqb}
 use Rattle.std.proofs.Common.{List, [], ◌∷◌, ◌++◌, length, take, min}
-use Rattle.std.proofs.Common.{refl, sym, ap, subst, ◌∙◌, append-nil, Option, Some, None, Ok, is_some, ◌⊎◌, inl, inr}
+use Rattle.std.proofs.Common.{refl, sym, ap, subst, ◌∙◌, append-nil, Option, Some, None, Result, Ok, Err, is_some, ◌⊎◌, inl, inr}
 use Rattle.std.specs.Option.{option_map}
 use Rattle.proto.specs.declared.history.Posted.{Posted}
+use Rattle.proto.specs.declared.history.Answered.{Answered}
 use Rattle.exchange.specs.Ends.{WorkerView}
+use Rattle.exchange.specs.Beginnings.{StartsWith}
+use Rattle.exchange.proofs.Lists.{starts_self}
+use Rattle.worker_port.specs.declared.events.Gone.{Gone}
 use Rattle.session_book.specs.declared.causes.EndCause.{EndCause}
 use Rattle.session_book.specs.declared.causes.EndCause.TheVariants as causes
 use Rattle.session_book.specs.Session.{SessionState, IsInputFull, once_fed, held_fed, gave}
@@ -13,18 +17,18 @@ use Rattle.session_book.specs.Book.{BookState, session_of, out_of, held_of, Only
 use Rattle.worker_port.specs.declared.events.PortRecord.{PortRecord}
 use Rattle.worker_port.specs.declared.events.PortRecord.TheVariants as was
 use Rattle.worker.specs.declared.state.WorkerState.{WorkerState}
-use Rattle.worker_port.specs.Ports.{PortStory, then_told, with_pause, is_open, give_records, has_ended, opened_count, AcceptsOnlyOpen}
+use Rattle.worker_port.specs.Ports.{PortStory, then_gave, with_pause, is_open, give_records, has_ended, opened_count, AcceptsOnlyOpen}
 use Rattle.worker.specs.Sessions.{RunView, facts, AreFactsConsistent, IsSessionServed}
 use Rattle.worker_port.specs.PortFacts.{port_facts}
 use Rattle.worker.specs.EndCauses.{Rises, piece_of}
-use Rattle.worker.specs.Workers.{end_of, posted_by, IsSteady, AreSessionsCounted, IsStoryKnown, run_view, IsWorkerServing, Closes, LeavesWorker}
+use Rattle.worker.specs.Workers.{end_of, posted_by, IsSteady, AreSessionsCounted, IsStoryKnown, run_view, IsWorkerServing, IsStoryBy, Closes, LeavesWorker}
 use Rattle.worker_port.proofs.Facts.{elsewhere, accepted_here}
 use Rattle.worker.proofs.SessionSteps.{runs, served_fed, served_holding, served_gave}
 use Rattle.worker.proofs.RunViews.{facts_equal, change_at, at_other, at_same}
 use Rattle.worker_port.proofs.Lists.{ended_same, count_same, accepts_more}
 use Rattle.worker.proofs.StoryLaws.{paused_but, paused_elsewhere}
 use Rattle.worker.proofs.PieceLaws.{pieces_at}
-use Rattle.worker.proofs.WorkerSteps.{WorkerGoesOn, StoryFacts, steps_on, closes_in, steady_same, steady_closed, same_end}
+use Rattle.worker.proofs.WorkerSteps.{WorkerGoesOn, StoryFacts, steps_on, closes_in, steady_same, steady_closed, same_end, later_is}
 use Rattle.worker.proofs.WorkerSteps.{told_gone, told_open, fact_at, running_on}
 use Rattle.proto.proofs.CountLemmas.{either_way}
 
@@ -44,22 +48,22 @@ told_within v v' unopened ended h e r each = record {
 }
 
 -- where nothing changes but the book and the held piece of one session, what is known of the others stays
-pub others_within : (v v' : RunView) (t : ℕ) → v'.events ≡ v.events → v'.posted ≡ v.posted → v'.back ≡ v.back
+pub others_within : (v v' : RunView) (t : ℕ) → v'.dialect ≡ v.dialect → v'.events ≡ v.events → v'.posted ≡ v.posted → v'.back ≡ v.back
     → v'.sessions ≡ v.sessions
     → ((s : ℕ) → t ≢ s → session_of v'.book s ≡ session_of v.book s) → ((s : ℕ) → t ≢ s → v'.piece s ≡ v.piece s)
     → (s : ℕ) → t ≢ s → facts v' s ≡ facts v s
-others_within v v' t e p b r book piece s ne =
-    facts_equal (facts v' s) (facts v s) (ap (λ l. port_facts l s) e) (λ i. (facts (record v { posted = p i }) s).asked)
+others_within v v' t d e p b r book piece s ne =
+    facts_equal (facts v' s) (facts v s) d (ap (λ l. port_facts l s) e) (λ i. (facts (record v { posted = p i }) s).asked)
     (λ i. (facts (record v { back = b i }) s).had) (λ i. (facts (record v { sessions = r i }) s).cause) (book s ne)
     (piece s ne)
 
 -- all that is known stays true where an open session is fed its held piece
 pub told_refed : (v v' : RunView) (unopened : ℕ) (ended : Bool) (t : ℕ) (s : SessionState)
     → IsStoryKnown v unopened ended → session_of v.book t ≡ Some s
-    → v.piece t ≡ s.held → v'.events ≡ v.events → v'.posted ≡ v.posted → v'.back ≡ v.back → v'.sessions ≡ v.sessions
+    → v.piece t ≡ s.held → v'.dialect ≡ v.dialect → v'.events ≡ v.events → v'.posted ≡ v.posted → v'.back ≡ v.back → v'.sessions ≡ v.sessions
     → ((k : ℕ) → session_of v'.book k ≡ cond (k == t) (Some (held_fed s)) (session_of v.book k))
     → ((k : ℕ) → v'.piece k ≡ cond (k == t) [] (v.piece k)) → IsStoryKnown v' unopened ended
-told_refed v v' unopened ended t s h open_is held e p b r book piece =
+told_refed v v' unopened ended t s h open_is held d e p b r book piece =
     let run = runs (facts v t) s (h.each t) open_is in
     let same : run.running.s ≡ s = some_is run.running.s s (sym run.running.state ∙ open_is) in
     let was_served : IsSessionServed s.held (facts v t) s =
@@ -68,27 +72,30 @@ told_refed v v' unopened ended t s h open_is held e p b r book piece =
     let served = served_holding (facts v t) (once_fed s s.held) [] [] (served_fed (facts v t) s s.held was_served) in
     let state : session_of v'.book t ≡ Some (held_fed s) =
     book t ∙ at_same t (Some (held_fed s)) (session_of v.book t) in
-    let here = fact_at v v' t (port_facts v.events t) (Some (held_fed s)) [] (ap (λ l. port_facts l t) e) p b r state
+    let here = fact_at v v' t (port_facts v.events t) (Some (held_fed s)) [] d (ap (λ l. port_facts l t) e) p b r state
     (piece t ∙ at_same t [] (v.piece t)) in
     let now = running_on (facts v t) (port_facts v.events t) (held_fed s) [] run refl refl refl served in
     told_within v v' unopened ended h e r
-    (change_at t v v' (others_within v v' t e p b r
+    (change_at t v v' (others_within v v' t d e p b r
     (λ k ne. book k ∙ at_other t k (Some (held_fed s)) (session_of v.book k) ne)
     (λ k ne. piece k ∙ at_other t k [] (v.piece k) ne)) (subst AreFactsConsistent (sym here) now) (λ k ne. h.each k))
 
 -- what goes on where only the port and the book change
 pub within_goes_on : {P : Type 0} (told : P → Option PortStory) (old new : WorkerState P) (f : PortStory → PortStory)
     → LeavesWorker old new
+    → ((story : PortStory) → IsStoryBy story (end_of old) old.book → IsStoryBy (f story) (end_of old) old.book)
     → told new.port ≡ option_map f (told old.port) → new.book.posted ≡ old.book.posted
-    → new.book.unsettled ≡ old.book.unsettled → IsWorkerServing told old
+    → new.book.unsettled ≡ old.book.unsettled → new.book.dialect ≡ old.book.dialect → IsWorkerServing told old
     → ((story : PortStory) → StoryFacts story old old.unopened old.ended
     → StoryFacts (f story) new old.unopened old.ended) → WorkerGoesOn told old new
-within_goes_on told old new f rest port p u h each =
-    steps_on told old new f port (record {
+within_goes_on told old new f rest stays port p u d h each =
+    steps_on told old new f stays port (record {
       same_end = same_end old new rest.end;
+      later = later_is (end_of old) (end_of new) rest.end;
       steady = subst (λ (y : WorkerView × Option Posted). IsSteady y.0 y.1 new.book)
           (λ i. (sym rest.end i, sym rest.request i))
           (steady_same (end_of old) old.request old.book new.book p u h.steady);
+      dialect = d;
       strangers = rest.strangers ∙ h.strangers;
       unopened = rest.unopened;
       ended = rest.ended;
@@ -141,12 +148,12 @@ gave_list l t n out opened =
 -- all that is known stays true where n bytes of an open session's output are given
 pub told_gave : (v v' : RunView) (unopened : ℕ) (ended : Bool) (t n : ℕ) (s : SessionState)
     → IsStoryKnown v unopened ended → session_of v.book t ≡ Some s
-    → v'.events ≡ v.events ++ give_records t s.out (Ok n) → v'.posted ≡ v.posted → v'.back ≡ v.back
+    → v'.dialect ≡ v.dialect → v'.events ≡ v.events ++ give_records t s.out (Ok n) → v'.posted ≡ v.posted → v'.back ≡ v.back
     → v'.sessions ≡ v.sessions
     → ((k : ℕ) → session_of v'.book k ≡ cond (k == t)
     (option_map (λ (x : SessionState). gave x n) (session_of v.book t)) (session_of v.book k))
     → v'.piece ≡ v.piece → IsStoryKnown v' unopened ended
-told_gave v v' unopened ended t n s h open_is e p b r book piece =
+told_gave v v' unopened ended t n s h open_is d e p b r book piece =
     let l = v.events in
     let run = runs (facts v t) s (h.each t) open_is in let st = run.running.s in
     let s_is : Some s ≡ Some st = sym open_is ∙ run.running.state in
@@ -160,12 +167,12 @@ told_gave v v' unopened ended t n s h open_is e p b r book piece =
     let state : session_of v'.book t ≡ Some (gave st n) =
     book t ∙ at_same t (option_map (λ (x : SessionState). gave x n) (session_of v.book t))
     (session_of v.book t) ∙ ap (option_map (λ (x : SessionState). gave x n)) run.running.state in
-    let here = fact_at v v' t port (Some (gave st n)) (v.piece t)
+    let here = fact_at v v' t port (Some (gave st n)) (v.piece t) d
     (ap (λ m. port_facts m t) e ∙ gave_facts l t n s.out ∙ ap (λ (o : List ℕ). record
     (port_facts l t) { given = (port_facts l t).given ++ take n o }) outs) p b r state (λ i. piece i t) in
     let now = running_on (facts v t) port (gave st n) (v.piece t) run refl refl refl served in
     let others : (k : ℕ) → t ≢ k → facts v' k ≡ facts v k =
-    λ k ne. facts_equal (facts v' k) (facts v k) (ap (λ m. port_facts m k) e ∙ gave_elsewhere l t n s.out k ne)
+    λ k ne. facts_equal (facts v' k) (facts v k) d (ap (λ m. port_facts m k) e ∙ gave_elsewhere l t n s.out k ne)
     (λ i. (facts (record v { posted = p i }) k).asked) (λ i. (facts (record v { back = b i }) k).had)
     (λ i. (facts (record v { sessions = r i }) k).cause) (book k ∙ at_other t k
     (option_map (λ (x : SessionState). gave x n) (session_of v.book t)) (session_of v.book k) ne) (λ i. piece i k) in
@@ -180,16 +187,33 @@ told_gave v v' unopened ended t n s h open_is e p b r book piece =
       accepts = subst AcceptsOnlyOpen (sym e) (same.accepts h.accepts);
     }
 
+-- where bytes are given by the history that the end was told of last, the story is still its worker's
+pub gives_by : {P : Type 0} (old : WorkerState P) (t : ℕ) (b : List ℕ) (result : Result ℕ Gone) (history : List Answered)
+    → history ≡ (end_of old).seen
+    → (story : PortStory) → IsStoryBy story (end_of old) old.book
+    → IsStoryBy (then_gave t b result history story) (end_of old) old.book
+gives_by old t b result history is story (h, d) = (
+  record {
+    worker_is = h.worker_is;
+    sizes_are = h.sizes_are;
+    later = subst (λ l. StartsWith (end_of old).seen l) (sym is) (starts_self (end_of old).seen);
+  },
+  d,
+)
+
 -- a session whose peer has gone at a `give`
 pub lost_goes_on : {P : Type 0} (told : P → Option PortStory) (old new : WorkerState P) (port : P) (t : ℕ) (s : SessionState)
-    → session_of old.book t ≡ Some s → told port ≡ option_map (then_told (was.Gone t ∷ [])) (told old.port)
+    (b : List ℕ) (e : Gone) (history : List Answered) → history ≡ (end_of old).seen
+    → session_of old.book t ≡ Some s → told port ≡ option_map (then_gave t b (Err e) history) (told old.port)
     → IsWorkerServing told old → new.port ≡ port
     → Closes (record old { port = port }) new t causes.Gone → WorkerGoesOn told old new
-lost_goes_on told old new port t s open_is told_is h port_is k =
-    let f = then_told (was.Gone t ∷ []) in
-    steps_on told old new f (ap told port_is ∙ told_is) (record {
+lost_goes_on told old new port t s b gone history history_is open_is told_is h port_is k =
+    let f = then_gave t b (Err gone) history in
+    steps_on told old new f (gives_by old t b (Err gone) history history_is) (ap told port_is ∙ told_is) (record {
       same_end = same_end old new k.end;
+      later = later_is (end_of old) (end_of new) k.end;
       steady = steady_closed (record old { port = port }) new t causes.Gone k h.steady;
+      dialect = ap (λ (x : BookState). x.dialect) k.book.rest;
       strangers = k.strangers ∙ h.strangers;
       unopened = k.unopened;
       ended = k.ended;
@@ -238,12 +262,13 @@ refed_goes_on told old new t rest port h k =
     let only : OnlyAt old.book new.book t (Some (held_fed k.s)) =
     subst (λ (x : SessionState). OnlyAt old.book new.book t (Some x)) k.changes.1 k.only.only_at in
     let pieces = pieces_at old.book new.book t (Some (held_fed k.s)) only in
-    within_goes_on told old new (with_pause t false) rest port
-    (ap (λ (b : BookState). b.posted) k.only.rest) (ap (λ (b : BookState). b.unsettled) k.only.rest) h
+    within_goes_on told old new (with_pause t false) rest (λ s q. q) port
+    (ap (λ (b : BookState). b.posted) k.only.rest) (ap (λ (b : BookState). b.unsettled) k.only.rest)
+    (ap (λ (b : BookState). b.dialect) k.only.rest) h
     (λ story was_so. (
       told_refed (run_view story old)
           (run_view (with_pause t false story) new) old.unopened old.ended t k.s was_so.0 k.was_open
-          (ap held_of k.was_open) refl
+          (ap held_of k.was_open) refl refl
           (λ i. posted_by (rest.end i) (rest.request i))
           (ap (λ (w : WorkerView). w.back) rest.end) rest.sessions only pieces,
       paused_but story (with_pause t false story) t (piece_of old.book) (piece_of new.book) pieces

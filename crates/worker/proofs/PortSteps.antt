@@ -4,6 +4,7 @@ use Rattle.std.proofs.Common.{false, true≢false, ◌||◌, ◌&&◌, not, cond
 use Rattle.std.proofs.Common.{◌++◌, length, min, refl, sym, ap, subst, ◌∙◌, append-nil, arith, Option, Some, None, is_some, ◌⊎◌, ⊎_elim}
 use Rattle.std.proofs.lemmas.List.{length-append}
 use Rattle.std.specs.Option.{option_map, option_and_then}
+use Rattle.proto.specs.declared.dialect.Dialect.{Dialect}
 use Rattle.proto.specs.declared.history.Posted.{Posted}
 use Rattle.proto.proofs.Options.{some_is}
 use Rattle.exchange.specs.Ends.{WorkerView}
@@ -29,7 +30,7 @@ use Rattle.worker_port.proofs.Lists.{ended_same, ended_now, count_same, count_mo
 use Rattle.worker.proofs.RunViews.{shuts_here, close_all, apart_shut}
 use Rattle.worker.proofs.StoryLaws.{told_before, two_calls, paused_elsewhere, paused_kept, paused_but, paused_more, resumed_holds_none}
 use Rattle.worker.proofs.PieceLaws.{pieces_at, pieces_kept, fed_piece}
-use Rattle.worker.proofs.WorkerSteps.{WorkerGoesOn, OwnFacts, StoryFacts, steps, steps_on, steady_same, same_end}
+use Rattle.worker.proofs.WorkerSteps.{WorkerGoesOn, OwnFacts, StoryFacts, steps, steps_on, steady_same, same_end, later_is}
 use Rattle.worker.proofs.WorkerSteps.{told_finished, told_gone, closes_in, steady_closed, shut_goes_on, told_fed, told_held, open_here, open_at}
 use Rattle.proto.proofs.CountLemmas.{either_way}
 
@@ -100,35 +101,35 @@ fresh l t may = bool_false (was_opened t l) (λ e. let lt = may.1 t e in omega (
 -- all that is known stays true where a session is opened and gets an entry in the report and in the book
 pub told_admitted : (v v' : RunView) (unopened : ℕ) (ended : Bool) (t : ℕ) → IsStoryKnown v unopened ended
     → MayOpen v.events t
-    → v'.events ≡ v.events ++ was.Opened t ∷ [] → v'.posted ≡ v.posted → v'.back ≡ v.back
+    → v'.dialect ≡ v.dialect → v'.events ≡ v.events ++ was.Opened t ∷ [] → v'.posted ≡ v.posted → v'.back ≡ v.back
     → v'.sessions ≡ v.sessions ++ (t, causes.Drained) ∷ []
-    → ((s : ℕ) → session_of v'.book s ≡ cond (s == t) (Some new_session) (session_of v.book s)) → v'.piece ≡ v.piece
+    → ((s : ℕ) → session_of v'.book s ≡ cond (s == t) (Some (new_session v.dialect)) (session_of v.book s)) → v'.piece ≡ v.piece
     → IsStoryKnown v' unopened ended
-told_admitted v v' unopened ended t h may e p k r book piece =
+told_admitted v v' unopened ended t h may d e p k r book piece =
     let l = v.events in let x = was.Opened t in
     let u = untouched (facts v t) (h.each t) (fresh l t may) in
     let port = record (port_facts l t) { opened = true } in
-    let f' = record (facts v t) { port = port; cause = Some causes.Drained; state = Some new_session } in
+    let f' = record (facts v t) { port = port; cause = Some causes.Drained; state = Some (new_session v.dialect) } in
     let here : facts v' t ≡ f' =
-    facts_equal (facts v' t) f' (ap (λ y. port_facts y t) e ∙ opened_here l t)
+    facts_equal (facts v' t) f' d (ap (λ y. port_facts y t) e ∙ opened_here l t)
     (λ i. (facts (record v { posted = p i }) t).asked)
     (λ i. (facts (record v { back = k i }) t).had)
     (ap (λ y. cause_of y t) r ∙ cause_new v.sessions t causes.Drained u.1)
-    (book t ∙ at_same t (Some new_session) (session_of v.book t)) (λ i. piece i t) in
+    (book t ∙ at_same t (Some (new_session v.dialect)) (session_of v.book t)) (λ i. piece i t) in
     let served = served_new f' u.0.fed u.0.given u.0.had u.0.asked u.0.piece in
     let now = is_running f' refl refl (record {
       gone = u.0.gone;
       shut = u.0.shut;
-      s = new_session;
+      s = new_session v.dialect;
       state = refl;
       served = served;
     }) in
     let others : (s : ℕ) → t ≢ s → facts v' s ≡ facts v s =
     λ s ne.
-    facts_equal (facts v' s) (facts v s) (ap (λ y. port_facts y s) e ∙ elsewhere l x s (ne_eqb t s ne))
+    facts_equal (facts v' s) (facts v s) d (ap (λ y. port_facts y s) e ∙ elsewhere l x s (ne_eqb t s ne))
     (λ i. (facts (record v { posted = p i }) s).asked) (λ i. (facts (record v { back = k i }) s).had)
     (ap (λ y. cause_of y s) r ∙ cause_more v.sessions s t causes.Drained ne)
-    (book s ∙ at_other t s (Some new_session) (session_of v.book s) ne)
+    (book s ∙ at_other t s (Some (new_session v.dialect)) (session_of v.book s) ne)
     (λ i. piece i s) in
     let below : (s : ℕ) (d : EndCause) → cause_of v.sessions s ≡ Some d → s < t =
     λ s d q. may.1 s (opened_if_placed (facts v s) d (h.each s) q) in
@@ -145,16 +146,16 @@ told_admitted v v' unopened ended t h may e p k r book piece =
 -- all that is known stays true where a session is opened, shut at once, and counted as unopened
 pub told_refused : (v v' : RunView) (unopened : ℕ) (ended : Bool) (t : ℕ) → IsStoryKnown v unopened ended
     → MayOpen v.events t
-    → v'.events ≡ (v.events ++ was.Opened t ∷ []) ++ was.Shut t ∷ [] → v'.posted ≡ v.posted → v'.back ≡ v.back
+    → v'.dialect ≡ v.dialect → v'.events ≡ (v.events ++ was.Opened t ∷ []) ++ was.Shut t ∷ [] → v'.posted ≡ v.posted → v'.back ≡ v.back
     → v'.sessions ≡ v.sessions
     → v'.book ≡ v.book → v'.piece ≡ v.piece → IsStoryKnown v' (min (unopened + 1) (2 ^ 64 - 1)) ended
-told_refused v v' unopened ended t h may e p k r book piece =
+told_refused v v' unopened ended t h may d e p k r book piece =
     let l = v.events in let x = was.Opened t in let y = was.Shut t in let m = l ++ x ∷ [] in
     let u = untouched (facts v t) (h.each t) (fresh l t may) in
     let port = record (port_facts l t) { opened = true; shut = true } in
     let f' = record (facts v t) { port = port } in
     let here : facts v' t ≡ f' =
-    facts_equal (facts v' t) f' (ap (λ z. port_facts z t) e ∙ shut_here m t
+    facts_equal (facts v' t) f' d (ap (λ z. port_facts z t) e ∙ shut_here m t
     ∙ ap (λ (q : PortFacts). record q { shut = true }) (opened_here l t))
     (λ i. (facts (record v { posted = p i }) t).asked) (λ i. (facts (record v { back = k i }) t).had)
     (ap (λ z. cause_of z t) r)
@@ -167,7 +168,7 @@ told_refused v v' unopened ended t h may e p k r book piece =
     }) in
     let others : (s : ℕ) → t ≢ s → facts v' s ≡ facts v s =
     λ s ne.
-    facts_equal (facts v' s) (facts v s)
+    facts_equal (facts v' s) (facts v s) d
     (ap (λ z. port_facts z s) e ∙ elsewhere m y s (ne_eqb t s ne) ∙ elsewhere l x s (ne_eqb t s ne))
     (λ i. (facts (record v { posted = p i }) s).asked) (λ i. (facts (record v { back = k i }) s).had)
     (ap (λ z. cause_of z s) r)
@@ -196,11 +197,13 @@ admit_goes_on : {P : Type 0} (told : P → Option PortStory) (old new : WorkerSt
     → Admits told (record old { port = port }) new t → WorkerGoesOn told old new
 admit_goes_on told old new port t opens rest h k =
     let f = then_told (was.Opened t ∷ []) in
-    steps_on told old new f (ap told k.port ∙ opens.told_is) (record {
+    steps_on told old new f (λ s q. q) (ap told k.port ∙ opens.told_is) (record {
       same_end = same_end old new rest.end;
+      later = later_is (end_of old) (end_of new) rest.end;
       steady = subst (λ (y : WorkerView × Option Posted). IsSteady y.0 y.1 new.book)
           (λ i. (sym rest.end i, sym rest.request i))
           (steady_same (end_of old) old.request old.book new.book k.counts.0 k.counts.1 h.steady);
+      dialect = k.dialect;
       strangers = rest.strangers ∙ h.strangers;
       unopened = k.unopened;
       ended = rest.ended;
@@ -209,10 +212,13 @@ admit_goes_on told old new port t opens rest h k =
     let none : piece_of old.book t ≡ [] =
     (untouched (facts (run_view story old) t) (was_so.0.each t)
     (fresh story.events t (opens.may story e))).0.piece in
-    let pieces = pieces_kept old.book new.book t (Some new_session) k.book (sym none) in (
+    let pieces = pieces_kept old.book new.book t (Some (new_session old.book.dialect)) k.book (sym none) in
+    let book : (s : ℕ) → session_of new.book s ≡ cond (s == t) (Some (new_session story.dialect)) (session_of old.book s) =
+    subst (λ (d : Dialect). (s : ℕ) → session_of new.book s ≡ cond (s == t) (Some (new_session d)) (session_of old.book s))
+    (sym (h.whose story e).1) k.book in (
       told_admitted (run_view story old) (run_view (f story) new) old.unopened old.ended t was_so.0
-          (opens.may story e) refl
-          (λ i. posted_by (rest.end i) (rest.request i)) (ap (λ (w : WorkerView). w.back) rest.end) k.sessions k.book
+          (opens.may story e) refl refl
+          (λ i. posted_by (rest.end i) (rest.request i)) (ap (λ (w : WorkerView). w.back) rest.end) k.sessions book
           (λ i s. pieces s i),
       paused_kept story (f story) (piece_of old.book) (piece_of new.book) pieces (λ s. refl) was_so.1,
     ))
@@ -224,8 +230,9 @@ refuse_goes_on : {P : Type 0} (told : P → Option PortStory) (old new : WorkerS
     → Refuses told (record old { port = port }) new t → WorkerGoesOn told old new
 refuse_goes_on told old new port t opens rest h k =
     let f = then_told (was.Opened t ∷ []) in let g = then_told (was.Shut t ∷ []) in
-    steps told old new (λ story. g (f story))
+    steps told old new (λ story. g (f story)) (λ s q. q)
     (two_calls f g (told old.port) (told port) (told new.port) opens.told_is k.port) (same_end old new rest.end)
+    (later_is (end_of old) (end_of new) rest.end) (ap (λ (x : BookState). x.dialect) k.book)
     (subst (λ (y : WorkerView × Option Posted × BookState). IsSteady y.0 y.1 y.2)
     (λ i. (sym rest.end i, sym rest.request i, sym k.book i)) h.steady)
     (rest.strangers ∙ h.strangers) h
@@ -236,7 +243,7 @@ refuse_goes_on told old new port t opens rest h k =
       subst (λ (y : ℕ × Bool). IsStoryKnown (run_view (g (f story)) new) y.0 y.1)
           (λ i. (sym k.unopened i, sym rest.ended i))
           (told_refused (run_view story old) (run_view (g (f story)) new) old.unopened old.ended t was_so.0
-          (opens.may story e) refl
+          (opens.may story e) refl refl
           (λ i. posted_by (rest.end i) (rest.request i)) (ap (λ (w : WorkerView). w.back) rest.end) k.sessions k.book
           (ap piece_of k.book)),
       paused_but story (g (f story)) t (piece_of old.book) (piece_of new.book)
@@ -296,13 +303,15 @@ came_unheld told w port t b h told_is resumed =
 -- receiving leaves the rest
 rest_facts : {P : Type 0} (told : P → Option PortStory) (old new : WorkerState P) (port : P)
     → LeavesWorker (record old { port = port }) new
-    → (new.book.posted ≡ old.book.posted) × (new.book.unsettled ≡ old.book.unsettled) → IsWorkerServing told old
-    → OwnFacts old new
+    → (new.book.posted ≡ old.book.posted) × (new.book.unsettled ≡ old.book.unsettled)
+    × (new.book.dialect ≡ old.book.dialect) → IsWorkerServing told old → OwnFacts old new
 rest_facts told old new port rest b h = record {
   same_end = same_end old new rest.end;
+  later = later_is (end_of old) (end_of new) rest.end;
   steady = subst (λ (y : WorkerView × Option Posted). IsSteady y.0 y.1 new.book)
       (λ i. (sym rest.end i, sym rest.request i))
       (steady_same (end_of old) old.request old.book new.book b.0 b.1 h.steady);
+  dialect = b.2;
   strangers = rest.strangers ∙ h.strangers;
   unopened = rest.unopened;
   ended = rest.ended;
@@ -322,6 +331,7 @@ told_data_shut v v' unopened ended t b h opened k =
     let f = record (facts v t) { port = record (port_facts l t) { fed = (port_facts l t).fed ++ b } } in
     let served = served_came (facts v t) run.running.s (facts v t).piece b run.running.served in
     let st : Stays f (facts v' t) = record {
+      dialect = here.dialect;
       fed = ap (λ (p : PortFacts). p.fed) here.port_is ∙ ap (λ (p : PortFacts). p.fed) came;
       given = ap (λ (p : PortFacts). p.given) here.port_is ∙ ap (λ (p : PortFacts). p.given) came;
       asked = here.asked;
@@ -372,21 +382,27 @@ received_goes_on told old new port t b came h (feeds none book port_is rest) =
     let pieces = pieces_kept old.book new.book t
     (option_map (λ (s : SessionState). once_fed s b) (session_of old.book t)) book.only_at
     (fed_piece (session_of old.book t) b) in
-    steps_on told old new f (ap told port_is ∙ came.told_is) (rest_facts told old new port rest
-    (ap (λ (x : BookState). x.posted) book.rest, ap (λ (x : BookState). x.unsettled) book.rest) h) h
+    steps_on told old new f (λ s q. q) (ap told port_is ∙ came.told_is) (rest_facts told old new port rest (
+      ap (λ (x : BookState). x.posted) book.rest,
+      ap (λ (x : BookState). x.unsettled) book.rest,
+      ap (λ (x : BookState). x.dialect) book.rest,
+    ) h) h
     (λ story e was_so. (
       told_fed (run_view story old) (run_view (f story) new) old.unopened old.ended t b was_so.0
-          (came.opened story e) none refl
+          (came.opened story e) none refl refl
           (λ i. posted_by (rest.end i) (rest.request i))
           (ap (λ (w : WorkerView). w.back) rest.end) rest.sessions book.only_at pieces,
       paused_kept story (f story) (piece_of old.book) (piece_of new.book) pieces (λ s. refl) was_so.1,
     ))
 received_goes_on told old new port t b came h (holds none k) =
     let f = then_told (was.Data t b ∷ []) in let g = with_pause t true in
-    steps_on told old new (λ story. g (f story))
+    steps_on told old new (λ story. g (f story)) (λ s q. q)
     (two_calls f g (told old.port) (told port) (told new.port) came.told_is k.port)
-    (rest_facts told old new port k.leaves
-    (ap (λ (x : BookState). x.posted) k.book.rest, ap (λ (x : BookState). x.unsettled) k.book.rest) h) h
+    (rest_facts told old new port k.leaves (
+      ap (λ (x : BookState). x.posted) k.book.rest,
+      ap (λ (x : BookState). x.unsettled) k.book.rest,
+      ap (λ (x : BookState). x.dialect) k.book.rest,
+    ) h) h
     (λ story e was_so.
     let o = open_here story.events t (came.opened story e) in
     let run = runs_at_port (facts (run_view story old) t) (was_so.0.each t) o.0 o.1 o.2 in
@@ -395,7 +411,7 @@ received_goes_on told old new port t b came h (holds none k) =
     pieces_at old.book new.book t (held (session_of old.book t)) k.book.only_at s
     ∙ ap (λ (x : Option SessionState). cond (s == t) (held_of (held x)) (piece_of old.book s)) run.running.state in (
       told_held (run_view story old) (run_view (g (f story)) new) old.unopened old.ended t b was_so.0
-          (came.opened story e) none refl
+          (came.opened story e) none refl refl
           (λ i. posted_by (k.leaves.end i) (k.leaves.request i))
           (ap (λ (w : WorkerView). w.back) k.leaves.end) k.leaves.sessions k.book.only_at pieces,
       paused_more story (g (f story)) t b (piece_of old.book) (piece_of new.book) pieces
@@ -404,10 +420,12 @@ received_goes_on told old new port t b came h (holds none k) =
     ))
 received_goes_on told old new port t b came h (shuts why k) =
     let f = then_told (was.Data t b ∷ []) in let g = then_told (was.Shut t ∷ []) in
-    steps_on told old new (λ story. g (f story))
+    steps_on told old new (λ story. g (f story)) (λ s q. q)
     (two_calls f g (told old.port) (told port) (told new.port) came.told_is k.port) (record {
       same_end = same_end old new k.closes.end;
+      later = later_is (end_of old) (end_of new) k.closes.end;
       steady = steady_closed (record old { port = port }) new t causes.NoMemory k.closes h.steady;
+      dialect = ap (λ (x : BookState). x.dialect) k.closes.book.rest;
       strangers = k.closes.strangers ∙ h.strangers;
       unopened = k.closes.unopened;
       ended = k.closes.ended;
@@ -423,8 +441,11 @@ received_goes_on told old new port t b came h (shuts why k) =
     ))
 received_goes_on told old new port t b came h (drops none book port_is rest) =
     let f = then_told (was.Data t b ∷ []) in
-    steps_on told old new f (ap told port_is ∙ came.told_is) (rest_facts told old new port rest
-    (ap (λ (x : BookState). x.posted) book, ap (λ (x : BookState). x.unsettled) book) h) h
+    steps_on told old new f (λ s q. q) (ap told port_is ∙ came.told_is) (rest_facts told old new port rest (
+      ap (λ (x : BookState). x.posted) book,
+      ap (λ (x : BookState). x.unsettled) book,
+      ap (λ (x : BookState). x.dialect) book,
+    ) h) h
     (λ story e was_so. absurd (open_in_book story old t was_so.0 (came.opened story e) none))
 
 -- the port told that a session has gone, and may have
@@ -439,9 +460,11 @@ pub gone_goes_on : {P : Type 0} (told : P → Option PortStory) (old new : Worke
     → WorkerGoesOn told old new
 gone_goes_on told old new port t loses h port_is k =
     let f = then_told (was.Gone t ∷ []) in
-    steps_on told old new f (ap told port_is ∙ loses.told_is) (record {
+    steps_on told old new f (λ s q. q) (ap told port_is ∙ loses.told_is) (record {
       same_end = same_end old new k.end;
+      later = later_is (end_of old) (end_of new) k.end;
       steady = steady_closed (record old { port = port }) new t causes.Gone k h.steady;
+      dialect = ap (λ (x : BookState). x.dialect) k.book.rest;
       strangers = k.strangers ∙ h.strangers;
       unopened = k.unopened;
       ended = k.ended;
@@ -462,10 +485,12 @@ pub stranger_goes_on : {P : Type 0} (told : P → Option PortStory) (old : Worke
     → IsWorkerServing told old → session_of old.book t ≡ None → WorkerGoesOn told old (record old { port = port })
 stranger_goes_on told old port t loses h none =
     let f = then_told (was.Gone t ∷ []) in
-    steps_on told old (record old { port = port }) f loses.told_is
+    steps_on told old (record old { port = port }) f (λ s q. q) loses.told_is
     (record {
       same_end = record { exchange = refl; worker = refl };
+      later = later_is (end_of old) (end_of old) refl;
       steady = h.steady;
+      dialect = refl;
       strangers = h.strangers;
       unopened = refl;
       ended = refl;
@@ -489,15 +514,17 @@ pub idle_goes_on : {P : Type 0} (told : P → Option PortStory) (old : WorkerSta
     → told port ≡ option_map (then_told []) (told old.port)
     → IsWorkerServing told old → WorkerGoesOn told old (record old { port = port })
 idle_goes_on told old port told_is h =
-    steps_on told old (record old { port = port }) (then_told []) told_is
+    steps_on told old (record old { port = port }) (then_told []) (λ s q. q) told_is
     (record {
       same_end = record { exchange = refl; worker = refl };
+      later = later_is (end_of old) (end_of old) refl;
       steady = h.steady;
+      dialect = refl;
       strangers = h.strangers;
       unopened = refl;
       ended = refl;
     }) h
-    (λ story e was_so. subst (λ (l : List PortRecord). StoryFacts (record { events = l; paused = story.paused })
+    (λ story e was_so. subst (λ (l : List PortRecord). StoryFacts (record story { events = l })
     (record old { port = port }) old.unopened old.ended) (sym (append-nil story.events)) was_so)
 
 -- the port has ended
@@ -506,7 +533,8 @@ pub ended_goes_on : {P : Type 0} (told : P → Option PortStory) (old : WorkerSt
     → WorkerGoesOn told old (record old { port = port; ended = true })
 ended_goes_on told old port told_is h =
     let f = then_told (was.Ended ∷ []) in let new = record old { port = port; ended = true } in
-    steps told old new f told_is (record { exchange = refl; worker = refl }) h.steady h.strangers h
+    steps told old new f (λ s q. q) told_is (record { exchange = refl; worker = refl })
+    (later_is (end_of old) (end_of old) refl) refl h.steady h.strangers h
     (λ story e was_so.
     let k = was_so.0 in let l = story.events in
     let same = count_same l was.Ended refl in (

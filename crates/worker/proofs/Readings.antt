@@ -2,6 +2,7 @@
 use Rattle.std.proofs.Common.{◌≡◌, ℕ, false, List, [], ◌∷◌, ◌++◌, refl, sym, ap, ◌∙◌, append_assoc, append-nil, inl, inr}
 use Rattle.std.specs.List.{concat}
 use Rattle.std.proofs.lemmas.Bool.{cases_Bool, both_ways}
+use Rattle.proto.specs.declared.dialect.Dialect.{Dialect}
 use Rattle.proto.specs.declared.message.Message.{Message}
 use Rattle.proto.specs.Grammar.{SpellsNone}
 use Rattle.proto.specs.Reading.{EndsAtLast, last_ends, Reads}
@@ -31,22 +32,22 @@ ended-append (m ∷ []) (n ∷ ns) e = refl
 ended-append (m ∷ n ∷ ms) ns e = ended-append (n ∷ ms) ns e
 
 -- read on behind what was read, where it has not ended
-pub read_on : (b middle rest : List ℕ) (ms ns : List Message) → last_ends ms ≡ false → BeginsWith b ms middle
-    → BeginsWith middle ns rest
-    → BeginsWith b (ms ++ ns) rest
-read_on b middle rest ms ns e h k = record {
+pub read_on : (d : Dialect) (b middle rest : List ℕ) (ms ns : List Message) → last_ends ms ≡ false → BeginsWith d b ms middle
+    → BeginsWith d middle ns rest
+    → BeginsWith d b (ms ++ ns) rest
+read_on d b middle rest ms ns e h k = record {
   pieces = h.pieces ++ k.pieces;
   whole = h.whole ∙ ap (λ (x : List ℕ). concat h.pieces ++ x) k.whole
       ∙ sym (append_assoc (concat h.pieces) (concat k.pieces) rest)
       ∙ ap (λ (x : List ℕ). x ++ rest) (sym (concat-append h.pieces k.pieces));
-  spelled = SpellEach-append h.pieces k.pieces ms ns h.spelled k.spelled;
+  spelled = SpellEach-append d h.pieces k.pieces ms ns h.spelled k.spelled;
   ends_at_last = ends-append ms ns e h.ends_at_last k.ends_at_last;
 }
 
 -- more bytes came
-pub fed_on : (b rest more : List ℕ) (ms : List Message) → BeginsWith b ms rest
-    → BeginsWith (b ++ more) ms (rest ++ more)
-fed_on b rest more ms h = record {
+pub fed_on : (d : Dialect) (b rest more : List ℕ) (ms : List Message) → BeginsWith d b ms rest
+    → BeginsWith d (b ++ more) ms (rest ++ more)
+fed_on d b rest more ms h = record {
   pieces = h.pieces;
   whole = ap (λ (x : List ℕ). x ++ more) h.whole ∙ append_assoc (concat h.pieces) rest more;
   spelled = h.spelled;
@@ -54,15 +55,15 @@ fed_on b rest more ms h = record {
 }
 
 -- any bytes begin with the spellings of no messages, and all of them are left
-pub nothing_read : (b : List ℕ) → BeginsWith b [] b
-nothing_read b = record { pieces = []; whole = refl; spelled = tt; ends_at_last = tt }
+pub nothing_read : (d : Dialect) (b : List ℕ) → BeginsWith d b [] b
+nothing_read d b = record { pieces = []; whole = refl; spelled = tt; ends_at_last = tt }
 
 -- ---- beside a whole reading
 
 -- a beginning is a whole reading where its last message ends the session, or no beginning of the rest spells a message
-pub whole_reading : (b rest : List ℕ) (ms : List Message) → BeginsWith b ms rest
-    → (last_ends ms ≡ false → SpellsNone rest) → Reads b ms rest
-whole_reading b rest ms h none = record {
+pub whole_reading : (d : Dialect) (b rest : List ℕ) (ms : List Message) → BeginsWith d b ms rest
+    → (last_ends ms ≡ false → SpellsNone d rest) → Reads d b ms rest
+whole_reading d b rest ms h none = record {
   pieces = h.pieces;
   whole = h.whole;
   spelled = h.spelled;
@@ -71,31 +72,31 @@ whole_reading b rest ms h none = record {
 }
 
 -- what was read is all of it
-pub same_reading : (b rest left : List ℕ) (ms ns : List Message) → BeginsWith b ms rest
-    → (last_ends ms ≡ false → SpellsNone rest) → Reads b ns left → ns ≡ ms
-same_reading b rest left ms ns h none r = sym (has_one_reading b rest left ms ns (whole_reading b rest ms h none) r).0
+pub same_reading : (d : Dialect) (b rest left : List ℕ) (ms ns : List Message) → BeginsWith d b ms rest
+    → (last_ends ms ≡ false → SpellsNone d rest) → Reads d b ns left → ns ≡ ms
+same_reading d b rest left ms ns h none r = sym (has_one_reading d b rest left ms ns (whole_reading d b rest ms h none) r).0
 
 -- what was read is the beginning of it
-pub first_of_reading : (b rest left : List ℕ) (ms ns : List Message) → BeginsWith b ms rest → Reads b ns left
+pub first_of_reading : (d : Dialect) (b rest left : List ℕ) (ms ns : List Message) → BeginsWith d b ms rest → Reads d b ns left
     → (more : List Message) × (ns ≡ ms ++ more)
-first_of_reading b rest left ms ns h r =
+first_of_reading d b rest left ms ns h r =
     elim (cases_Bool (last_ends ms)) [
       | inl ended ↦ (
         [],
-        same_reading b rest left ms ns h (λ e. absurd (both_ways (last_ends ms) e ended)) r
+        same_reading d b rest left ms ns h (λ e. absurd (both_ways (last_ends ms) e ended)) r
             ∙ sym (append-nil ms),
       )
       | inr goes_on ↦
-          let on = has_reading rest in
-          let further : BeginsWith rest on.0 on.1 = record {
+          let on = has_reading d rest in
+          let further : BeginsWith d rest on.0 on.1 = record {
             pieces = on.2.pieces;
             whole = on.2.whole;
             spelled = on.2.spelled;
             ends_at_last = on.2.ends_at_last;
           } in
-          let joined = read_on b rest on.1 ms on.0 goes_on h further in (
+          let joined = read_on d b rest on.1 ms on.0 goes_on h further in (
             on.0,
-            same_reading b on.1 left (ms ++ on.0) ns joined
+            same_reading d b on.1 left (ms ++ on.0) ns joined
                 (λ e. on.2.no_more (sym (ended-append ms on.0 goes_on) ∙ e)) r,
           )
     ]

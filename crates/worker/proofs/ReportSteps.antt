@@ -1,7 +1,7 @@
 -- What a worker that has drained reports.
-use Rattle.std.proofs.Common.{◌≡◌, ◌≢◌, ℕ, suc, ◌<◌, ◌==◌, ◌&&◌, Bool, true, false}
-use Rattle.std.proofs.Common.{true≢false, cond, eq-eqb, ne_eqb, List, [], ◌∷◌, ◌++◌, length, map, refl}
-use Rattle.std.proofs.Common.{sym, ap, subst, ◌∙◌, append-nil, arith, Option, Some, None, is_some, get_or}
+use Rattle.std.proofs.Common.{◌≡◌, ℕ, ◌==◌, ◌&&◌, Bool, true, false}
+use Rattle.std.proofs.Common.{true≢false, cond, eq-eqb, List, [], ◌∷◌, ◌++◌, length, map, refl}
+use Rattle.std.proofs.Common.{sym, ap, subst, ◌∙◌, append-nil, arith, Option, Some, None, is_some}
 use Rattle.std.specs.Prelude.{IsSome}
 use Rattle.std.specs.List.{filter, concat}
 use Rattle.proto.specs.declared.message.Request.{Request}
@@ -18,17 +18,16 @@ use Rattle.exchange.specs.Beginnings.{StartsWith, posted_of}
 use Rattle.exchange.specs.Ends.{WorkerView}
 use Rattle.session_book.specs.declared.causes.EndCause.{EndCause}
 use Rattle.session_book.specs.declared.causes.EndCause.TheVariants as causes
-use Rattle.session_book.specs.Session.{SessionState, left, ended_by, finished_by, Stops, ended, waiting, no_message}
+use Rattle.session_book.specs.Session.{SessionState, left, ended_by, finished_by, IsEmptied, Stops, ended, waiting, no_message}
 use Rattle.session_book.specs.Book.{session_of, held_of}
 use Rattle.worker_port.specs.Ports.{fed, given}
 use Rattle.worker.specs.Sessions.{SessionFacts, RunView, facts, asked_by, had_by, cause_of, IsKnownAs, IsReportedAs, IsClosed, IsRunning, IsSessionServed}
 use Rattle.worker.specs.Sessions.{BeginsWith}
-use Rattle.worker.specs.Workers.{IsEmptied, IsStoryKnown}
+use Rattle.worker.specs.Workers.{IsStoryKnown}
 use Rattle.worker.specs.Reports.{IsReported, IsCauseOf, is_complete}
 use Rattle.worker.proofs.Answering.{said_further, begins_on}
 use Rattle.worker.proofs.Readings.{same_reading, first_of_reading}
 use Rattle.worker.proofs.SessionSteps.{not_both, opened_if_placed}
-use Rattle.proto.proofs.CountLemmas.{either_way}
 use Rattle.proto.proofs.AskLemmas.{asks-append}
 
 -- ---- the share of a session
@@ -41,7 +40,7 @@ by_worker true c e ss fs s ws h = ap (λ (x : List Answered). cond (e.session ==
 by_worker false c e ss fs s ws h = h
 
 -- a session's share of a history is what its worker's share has of the session
-share_of : (history : List Answered) (w s : ℕ)
+pub share_of : (history : List Answered) (w s : ℕ)
     → session_share history w s ≡ filter (λ (e : Answered). e.session == s) (worker_share history w)
 share_of [] w s = refl
 share_of (e ∷ history) w s = by_worker (e.worker == w) true e (session_share history w s) [] s (worker_share history w)
@@ -56,7 +55,7 @@ asked_if true e l m h = ap (λ (x : List Request). e.request ∷ x) h
 asked_if false e l m h = h
 
 -- the requests of a session, from those that were posted
-asked_from : (l : List Answered) (s : ℕ)
+pub asked_from : (l : List Answered) (s : ℕ)
     → asked (filter (λ (e : Answered). e.session == s) l) ≡ asked_by (asked_posted l) s
 asked_from [] s = refl
 asked_from (e ∷ l) s = asked_if (e.session == s) e (filter (λ (x : Answered). x.session == s) l)
@@ -145,14 +144,14 @@ final_begun v s cause messages read more split asked_is said_is partial caused =
 
 -- a closed session that a message has ended has read all messages that its bytes spell
 whole_read : (v : RunView) (s : ℕ) (c : EndCause) (messages : List Message) (rest : List ℕ) (h : IsClosed (facts v s) c)
-    → Reads (fed s v.events) messages rest → ended_by None h.messages ≡ Some c → messages ≡ h.messages
+    → Reads v.dialect (fed s v.events) messages rest → ended_by None h.messages ≡ Some c → messages ≡ h.messages
 whole_read v s c messages rest h reads e =
-    same_reading (fed s v.events) h.rest rest h.messages messages h.read
+    same_reading v.dialect (fed s v.events) h.rest rest h.messages messages h.read
     (λ goes_on. absurd (true≢false (sym (ended_true h.messages c e h.read.ends_at_last) ∙ goes_on))) reads
 
 -- a closed session is final with its cause, whatever messages its bytes spell
 final_closed : (v : RunView) (s : ℕ) (c : EndCause) (messages : List Message) (rest : List ℕ) → IsClosed (facts v s) c
-    → Reads (fed s v.events) messages rest → IsFinal v s c messages
+    → Reads v.dialect (fed s v.events) messages rest → IsFinal v s c messages
 final_closed v s causes.Drained messages rest h reads = absurd h.caused
 final_closed v s causes.Quit messages rest h reads = let w = h.caused.1 in
     final_whole v s causes.Quit messages h.messages (whole_read v s causes.Quit messages rest h reads w.2) h.asked w.0
@@ -161,10 +160,10 @@ final_closed v s causes.Fatal messages rest h reads = let w = h.caused.1 in
     final_whole v s causes.Fatal messages h.messages (whole_read v s causes.Fatal messages rest h reads w.2) h.asked w.0
     (h.caused.0, w.2)
 final_closed v s causes.Gone messages rest h reads = let m =
-    first_of_reading (fed s v.events) h.rest rest h.messages messages h.read reads in
+    first_of_reading v.dialect (fed s v.events) h.rest rest h.messages messages h.read reads in
     final_begun v s causes.Gone messages h.messages m.0 m.1 h.asked h.said refl h.caused
 final_closed v s causes.NoMemory messages rest h reads = let m =
-    first_of_reading (fed s v.events) h.rest rest h.messages messages h.read reads in
+    first_of_reading v.dialect (fed s v.events) h.rest rest h.messages messages h.read reads in
     final_begun v s causes.NoMemory messages h.messages m.0 m.1 h.asked h.said refl h.caused
 
 -- a session that is still open has read all that spells a message
@@ -172,7 +171,7 @@ ended_none : (s : SessionState) → s.queue ≡ [] → s.out ≡ [] → finished
 ended_none s q o e = sym (λ i. cond ((length (q i) == 0) && (length (o i) == 0)) s.ended None) ∙ e
 
 -- once a session that hasn't ended and has no output reads no further, no beginning of its unread bytes spells a message
-no_more : (s : SessionState) → s.out ≡ [] → s.ended ≡ None → Stops s → SpellsNone s.unread
+no_more : (s : SessionState) → s.out ≡ [] → s.ended ≡ None → Stops s → SpellsNone s.dialect s.unread
 no_more s o e (ended h) = absurd (true≢false (sym h ∙ ap is_some e))
 no_more s o e (waiting h) = let len : length s.out ≡ 0 = ap (length {A = ℕ}) o in absurd (omega arith)
 no_more s o e (no_message h none) = none
@@ -180,7 +179,7 @@ no_more s o e (no_message h none) = none
 -- a running session that is emptied, and has as many replies as requests, is final with the cause Drained
 final_drained : (v : RunView) (s : ℕ) (messages : List Message) (rest : List ℕ) → (run : IsRunning (facts v s))
     → v.piece s ≡ held_of (session_of v.book s) → IsEmptied run.s
-    → length (asked_by v.posted s) ≡ length (had_by v.back s) → Reads (fed s v.events) messages rest
+    → length (asked_by v.posted s) ≡ length (had_by v.back s) → Reads v.dialect (fed s v.events) messages rest
     → IsFinal v s causes.Drained messages
 final_drained v s messages rest run held emptied many reads =
     let st = run.s in
@@ -191,8 +190,9 @@ final_drained v s messages rest run held emptied many reads =
     let queue : st.queue ≡ [] = r.has_said.queue ∙ left_none r.messages (had_by v.back s)
     (ap (λ (ms : List Message). length (asks ms)) (sym r.has_said.queue) ∙ no_asks) in
     let ends = ended_none st queue emptied.out emptied.unfinished in
-    let spelled_none = no_more st emptied.out ends emptied.stops in
-    let begun : BeginsWith (fed s v.events) r.messages st.unread = record {
+    let spelled_none : SpellsNone v.dialect st.unread =
+    rw r.has_read.dialect at (no_more st emptied.out ends emptied.stops) in
+    let begun : BeginsWith v.dialect (fed s v.events) r.messages st.unread = record {
       pieces = r.has_read.pieces;
       whole = r.fed ∙ append-nil r.bytes ∙ r.has_read.whole
           ∙ ap (λ (x : List ℕ). (concat r.has_read.pieces ++ st.unread) ++ x)
@@ -200,7 +200,7 @@ final_drained v s messages rest run held emptied many reads =
       spelled = r.has_read.spelled;
       ends_at_last = r.has_read.ends_at_last;
     } in
-    let same = same_reading (fed s v.events) st.unread rest r.messages messages begun (λ e. spelled_none) reads in
+    let same = same_reading v.dialect (fed s v.events) st.unread rest r.messages messages begun (λ e. spelled_none) reads in
     final_whole v s causes.Drained messages r.messages same r.asked
     (sym (append-nil (given s v.events)) ∙ ap (λ (x : List ℕ). given s v.events ++ x) (sym emptied.out)
     ∙ r.has_said.whole)
@@ -212,7 +212,7 @@ final_placed : (v : RunView) (s : ℕ) (c : EndCause) (messages : List Message) 
     → IsReportedAs (facts v s) (Some c)
     → v.piece s ≡ held_of (session_of v.book s)
     → (c ≡ causes.Drained → (st : SessionState) → session_of v.book s ≡ Some st → IsEmptied st)
-    → length (asked_by v.posted s) ≡ length (had_by v.back s) → Reads (fed s v.events) messages rest
+    → length (asked_by v.posted s) ≡ length (had_by v.back s) → Reads v.dialect (fed s v.events) messages rest
     → IsFinal v s c messages
 final_placed v s causes.Drained messages rest h none emptied many reads =
     final_drained v s messages rest h none (emptied refl h.s h.state) many reads
@@ -279,7 +279,7 @@ pub reported : (v : RunView) (end : WorkerView) (unopened : ℕ) → IsStoryKnow
     → asked_posted end.back ≡ end.sent → ((s : ℕ) → v.piece s ≡ held_of (session_of v.book s))
     → ((s : ℕ) → cause_of v.sessions s ≡ Some causes.Drained → (st : SessionState) → session_of v.book s ≡ Some st
     → IsEmptied st)
-    → IsReported v.events end v.sessions unopened
+    → IsReported v.dialect v.events end v.sessions unopened
 reported v end unopened h posted back all none emptied = record {
   ended = h.at_end;
   once = h.rising;
@@ -310,15 +310,3 @@ reported v end unopened h posted back all none emptied = record {
         caused = k.caused;
       };
 }
-
--- where a cause stands
-pub position_of_cause : (xs : List (ℕ × EndCause)) (s : ℕ) (c : EndCause) → cause_of xs s ≡ Some c
-    → (k : ℕ) × (k < length xs) × ((d : ℕ × EndCause) → ((get_or xs k d).0 ≡ s) × ((get_or xs k d).1 ≡ c))
-position_of_cause [] s c e = absurd (cc)
-position_of_cause (x ∷ xs) s c e =
-    either_way x.0 s
-    (λ (q : x.0 ≡ s). let here : Some x.1 ≡ Some c = sym (ap (λ b. cond b (Some x.1) (cause_of xs s)) (eq-eqb x.0 s q))
-    ∙ e in (0, omega arith, λ d. (q, cc)))
-    (λ (ne : x.0 ≢ s). let k = position_of_cause xs s c
-    (sym (ap (λ b. cond b (Some x.1) (cause_of xs s)) (ne_eqb x.0 s ne)) ∙ e) in
-    (suc k.0, omega (arith, k.1), k.2))

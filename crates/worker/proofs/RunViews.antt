@@ -14,9 +14,9 @@ use Rattle.worker.proofs.SessionSteps.{Stays, is_closed}
 use Rattle.proto.proofs.CountLemmas.{either_way}
 
 -- what is known of two sessions is the same where each part of it is
-pub facts_equal : (f g : SessionFacts) → f.port ≡ g.port → f.asked ≡ g.asked → f.had ≡ g.had → f.cause ≡ g.cause
+pub facts_equal : (f g : SessionFacts) → f.dialect ≡ g.dialect → f.port ≡ g.port → f.asked ≡ g.asked → f.had ≡ g.had → f.cause ≡ g.cause
     → f.state ≡ g.state → f.piece ≡ g.piece → f ≡ g
-facts_equal f g p a h c s q = λ i. record { port = p i; asked = a i; had = h i; cause = c i; state = s i; piece = q i }
+facts_equal f g d p a h c s q = λ i. record { dialect = d i; port = p i; asked = a i; had = h i; cause = c i; state = s i; piece = q i }
 
 -- one session changes
 pub change_at : (t : ℕ) (w w' : RunView) → ((s : ℕ) → t ≢ s → facts w' s ≡ facts w s) → AreFactsConsistent (facts w' t)
@@ -37,6 +37,7 @@ at_same t x y = ap (λ b. cond b x y) (eq-eqb t t refl)
 -- the list has one more entry, the cause stands at the session's entry, and the session is no longer in the book, with its held
 -- piece; nothing else changes
 pub record ClosesIn (w w' : RunView) (t : ℕ) (cause : EndCause) (x : PortRecord) : Type 0 where
+  pub dialect : w'.dialect ≡ w.dialect
   pub events : w'.events ≡ w.events ++ x ∷ []
   pub posted : w'.posted ≡ w.posted
   pub back : w'.back ≡ w.back
@@ -49,7 +50,7 @@ pub closes_elsewhere : (w w' : RunView) (t : ℕ) (c : EndCause) (x : PortRecord
     → ((s : ℕ) → t ≢ s → about s x ≡ false)
     → (s : ℕ) → t ≢ s → facts w' s ≡ facts w s
 closes_elsewhere w w' t c x h other s ne =
-    facts_equal (facts w' s) (facts w s)
+    facts_equal (facts w' s) (facts w s) h.dialect
     (ap (λ l. port_facts l s) h.events ∙ elsewhere w.events x s (other s ne))
     (ap (λ l. asked_by l s) h.posted) (ap (λ l. had_by l s) h.back)
     (ap (λ l. cause_of l s) h.sessions ∙ cause_apart w.sessions s t c ne)
@@ -58,6 +59,7 @@ closes_elsewhere w w' t c x h other s ne =
 
 -- of the session itself
 pub record ClosedHere (f g : SessionFacts) (port : PortFacts) (cause : EndCause) : Type 0 where
+  pub dialect : g.dialect ≡ f.dialect
   pub port_is : g.port ≡ port
   pub asked : g.asked ≡ f.asked
   pub had : g.had ≡ f.had
@@ -69,6 +71,7 @@ closes_here : (w w' : RunView) (t : ℕ) (c old : EndCause) (x : PortRecord) (po
     → port_facts (w.events ++ x ∷ []) t ≡ port → cause_of w.sessions t ≡ Some old
     → ClosedHere (facts w t) (facts w' t) port c
 closes_here w w' t c old x port h p e = record {
+  dialect = h.dialect;
   port_is = ap (λ l. port_facts l t) h.events ∙ p;
   asked = ap (λ l. asked_by l t) h.posted;
   had = ap (λ l. had_by l t) h.back;
@@ -94,6 +97,7 @@ goes_here w w' t c old h e = closes_here w w' t c old (Gone t) (record (port_fac
 pub stays : (f g : SessionFacts) (port : PortFacts) (c : EndCause) → ClosedHere f g port c → port.fed ≡ f.port.fed
     → port.given ≡ f.port.given → Stays f g
 stays f g port c h fed given = record {
+  dialect = h.dialect;
   fed = ap (λ (p : PortFacts). p.fed) h.port_is ∙ fed;
   given = ap (λ (p : PortFacts). p.given) h.port_is ∙ given;
   asked = h.asked;

@@ -4,6 +4,7 @@ use Rattle.std.proofs.Common.{List, [], ◌∷◌, ◌++◌, length, take, refl,
 use Rattle.std.proofs.Common.{append_assoc, append-nil, arith, Option, Some, None, is_some}
 use Rattle.std.specs.List.{concat}
 use Rattle.std.proofs.lemmas.List.{length-append}
+use Rattle.proto.specs.declared.dialect.Dialect.{Dialect}
 use Rattle.proto.specs.declared.message.Request.{Request}
 use Rattle.proto.specs.declared.message.Reply.{Reply}
 use Rattle.proto.specs.declared.message.Message.{Message}
@@ -113,14 +114,14 @@ is_unopened f o e h = record {
 
 -- a session of which nothing came, and for which nothing was asked, had or given, is served in the state of a new one
 pub served_new : (f : SessionFacts) → f.port.fed ≡ [] → f.port.given ≡ [] → f.had ≡ [] → f.asked ≡ [] → f.piece ≡ []
-    → IsSessionServed f.piece f new_session
+    → IsSessionServed f.piece f (new_session f.dialect)
 served_new f fed_is given_is had_is asked_is piece_is = record {
   bytes = [];
   messages = [];
   fed = fed_is ∙ sym piece_is;
-  has_read = starts_accounts.0;
-  has_said = subst (λ (x : List Reply × List ℕ). HasSaid [] x.0 x.1 new_session)
-      (λ i. (sym had_is i, sym given_is i)) starts_accounts.1;
+  has_read = (starts_accounts f.dialect).0;
+  has_said = subst (λ (x : List Reply × List ℕ). HasSaid [] x.0 x.1 (new_session f.dialect))
+      (λ i. (sym had_is i, sym given_is i)) (starts_accounts f.dialect).1;
   asked = asked_is;
 }
 
@@ -140,7 +141,7 @@ served_came f s held more h = record {
 pub served_fed : (f : SessionFacts) (s : SessionState) (held : List ℕ) → IsSessionServed held f s
     → IsSessionServed [] f (once_fed s held)
 served_fed f s held h =
-    let k = feed_keeps h.bytes held f.port.given h.messages f.had s h.has_read h.has_said in record {
+    let k = feed_keeps f.dialect h.bytes held f.port.given h.messages f.had s h.has_read h.has_said in record {
       bytes = h.bytes ++ held;
       messages = h.messages;
       fed = h.fed ∙ sym (append-nil (h.bytes ++ held));
@@ -160,6 +161,7 @@ served_holding f s held piece h = record {
     pieces = h.has_read.pieces;
     dropped = h.has_read.dropped;
     whole = h.has_read.whole;
+    dialect = h.has_read.dialect;
     spelled = h.has_read.spelled;
     ends_at_last = h.has_read.ends_at_last;
     ended = h.has_read.ended;
@@ -174,7 +176,7 @@ pub served_read : (f : SessionFacts) (s after : SessionState) (held : List ℕ) 
     → ReadsOn s more after → IsSessionServed held f s
     → IsSessionServed held (record f { asked = f.asked ++ asks more }) after
 served_read f s after held more r h =
-    let k = read_keeps h.bytes f.port.given h.messages more f.had s after r h.has_read h.has_said in record {
+    let k = read_keeps f.dialect h.bytes f.port.given h.messages more f.had s after r h.has_read h.has_said in record {
       bytes = h.bytes;
       messages = h.messages ++ more;
       fed = h.fed;
@@ -188,7 +190,7 @@ pub served_settled : (f : SessionFacts) (s : SessionState) (held : List ℕ) (r 
     → IsSessionServed held f s
     → IsSessionServed held (record f { had = f.had ++ r ∷ [] }) (with_reply s r)
 served_settled f s held r some h =
-    let k = settle_keeps h.bytes f.port.given h.messages f.had r s some h.has_read h.has_said in record {
+    let k = settle_keeps f.dialect h.bytes f.port.given h.messages f.had r s some h.has_read h.has_said in record {
       bytes = h.bytes;
       messages = h.messages;
       fed = h.fed;
@@ -201,7 +203,7 @@ served_settled f s held r some h =
 pub served_gave : (f : SessionFacts) (s : SessionState) (held : List ℕ) (n : ℕ) → IsSessionServed held f s
     → IsSessionServed held (record f { port = record f.port { given = f.port.given ++ take n s.out } }) (gave s n)
 served_gave f s held n h =
-    let k = give_keeps h.bytes f.port.given n h.messages f.had s h.has_read h.has_said in record {
+    let k = give_keeps f.dialect h.bytes f.port.given n h.messages f.had s h.has_read h.has_said in record {
       bytes = h.bytes;
       messages = h.messages;
       fed = h.fed;
@@ -213,9 +215,9 @@ served_gave f s held n h =
 -- ---- closing
 
 -- the bytes that came of a session begin with spellings of the messages that it has read
-begins : (bytes held total : List ℕ) (ms : List Message) (s : SessionState) → total ≡ bytes ++ held → HasRead bytes ms s
-    → (rest : List ℕ) × BeginsWith total ms rest
-begins bytes held total ms s e h = (
+pub begins : (d : Dialect) (bytes held total : List ℕ) (ms : List Message) (s : SessionState) → total ≡ bytes ++ held
+    → HasRead d bytes ms s → (rest : List ℕ) × BeginsWith d total ms rest
+begins d bytes held total ms s e h = (
   (s.unread ++ h.dropped) ++ held,
   record {
     pieces = h.pieces;
@@ -228,6 +230,7 @@ begins bytes held total ms s e h = (
 
 -- the facts of a session that is closed: what came, was given, asked and had stays
 pub record Stays (f g : SessionFacts) : Type 0 where
+  pub dialect : g.dialect ≡ f.dialect
   pub fed : g.port.fed ≡ f.port.fed
   pub given : g.port.given ≡ f.port.given
   pub asked : g.asked ≡ f.asked
@@ -239,10 +242,10 @@ closed_as : (f g : SessionFacts) (s : SessionState) (held : List ℕ) (c : EndCa
     → Stays f g → IsCaused g h.messages c
     → (g.port.gone ≡ true) ⊎ (g.port.shut ≡ true) → IsClosed g c
 closed_as f g s held c h k caused over =
-    let b = begins h.bytes held g.port.fed h.messages s (k.fed ∙ h.fed) h.has_read in record {
+    let b = begins f.dialect h.bytes held g.port.fed h.messages s (k.fed ∙ h.fed) h.has_read in record {
       messages = h.messages;
       rest = b.0;
-      read = b.1;
+      read = rw k.dialect b.1;
       asked = k.asked ∙ h.asked;
       said = (s.out, ap (said h.messages) k.had ∙ sym h.has_said.whole ∙ ap (λ (x : List ℕ). x ++ s.out) (sym k.given));
       caused = caused;
@@ -265,13 +268,13 @@ closed_no_memory f g s held h k shut = closed_as f g s held causes.NoMemory h k 
 pub closed_starved : (f g : SessionFacts) (s : SessionState) (held : List ℕ) (r : Reply) → IsSessionServed held f s
     → Stays (record f { had = f.had ++ r ∷ [] }) g → g.port.shut ≡ true → IsClosed g causes.NoMemory
 closed_starved f g s held r h k shut =
-    let b = begins h.bytes held g.port.fed h.messages s (k.fed ∙ h.fed) h.has_read in
+    let b = begins f.dialect h.bytes held g.port.fed h.messages s (k.fed ∙ h.fed) h.has_read in
     let first : StartsWith (said h.messages f.had) f.port.given = (s.out, sym h.has_said.whole) in
     let more = begins_on f.port.given (said h.messages f.had) (said h.messages (f.had ++ r ∷ [])) first
     (said_more h.messages f.had (r ∷ [])) in record {
       messages = h.messages;
       rest = b.0;
-      read = b.1;
+      read = rw k.dialect b.1;
       asked = k.asked ∙ h.asked;
       said = (more.0, ap (said h.messages) k.had ∙ more.1 ∙ ap (λ (x : List ℕ). x ++ more.0) (sym k.given));
       caused = shut;

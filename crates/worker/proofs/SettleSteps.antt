@@ -29,7 +29,7 @@ use Rattle.worker_port.specs.Ports.{PortStory, then_told, has_ended, AcceptsOnly
 use Rattle.worker.specs.EndCauses.{Rises, piece_of}
 use Rattle.worker.specs.Workers.{once_flushed, end_of, posted_by, unsettled_post, IsNumbered}
 use Rattle.worker.specs.Workers.{IsSteady, AreSessionsCounted, IsStoryKnown, run_view, IsWorkerServing}
-use Rattle.worker.specs.Workers.{TakesNone, TakesBack, Shuts}
+use Rattle.worker.specs.Workers.{TakesNone, TakesBack, Shuts, WasToldOfHistory}
 use Rattle.worker.proofs.Facts.{had_here, had_elsewhere}
 use Rattle.worker.proofs.SessionSteps.{runs, is_running, Stays, served_settled, closed_starved, dropped}
 use Rattle.worker.proofs.EndCauseLemmas.{rises_with, length-with}
@@ -37,7 +37,7 @@ use Rattle.worker.proofs.RunViews.{facts_equal, change_at, at_other, at_same, Cl
 use Rattle.worker_port.proofs.Lists.{ended_same, count_same, accepts_more}
 use Rattle.worker.proofs.StoryLaws.{same_story, paused_kept, paused_but, paused_elsewhere}
 use Rattle.worker.proofs.PieceLaws.{pieces_kept, pieces_gone}
-use Rattle.worker.proofs.WorkerSteps.{WorkerGoesOn, steps_on, steady_closed, same_end, closes_in}
+use Rattle.worker.proofs.WorkerSteps.{WorkerGoesOn, steps_on, steady_closed, same_end, later_is, later_trans, closes_in}
 use Rattle.worker.proofs.OutputSteps.{told_within}
 
 -- ---- lists
@@ -128,12 +128,14 @@ steady_taken end end' request book book' a h k p u =
           ∙ (λ i. map unsettled_post (drop (sym len i) (sym posted i)));
       back = ap asked_posted k.back ∙ asked_more end.back a ∙ ap (λ (l : List Posted). l ++ posted_of a ∷ []) h.back
           ∙ sym (take_more end.sent (length end.back) (posted_of a) k.own) ∙ (λ i. take (sym len i) (sym k.sent i));
+      told = k.told h.told;
     }
 
 -- ---- what is told
 
 -- one more answer came back, its session has this state, or none, and nothing else changes
 record TakesIn (v v' : RunView) (a : Answered) (st : Option SessionState) : Type 0 where
+  dialect : v'.dialect ≡ v.dialect
   events : v'.events ≡ v.events
   posted : v'.posted ≡ v.posted
   back : v'.back ≡ v.back ++ a ∷ []
@@ -145,7 +147,7 @@ record TakesIn (v v' : RunView) (a : Answered) (st : Option SessionState) : Type
 taken_elsewhere : (v v' : RunView) (a : Answered) (st : Option SessionState) → TakesIn v v' a st → (k : ℕ)
     → a.session ≢ k → facts v' k ≡ facts v k
 taken_elsewhere v v' a st h k ne =
-    facts_equal (facts v' k) (facts v k) (ap (λ l. port_facts l k) h.events)
+    facts_equal (facts v' k) (facts v k) h.dialect (ap (λ l. port_facts l k) h.events)
     (λ i. (facts (record v { posted = h.posted i }) k).asked)
     (ap (λ l. had_by l k) h.back ∙ had_elsewhere v.back a k ne)
     (λ i. (facts (record v { sessions = h.sessions i }) k).cause)
@@ -156,7 +158,7 @@ taken_here : (v v' : RunView) (a : Answered) (st : Option SessionState) → Take
     → facts v' a.session ≡ record (facts v a.session) { had = had_by v.back a.session ++ a.reply ∷ []; state = st }
 taken_here v v' a st h =
     let t = a.session in
-    facts_equal (facts v' t) (record (facts v t) { had = had_by v.back t ++ a.reply ∷ []; state = st })
+    facts_equal (facts v' t) (record (facts v t) { had = had_by v.back t ++ a.reply ∷ []; state = st }) h.dialect
     (ap (λ l. port_facts l t) h.events)
     (λ i. (facts (record v { posted = h.posted i }) t).asked) (ap (λ l. had_by l t) h.back ∙ had_here v.back a t refl)
     (λ i. (facts (record v { sessions = h.sessions i }) t).cause) (h.book t ∙ at_same t st (session_of v.book t))
@@ -226,6 +228,7 @@ taken_in : {P : Type 0} (story : PortStory) (old new : WorkerState P) (a : Answe
     → ((k : ℕ) → session_of new.book k ≡ cond (k == a.session) st (session_of old.book k))
     → TakesIn (run_view story old) (record (run_view story new) { piece = piece_of old.book }) a st
 taken_in story old new a st k b book = record {
+  dialect = refl;
   events = refl;
   posted = λ i. b.sent i ++ option_to_list (k.request i);
   back = b.back;
@@ -238,16 +241,18 @@ taken_in story old new a st k b book = record {
 -- all is known still
 answer_goes_on : {P : Type 0} (told : P → Option PortStory) (old new : WorkerState P) (a : Answered) → KeepsRest old new
     → TakesBack (end_of old) (end_of new) a → IsWorkerServing told old → new.book.posted ≡ old.book.posted
-    → new.book.unsettled ≡ drop 1 old.book.unsettled
+    → new.book.unsettled ≡ drop 1 old.book.unsettled → new.book.dialect ≡ old.book.dialect
     → ((s : ℕ) → piece_of new.book s ≡ piece_of old.book s)
     → ((story : PortStory) → IsStoryKnown (run_view story old) old.unopened old.ended
     → IsStoryKnown (record (run_view story new) { piece = piece_of old.book }) old.unopened old.ended)
     → WorkerGoesOn told old new
-answer_goes_on told old new a k b h p u pieces is_told =
-    steps_on told old new (λ story. story) (same_story (told old.port) (told new.port) (ap told k.port)) (record {
+answer_goes_on told old new a k b h p u d pieces is_told =
+    steps_on told old new (λ story. story) (λ s q. q) (same_story (told old.port) (told new.port) (ap told k.port)) (record {
       same_end = b.same;
+      later = b.later;
       steady = subst (λ (r : Option Posted). IsSteady (end_of new) r new.book) (sym k.request)
           (steady_taken (end_of old) (end_of new) old.request old.book new.book a h.steady b p u);
+      dialect = d;
       strangers = k.strangers ∙ h.strangers;
       unopened = k.unopened;
       ended = k.ended;
@@ -271,6 +276,7 @@ steady_still end end' request book k h =
       numbered = numbered_as end end' request (ap (length {A = Posted}) k.sent) h.numbered;
       unsettled = h.unsettled ∙ (λ i. map unsettled_post (drop (length (sym k.back i)) (sym posted i)));
       back = ap asked_posted k.back ∙ h.back ∙ (λ i. take (length (sym k.back i)) (sym k.sent i));
+      told = k.told h.told;
     }
 
 -- a worker whose end found no answer goes on
@@ -279,9 +285,11 @@ pub none_taken_goes_on : {P : Type 0} (told : P → Option PortStory) (old : Wor
     → IsWorkerServing told old → WorkerGoesOn told old (record old { batch = batch })
 none_taken_goes_on told old batch k h =
     let new = record old { batch = batch } in
-    steps_on told old new (λ story. story) (same_story (told old.port) (told old.port) refl) (record {
+    steps_on told old new (λ story. story) (λ s q. q) (same_story (told old.port) (told old.port) refl) (record {
       same_end = k.same;
+      later = k.later;
       steady = steady_still (end_of old) (once_flushed batch) old.request old.book k h.steady;
+      dialect = refl;
       strangers = h.strangers;
       unopened = refl;
       ended = refl;
@@ -307,6 +315,8 @@ flushed_goes_on told old batch same h = none_taken_goes_on told old batch (recor
     exchange = ap (λ (w : WorkerView). w.exchange) same;
     worker = ap (λ (w : WorkerView). w.worker) same;
   };
+  told = λ t. subst WasToldOfHistory (sym same) t;
+  later = later_is (end_of old) (once_flushed batch) same;
 }) h
 
 -- a worker goes on where the answer that came back went to its session
@@ -315,7 +325,7 @@ pub kept_goes_on : {P : Type 0} (told : P → Option PortStory) (old new : Worke
     → WorkerGoesOn told old new
 kept_goes_on told old new a k b h r =
     answer_goes_on told old new a k b h (ap (λ (x : BookState). x.posted) r.settles.rest)
-    (ap (λ (x : BookState). x.unsettled) r.settles.rest)
+    (ap (λ (x : BookState). x.unsettled) r.settles.rest) (ap (λ (x : BookState). x.dialect) r.settles.rest)
     (pieces_kept old.book new.book a.session (Some (with_reply r.s a.reply)) r.settles.only_at
     (sym (ap held_of r.was_open)))
     (λ story was_told. told_kept (run_view story old) (record (run_view story new) { piece = piece_of old.book })
@@ -329,7 +339,7 @@ pub dropped_goes_on : {P : Type 0} (told : P → Option PortStory) (old new : Wo
     → WorkerGoesOn told old new
 dropped_goes_on told old new a k b h closed r =
     answer_goes_on told old new a k b h (ap (λ (x : BookState). x.posted) r.rest)
-    (ap (λ (x : BookState). x.unsettled) r.rest)
+    (ap (λ (x : BookState). x.unsettled) r.rest) (ap (λ (x : BookState). x.dialect) r.rest)
     (pieces_kept old.book new.book a.session None r.only_at (sym (ap held_of closed)))
     (λ story was_told.
     told_dropped (run_view story old) (record (run_view story new) { piece = piece_of old.book }) old.unopened old.ended
@@ -350,6 +360,7 @@ told_starved v u v' unopened ended a s h open_is k c =
     let port_same : port_facts u.events t ≡ port_facts v.events t = ap (λ l. port_facts l t) k.events in
     let f = record (facts v t) { had = had_by v.back t ++ a.reply ∷ [] } in
     let st : Stays f (facts v' t) = record {
+      dialect = here.dialect ∙ k.dialect;
       fed = ap (λ (p : PortFacts). p.fed) here.port_is ∙ ap (λ (p : PortFacts). p.fed) port_same;
       given = ap (λ (p : PortFacts). p.given) here.port_is ∙ ap (λ (p : PortFacts). p.given) port_same;
       asked = here.asked ∙ (λ i. asked_by (k.posted i) t);
@@ -389,9 +400,11 @@ starved_goes_on {P} told old mid new a s k b h open_is r c =
     (ap (λ (x : BookState). x.posted) r.rest)
     (ap (λ (x : BookState). x.unsettled) r.rest)) in
     let same = same_end mid new c.closes.end in let f = then_told (was.Shut a.session ∷ []) in
-    steps_on told old new f (c.port ∙ ap (λ (p : P). option_map f (told p)) k.port) (record {
+    steps_on told old new f (λ s q. q) (c.port ∙ ap (λ (p : P). option_map f (told p)) k.port) (record {
       same_end = record { exchange = same.exchange ∙ b.same.exchange; worker = same.worker ∙ b.same.worker };
+      later = later_trans (end_of old) (end_of mid) (end_of new) b.later (later_is (end_of mid) (end_of new) c.closes.end);
       steady = steady_closed mid new a.session causes.NoMemory c.closes steady;
+      dialect = ap (λ (x : BookState). x.dialect) c.closes.book.rest ∙ ap (λ (x : BookState). x.dialect) r.rest;
       strangers = c.closes.strangers ∙ k.strangers ∙ h.strangers;
       unopened = c.closes.unopened ∙ k.unopened;
       ended = c.closes.ended ∙ k.ended;
@@ -404,6 +417,7 @@ starved_goes_on {P} told old mid new a s k b h open_is r c =
           (record (run_view story mid) { piece = piece_of old.book })
           (run_view (f story) new) old.unopened old.ended a s was_so.0 open_is
           (taken_in story old mid a None k b r.only_at) (record {
+            dialect = closes.dialect;
             events = closes.events;
             posted = closes.posted;
             back = closes.back;

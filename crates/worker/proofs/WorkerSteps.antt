@@ -1,7 +1,7 @@
 -- What each step of a worker leaves true.
 use Rattle.std.proofs.Common.{◌≡◌, ◌≢◌, ℕ, ◌-◌, ◌^◌, ◌≤◌, ◌==◌, Bool, true, false, true≢false, ◌||◌, ◌&&◌, not}
 use Rattle.std.proofs.Common.{cond, ne_eqb, List, [], ◌∷◌, ◌++◌, length}
-use Rattle.std.proofs.Common.{min, refl, sym, ap, subst, ◌∙◌, Option, Some, None, is_some}
+use Rattle.std.proofs.Common.{min, refl, sym, ap, subst, ◌∙◌, append-nil, Option, Some, None, is_some}
 use Rattle.std.specs.Option.{option_map}
 use Rattle.proto.specs.declared.history.Posted.{Posted}
 use Rattle.exchange.specs.Ends.{WorkerView}
@@ -17,8 +17,10 @@ use Rattle.worker.specs.Sessions.{SessionFacts, RunView, facts, asked_by, had_by
 use Rattle.worker_port.specs.PortFacts.{PortFacts, port_facts}
 use Rattle.worker.specs.Sessions.{IsClosed}
 use Rattle.worker.specs.EndCauses.{Rises, piece_of}
-use Rattle.worker.specs.Workers.{end_of, posted_by, IsSteady, AreSessionsCounted, IsStoryKnown, run_view, ArePaused, IsWorkerServing, IsSameEnd}
-use Rattle.worker.specs.Workers.{Continues, Closes, Shuts}
+use Rattle.worker.specs.Workers.{end_of, posted_by, IsSteady, AreSessionsCounted, IsStoryKnown, run_view, ArePaused, IsWorkerServing, IsSameEnd, IsLaterEnd}
+use Rattle.worker_port.specs.Giving.{IsStoryOf}
+use Rattle.exchange.proofs.Lists.{starts_trans}
+use Rattle.worker.specs.Workers.{Continues, Closes, Shuts, IsStoryBy}
 use Rattle.worker.proofs.EndCauseLemmas.{rises_with, length-with}
 use Rattle.worker_port.proofs.Facts.{about, elsewhere, fed_here}
 use Rattle.worker.proofs.SessionSteps.{Runs, runs, runs_at_port, is_running, closed_gone, closed_no_memory, closed_finished, served_came, served_fed}
@@ -33,6 +35,7 @@ use Rattle.worker.proofs.RunViews.{close_all, apart_shut, apart_gone}
 pub record WorkerGoesOn {P : Type 0} (told : P → Option PortStory) (old new : WorkerState P) : Type 0 where
   pub tells : is_some (told new.port) ≡ is_some (told old.port)
   pub same_end : IsSameEnd (end_of old) (end_of new)
+  pub dialect : new.book.dialect ≡ old.book.dialect
   pub serving : IsWorkerServing told new
 
 -- so it continues, where its port leads on
@@ -43,6 +46,7 @@ continues told leads_to old now new same leads h =
       tells = h.tells;
       leads = leads;
       same_end = h.same_end;
+      dialect = h.dialect;
     })
 
 -- what goes on from a to b, and from b to c, goes on from a to c
@@ -56,6 +60,7 @@ continues_trans told leads_to a b c leads_on h k = record {
     exchange = k.same_end.exchange ∙ h.same_end.exchange;
     worker = k.same_end.worker ∙ h.same_end.worker;
   };
+  dialect = k.dialect ∙ h.dialect;
 }
 
 -- what the list has open was opened, and is neither gone nor shut
@@ -80,6 +85,7 @@ steady_same end request book book' p u h = record {
   unsettled = u
       ∙ h.unsettled;
   back = h.back;
+  told = h.told;
 }
 
 -- ---- a session is closed
@@ -155,6 +161,7 @@ pub closes_in : {P : Type 0} (story : PortStory) (old new : WorkerState P) (t : 
     → Closes old new t c
     → Rises old.sessions.items → ClosesIn (run_view story old) (run_view (then_told (x ∷ []) story) new) t c x
 closes_in story old new t c x k rises = record {
+  dialect = refl;
   events = refl;
   posted = λ i. posted_by (k.end i) (k.request i);
   back = ap (λ (w : WorkerView). w.back) k.end;
@@ -180,12 +187,38 @@ same_end old new e = record {
   worker = ap (λ (w : WorkerView). w.worker) e;
 }
 
+-- such an end is later, or the same
+pub later_view : (old new : WorkerView) → new.worker ≡ old.worker → new.geometry ≡ old.geometry → new.seen ≡ old.seen
+    → IsLaterEnd old new
+later_view old new w g s = record { worker = w; geometry = g; later = ([], s ∙ sym (append-nil old.seen)) }
+
+pub later_is : (old new : WorkerView) → new ≡ old → IsLaterEnd old new
+later_is old new e = later_view old new (ap (λ (w : WorkerView). w.worker) e) (ap (λ (w : WorkerView). w.geometry) e)
+    (ap (λ (w : WorkerView). w.seen) e)
+
+pub later_trans : (a b c : WorkerView) → IsLaterEnd a b → IsLaterEnd b c → IsLaterEnd a c
+later_trans a b c h k = record {
+  worker = k.worker ∙ h.worker;
+  geometry = k.geometry ∙ h.geometry;
+  later = starts_trans c.seen b.seen a.seen k.later h.later;
+}
+
+-- the story is still that of the end's worker, later
+pub story_later : (story : PortStory) (a b : WorkerView) → IsStoryOf story a → IsLaterEnd a b → IsStoryOf story b
+story_later story a b h k = record {
+  worker_is = h.worker_is ∙ sym k.worker;
+  sizes_are = h.sizes_are ∙ sym k.geometry;
+  later = starts_trans b.seen a.seen story.history k.later h.later;
+}
+
 -- ---- a worker goes on
 
 -- what is true of a worker beside its port's story
 pub record OwnFacts {P : Type 0} (old new : WorkerState P) : Type 0 where
   pub same_end : IsSameEnd (end_of old) (end_of new)
+  pub later : IsLaterEnd (end_of old) (end_of new)
   pub steady : IsSteady (end_of new) new.request new.book
+  pub dialect : new.book.dialect ≡ old.book.dialect
   pub strangers : new.strangers ≡ 0
   pub unopened : new.unopened ≡ old.unopened
   pub ended : new.ended ≡ old.ended
@@ -202,12 +235,14 @@ story_facts told w h story e = (h.known story e, h.paused story e)
 
 -- a step that makes of each story what f does
 pub steps : {P : Type 0} (told : P → Option PortStory) (old new : WorkerState P) (f : PortStory → PortStory)
+    → ((story : PortStory) → IsStoryBy story (end_of old) old.book → IsStoryBy (f story) (end_of old) old.book)
     → told new.port ≡ option_map f (told old.port) → IsSameEnd (end_of old) (end_of new)
+    → IsLaterEnd (end_of old) (end_of new) → new.book.dialect ≡ old.book.dialect
     → IsSteady (end_of new) new.request new.book
     → new.strangers ≡ 0 → IsWorkerServing told old
     → ((story : PortStory) → told old.port ≡ Some story → StoryFacts story old old.unopened old.ended
     → StoryFacts (f story) new new.unopened new.ended) → WorkerGoesOn told old new
-steps told old new f port same steady strangers h each =
+steps told old new f stays port same later dialect steady strangers h each =
     let at : (after : PortStory) → told new.port ≡ Some after → StoryFacts after new new.unopened new.ended =
     λ after e.
     let b = told_before f (told old.port) (told new.port) port after e in
@@ -215,21 +250,28 @@ steps told old new f port same steady strangers h each =
     (each b.0 b.1 (story_facts told old h b.0 b.1)) in record {
       tells = tells_as f (told old.port) (told new.port) port;
       same_end = same;
+      dialect = dialect;
       serving = record {
         steady = steady;
         strangers = strangers;
         known = λ after e. (at after e).0;
         paused = λ after e. (at after e).1;
+        whose = λ after e.
+            let b = told_before f (told old.port) (told new.port) port after e in
+            let now = stays b.0 (h.whose b.0 b.1) in
+            subst (λ (y : PortStory). IsStoryBy y (end_of new) new.book) b.2
+            (story_later (f b.0) (end_of old) (end_of new) now.0 later, now.1 ∙ sym dialect);
       };
     }
 
 -- the same where the counts stay
 pub steps_on : {P : Type 0} (told : P → Option PortStory) (old new : WorkerState P) (f : PortStory → PortStory)
+    → ((story : PortStory) → IsStoryBy story (end_of old) old.book → IsStoryBy (f story) (end_of old) old.book)
     → told new.port ≡ option_map f (told old.port) → OwnFacts old new → IsWorkerServing told old
     → ((story : PortStory) → told old.port ≡ Some story → StoryFacts story old old.unopened old.ended
     → StoryFacts (f story) new old.unopened old.ended) → WorkerGoesOn told old new
-steps_on told old new f port own h each =
-    steps told old new f port own.same_end own.steady own.strangers h
+steps_on told old new f stays port own h each =
+    steps told old new f stays port own.same_end own.later own.dialect own.steady own.strangers h
     (λ story e k. subst (λ (y : ℕ × Bool). StoryFacts (f story) new y.0 y.1)
     (λ i. (sym own.unopened i, sym own.ended i)) (each story e k))
 
@@ -241,9 +283,11 @@ pub shut_goes_on : {P : Type 0} (told : P → Option PortStory) (old new : Worke
     → IsStoryKnown (run_view (then_told (was.Shut t ∷ []) story) new) old.unopened old.ended)
     → WorkerGoesOn told old new
 shut_goes_on told old new t c k h is_told =
-    steps_on told old new (then_told (was.Shut t ∷ [])) k.port (record {
+    steps_on told old new (then_told (was.Shut t ∷ [])) (λ s q. q) k.port (record {
       same_end = same_end old new k.closes.end;
+      later = later_is (end_of old) (end_of new) k.closes.end;
       steady = steady_closed old new t c k.closes h.steady;
+      dialect = ap (λ (b : BookState). b.dialect) k.closes.book.rest;
       strangers = k.closes.strangers ∙ h.strangers;
       unopened = k.closes.unopened;
       ended = k.closes.ended;
@@ -286,13 +330,13 @@ pub open_at : {P : Type 0} (told : P → Option PortStory) (w : WorkerState P) (
 open_at told w t s h e = λ story q. told_open (run_view story w) w.unopened w.ended t s (h.known story q) e
 
 -- the other facts stay where only the port's list, the book and a piece change at one session
-pub others_same : (v v' : RunView) (t : ℕ) (x : PortRecord) → v'.events ≡ v.events ++ x ∷ [] → v'.posted ≡ v.posted
+pub others_same : (v v' : RunView) (t : ℕ) (x : PortRecord) → v'.dialect ≡ v.dialect → v'.events ≡ v.events ++ x ∷ [] → v'.posted ≡ v.posted
     → v'.back ≡ v.back
     → v'.sessions ≡ v.sessions → ((s : ℕ) → t ≢ s → about s x ≡ false)
     → ((s : ℕ) → t ≢ s → session_of v'.book s ≡ session_of v.book s)
     → ((s : ℕ) → t ≢ s → v'.piece s ≡ v.piece s) → (s : ℕ) → t ≢ s → facts v' s ≡ facts v s
-others_same v v' t x e p b r other book piece s ne =
-    facts_equal (facts v' s) (facts v s) (ap (λ l. port_facts l s) e ∙ elsewhere v.events x s (other s ne))
+others_same v v' t x d e p b r other book piece s ne =
+    facts_equal (facts v' s) (facts v s) d (ap (λ l. port_facts l s) e ∙ elsewhere v.events x s (other s ne))
     (ap (λ l. asked_by l s) p)
     (ap (λ l. had_by l s) b) (ap (λ l. cause_of l s) r) (book s ne) (piece s ne)
 
@@ -315,11 +359,11 @@ told_same v v' unopened ended x h e r same count proper each = record {
 
 -- the facts of the session at which something came
 pub fact_at : (v v' : RunView) (t : ℕ) (port : PortFacts) (st : Option SessionState) (q : List ℕ)
-    → port_facts v'.events t ≡ port
+    → v'.dialect ≡ v.dialect → port_facts v'.events t ≡ port
     → v'.posted ≡ v.posted → v'.back ≡ v.back → v'.sessions ≡ v.sessions → session_of v'.book t ≡ st → v'.piece t ≡ q
     → facts v' t ≡ record (facts v t) { port = port; state = st; piece = q }
-fact_at v v' t port st q e p b r s k = facts_equal (facts v' t)
-    (record (facts v t) { port = port; state = st; piece = q }) e
+fact_at v v' t port st q d e p b r s k = facts_equal (facts v' t)
+    (record (facts v t) { port = port; state = st; piece = q }) d e
     (ap (λ l. asked_by l t) p) (ap (λ l. had_by l t) b) (ap (λ l. cause_of l t) r) s k
 
 -- running on in another state
@@ -348,12 +392,12 @@ running_on f port s q r o g h served =
 -- bytes came and were fed
 pub told_fed : (v v' : RunView) (unopened : ℕ) (ended : Bool) (t : ℕ) (b : List ℕ) → IsStoryKnown v unopened ended
     → is_open t v.events ≡ true
-    → v.piece t ≡ [] → v'.events ≡ v.events ++ was.Data t b ∷ [] → v'.posted ≡ v.posted → v'.back ≡ v.back
+    → v.piece t ≡ [] → v'.dialect ≡ v.dialect → v'.events ≡ v.events ++ was.Data t b ∷ [] → v'.posted ≡ v.posted → v'.back ≡ v.back
     → v'.sessions ≡ v.sessions
     → ((s : ℕ) → session_of v'.book s ≡ cond (s == t)
     (option_map (λ (x : SessionState). once_fed x b) (session_of v.book t)) (session_of v.book s))
     → ((s : ℕ) → v'.piece s ≡ v.piece s) → IsStoryKnown v' unopened ended
-told_fed v v' unopened ended t b h opened none e p k r book piece =
+told_fed v v' unopened ended t b h opened none d e p k r book piece =
     let o = open_here v.events t opened in
     let run = runs_at_port (facts v t) (h.each t) o.0 o.1 o.2 in
     let s = run.running.s in
@@ -366,12 +410,12 @@ told_fed v v' unopened ended t b h opened none e p k r book piece =
     let state : session_of v'.book t ≡ Some (once_fed s b) =
     book t ∙ at_same t (option_map (λ (x : SessionState). once_fed x b) (session_of v.book t))
     (session_of v.book t) ∙ ap (option_map (λ (x : SessionState). once_fed x b)) run.running.state in
-    let here = fact_at v v' t port (Some (once_fed s b)) []
+    let here = fact_at v v' t port (Some (once_fed s b)) [] d
     (ap (λ l. port_facts l t) e ∙ fed_here v.events t b) p k r state (piece t ∙ none) in
     let now = running_on (facts v t) port (once_fed s b) [] run refl refl refl now_served in
     told_same v v' unopened ended (was.Data t b) h e r (ended_same v.events (was.Data t b) refl)
     (count_same v.events (was.Data t b) refl) tt
-    (change_at t v v' (others_same v v' t (was.Data t b) e p k r (λ s ne. ne_eqb t s ne)
+    (change_at t v v' (others_same v v' t (was.Data t b) d e p k r (λ s ne. ne_eqb t s ne)
     (λ s ne. book s ∙ at_other t s (option_map (λ (x : SessionState). once_fed x b) (session_of v.book t))
     (session_of v.book s) ne)
     (λ s ne. piece s)) (subst AreFactsConsistent (sym here) now) (λ s ne. h.each s))
@@ -379,12 +423,12 @@ told_fed v v' unopened ended t b h opened none e p k r book piece =
 -- bytes came and are held
 pub told_held : (v v' : RunView) (unopened : ℕ) (ended : Bool) (t : ℕ) (b : List ℕ) → IsStoryKnown v unopened ended
     → is_open t v.events ≡ true
-    → v.piece t ≡ [] → v'.events ≡ v.events ++ was.Data t b ∷ [] → v'.posted ≡ v.posted → v'.back ≡ v.back
+    → v.piece t ≡ [] → v'.dialect ≡ v.dialect → v'.events ≡ v.events ++ was.Data t b ∷ [] → v'.posted ≡ v.posted → v'.back ≡ v.back
     → v'.sessions ≡ v.sessions
     → ((s : ℕ) → session_of v'.book s ≡ cond (s == t)
     (option_map (λ (x : SessionState). holding x b) (session_of v.book t)) (session_of v.book s))
     → ((s : ℕ) → v'.piece s ≡ cond (s == t) b (v.piece s)) → IsStoryKnown v' unopened ended
-told_held v v' unopened ended t b h opened none e p k r book piece =
+told_held v v' unopened ended t b h opened none d e p k r book piece =
     let o = open_here v.events t opened in
     let run = runs_at_port (facts v t) (h.each t) o.0 o.1 o.2 in
     let s = run.running.s in
@@ -397,12 +441,12 @@ told_held v v' unopened ended t b h opened none e p k r book piece =
     let state : session_of v'.book t ≡ Some (holding s b) =
     book t ∙ at_same t (option_map (λ (x : SessionState). holding x b) (session_of v.book t))
     (session_of v.book t) ∙ ap (option_map (λ (x : SessionState). holding x b)) run.running.state in
-    let here = fact_at v v' t port (Some (holding s b)) b
+    let here = fact_at v v' t port (Some (holding s b)) b d
     (ap (λ l. port_facts l t) e ∙ fed_here v.events t b) p k r state (piece t ∙ at_same t b (v.piece t)) in
     let now = running_on (facts v t) port (holding s b) b run refl refl refl now_served in
     told_same v v' unopened ended (was.Data t b) h e r (ended_same v.events (was.Data t b) refl)
     (count_same v.events (was.Data t b) refl) tt
-    (change_at t v v' (others_same v v' t (was.Data t b) e p k r (λ s ne. ne_eqb t s ne)
+    (change_at t v v' (others_same v v' t (was.Data t b) d e p k r (λ s ne. ne_eqb t s ne)
     (λ s ne. book s ∙ at_other t s (option_map (λ (x : SessionState). holding x b) (session_of v.book t))
     (session_of v.book s) ne)
     (λ s ne. piece s ∙ at_other t s b (v.piece s) ne)) (subst AreFactsConsistent (sym here) now) (λ s ne. h.each s))

@@ -1,4 +1,5 @@
 pub mod Sessions
 pub mod EndCauses
+pub mod SessionLists
 pub mod Workers
 pub mod Reports

@@ -1,5 +1,6 @@
 -- What a worker's report says.
 use Rattle.std.specs.Prelude.{◌≡◌, ℕ, Bool, true, false, List, [], ◌∷◌, ◌++◌, Some, None, IsSome}
+use Rattle.proto.specs.declared.dialect.Dialect.{Dialect}
 use Rattle.proto.specs.declared.message.Message.{Message}
 use Rattle.proto.specs.declared.history.Posted.{Posted}
 use Rattle.proto.specs.declared.history.Answered.{Answered}
@@ -49,17 +50,17 @@ pub record IsSessionAnswered (events : List PortRecord) (history : List Answered
 
 -- so it is for the messages that a session's bytes spell, in each history in which this worker's share is what it took
 -- back, and asks what it sent
-abbrev pub SessionHolds : List PortRecord → WorkerView → ℕ → EndCause → Type 0
-SessionHolds events end s cause =
+abbrev pub SessionHolds : Dialect → List PortRecord → WorkerView → ℕ → EndCause → Type 0
+SessionHolds d events end s cause =
     (history : List Answered) → worker_share history end.worker ≡ end.back
     → asked_posted (worker_share history end.worker) ≡ end.sent
-    → (messages : List Message) (rest : List ℕ) → Reads (fed s events) messages rest
+    → (messages : List Message) (rest : List ℕ) → Reads d (fed s events) messages rest
     → IsSessionAnswered events history end.worker s cause messages
 
--- What a worker's report says of a port that tells its list: the list has Ended; each session of the report was
+-- What a worker's report says of a port that tells its list, by the dialect of what came: the list has Ended; each session of the report was
 -- opened; each opened session stands in the report once, or was shut and is counted; nothing was accepted for a session
 -- after its close, nor for one that isn't in the report, and nothing was asked for one; and the sessions were answered.
-pub record IsReported (events : List PortRecord) (end : WorkerView) (sessions : List (ℕ × EndCause))
+pub record IsReported (d : Dialect) (events : List PortRecord) (end : WorkerView) (sessions : List (ℕ × EndCause))
     (unopened : ℕ) : Type 0 where
   pub ended : has_ended events ≡ true
   pub once : Rises sessions
@@ -70,7 +71,7 @@ pub record IsReported (events : List PortRecord) (end : WorkerView) (sessions : 
   pub no_stranger : (s : ℕ) → cause_of sessions s ≡ None → given s events ≡ []
   pub placed : (p : Posted) → (before after : List Posted) → end.sent ≡ before ++ p ∷ after
       → IsSome (cause_of sessions p.session)
-  pub answered : (s : ℕ) (cause : EndCause) → cause_of sessions s ≡ Some cause → SessionHolds events end s cause
+  pub answered : (s : ℕ) (cause : EndCause) → cause_of sessions s ≡ Some cause → SessionHolds d events end s cause
 
 -- the end has said bye, and nothing is outstanding
 pub record IsOver (old new : WorkerView) : Type 0 where

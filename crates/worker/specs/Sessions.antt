@@ -2,6 +2,7 @@
 use Rattle.std.specs.Prelude.{◌≡◌, ℕ, ◌≤◌, ◌⊎◌, Bool, true, false, List, [], ◌∷◌, ◌++◌, length, Option, Some, None}
 use Rattle.std.specs.Prelude.{◌==◌, if◌then◌else◌, map, filter}
 use Rattle.std.specs.List.{concat}
+use Rattle.proto.specs.declared.dialect.Dialect.{Dialect}
 use Rattle.proto.specs.declared.message.Request.{Request}
 use Rattle.proto.specs.declared.message.Reply.{Reply}
 use Rattle.proto.specs.declared.message.Message.{Message}
@@ -31,10 +32,11 @@ abbrev pub cause_of : List (ℕ × EndCause) → ℕ → Option EndCause
 cause_of [] s = None
 cause_of (e ∷ sessions) s = if e.0 == s then Some e.1 else cause_of sessions s
 
--- What is known of a session: what the port's list says of it; the requests that were posted for it, or are
+-- What is known of a session: the dialect of its lines; what the port's list says of it; the requests that were posted for it, or are
 -- held to be; the replies that came back; its entry in the report; its state in the book, while it is open;
 -- and the piece of input that is held until it fits.
 pub record SessionFacts : Type 0 where
+  pub dialect : Dialect
   pub port : PortFacts
   pub asked : List Request
   pub had : List Reply
@@ -66,7 +68,7 @@ pub record IsSessionServed (held : List ℕ) (f : SessionFacts) (s : SessionStat
   pub bytes : List ℕ
   pub messages : List Message
   pub fed : f.port.fed ≡ bytes ++ held
-  pub has_read : HasRead bytes messages s
+  pub has_read : HasRead f.dialect bytes messages s
   pub has_said : HasSaid messages f.had f.port.given s
   pub asked : f.asked ≡ asks messages
 
@@ -79,10 +81,10 @@ pub record IsRunning (f : SessionFacts) : Type 0 where
   pub served : IsSessionServed f.piece f s
 
 -- b begins with spellings of the messages, and rest is behind them
-pub record BeginsWith (b : List ℕ) (messages : List Message) (rest : List ℕ) : Type 0 where
+pub record BeginsWith (d : Dialect) (b : List ℕ) (messages : List Message) (rest : List ℕ) : Type 0 where
   pub pieces : List (List ℕ)
   pub whole : b ≡ concat pieces ++ rest
-  pub spelled : SpellEach pieces messages
+  pub spelled : SpellEach d pieces messages
   pub ends_at_last : EndsAtLast messages
 
 -- all was answered and given before the session was shut with a cause that it read itself
@@ -103,7 +105,7 @@ IsCaused f messages causes.NoMemory = f.port.shut ≡ true
 pub record IsClosed (f : SessionFacts) (cause : EndCause) : Type 0 where
   pub messages : List Message
   pub rest : List ℕ
-  pub read : BeginsWith f.port.fed messages rest
+  pub read : BeginsWith f.dialect f.port.fed messages rest
   pub asked : f.asked ≡ asks messages
   pub said : StartsWith (said messages f.had) f.port.given
   pub caused : IsCaused f messages cause
@@ -126,9 +128,10 @@ IsKnownAs true cause f = IsReportedAs f cause
 pub record AreFactsConsistent (f : SessionFacts) : Type 0 where
   pub known : IsKnownAs f.port.opened f.cause f
 
--- What the facts of all sessions are read from: the port's list, the requests posted, or held to be, the answers
+-- What the facts of all sessions are read from: the dialect, the port's list, the requests posted, or held to be, the answers
 -- that came back, the report, the book, and the pieces of input that are held.
 pub record RunView : Type 0 where
+  pub dialect : Dialect
   pub events : List PortRecord
   pub posted : List Posted
   pub back : List Answered
@@ -140,6 +143,7 @@ pub record RunView : Type 0 where
 abbrev pub facts : RunView → ℕ → SessionFacts
 facts v s =
     record {
+      dialect = v.dialect;
       port = port_facts v.events s;
       asked = asked_by v.posted s;
       had = had_by v.back s;

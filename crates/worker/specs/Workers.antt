@@ -1,5 +1,5 @@
 -- What stays true of a worker while it runs.
-use Rattle.std.specs.Prelude.{◌≡◌, ℕ, ◌+◌, ◌-◌, ◌^◌, ◌<◌, ◌≤◌, slice_index_or, ⊤, Bool, true, false, is_some, List}
+use Rattle.std.specs.Prelude.{◌≡◌, ℕ, ◌+◌, ◌-◌, ◌^◌, ◌≤◌, ⊤, Bool, true, false, is_some, List}
 use Rattle.std.specs.Prelude.{[], ◌∷◌, ◌++◌, length, map, take, drop}
 use Rattle.std.specs.Prelude.{min, Option, Some, None}
 use Rattle.std.specs.Option.{option_to_list, option_map}
@@ -7,18 +7,19 @@ use mathlib.Core.Option.{some}
 use lib.ListN.{get_elem?}
 use Rattle.proto.specs.declared.history.Posted.{Posted}
 use Rattle.proto.specs.declared.history.Answered.{Answered}
-use Rattle.proto.specs.History.{asked_posted}
+use Rattle.proto.specs.History.{Legal, worker_share, asked_posted}
 use Rattle.exchange.specs.Ends.{WorkerView, WorkerBatchView, flushed}
-use Rattle.exchange.specs.Beginnings.{posted_of}
+use Rattle.exchange.specs.Beginnings.{StartsWith, posted_of}
 use Rattle.session_book.specs.declared.causes.EndCause.{EndCause}
 use Rattle.session_book.specs.declared.causes.Unsettled.{Unsettled}
 use Rattle.session_book.specs.declared.causes.EndCause.TheVariants as causes
-use Rattle.session_book.specs.Session.{SessionState, new_session, once_fed, holding, finished_by, Stops}
-use Rattle.session_book.specs.Book.{BookState, session_of, ChangesSession, OnlyAt, GivesNone}
+use Rattle.session_book.specs.Session.{SessionState, IsEmptied, new_session, once_fed, holding}
+use Rattle.session_book.specs.Book.{BookState, session_of, ChangesSession, OnlyAt}
 use Rattle.worker_port.specs.declared.events.PortRecord.{PortRecord}
 use Rattle.worker_port.specs.declared.events.PortRecord.TheVariants as was
 use Rattle.worker.specs.declared.state.WorkerState.{WorkerState}
 use Rattle.worker_port.specs.Ports.{PortStory, then_told, with_pause, has_ended, opened_count, AcceptsOnlyOpen}
+use Rattle.worker_port.specs.Giving.{IsStoryOf}
 use Rattle.worker.specs.Sessions.{RunView, facts, AreFactsConsistent}
 use Rattle.worker.specs.EndCauses.{Rises, with_cause, piece_of}
 
@@ -41,6 +42,13 @@ IsNumbered end (Some p) = p.number ≡ length end.sent + 1
 abbrev pub unsettled_post : Posted → Unsettled
 unsettled_post p = record { number = p.number; session = p.session }
 
+-- The history that the end was told of last is legal, its requests are the first of those that it sent, and what came back are
+-- the first of its entries there.
+pub record WasToldOfHistory (end : WorkerView) : Type 0 where
+  pub legal : Legal end.geometry end.seen
+  pub asked : StartsWith end.sent (asked_posted (worker_share end.seen end.worker))
+  pub back : StartsWith (worker_share end.seen end.worker) end.back
+
 -- The end and the book agree: the book's unsettled requests are those posted that didn't come back.
 pub record IsSteady (end : WorkerView) (request : Option Posted) (book : BookState) : Type 0 where
   pub running : end.said_bye ≡ false
@@ -48,6 +56,7 @@ pub record IsSteady (end : WorkerView) (request : Option Posted) (book : BookSta
   pub numbered : IsNumbered end request
   pub unsettled : book.unsettled ≡ map unsettled_post (drop (length end.back) (posted_by end request))
   pub back : asked_posted end.back ≡ take (length end.back) end.sent
+  pub told : WasToldOfHistory end
 
 -- the sessions in the report and those unopened are those that the list opens; the count stays at the greatest
 -- number
@@ -66,6 +75,7 @@ pub record IsStoryKnown (v : RunView) (unopened : ℕ) (ended : Bool) : Type 0 w
 abbrev pub run_view : {P : Type 0} → PortStory → WorkerState P → RunView
 run_view story w =
     record {
+      dialect = story.dialect;
       events = story.events;
       posted = posted_by (end_of w) w.request;
       back = (end_of w).back;
@@ -78,17 +88,28 @@ run_view story w =
 abbrev pub ArePaused : PortStory → (ℕ → List ℕ) → Type 0
 ArePaused story piece = (s : ℕ) → (piece s ≡ [] → ⊥) → story.paused s ≡ true
 
+-- the story is that of the end's worker, and its bytes are read in the dialect of the worker's book
+abbrev pub IsStoryBy : PortStory → WorkerView → BookState → Type 0
+IsStoryBy story end book = IsStoryOf story end × (story.dialect ≡ book.dialect)
+
 -- what stays true of a worker over a port
 pub record IsWorkerServing {P : Type 0} (told : P → Option PortStory) (w : WorkerState P) : Type 0 where
   pub steady : IsSteady (end_of w) w.request w.book
   pub strangers : w.strangers ≡ 0
   pub known : (story : PortStory) → told w.port ≡ Some story → IsStoryKnown (run_view story w) w.unopened w.ended
   pub paused : (story : PortStory) → told w.port ≡ Some story → ArePaused story (piece_of w.book)
+  pub whose : (story : PortStory) → told w.port ≡ Some story → IsStoryBy story (end_of w) w.book
 
 -- it is the same end, later
 pub record IsSameEnd (old new : WorkerView) : Type 0 where
   pub exchange : new.exchange ≡ old.exchange
   pub worker : new.worker ≡ old.worker
+
+-- the end, later: its history begins with the one that it was told of before
+pub record IsLaterEnd (old new : WorkerView) : Type 0 where
+  pub worker : new.worker ≡ old.worker
+  pub geometry : new.geometry ≡ old.geometry
+  pub later : StartsWith new.seen old.seen
 
 -- the end looked for an answer and found none
 pub record TakesNone (old new : WorkerView) : Type 0 where
@@ -96,6 +117,8 @@ pub record TakesNone (old new : WorkerView) : Type 0 where
   pub back : new.back ≡ old.back
   pub running : new.said_bye ≡ old.said_bye
   pub same : IsSameEnd old new
+  pub told : WasToldOfHistory old → WasToldOfHistory new
+  pub later : IsLaterEnd old new
 
 -- the end took back the next answer, that of the first request that hadn't come back
 pub record TakesBack (old new : WorkerView) (a : Answered) : Type 0 where
@@ -104,13 +127,16 @@ pub record TakesBack (old new : WorkerView) (a : Answered) : Type 0 where
   pub running : new.said_bye ≡ old.said_bye
   pub back : new.back ≡ old.back ++ a ∷ []
   pub same : IsSameEnd old new
+  pub told : WasToldOfHistory old → WasToldOfHistory new
+  pub later : IsLaterEnd old new
 
--- the worker goes on: over the same port, later, and at the same end
+-- the worker goes on: over the same port, later, at the same end, and in the same dialect
 pub record Continues {P : Type 0} (told : P → Option PortStory) (leads_to : P → P → Type 0)
     (old new : WorkerState P) : Type 0 where
   pub tells : is_some (told new.port) ≡ is_some (told old.port)
   pub leads : leads_to old.port new.port
   pub same_end : IsSameEnd (end_of old) (end_of new)
+  pub dialect : new.book.dialect ≡ old.book.dialect
 
 -- Of a worker only the port and what it knows of this session change: it is no longer in the book, with its held piece,
 -- and the cause stands at its entry in the report.
@@ -133,8 +159,9 @@ pub record Shuts {P : Type 0} (told : P → Option PortStory) (old new : WorkerS
 pub record Admits {P : Type 0} (told : P → Option PortStory) (old new : WorkerState P) (session : ℕ) : Type 0 where
   pub port : new.port ≡ old.port
   pub sessions : new.sessions.items ≡ old.sessions.items ++ (session, causes.Drained) ∷ []
-  pub book : OnlyAt old.book new.book session (Some new_session)
+  pub book : OnlyAt old.book new.book session (Some (new_session old.book.dialect))
   pub counts : (new.book.posted ≡ old.book.posted) × (new.book.unsettled ≡ old.book.unsettled)
+  pub dialect : new.book.dialect ≡ old.book.dialect
   pub unopened : new.unopened ≡ old.unopened
 
 pub record Refuses {P : Type 0} (told : P → Option PortStory) (old new : WorkerState P) (session : ℕ) : Type 0 where
@@ -181,35 +208,9 @@ pub data HandlesData {P : Type 0} (told : P → Option PortStory) (old : WorkerS
   drops : session_of old.book session ≡ None → new.book ≡ old.book → new.port ≡ old.port → LeavesWorker old new
       → HandlesData told old session bytes new
 
--- The session was asked and gave no request; nothing else of the worker changed but what was read of it.
-pub record IsQuiet {P : Type 0} (old new : WorkerState P) (session : ℕ) : Type 0 where
-  pub end : end_of new ≡ end_of old
-  pub request : new.request ≡ old.request
-  pub sessions : new.sessions ≡ old.sessions
-  pub ended : new.ended ≡ old.ended
-  pub others : (s : ℕ) → (s ≡ session → ⊥) → session_of new.book s ≡ session_of old.book s
-  pub here : (s : SessionState) → session_of new.book session ≡ Some s → GivesNone old.book s
-
--- nothing of the worker changes but what the book has of this session, where it is still open
-pub record IsStill {P : Type 0} (old new : WorkerState P) (session : ℕ) (cause : EndCause) : Type 0 where
-  pub end : end_of new ≡ end_of old
-  pub request : new.request ≡ old.request
-  pub sessions : new.sessions ≡ old.sessions
-  pub ended : new.ended ≡ old.ended
-  pub others : (s : ℕ) → (s ≡ session → cause ≡ causes.Drained → ⊥) → session_of new.book s ≡ session_of old.book s
-
--- the session has no output and no held piece, hasn't finished, and reads no further
-pub record IsEmptied (s : SessionState) : Type 0 where
-  pub out : s.out ≡ []
-  pub held : s.held ≡ []
-  pub unfinished : finished_by s ≡ None
-  pub stops : Stops s
-
 -- nothing is held or outstanding, and each session that is still open is emptied
 pub record IsDrained {P : Type 0} (w : WorkerState P) : Type 0 where
   pub ended : w.ended ≡ true
   pub request : w.request ≡ None
   pub back : length (end_of w).back ≡ length (end_of w).sent
-  pub emptied : (k : ℕ) (d : ℕ × EndCause) → k < length w.sessions.items
-      → (slice_index_or w.sessions.items k d).1 ≡ causes.Drained
-      → (s : SessionState) → session_of w.book (slice_index_or w.sessions.items k d).0 ≡ Some s → IsEmptied s
+  pub emptied : (session : ℕ) (s : SessionState) → session_of w.book session ≡ Some s → IsEmptied s

@@ -4,22 +4,36 @@ ghost use Rattle.std.specs.Prelude.{◌≡◌};
 
 use proto::{Answered, Request, SpareBuffer};
 use std::alloc::Global;
+use std::marker::Model;
 
-/// So many spare buffers are kept at most, of so many bytes each.
+/// So many spare buffers are kept at most, and so many bytes of them in all.
 const MAX_BUFFERS: usize = 128;
 
-const MAX_CAPACITY: usize = 65_536;
+const MAX_BYTES: usize = 8_388_608;
 
-/// Spare buffers for the hits of a `get`: the one that was kept last is lent first.
+/// Spare buffers for the hits of a `get`: the one that was kept last is lent first. Contracts see the bytes that each has.
 #[derive(Drop)]
 pub(crate) struct ReplyBuffers {
     buffers: Vec<SpareBuffer>,
+    bytes: usize,
+}
+
+impl Model for ReplyBuffers {
+    ghost use Rattle.std.specs.Prelude.{◌≡◌, ◌≤◌, ℕ, List, sum, length};
+
+    ghost Value = { List ℕ };
+
+    ghost view = { λ inside. inside.buffers.items };
+
+    ghost invariant = { λ inside. (sum inside.buffers.items ≡ inside.bytes)
+        × (inside.bytes ≤ 8_388_608) × (length inside.buffers.items ≤ 128) };
 }
 
 impl ReplyBuffers {
     pub(crate) fn new(alloc: Global) -> ReplyBuffers {
         ReplyBuffers {
             buffers: Vec::new(alloc),
+            bytes: 0,
         }
     }
 
@@ -31,6 +45,7 @@ impl ReplyBuffers {
             return;
         }
         if let Some(spare) = self.buffers.pop() {
+            self.bytes = self.bytes.saturating_sub(spare.capacity());
             let _ = request.lend_buffer(spare);
         }
     }
@@ -47,8 +62,12 @@ impl ReplyBuffers {
         let Some(spare) = spare else {
             return;
         };
-        if spare.capacity() <= MAX_CAPACITY && self.buffers.len() < MAX_BUFFERS {
-            let _ = self.buffers.push(spare);
+        let bytes = self.bytes.saturating_add(spare.capacity());
+        if bytes <= MAX_BYTES
+            && self.buffers.len() < MAX_BUFFERS
+            && self.buffers.push(spare).is_ok()
+        {
+            self.bytes = bytes;
         }
     }
 }

@@ -1,20 +1,21 @@
 //! The loop of a worker.
 
 ghost use Rattle.std.specs.Prelude.{◌≡◌, ◌<◌, [], true, false, is_some};
-ghost use Rattle.session_book.specs.Session.{SessionState};
-ghost use Rattle.session_book.specs.Book.{session_of};
-ghost use Rattle.worker.specs.Workers.{end_of, Continues, IsStill, IsEmptied, IsDrained};
+ghost use Rattle.worker.specs.Workers.{end_of, Continues, IsDrained};
 ghost use Rattle.worker_port.specs.Ports.{PortStory};
+ghost use Rattle.worker_port.specs.Giving.{IsStoryOf};
 ghost use Rattle.worker.specs.Reports.{IsReported, IsOver};
 
 use crate::gate::Gate;
 use crate::report::WorkerReport;
 use crate::sending;
+use crate::session_list::SessionList;
 use crate::state::WorkerState;
 use crate::waiting::Waiting;
 use crate::worker::Worker;
 use exchange::{StorageSignals, WorkerEnd};
-use session_book::{EndCause, MAX_POSTS, MAX_UNSETTLED};
+use proto::Dialect;
+use session_book::MAX_UNSETTLED;
 use std::alloc::Global;
 use std::sync::Wait;
 use worker_port::Port;
@@ -164,72 +165,56 @@ fn take_turn<P: Port, G: Gate>(worker: &mut Worker<P>, gate: &G, storage: &Stora
     posted || settled || given || given_slowly
 }
 
-// Whether all is done: the port has ended, nothing is held or outstanding, and no open session has a message or
-// output left. A request that is found is held.
+// Whether all is done: the port has ended, nothing is held or outstanding, and no open session has input or output left. One
+// that has some is asked again.
 fn has_drained<P: Port>(worker: &mut Worker<P>) -> bool
     ensures goes_on { Continues P.told P.leads_to worker.old worker.new }
     ensures drained { result ≡ true → IsDrained worker.new }
 {
-    if !worker.state.ended || worker.state.request.is_some() || worker.state.outstanding() > 0 {
+    let state = &mut worker.state;
+    if !state.ended || state.request.is_some() || state.outstanding() > 0 || !state.book.is_idle() {
         return false;
     }
-    if !worker.state.book.is_idle() || worker.state.posted() >= MAX_POSTS {
-        return false;
-    }
-    for position in 0..worker.state.sessions.len() {
-        let (session, cause) = worker.state.sessions[position];
-        if !is_emptied(worker, session, cause) {
-            return false;
+    match state.book.find_unemptied() {
+        Some(session) => {
+            state.book.ask_later(session);
+            false
         }
-    }
-    true
-}
-
-// Whether a session that is still open has nothing left to read and to give.
-fn is_emptied<P: Port>(worker: &mut Worker<P>, session: u64, cause: EndCause) -> bool
-    requires none { worker.old.request ≡ None }
-    requires settled { worker.old.book.unsettled ≡ [] }
-    requires few { worker.old.book.posted < MAX_POSTS }
-    ensures goes_on { Continues P.told P.leads_to worker.old worker.new }
-    ensures still { result ≡ true → IsStill worker.old worker.new session cause }
-    ensures emptied { result ≡ true → cause ≡ EndCause.Drained → (s : SessionState) → session_of worker.new.book session ≡ Some s
-        → IsEmptied s }
-{
-    match cause {
-        EndCause::Drained => {
-            if !worker.ask(session) {
-                worker.state.book.ask_later(session);
-                return false;
-            }
-            worker.has_no_output(session) && worker.holds_nothing(session)
-        }
-        _ => true,
+        None => true,
     }
 }
 
 /// Serves a port until it has ended and all was answered and given, and then says bye.
 ///
-/// The end has sent nothing yet, and the list of a port that tells it is empty. It may wait: for events, for answers
+/// The end has sent nothing yet, and the list of a port that tells it is empty, as is that of the sessions. It may wait: for events, for answers
 /// and for a port that accepts no bytes. It unparks the storage thread, which parks on the signals's word, where it has posted.
 pub fn run_worker<P: Port, G: Gate, R: Wait>(
     rt: &R,
     alloc: Global,
     port: P,
     worker_end: WorkerEnd,
+    sessions: SessionList,
+    dialect: Dialect,
     gate: &G,
     storage: &StorageSignals,
 ) -> WorkerReport<P>
     requires port { (story : PortStory) → P.told port ≡ Some story → story.events ≡ [] }
+    requires whose { (story : PortStory) → P.told port ≡ Some story → IsStoryOf story worker_end }
+    requires spelled { (story : PortStory) → P.told port ≡ Some story → story.dialect ≡ dialect }
     requires fresh { (worker_end.sent ≡ []) × (worker_end.back ≡ []) × (worker_end.said_bye ≡ false) }
+    requires untold { worker_end.seen ≡ [] }
+    requires none { sessions.items ≡ [] }
     ensures leads { P.leads_to port result.port }
     ensures tells { is_some (P.told result.port) ≡ is_some (P.told port) }
     ensures over { IsOver worker_end result.worker_end }
     ensures strangers { result.strangers ≡ 0 }
     ensures reported { (story : PortStory) → P.told result.port ≡ Some story
-        → IsReported story.events result.worker_end result.sessions.items result.unopened }
+        → IsReported story.dialect story.events result.worker_end result.sessions.items result.unopened }
+    ensures whose { (story : PortStory) → P.told result.port ≡ Some story → IsStoryOf story result.worker_end }
+    ensures spelled { (story : PortStory) → P.told result.port ≡ Some story → story.dialect ≡ dialect }
 {
     let parking = storage.worker_parking(worker_end.worker());
-    let mut worker = Worker::new(alloc, port, worker_end);
+    let mut worker = Worker::new(alloc, port, worker_end, sessions, dialect);
     let mut waiting = Waiting::new();
     for _ in rt.forever() {
         if take_turn(&mut worker, gate, storage) {
@@ -250,7 +235,9 @@ fn leave<P: Port>(worker: Worker<P>, storage: &StorageSignals) -> WorkerReport<P
     ensures over { IsOver (end_of worker) result.worker_end }
     ensures strangers { result.strangers ≡ 0 }
     ensures reported { (story : PortStory) → P.told result.port ≡ Some story
-        → IsReported story.events result.worker_end result.sessions.items result.unopened }
+        → IsReported story.dialect story.events result.worker_end result.sessions.items result.unopened }
+    ensures whose { (story : PortStory) → P.told result.port ≡ Some story → IsStoryOf story result.worker_end }
+    ensures spelled { (story : PortStory) → P.told result.port ≡ Some story → story.dialect ≡ worker.book.dialect }
 {
     let Worker { state } = worker;
     let WorkerState {

@@ -6,8 +6,8 @@ ghost use Rattle.worker.specs.EndCauses.{piece_of};
 ghost use Rattle.worker_port.specs.Ports.{PortStory, IsOpenIn};
 ghost use Rattle.worker.specs.Workers.{end_of, Closes, Shuts, Admits, Refuses, SameRest, HandlesData};
 
-use crate::end_causes::set_cause;
 use crate::reply_buffers::ReplyBuffers;
+use crate::session_list::SessionList;
 use bytes::Bytes;
 use exchange::WorkerBatch;
 use proto::Posted;
@@ -23,7 +23,7 @@ pub(crate) struct WorkerState<P> {
     pub(crate) book: Book,
     /// A request that has its number and isn't posted yet.
     pub(crate) request: Option<Posted>,
-    pub(crate) sessions: Vec<(u64, EndCause)>,
+    pub(crate) sessions: SessionList,
     pub(crate) unopened: u64,
     pub(crate) strangers: u64,
     /// The port has ended.
@@ -54,7 +54,7 @@ impl<P: Port> WorkerState<P> {
         ensures closes { Closes self.old self.new session cause }
     {
         self.book.close(session);
-        set_cause(&mut self.sessions, session, cause);
+        self.sessions.close(session, cause);
     }
 
     pub(crate) fn shut(&mut self, session: u64, cause: EndCause)
@@ -77,21 +77,18 @@ impl<P: Port> WorkerState<P> {
         self.unopened = self.unopened.saturating_add(1);
     }
 
-    // Writes a session's entry in the report and opens it in the book.
+    // Opens a session in the book, and writes its entry in the report.
     pub(crate) fn admit(&mut self, session: u64)
         requires { IsOpenIn session (P.told self.old.port) }
         ensures leads { P.leads_to self.old.port self.new.port }
         ensures rest { SameRest self.old self.new }
         ensures admits { Admits P.told self.old self.new session ⊎ Refuses P.told self.old self.new session }
     {
-        if self.sessions.push((session, EndCause::Drained)).is_err() {
+        if self.sessions.reserve().is_err() || self.book.open(session).is_err() {
             self.refuse(session);
             return;
         }
-        if self.book.open(session).is_err() {
-            self.sessions.pop();
-            self.refuse(session);
-        }
+        self.sessions.open(session);
     }
 
     // Feeds a piece of input that came, or holds it until it fits, and then pauses its session. Input of a session that

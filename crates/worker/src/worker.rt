@@ -1,22 +1,24 @@
 //! A worker that serves its port, by the steps that it takes.
 
 ghost use Rattle.std.specs.Prelude.{◌≡◌, true, false, Some, None, []};
-ghost use Rattle.session_book.specs.Session.{SessionState, finished_by};
+ghost use Rattle.session_book.specs.Session.{finished_by};
 ghost use Rattle.session_book.specs.Book.{session_of};
 ghost use Rattle.worker_port.specs.Ports.{PortStory};
-ghost use Rattle.worker.specs.Workers.{end_of, Continues, IsQuiet};
+ghost use Rattle.worker_port.specs.Giving.{IsStoryOf};
+ghost use Rattle.worker.specs.Workers.{end_of, Continues};
 ghost use Rattle.std.specs.Option.{option_and_then};
 
 use crate::gate::Gate;
 use crate::reply_buffers::ReplyBuffers;
 use crate::sending;
+use crate::session_list::SessionList;
 use crate::state::WorkerState;
 use exchange::{StorageSignals, WorkerEnd};
-use proto::Posted;
+use proto::{Dialect, Posted};
 use session_book::{Book, EndCause, MAX_UNSETTLED, Settled};
 use std::alloc::Global;
 use std::marker::Model;
-use worker_port::{Gone, Port, PortEvent};
+use worker_port::{Gone, Port, PortEvent, ToldHistory};
 
 /// A worker. Contracts see it as its state, of which all parts agree between its steps, with the port's story too where the
 /// port tells it.
@@ -38,20 +40,31 @@ impl<P: Port> Model for Worker<P> {
 
 impl<P: Port> Worker<P> {
     // A worker whose end has sent nothing yet, over a port that has told nothing.
-    pub(crate) fn new(alloc: Global, port: P, worker_end: WorkerEnd) -> Worker<P>
+    pub(crate) fn new(
+        alloc: Global,
+        port: P,
+        worker_end: WorkerEnd,
+        sessions: SessionList,
+        dialect: Dialect,
+    ) -> Worker<P>
         requires port { (story : PortStory) → P.told port ≡ Some story → story.events ≡ [] }
+        requires whose { (story : PortStory) → P.told port ≡ Some story → IsStoryOf story worker_end }
+        requires spelled { (story : PortStory) → P.told port ≡ Some story → story.dialect ≡ dialect }
         requires fresh { (worker_end.sent ≡ []) × (worker_end.back ≡ []) × (worker_end.said_bye ≡ false) }
+        requires untold { worker_end.seen ≡ [] }
+        requires none { sessions.items ≡ [] }
         ensures port { result.port ≡ port }
         ensures end { end_of result ≡ worker_end }
+        ensures dialect { result.book.dialect ≡ dialect }
     {
-        let book = Book::new(alloc, worker_end.worker());
+        let book = Book::new(alloc, worker_end.worker(), dialect);
         Worker {
             state: WorkerState {
                 port,
                 batch: worker_end.batched(),
                 book,
                 request: None,
-                sessions: Vec::new(alloc),
+                sessions,
                 unopened: 0,
                 strangers: 0,
                 ended: false,
@@ -103,8 +116,7 @@ impl<P: Port> Worker<P> {
     // Reads up to the session's next request, which is held until it is posted. True where none is left for now.
     pub(crate) fn ask(&mut self, session: u64) -> bool
         requires { self.old.request ≡ None }
-        ensures goes_on { Continues P.told P.leads_to self.old self.new }
-        ensures quiet { result ≡ true → IsQuiet self.old self.new session }
+        ensures { Continues P.told P.leads_to self.old self.new }
     {
         match self.state.book.next_ask(session) {
             Ok(Some((mut request, number))) => {
@@ -208,28 +220,14 @@ impl<P: Port> Worker<P> {
         if offer.out.is_empty() {
             return (false, offer.finished);
         }
-        match self.state.port.give(session, offer.out) {
+        let history = ToldHistory::of(&self.state.batch);
+        match self.state.port.give(session, offer.out, history) {
             Ok(accepted) => (accepted > 0, self.state.book.gave(session, accepted)),
             Err(Gone) => {
                 self.state.close(session, EndCause::Gone);
                 (true, None)
             }
         }
-    }
-
-    // The session has no output, and hasn't finished.
-    pub(crate) fn has_no_output(&self, session: u64) -> bool
-        ensures { result ≡ true → (s : SessionState) → session_of self.now.book session ≡ Some s
-            → (s.out ≡ []) × (finished_by s ≡ None) }
-    {
-        self.state.book.out(session).is_empty() && self.state.book.finished(session).is_none()
-    }
-
-    // No piece of the session is held.
-    pub(crate) fn holds_nothing(&self, session: u64) -> bool
-        ensures { result ≡ true → (s : SessionState) → session_of self.now.book session ≡ Some s → s.held ≡ [] }
-    {
-        self.state.book.held(session).is_empty()
     }
 
     // Feeds the next held piece that may fit by now.

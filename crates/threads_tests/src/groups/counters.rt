@@ -4,7 +4,7 @@ use bytes::Bytes;
 use engine::Clock;
 use std::alloc::Global;
 use std::sync::atomic::{AtomicU64, Ordering};
-use worker_port::{Gone, Port, PortEvent};
+use worker_port::{Gone, Port, PortEvent, ToldHistory};
 
 /// How often the ports and the clock of a run were asked.
 #[derive(Drop)]
@@ -69,7 +69,7 @@ impl Port for CountedPort<'_> {
         }
     }
 
-    fn give(&mut self, _session: u64, bytes: &[u8]) -> Result<usize, Gone> {
+    fn give(&mut self, _session: u64, bytes: &[u8], _history: ToldHistory) -> Result<usize, Gone> {
         match self.given.extend_from_slice(bytes) {
             Ok(()) => Ok(bytes.len()),
             Err(_) => Ok(0),

@@ -4,7 +4,7 @@ use crate::groups::counters::{CountedPort, Counters};
 use bytes::Bytes;
 use engine::Clock;
 use group::{Config, GroupFault, GroupReport, GroupWorker, run_group};
-use proto::Geometry;
+use proto::{Dialect, Geometry};
 use segcache::Store;
 use session_book::EndCause;
 use std::alloc::Global;
@@ -63,7 +63,12 @@ pub(crate) fn run<
 ) -> Result<GroupReport<CountedPort<'a>, C>, GroupFault> {
     let geometry = Geometry::new(65_536, 64).expect(rt, "a geometry");
     let store = Store::new(alloc, geometry).expect(rt, "memory");
-    run_group(rt, alloc, ports, Config { geometry }, store, clock, gate)
+    let config = Config {
+        geometry,
+        dialect: Dialect::Strict,
+        stores_sessions: true,
+    };
+    run_group(rt, alloc, ports, config, store, clock, gate)
 }
 
 /// Each worker opened session 1 alone, which drained, and was given the whole output for its key.
@@ -75,7 +80,7 @@ pub(crate) fn are_complete<R: Abort>(
 ) -> bool {
     for (worker, key) in workers.iter().zip(keys.iter()) {
         let wanted = with_key(rt, alloc, OUTPUT, *key);
-        let has_drained = worker.sessions.as_slice() == [(1, EndCause::Drained)].as_slice();
+        let has_drained = worker.sessions.entries() == Some([(1, EndCause::Drained)].as_slice());
         if !has_drained || worker.port.given.as_slice() != wanted.as_slice() {
             return false;
         }

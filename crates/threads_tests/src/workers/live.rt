@@ -2,7 +2,7 @@
 //! session that was forgotten.
 
 use crate::workers::scripts::{joined, repeated};
-use crate::workers::serving::serve;
+use crate::workers::serving::{serve, sizes};
 use bytes::Bytes;
 use std::alloc::Global;
 use std::collections::VecDeque;
@@ -11,7 +11,7 @@ use std::sync::Wait;
 use std::thread::Threads;
 use std::time::Clock;
 use worker::OpenGate;
-use worker_port::{Gone, MAX_PIECE, Port, PortEvent};
+use worker_port::{Gone, MAX_PIECE, Port, PortEvent, ToldHistory};
 
 /// How often a port is asked in vain until it gives up.
 const PATIENCE: u64 = 3_000_000;
@@ -70,7 +70,7 @@ impl Port for LivePort {
         PortEvent::Idle
     }
 
-    fn give(&mut self, _session: u64, bytes: &[u8]) -> Result<usize, Gone> {
+    fn give(&mut self, _session: u64, bytes: &[u8], _history: ToldHistory) -> Result<usize, Gone> {
         if self.slow_gives > 0 {
             self.slow_gives -= 1;
             return Ok(0);
@@ -127,7 +127,7 @@ where
         waits_at_first: false,
         waits_early: false,
     };
-    let (report, _executed) = serve(rt, alloc, port, &OpenGate);
+    let (report, _executed) = serve(rt, alloc, sizes(rt), port, &OpenGate);
     assert!(*rt; report.port.is_served());
     assert!(*rt; report.port.was_shut == (peer.wanted == 0));
     assert!(*rt; report.port.waits_at_first);

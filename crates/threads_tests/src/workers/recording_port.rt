@@ -1,14 +1,17 @@
 //! A port of the tests' own, which plays a list of steps and keeps its records.
 
-ghost use Rattle.std.specs.Prelude.{◌≡◌, ◌==◌, ◌++◌, ◌∷◌, [], false, ℕ, if◌then◌else◌};
+ghost use Rattle.std.specs.Prelude.{◌≡◌, ◌==◌, ◌++◌, ◌∷◌, [], false, ℕ, if◌then◌else◌, None};
 ghost use Rattle.std.specs.Option.{option_map_or};
 
 use crate::workers::records::{has_ended_in, is_new_in, is_open_in};
+use crate::workers::serving::sizes;
 use bytes::Bytes;
+use proto::Geometry;
 use std::alloc::Global;
 use std::collections::VecDeque;
 use std::process::Abort;
-use worker_port::{Gone, MAX_PIECE, Port, PortEvent, PortRecord};
+use std::snapshot::Snapshot;
+use worker_port::{Gone, MAX_PIECE, Port, PortEvent, PortRecord, ToldHistory};
 
 /// What a port plays.
 #[derive(Drop)]
@@ -34,7 +37,10 @@ pub(crate) struct Manners {
 pub(crate) struct RecordingPort<R: Abort + Drop> {
     rt: R,
     alloc: Global,
+    pub(crate) geometry: Geometry,
     pub(crate) records: Vec<PortRecord>,
+    /// By which bytes were given last.
+    pub(crate) history: Snapshot<Option<ToldHistory>>,
     steps: VecDeque<Step>,
     manners: Manners,
     gives: u64,
@@ -50,12 +56,15 @@ impl<R: Abort + Drop> RecordingPort<R> {
         steps: VecDeque<Step>,
         manners: Manners,
     ) -> RecordingPort<R>
-        ensures { result.records.items ≡ [] }
+        ensures { (result.records.items ≡ []) × (result.history.value ≡ None) }
     {
+        let geometry = sizes(&rt);
         RecordingPort {
             rt,
             alloc,
+            geometry,
             records: Vec::new(alloc),
+            history: Snapshot::of(&None),
             steps,
             manners,
             gives: 0,
@@ -90,18 +99,26 @@ impl<R: Abort + Drop> RecordingPort<R> {
     }
 
     fn note(&mut self, entry: PortRecord)
+        ensures rest { self.new ≡ record self.old { records = self.new.records } }
         ensures records { self.new.records.items ≡ self.old.records.items ++ entry ∷ [] }
-        ensures paused { self.new.paused ≡ self.old.paused }
     {
         self.records.push(entry).expect(&self.rt, "memory");
     }
 }
 
 impl<R: Abort + Drop> Port for RecordingPort<R> {
-    ghost use Rattle.std.specs.Prelude.{Some, false, ◌==◌};
-    ghost use Rattle.std.specs.Option.{option_map_or};
+    ghost use Rattle.std.specs.Prelude.{Some, false, ◌==◌, []};
+    ghost use Rattle.proto.specs.declared.dialect.Dialect.TheVariants.{Strict};
+    ghost use Rattle.std.specs.Option.{option_map_or, unwrap_or};
 
-    ghost told = { λ p. Some (record { events = p.records.items; paused = λ s. option_map_or (λ t. t == s) p.paused false }) };
+    ghost told = { λ p. Some (record {
+      events = p.records.items;
+      paused = λ s. option_map_or (λ t. t == s) p.paused false;
+      sizes = p.geometry;
+      dialect = Strict;
+      worker = 0;
+      history = unwrap_or p.history.value [];
+    }) };
 
     ghost leads_to = { λ _ _. Unit {0} };
 
@@ -143,7 +160,8 @@ impl<R: Abort + Drop> Port for RecordingPort<R> {
         }
     }
 
-    fn give(&mut self, session: u64, bytes: &[u8]) -> Result<usize, Gone> {
+    fn give(&mut self, session: u64, bytes: &[u8], history: ToldHistory) -> Result<usize, Gone> {
+        self.history = Snapshot::of(&Some(history));
         if self.manners.slow_gives > 0 {
             self.manners.slow_gives -= 1;
             return Ok(0);

@@ -1,6 +1,6 @@
 //! What a run over a port that keeps its records leaves.
 
-ghost use Rattle.std.specs.Prelude.{◌≡◌, []};
+ghost use Rattle.std.specs.Prelude.{◌≡◌, [], None};
 
 use crate::workers::recording_port::RecordingPort;
 use crate::workers::serving::serve;
@@ -10,14 +10,14 @@ use std::process::Abort;
 use std::sync::Wait;
 use std::thread::Threads;
 use std::time::Clock;
-use worker::Gate;
+use worker::{Gate, SessionList};
 use worker_port::PortRecord;
 
 /// What a run leaves.
 #[derive(Drop)]
 pub(crate) struct Outcome<R: Abort + Drop> {
     pub(crate) port: RecordingPort<R>,
-    pub(crate) sessions: Vec<(u64, EndCause)>,
+    pub(crate) sessions: SessionList,
     pub(crate) sent: u64,
     pub(crate) executed: u64,
 }
@@ -27,9 +27,9 @@ pub(crate) fn run<R, G>(rt: &R, alloc: Global, port: RecordingPort<R>, gate: &G)
 where
     R: Abort + Threads + Wait + Clock + Copy + Drop + Send + Sync + 'static,
     G: Gate,
-    requires { port.records.items ≡ [] }
+    requires { (port.records.items ≡ []) × (port.history.value ≡ None) }
 {
-    let (report, executed) = serve(rt, alloc, port, gate);
+    let (report, executed) = serve(rt, alloc, port.geometry, port, gate);
     assert!(*rt; report.unopened == 0);
     Outcome {
         port: report.port,
@@ -42,7 +42,7 @@ where
 impl<R: Abort + Drop> Outcome<R> {
     /// Why the session ended, by the report.
     pub(crate) fn cause_of(&self, session: u64) -> Option<EndCause> {
-        for entry in self.sessions.as_slice() {
+        for entry in self.sessions.entries().unwrap_or(&[]) {
             if entry.0 == session {
                 return Some(entry.1);
             }

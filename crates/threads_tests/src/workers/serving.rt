@@ -1,6 +1,7 @@
 //! One worker over a port, with a storage thread beside it.
 
 ghost use Rattle.std.specs.Prelude.{◌≡◌, [], false, Some};
+ghost use Rattle.proto.specs.declared.dialect.Dialect.TheVariants.{Strict};
 ghost use Rattle.proto.specs.Cache.{empty_cache};
 ghost use Rattle.engine.specs.PlainState.{plain_sizes, plain_cache, plain_moment};
 ghost use Rattle.storage_thread.specs.Serving.{IsUnused};
@@ -9,14 +10,14 @@ ghost use Rattle.worker_port.specs.Ports.{PortStory};
 use crate::signals::signals_of;
 use engine::{Clock, PlainStore};
 use exchange::{StorageEnd, WorkerEnd, make};
-use proto::Geometry;
+use proto::{Dialect, Geometry};
 use std::alloc::Global;
 use std::process::Abort;
 use std::sync::{Arc, Wait};
 use std::thread::Threads;
 use std::{thread, time};
 use storage_thread::{StorageReport, run_storage};
-use worker::{Gate, WorkerReport, run_worker};
+use worker::{Gate, SessionList, WorkerReport, run_worker};
 use worker_port::Port;
 
 /// It is 1000 at all times.
@@ -39,14 +40,19 @@ impl Clock for SteadyClock {
     }
 }
 
+/// The sizes of the store in the tests of workers.
+pub(crate) fn sizes<R: Abort>(rt: &R) -> Geometry {
+    Geometry::new(65_536, 64).expect(rt, "a geometry")
+}
+
 /// The ends of an exchange of one worker, and an empty store.
-fn made<R: Abort>(rt: &R, alloc: Global) -> (WorkerEnd, StorageEnd, PlainStore)
+fn made<R: Abort>(rt: &R, alloc: Global, geometry: Geometry) -> (WorkerEnd, StorageEnd, PlainStore)
     ensures worker { (result.0.sent ≡ []) × (result.0.back ≡ []) × (result.0.said_bye ≡ false) }
+    ensures whose { (result.0.worker ≡ 0) × (result.0.geometry ≡ geometry) × (result.0.seen ≡ []) }
     ensures storage { IsUnused result.1 }
     ensures sizes { plain_sizes result.2 ≡ result.1.geometry }
     ensures store { (plain_cache result.2 ≡ empty_cache 0) × (plain_moment result.2 ≡ 0) }
 {
-    let geometry = Geometry::new(65_536, 64).expect(rt, "a geometry");
     let (mut ends, storage) = make(alloc, 1, geometry).expect(rt, "an exchange");
     let end = ends.pop().expect(rt, "an end");
     let store = PlainStore::new(alloc, geometry).expect(rt, "memory");
@@ -54,17 +60,26 @@ fn made<R: Abort>(rt: &R, alloc: Global) -> (WorkerEnd, StorageEnd, PlainStore)
 }
 
 /// Runs the worker to its end, and the storage thread. Gives the worker's report, and how many requests were executed.
-pub(crate) fn serve<R, P, G>(rt: &R, alloc: Global, port: P, gate: &G) -> (WorkerReport<P>, u64)
+pub(crate) fn serve<R, P, G>(
+    rt: &R,
+    alloc: Global,
+    geometry: Geometry,
+    port: P,
+    gate: &G,
+) -> (WorkerReport<P>, u64)
 where
     R: Abort + Threads + Wait + time::Clock + Copy + Drop + Send + Sync + 'static,
     P: Port,
     G: Gate,
-    requires { (story : PortStory) → P.told port ≡ Some story → story.events ≡ [] }
+    requires spelled { (story : PortStory) → P.told port ≡ Some story → story.dialect ≡ Strict }
+    requires silent { (story : PortStory) → P.told port ≡ Some story → story.events ≡ [] }
+    requires whose { (story : PortStory) → P.told port ≡ Some story
+        → (story.worker ≡ 0) × (story.sizes ≡ geometry) × (story.history ≡ []) }
 {
     let handle = *rt;
     let signals = signals_of(rt, alloc, 1);
     let of_storage = Arc::try_clone(&signals).expect(rt, "memory");
-    let (end, storage_end, store) = made(rt, alloc);
+    let (end, storage_end, store) = made(rt, alloc, geometry);
     let child = thread::spawn(
         rt,
         move || -> StorageReport<SteadyClock>
@@ -74,6 +89,15 @@ where
         { run_storage(&handle, store, SteadyClock, storage_end, &of_storage) },
     )
     .expect(rt, "a thread");
-    let report = run_worker(rt, alloc, port, end, gate, &signals);
+    let report = run_worker(
+        rt,
+        alloc,
+        port,
+        end,
+        SessionList::stored(alloc),
+        Dialect::Strict,
+        gate,
+        &signals,
+    );
     (report, child.join(rt).executed)
 }

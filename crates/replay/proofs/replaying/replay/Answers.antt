@@ -1,6 +1,4 @@
 use Rattle.std.proofs.Common.{Some, refl, ◌∙◌}
-use Rattle.std.proofs.lemmas.Option.{IfSome_then}
-use Rattle.std.proofs.lemmas.Result.{on_ok_weaker}
 use Rattle.std.specs.Prelude.{map}
 use Rattle.script.specs.declared.recording_clock.RecordingClock.{RecordingClock}
 use Rattle.script.specs.Readings.{readings_in_order}
@@ -8,25 +6,26 @@ use Rattle.script.specs.ClockLeading.{GivesAnswers}
 use Rattle.script.specs.States.{story_told, PlaysOn}
 use Rattle.replay.specs.Printed.{lines_from, events_of}
 use Rattle.replay.proofs.ReplayLemmas.{replayed, keeping_run}
-use Rattle.replay.proofs.Lines.{silent}
+use Rattle.replay.proofs.Lines.{silent, owned}
 use Rattle.replay.proofs.replaying.replay.Goals as goal
 
 pub run_group-requires-clause-ports : goal.run_group-requires-clause-ports
 run_group-requires-clause-ports g c κs within =
-    silent c.args.options.now.accept c.args.options.now.fail_give c.in_ok-scripts.scripts.items
+    silent c.args.geometry c.args.options.now.dialect c.args.options.now.accept c.args.options.now.fail_give c.in_ok-scripts.scripts.items
+    c.in_ok-ports.ports.items c.in_ok-ports.ensures
+
+pub run_group-requires-clause-whose : goal.run_group-requires-clause-whose
+run_group-requires-clause-whose g c κs within =
+    owned c.args.geometry c.args.options.now.dialect c.args.options.now.accept c.args.options.now.fail_give c.in_ok-scripts.scripts.items
     c.in_ok-ports.ports.items c.in_ok-ports.ensures
 
 pub returns-clause-ran : goal.returns-clause-ran
 returns-clause-ran g c =
-    let scripts = c.in_ok-scripts.scripts.items in
-    on_ok_weaker c.write_lines.result
-    (λ wrote.
-    IfSome_then (g.R.Read.remaining c.args.script) c.in_ok-scripts.ensures
-    (λ text read. (
+    let all = rw c.as_slice.ensures.value at c.in_ok-write_lines.ensures in (
       lines_from 0 (map events_of c.in_ok-report.report.workers.items),
       record {
-        scripts = scripts;
-        read = read;
+        scripts = c.in_ok-scripts.scripts.items;
+        read = c.in_ok-scripts.ensures.events;
         ports = c.in_ok-ports.ports.items;
         ports_are = c.in_ok-ports.ensures;
         told = c.new-clock.result;
@@ -39,21 +38,15 @@ returns-clause-ran g c =
             c.in_ok-report.ensures.run c.in_ok-store.ensures.sizes c.in_ok-store.ensures.keeps;
         printed_is = refl;
       },
-      (rw c.as_slice.ensures.value at wrote).0,
-    )))
-    c.write_lines.ensures
+      all.0,
+    )
 
 pub returns-clause-printed : goal.returns-clause-printed
 returns-clause-printed g c =
-    let scripts = c.in_ok-scripts.scripts.items in
-    on_ok_weaker c.write_lines.result
-    (λ wrote.
-    let all = rw c.as_slice.ensures.value at wrote in
-    IfSome_then (g.R.Read.remaining c.args.script) c.in_ok-scripts.ensures
-    (λ text read. (
+    let all = rw c.as_slice.ensures.value at c.in_ok-write_lines.ensures in (
       lines_from 0 (map events_of c.in_ok-report.report.workers.items),
-      replayed c.args.geometry _ c.args.options.now.workers c.args.options.now.accept c.args.options.now.fail_give text
-          scripts read
+      replayed c.args.geometry c.args.options.now.dialect _ c.args.options.now.workers c.args.options.now.accept c.args.options.now.fail_give
+          c.in_ok-scripts.text.items c.in_ok-scripts.scripts.items c.in_ok-scripts.ensures.events
           c.in_ok-ports.ports.items c.in_ok-ports.ensures c.new-clock.result
           (c.new-clock.ensures.clock ∙ c.new.ensures) c.new-clock.ensures.answers c.in_ok-report.report
           (keeping_run story_told PlaysOn
@@ -63,5 +56,4 @@ returns-clause-printed g c =
           c.in_ok-report.ensures.run c.in_ok-store.ensures.sizes c.in_ok-store.ensures.keeps)
           all.1,
       all.0,
-    )))
-    c.write_lines.ensures
+    )

@@ -9,8 +9,8 @@ use Rattle.replay.proofs.replaying.write_worker.Given as goal
 
 abbrev pub invariant-loop-session : goal.invariant-loop-session
 invariant-loop-session g l = record {
-  opened_are : numbers l.session-items ≡ opened l.fn.port.records;
+  opened_are : numbers l.session-items ≡ opened l.fn.port.player.records;
   written : Appends (g.W.Write.contents l.initial.out) (g.W.Write.contents l.out)
-      (flat_map (λ (x : ScriptSessionState). printed_line l.fn.worker x.number (given x.number l.fn.port.records))
+      (flat_map (λ (x : ScriptSessionState). printed_line l.fn.worker x.number (given x.number l.fn.port.player.records))
       (take l.session-index l.session-items));
 }

@@ -2,12 +2,11 @@ use Rattle.std.proofs.Common.{◌≡◌, length, true, refl, sym, ap, subst, ◌
 use Rattle.std.proofs.lemmas.List.{take_all}
 use Rattle.proto.specs.History.{asked_posted}
 use Rattle.exchange.specs.Ends.{WorkerView}
-use Rattle.session_book.specs.declared.causes.EndCause.TheVariants.{Drained}
-use Rattle.session_book.specs.Book.{session_of}
+use Rattle.worker.specs.declared.state.WorkerState.{WorkerState}
 use Rattle.worker.specs.Reports.{IsOver}
 use Rattle.worker.specs.Workers.{end_of, IsStoryKnown, IsDrained, run_view}
 use Rattle.worker.proofs.DrainSteps.{sent_posted}
-use Rattle.worker.proofs.ReportSteps.{reported, position_of_cause}
+use Rattle.worker.proofs.ReportSteps.{reported}
 use Rattle.worker.proofs.run.leave.Goals as goal
 
 pub returns-clause-reported : goal.returns-clause-reported
@@ -23,8 +22,20 @@ returns-clause-reported g c =
     (sent_posted (end_of w) w.request d.request ∙ sym (ap (λ (e : WorkerView). e.sent) bye))
     (sym (ap (λ (e : WorkerView). e.back) bye))
     (ap (λ (e : WorkerView). asked_posted e.back) bye ∙ all ∙ sym (ap (λ (e : WorkerView). e.sent) bye)) (λ s. refl)
-    (λ s cause st q. let p = position_of_cause w.sessions.items s Drained cause in let at = p.2 (0, Drained) in
-    d.emptied p.0 (0, Drained) p.1 at.1 st (ap (session_of w.book) at.0 ∙ q))
+    (λ s cause st q. d.emptied s st q)
+
+pub returns-clause-spelled : goal.returns-clause-spelled
+returns-clause-spelled g c =
+    λ story e. (c.worker.invariant.whose story e).1 ∙ ap (λ (w : WorkerState _). w.book.dialect) c.worker.view_is
+
+pub returns-clause-whose : goal.returns-clause-whose
+returns-clause-whose g c =
+    λ story e.
+    let k = (c.worker.invariant.whose story e).0 in let bye = c.say_bye.ensures in record {
+      worker_is = k.worker_is ∙ sym (ap (λ (e : WorkerView). e.worker) bye);
+      sizes_are = k.sizes_are ∙ sym (ap (λ (e : WorkerView). e.geometry) bye);
+      later = (k.later.0, ap (λ (e : WorkerView). e.seen) bye ∙ k.later.1);
+    }
 
 pub returns-clause-over : goal.returns-clause-over
 returns-clause-over g c =

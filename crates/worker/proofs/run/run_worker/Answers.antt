@@ -1,4 +1,4 @@
-use Rattle.std.proofs.Common.{sym, subst}
+use Rattle.std.proofs.Common.{refl, sym, subst, ◌∙◌}
 use Rattle.worker.proofs.WorkerSteps.{continues_trans}
 use Rattle.worker.proofs.run.run_worker.Goals as goal
 
@@ -20,3 +20,18 @@ returns-then-has_drained-clause-leads g c =
     c.take_turn.ensures) c.has_drained.ensures.goes_on).leads in
     let Leads : g.row.P.Denot × g.row.P.Denot → Type 0 = λ y. g.P.Port.leads_to y.0 y.1 in
     subst Leads (λ j. (c.new-worker.ensures.port j, sym c.leave.ensures.port j)) all
+
+pub loop-init : goal.loop-init
+loop-init g c = record {
+  tells = refl;
+  leads = g.met.P.Port.leads_reflexive _;
+  same_end = record { exchange = refl; worker = refl };
+  dialect = refl;
+}
+
+pub returns-then-has_drained-clause-spelled : goal.returns-then-has_drained-clause-spelled
+returns-then-has_drained-clause-spelled g c =
+    let all = (continues_trans g.P.Port.told g.P.Port.leads_to _ _ _ g.met.P.Port.leads_transitive
+    (continues_trans g.P.Port.told g.P.Port.leads_to _ _ _ g.met.P.Port.leads_transitive c.loop.invariant
+    c.take_turn.ensures) c.has_drained.ensures.goes_on).dialect in
+    λ story e. c.leave.ensures.spelled story e ∙ all ∙ c.new-worker.ensures.dialect

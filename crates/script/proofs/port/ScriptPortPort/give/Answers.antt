@@ -1,26 +1,32 @@
-use Rattle.std.proofs.Common.{◌++◌, ap, ◌∙◌, subst}
+use Rattle.std.proofs.Common.{[], ◌++◌, ap, ◌∙◌, subst}
+use Rattle.std.specs.Prelude.{unwrap_or}
 use Rattle.worker_port.specs.Ports.{give_records}
-use Rattle.script.specs.States.{PortState, Gives}
+use Rattle.script.specs.States.{PortState, PlayerState, Gives}
 use Rattle.script.specs.Players.{player_state}
 use Rattle.script.proofs.ToldLemmas.{open_in_table, told_give}
 use Rattle.script.proofs.port.ScriptPortPort.give.Goals as goal
 
 pub returns-clause-gives : goal.returns-clause-gives
 returns-clause-gives c tells =
-    subst (λ (p : PortState). Gives p c.args.session c.args.bytes.now c.give.result
-    (player_state c.give.new.self)) c.self.view_is
-    (c.give.ensures.given (open_in_table c.args.self.now c.self.inside.player c.args.session c.self.view_is
-    c.self.invariant c.requires tells)).gives
+    let player_is = ap (λ (p : PortState). p.player) c.self.view_is in
+    subst (λ (p : PlayerState). Gives p c.args.session c.args.bytes.now c.give.result
+    (player_state c.give.new.self)) player_is
+    (c.give.ensures.given (open_in_table c.args.self.now c.self.inside.player c.args.session player_is
+    c.self.invariant c.requires.«open» tells)).gives
 
 pub returns-clause-told : goal.returns-clause-told
 returns-clause-told c =
-    told_give c.args.self.now _ c.args.session c.args.bytes.now c.give.result
-    (c.give.ensures.counts.0 ∙ ap (λ (p : PortState). p.script) c.self.view_is)
+    let player_is = ap (λ (p : PortState). p.player) c.self.view_is in
+    told_give c.args.self.now _ c.args.session c.args.bytes.now c.give.result c.args.history
+    (ap (λ (p : PortState). p.sizes) c.self.view_is) (ap (λ (p : PortState). p.dialect) c.self.view_is)
+    (ap (λ (p : PortState). p.worker) c.self.view_is)
+    (ap (λ o. unwrap_or o []) c.of.ensures)
+    (c.give.ensures.counts.0 ∙ ap (λ (p : PlayerState). p.script) player_is)
     (λ tells. let gives = c.give.ensures.given
-    (open_in_table c.args.self.now c.self.inside.player c.args.session c.self.view_is c.self.invariant c.requires
+    (open_in_table c.args.self.now c.self.inside.player c.args.session player_is c.self.invariant c.requires.«open»
     tells) in (
       gives.records_are
-          ∙ ap (λ (p : PortState). p.records ++ give_records c.args.session c.args.bytes.now c.give.result)
-          c.self.view_is,
+          ∙ ap (λ (p : PlayerState). p.records ++ give_records c.args.session c.args.bytes.now c.give.result)
+          player_is,
       returns-clause-gives c tells,
     ))

@@ -1,4 +1,4 @@
-use Rattle.std.proofs.Common.{◌-◌, ◌<◌, length, drop, sym, ap, ◌∙◌, subst}
+use Rattle.std.proofs.Common.{◌<◌, length, drop, sym, ap, ◌∙◌, subst}
 use Rattle.script.specs.Remaining.{RemainingState}
 use Rattle.script.proofs.RemainingLemmas.{in_ring, first_left, first_aside_left}
 use Rattle.script.proofs.remaining.Remaining.drop_first.Goals as goal

@@ -2,11 +2,10 @@ use Rattle.std.proofs.Common.{refl, ap, subst, ◌∙◌, Some, Ok}
 use Rattle.proto.specs.declared.message.Request.{Request}
 use Rattle.proto.specs.declared.history.Posted.{Posted}
 use Rattle.session_book.specs.Book.{session_of, NextAsk, given_in}
-use Rattle.worker.specs.Workers.{IsQuiet}
 use Rattle.worker.proofs.WorkerSteps.{continues, no_memory_goes_on, open_at}
 use Rattle.worker.proofs.OutputSteps.{some_known}
 use Rattle.worker.proofs.RunViews.{at_same}
-use Rattle.worker.proofs.AskSteps.{quiet_elsewhere, quiet_here, quiet_goes_on, none_goes_on, one_goes_on, goes_on_trans}
+use Rattle.worker.proofs.AskSteps.{quiet_goes_on, none_goes_on, one_goes_on, goes_on_trans}
 use Rattle.worker.proofs.worker.Worker.ask.Goals as goal
 
 pub invariant_of-self : goal.invariant_of-self
@@ -20,8 +19,8 @@ invariant_of-self g c = let w = c.self.inside.state in let t = c.args.session in
     (c.hold.ensures ∙ ap (λ (q : Request). Some (held q)) c.lend.ensures) refl refl refl refl c.self.invariant s.1
     (subst (λ r. NextAsk w.book t s.0 r b) is (c.next_ask.ensures.open s.0 s.1))).serving
 
-pub returns-in-Ok-Some-clause-goes_on : goal.returns-in-Ok-Some-clause-goes_on
-returns-in-Ok-Some-clause-goes_on g c = let w = c.self.inside.state in let t = c.args.session in let b = c.next_ask.new.self in
+pub returns-in-Ok-Some : goal.returns-in-Ok-Some
+returns-in-Ok-Some g c = let w = c.self.inside.state in let t = c.args.session in let b = c.next_ask.new.self in
     continues g.P.Port.told g.P.Port.leads_to c.self.inside.state c.args.self.now _ c.self.view_is
     (g.met.P.Port.leads_reflexive _)
     (let a = c.in-Ok-Some in
@@ -41,8 +40,8 @@ invariant_of-self-in-Ok-None g c = let w = c.self.inside.state in let t = c.args
     (λ none. (c.next_ask.ensures.closed none).1)
     (λ s e. subst (λ r. NextAsk w.book t s r b) is (c.next_ask.ensures.open s e))).serving
 
-pub returns-in-Ok-None-clause-goes_on : goal.returns-in-Ok-None-clause-goes_on
-returns-in-Ok-None-clause-goes_on g c = let w = c.self.inside.state in let t = c.args.session in let b = c.next_ask.new.self in
+pub returns-in-Ok-None : goal.returns-in-Ok-None
+returns-in-Ok-None g c = let w = c.self.inside.state in let t = c.args.session in let b = c.next_ask.new.self in
     continues g.P.Port.told g.P.Port.leads_to c.self.inside.state c.args.self.now _ c.self.view_is
     (g.met.P.Port.leads_reflexive _)
     (let is = c.in-Ok-None.is ∙ ap Ok c.in-Ok-None.field-0-is in
@@ -64,8 +63,8 @@ invariant_of-self-in-Err g c = let w = c.self.inside.state in let t = c.args.ses
     (no_memory_goes_on g.P.Port.told mid c.shut.new.self t a.read c.shut.ensures.shuts first.serving
     (a.only_at t ∙ at_same t (Some a.read) (session_of w.book t)))).serving
 
-pub returns-in-Err-clause-goes_on : goal.returns-in-Err-clause-goes_on
-returns-in-Err-clause-goes_on g c = let w = c.self.inside.state in let t = c.args.session in let b = c.next_ask.new.self in
+pub returns-in-Err : goal.returns-in-Err
+returns-in-Err g c = let w = c.self.inside.state in let t = c.args.session in let b = c.next_ask.new.self in
     continues g.P.Port.told g.P.Port.leads_to c.self.inside.state c.args.self.now _ c.self.view_is
     c.shut.ensures.leads
     (let s = some_known (session_of w.book t)
@@ -78,22 +77,6 @@ returns-in-Err-clause-goes_on g c = let w = c.self.inside.state in let t = c.arg
     goes_on_trans g.P.Port.told w mid c.shut.new.self first
     (no_memory_goes_on g.P.Port.told mid c.shut.new.self t a.read c.shut.ensures.shuts first.serving
     (a.only_at t ∙ at_same t (Some a.read) (session_of w.book t))))
-
-pub returns-in-Ok-None-clause-quiet : goal.returns-in-Ok-None-clause-quiet
-returns-in-Ok-None-clause-quiet g c =
-    let w = c.self.inside.state in let t = c.args.session in let b = c.next_ask.new.self in
-    let is = c.in-Ok-None.is ∙ ap Ok c.in-Ok-None.field-0-is in
-    λ e. subst (λ v. IsQuiet v (record w { book = b }) t) c.self.view_is (record {
-      end = refl;
-      request = refl;
-      sessions = refl;
-      ended = refl;
-      others = λ s ne. quiet_elsewhere w.book b t s (session_of w.book t) refl ne
-          (λ none. (c.next_ask.ensures.closed none).1)
-          (λ st q. let a = c.next_ask.ensures.open st q in (a.read, a.only_at));
-      here = λ s q. quiet_here w.book b t s (session_of w.book t) refl q (λ none. (c.next_ask.ensures.closed none).1)
-          (λ st p. subst (λ r. NextAsk w.book t st r b) is (c.next_ask.ensures.open st p));
-    })
 
 pub shut-requires : goal.shut-requires
 shut-requires g c =

@@ -1,14 +1,19 @@
-use Rattle.std.proofs.Common.{ℕ, List, ◌++◌, refl, sym, ap, ◌∙◌, Ok}
+use Rattle.std.proofs.Common.{ℕ, List, ◌++◌, refl, sym, ap, subst, ◌∙◌, Ok}
 use Rattle.std.specs.Option.{option_map}
 use Rattle.session_book.specs.Session.{SessionState, gave}
 use Rattle.session_book.specs.Book.{BookState, session_of}
-use Rattle.worker_port.specs.Ports.{then_told, give_records}
+use Rattle.worker_port.specs.Ports.{then_gave, give_records, fed, given}
+use Rattle.proto.specs.declared.history.Answered.{Answered}
+use Rattle.proto.specs.Sizes.{Sizes}
 use Rattle.worker.specs.EndCauses.{piece_of}
 use Rattle.worker.specs.Workers.{run_view}
 use Rattle.worker.proofs.StoryLaws.{paused_kept, paused_given}
 use Rattle.worker.proofs.PieceLaws.{pieces_kept, gave_piece}
 use Rattle.worker.proofs.WorkerSteps.{continues, open_at}
-use Rattle.worker.proofs.OutputSteps.{told_gave, lost_goes_on, within_goes_on, offered_is}
+use Rattle.worker.proofs.OutputSteps.{told_gave, gives_by, lost_goes_on, within_goes_on, offered_is}
+use Rattle.worker_port.specs.Giving.{MayBeSent, MayBeGiven}
+use Rattle.worker.specs.Workers.{end_of}
+use Rattle.worker.proofs.GiveSteps.{may_be_given}
 use Rattle.worker.proofs.worker.Worker.offer.Goals as goal
 
 pub give-requires : goal.give-requires
@@ -16,13 +21,25 @@ give-requires g c =
     let w = c.self.inside.state in
     let s = offered_is (session_of w.book c.args.session)
     c.offer-offer.result.out.now c.offer-offer.ensures.out (sym c.is_empty.ensures ∙ c.if-is_empty.false) in
-    open_at g.P.Port.told w c.args.session s.0 c.self.invariant s.1
+    record {
+      «open» = open_at g.P.Port.told w c.args.session s.0 c.self.invariant s.1;
+      said = λ story e.
+          let whose = c.self.invariant.whose story e in
+          subst (λ (y : List ℕ × List Answered). MayBeGiven story y.1 c.args.session y.0) (λ i. (sym s.2 i, sym c.of-history.ensures i))
+          (record {
+            later = whose.0.later;
+            may = subst (λ (y : ℕ × Sizes). MayBeSent y.1 story.dialect y.0 (end_of w).seen c.args.session (fed c.args.session story.events)
+                (given c.args.session story.events) s.0.out) (λ i. (sym whose.0.worker_is i, sym whose.0.sizes_are i))
+                (may_be_given (run_view story w) (end_of w) w.request c.args.session s.0
+                ((c.self.invariant.known story e).each c.args.session) s.1 refl refl c.self.invariant.steady.told);
+          });
+    }
 
 pub invariant_of-self : goal.invariant_of-self
 invariant_of-self g c = let w = c.self.inside.state in let t = c.args.session in (let out = c.offer-offer.result.out.now in
     let n = c.in-Ok.accepted in
     let new = record w { port = c.give.new.self; book = c.gave.new.self } in
-    let f = then_told (give_records t out (Ok n)) in let k = c.gave.ensures.gave in
+    let f = then_gave t out (Ok n) c.of-history.result in let k = c.gave.ensures.gave in
     let s = offered_is (session_of w.book t) out c.offer-offer.ensures.out
     (sym c.is_empty.ensures ∙ c.if-is_empty.false) in
     let pieces = pieces_kept w.book c.gave.new.self t
@@ -30,10 +47,11 @@ invariant_of-self g c = let w = c.self.inside.state in let t = c.args.session in
     (gave_piece (session_of w.book t) n) in
     within_goes_on g.P.Port.told w new f
     (record { end = refl; request = refl; sessions = refl; unopened = refl; strangers = refl; ended = refl })
-    c.in-Ok.ensures.told
-    (ap (λ (b : BookState). b.posted) k.rest) (ap (λ (b : BookState). b.unsettled) k.rest) c.self.invariant
+    (gives_by w t out (Ok n) c.of-history.result c.of-history.ensures) c.in-Ok.ensures.told
+    (ap (λ (b : BookState). b.posted) k.rest) (ap (λ (b : BookState). b.unsettled) k.rest)
+    (ap (λ (b : BookState). b.dialect) k.rest) c.self.invariant
     (λ story was_so. (
-      told_gave (run_view story w) (run_view (f story) new) w.unopened w.ended t n s.0 was_so.0 s.1
+      told_gave (run_view story w) (run_view (f story) new) w.unopened w.ended t n s.0 was_so.0 s.1 refl
           (ap (λ (b : List ℕ). story.events ++ give_records t b (Ok n)) s.2) refl refl refl k.only_at
           (λ i q. pieces q i),
       paused_kept story (f story) (piece_of w.book) (piece_of new.book) pieces
@@ -47,7 +65,7 @@ returns-in-Ok-clause-goes_on g c = let w = c.self.inside.state in let t = c.args
     (let out = c.offer-offer.result.out.now in
     let n = c.in-Ok.accepted in
     let new = record w { port = c.give.new.self; book = c.gave.new.self } in
-    let f = then_told (give_records t out (Ok n)) in let k = c.gave.ensures.gave in
+    let f = then_gave t out (Ok n) c.of-history.result in let k = c.gave.ensures.gave in
     let s = offered_is (session_of w.book t) out c.offer-offer.ensures.out
     (sym c.is_empty.ensures ∙ c.if-is_empty.false) in
     let pieces = pieces_kept w.book c.gave.new.self t
@@ -55,10 +73,11 @@ returns-in-Ok-clause-goes_on g c = let w = c.self.inside.state in let t = c.args
     (gave_piece (session_of w.book t) n) in
     within_goes_on g.P.Port.told w new f
     (record { end = refl; request = refl; sessions = refl; unopened = refl; strangers = refl; ended = refl })
-    c.in-Ok.ensures.told
-    (ap (λ (b : BookState). b.posted) k.rest) (ap (λ (b : BookState). b.unsettled) k.rest) c.self.invariant
+    (gives_by w t out (Ok n) c.of-history.result c.of-history.ensures) c.in-Ok.ensures.told
+    (ap (λ (b : BookState). b.posted) k.rest) (ap (λ (b : BookState). b.unsettled) k.rest)
+    (ap (λ (b : BookState). b.dialect) k.rest) c.self.invariant
     (λ story was_so. (
-      told_gave (run_view story w) (run_view (f story) new) w.unopened w.ended t n s.0 was_so.0 s.1
+      told_gave (run_view story w) (run_view (f story) new) w.unopened w.ended t n s.0 was_so.0 s.1 refl
           (ap (λ (b : List ℕ). story.events ++ give_records t b (Ok n)) s.2) refl refl refl k.only_at
           (λ i q. pieces q i),
       paused_kept story (f story) (piece_of w.book) (piece_of new.book) pieces
@@ -68,7 +87,8 @@ returns-in-Ok-clause-goes_on g c = let w = c.self.inside.state in let t = c.args
 pub invariant_of-self-in-Err : goal.invariant_of-self-in-Err
 invariant_of-self-in-Err g c = let w = c.self.inside.state in (let s = offered_is (session_of w.book c.args.session)
     c.offer-offer.result.out.now c.offer-offer.ensures.out (sym c.is_empty.ensures ∙ c.if-is_empty.false) in
-    lost_goes_on g.P.Port.told w c.close.new.self c.give.new.self c.args.session s.0 s.1 c.in-Err.ensures.told
+    lost_goes_on g.P.Port.told w c.close.new.self c.give.new.self c.args.session s.0
+    c.offer-offer.result.out.now c.in-Err.field-0 c.of-history.result c.of-history.ensures s.1 c.in-Err.ensures.told
     c.self.invariant
     c.close.ensures.port c.close.ensures.closes).serving
 
@@ -78,6 +98,7 @@ returns-in-Err-clause-goes_on g c = let w = c.self.inside.state in
     (g.met.P.Port.leads_transitive _ _ _ c.in-Err.ensures.leads c.close.ensures.leads)
     (let s = offered_is (session_of w.book c.args.session)
     c.offer-offer.result.out.now c.offer-offer.ensures.out (sym c.is_empty.ensures ∙ c.if-is_empty.false) in
-    lost_goes_on g.P.Port.told w c.close.new.self c.give.new.self c.args.session s.0 s.1 c.in-Err.ensures.told
+    lost_goes_on g.P.Port.told w c.close.new.self c.give.new.self c.args.session s.0
+    c.offer-offer.result.out.now c.in-Err.field-0 c.of-history.result c.of-history.ensures s.1 c.in-Err.ensures.told
     c.self.invariant
     c.close.ensures.port c.close.ensures.closes)

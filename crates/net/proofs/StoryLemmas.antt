@@ -1,0 +1,136 @@
+-- What is told when the streams of a port change.
+use Rattle.std.proofs.Common.{◌≡◌, ℕ, ◌+◌, ◌<◌, ◌≤◌, ◌==◌, Bool, true, false, not, ◌||◌, cond}
+use Rattle.std.proofs.Common.{List, [], ◌∷◌, ◌++◌, length, refl, sym, ap, ◌∙◌, append-nil, arith, ⊎_elim}
+use Rattle.std.specs.Prelude.{Option, None, Some, is_some}
+use Rattle.std.specs.Option.{option_map}
+use Rattle.std.specs.Bool.{nat_eq}
+use Rattle.std.proofs.lemmas.Bool.{both_ways, eqb-true, eq-eqb, ne_eqb, cases_lt, and_left}
+use Rattle.worker_port.specs.declared.events.PortRecord.{PortRecord}
+use Rattle.worker_port.specs.declared.events.PortRecord.TheVariants.{Opened, Data, Gone, Accepted, Shut}
+use Rattle.worker_port.specs.declared.events.PortEvent.TheVariants as event
+use Rattle.worker_port.specs.Ports.{PortStory, then_told, with_pause, are_end_of, was_opened, has_gone, was_shut, is_open}
+use Rattle.net.specs.Seen.{Seen, IsSet, fresh, then_received, then_sent, then_paused, is_paused}
+use Rattle.net.specs.Ties.{Ties}
+use Rattle.net.specs.Stories.{Whose, story, Tells}
+use Rattle.proto.specs.declared.history.Answered.{Answered}
+
+pub same_story : (o : Whose) (streams next : ℕ → Option Seen) (l : List PortRecord) → ((s : ℕ) → next s ≡ streams s) → story o next l ≡ story o streams l
+same_story o streams next l h = λ i. record (story o streams l) { paused = λ s. is_paused (h s i) }
+
+-- no entry, and nothing changes
+pub told_none : (s : PortStory) → s ≡ then_told [] s
+told_none s = λ i. record s { events = sym (append-nil s.events) i }
+
+told_by : (o : Whose) (streams next : ℕ → Option Seen) (l xs : List PortRecord)
+    → ((o : ℕ) → is_paused (next o) ≡ cond (are_end_of o xs) false (is_paused (streams o))) → story o next (l ++ xs) ≡ then_told xs (story o streams l)
+told_by o streams next l xs h = λ i. record (story o streams l) { events = l ++ xs; paused = λ k. h k i }
+
+-- a stream that isn't is_open_now isn't paused
+not_open : (n : Option Seen) → is_some n ≡ false → is_paused n ≡ false
+not_open None h = refl
+not_open (Some x) h = absurd (both_ways true h refl)
+
+received_pause : (n : Option Seen) (b : List ℕ) → is_paused (option_map (then_received b) n) ≡ is_paused n
+received_pause None b = refl
+received_pause (Some x) b = refl
+
+sent_pause : (n : Option Seen) (b : List ℕ) → is_paused (option_map (then_sent b) n) ≡ is_paused n
+sent_pause None b = refl
+sent_pause (Some x) b = refl
+
+set_pause : (n : Option Seen) (b : Bool) → is_some n ≡ true → is_paused (option_map (then_paused b) n) ≡ b
+set_pause None b h = absurd (both_ways false refl h)
+set_pause (Some x) b h = refl
+
+gone_pause : (c : Bool) (n m : Option Seen) → n ≡ cond c None m → is_paused n ≡ cond ((c || false) || false) false (is_paused m)
+gone_pause true n m e = ap is_paused e
+gone_pause false n m e = ap is_paused e
+
+shut_pause : (c : Bool) (n m : Option Seen) → n ≡ cond c None m → is_paused n ≡ cond (c || false) false (is_paused m)
+shut_pause true n m e = ap is_paused e
+shut_pause false n m e = ap is_paused e
+
+-- where what one stream is set to is as little paused as before, nothing is
+module _ (w : Whose) (streams next : ℕ → Option Seen) (s : ℕ) (now : Option Seen) where
+  kept_case : (o : ℕ) → next o ≡ cond (nat_eq s o) now (streams o) → is_paused now ≡ is_paused (streams s) → (b : Bool) → nat_eq s o ≡ b
+      → is_paused (next o) ≡ is_paused (streams o)
+  kept_case o set same true is = ap is_paused (set ∙ ap (λ c. cond c now (streams o)) is) ∙ same ∙ ap (λ (k : ℕ). is_paused (streams k)) (eqb-true s o is)
+  kept_case o set same false is = ap is_paused (set ∙ ap (λ c. cond c now (streams o)) is)
+
+  kept : IsSet s now streams next → is_paused now ≡ is_paused (streams s) → (o : ℕ) → is_paused (next o) ≡ is_paused (streams o)
+  kept set same o = kept_case o (set o) same (nat_eq s o) refl
+
+module _ (w : Whose) (streams next : ℕ → Option Seen) (last : ℕ) (l : List PortRecord) (s : ℕ) (t : Ties streams last l false) where
+  pub tells_opened : s ≡ last + 1 → IsSet s (Some fresh) streams next → Tells (story w streams l) (event.Opened s) (story w next (l ++ Opened s ∷ []))
+  tells_opened n set =
+      let behind = t.2 s (omega arith) in
+      let closed : is_some (streams s) ≡ false = sym (t.0 s) ∙ and_left (was_opened s l) (not (has_gone s l || was_shut s l)) behind.0 in
+      record {
+        told = told_by w streams next l (Opened s ∷ []) (kept w streams next s (Some fresh) set (sym (not_open (streams s) closed)));
+        may = (
+          omega arith,
+          (λ k was. ⊎_elim (λ (b : last < k). absurd (both_ways (was_opened k l) (t.2 k b).0 was)) (λ (b : k ≤ last). omega arith) (cases_lt last k)),
+          t.3,
+        );
+        orders = omega (arith, t.4);
+      }
+
+  pub tells_fed : (b : List ℕ) → is_open s l ≡ true → is_paused (streams s) ≡ false → 0 < length b → length b ≤ 16384
+      → IsSet s (option_map (then_received b) (streams s)) streams next → Tells (story w streams l) (event.Data s b) (story w next (l ++ Data s b ∷ []))
+  tells_fed b is_open_now ready some fits set = record {
+    told = told_by w streams next l (Data s b ∷ []) (kept w streams next s (option_map (then_received b) (streams s)) set (received_pause (streams s) b));
+    may = (is_open_now, ready, fits, t.3);
+    orders = some;
+  }
+
+  pub tells_gone : is_open s l ≡ true → IsSet s None streams next → Tells (story w streams l) (event.Gone s) (story w next (l ++ Gone s ∷ []))
+  tells_gone is_open_now set = record {
+    told = told_by w streams next l (Gone s ∷ []) (λ o. gone_pause (nat_eq s o) (next o) (streams o) (set o));
+    may = (is_open_now, t.3);
+    orders = tt;
+  }
+
+module _ (w : Whose) (streams next : ℕ → Option Seen) (l : List PortRecord) (s : ℕ) where
+  pub tells_given : (b : List ℕ) → IsSet s (option_map (then_sent b) (streams s)) streams next
+      → story w next (l ++ Accepted s b ∷ []) ≡ then_told (Accepted s b ∷ []) (story w streams l)
+  tells_given b set = told_by w streams next l (Accepted s b ∷ [])
+      (kept w streams next s (option_map (then_sent b) (streams s)) set (sent_pause (streams s) b))
+
+  pub tells_lost : IsSet s None streams next → story w next (l ++ Gone s ∷ []) ≡ then_told (Gone s ∷ []) (story w streams l)
+  tells_lost set = told_by w streams next l (Gone s ∷ []) (λ o. gone_pause (nat_eq s o) (next o) (streams o) (set o))
+
+  -- the same, by a history
+  pub gave_by : (xs : List PortRecord) (history : List Answered) → story w next (l ++ xs) ≡ then_told xs (story w streams l)
+      → story (record w { history = history }) next (l ++ xs)
+      ≡ record (then_told xs (story w streams l)) { history = history }
+  gave_by xs history e = λ i. record (e i) { history = history }
+
+  pub tells_shut : IsSet s None streams next → story w next (l ++ Shut s ∷ []) ≡ then_told (Shut s ∷ []) (story w streams l)
+  tells_shut set = told_by w streams next l (Shut s ∷ []) (λ o. shut_pause (nat_eq s o) (next o) (streams o) (set o))
+
+  paused_at : (b : Bool) (o : ℕ) → is_some (streams s) ≡ true → next o ≡ cond (nat_eq s o) (option_map (then_paused b) (streams s)) (streams o)
+      → (c : Bool) → nat_eq s o ≡ c
+      → is_paused (next o) ≡ cond (o == s) b (is_paused (streams o))
+  paused_at b o is_open_now set true is =
+      ap is_paused (set ∙ ap (λ c. cond c (option_map (then_paused b) (streams s)) (streams o)) is) ∙ set_pause (streams s) b is_open_now
+      ∙ sym (ap (λ c. cond c b (is_paused (streams o))) (eq-eqb o s (sym (eqb-true s o is))))
+  paused_at b o is_open_now set false is =
+      ap is_paused (set ∙ ap (λ c. cond c (option_map (then_paused b) (streams s)) (streams o)) is)
+      ∙ sym (ap (λ c. cond c b (is_paused (streams o))) (ne_eqb o s (λ e. both_ways (nat_eq s o) is (eq-eqb s o (sym e)))))
+
+  pub tells_pause : (b : Bool) → is_some (streams s) ≡ true → IsSet s (option_map (then_paused b) (streams s)) streams next
+      → story w next l ≡ with_pause s b (story w streams l)
+  tells_pause b is_open_now set = λ i. record (story w streams l) { paused = λ o. paused_at b o is_open_now (set o) (nat_eq s o) refl i }
+
+  -- a stream that took no bytes is as it was
+  sent_none : (n : Option Seen) → option_map (then_sent []) n ≡ n
+  sent_none None = refl
+  sent_none (Some x) = λ i. Some (record { paused = x.paused; received = x.received; sent = append-nil x.sent i })
+
+  same_case : (o : ℕ) → next o ≡ cond (nat_eq s o) (option_map (then_sent []) (streams s)) (streams o) → (c : Bool) → nat_eq s o ≡ c → next o ≡ streams o
+  same_case o set true is = set ∙ ap (λ c. cond c (option_map (then_sent []) (streams s)) (streams o)) is ∙ sent_none (streams s)
+      ∙ ap streams (eqb-true s o is)
+  same_case o set false is = set ∙ ap (λ c. cond c (option_map (then_sent []) (streams s)) (streams o)) is
+
+  pub sent_no_bytes : IsSet s (option_map (then_sent []) (streams s)) streams next → (o : ℕ) → next o ≡ streams o
+  sent_no_bytes set o = same_case o (set o) (nat_eq s o) refl

@@ -1,0 +1,230 @@
+-- How what a port told goes on agreeing with its open streams.
+use Rattle.std.proofs.Common.{◌≡◌, ℕ, ◌+◌, ◌<◌, ◌≤◌, Bool, true, false, not, ◌&&◌, ◌||◌, cond}
+use Rattle.std.proofs.Common.{List, [], ◌∷◌, ◌++◌, refl, sym, ap, ◌∙◌, subst, arith}
+use Rattle.std.specs.Prelude.{Option, None, Some, is_some}
+use Rattle.std.specs.Option.{option_map}
+use Rattle.std.specs.Bool.{nat_eq}
+use Rattle.std.proofs.lemmas.Bool.{both_ways, eqb-true, and_parts}
+use Rattle.worker_port.specs.declared.events.PortRecord.{PortRecord}
+use Rattle.worker_port.specs.declared.events.PortRecord.TheVariants.{Opened, Data, Gone, Ended, Accepted, Shut}
+use Rattle.worker_port.specs.Ports.{was_opened, has_gone, was_shut, is_open, has_ended, opened_count}
+use Rattle.worker_port.specs.PortFacts.{PortFacts, port_facts}
+use Rattle.worker_port.proofs.Facts.{about, elsewhere, facts_are, opened_here, fed_here, gone_here, shut_here, accepted_here}
+use Rattle.worker_port.proofs.Lists.{ended_same, ended_now, count_same, count_more}
+use Rattle.net.specs.Seen.{Seen, IsSet, fresh, then_received, then_sent, then_paused, received_of, sent_of}
+use Rattle.net.specs.declared.served.Served.{Served}
+use Rattle.net.specs.declared.streams.Streams.{Streams}
+use Rattle.net.specs.Shown.{shown, Keeps, Sets, Opens}
+use Rattle.net.specs.Ties.{Ties, NoneBehind}
+
+-- what the list says of a session, against its stream
+pub record At (now : Option Seen) (f : PortFacts) : Type 0 where
+  pub opens : (f.opened && not (f.gone || f.shut)) ≡ is_some now
+  pub fed : is_some now ≡ true → f.fed ≡ received_of now
+  pub given : is_some now ≡ true → f.given ≡ sent_of now
+
+abbrev no_facts : PortFacts
+no_facts = record { opened = false; gone = false; shut = false; fed = []; given = [] }
+
+at_each : (streams : ℕ → Option Seen) (last : ℕ) (l : List PortRecord) (e : Bool) → Ties streams last l e → (s : ℕ) → At (streams s) (port_facts l s)
+at_each streams last l e t s = record { opens = t.0 s; fed = λ h. (t.1 s h).0; given = λ h. (t.1 s h).1 }
+
+behind_facts : (last : ℕ) (l : List PortRecord) → NoneBehind last l → (s : ℕ) → last < s → port_facts l s ≡ no_facts
+behind_facts last l n s h = let b = n s h in facts_are l s no_facts b.0 b.1 b.2 b.3 b.4
+
+ties_from : (streams : ℕ → Option Seen) (last : ℕ) (l : List PortRecord) (e : Bool) → ((s : ℕ) → At (streams s) (port_facts l s))
+    → ((s : ℕ) → last < s → port_facts l s ≡ no_facts) → has_ended l ≡ e → opened_count l ≡ last → Ties streams last l e
+ties_from streams last l e a n h count = (
+  (λ s. (a s).opens),
+  (λ s o. ((a s).fed o, (a s).given o)),
+  (λ s b. let f = n s b in (
+    ap (λ (x : PortFacts). x.opened) f,
+    ap (λ (x : PortFacts). x.gone) f,
+    ap (λ (x : PortFacts). x.shut) f,
+    ap (λ (x : PortFacts). x.fed) f,
+    ap (λ (x : PortFacts). x.given) f,
+  )),
+  h,
+  count,
+)
+
+-- a number that is is_open_now isn't behind the last
+not_behind : (streams : ℕ → Option Seen) (last : ℕ) (l : List PortRecord) (e : Bool) → Ties streams last l e → (s : ℕ)
+    → is_open s l ≡ true → last < s → ⊥
+not_behind streams last l e t s o b =
+    both_ways (was_opened s l) (t.2 s b).0 (and_parts (was_opened s l) (not (has_gone s l || was_shut s l)) o).0
+
+-- where nothing that clauses see changes, and nothing is told
+pub ties_same : (streams next : ℕ → Option Seen) (last after : ℕ) (l : List PortRecord) (e : Bool) → after ≡ last
+    → ((s : ℕ) → next s ≡ streams s) → Ties streams last l e → Ties next after l e
+ties_same streams next last after l e a h t =
+    subst (λ (n : ℕ). Ties next n l e) (sym a) (subst (λ (f : ℕ → Option Seen). Ties f last l e) (λ i s. sym (h s) i) t)
+
+-- one more entry, about one session whose stream is set
+module _ (streams next : ℕ → Option Seen) (last : ℕ) (l : List PortRecord) (e : Bool) (s : ℕ) (now : Option Seen) (x : PortRecord) where
+  at_case : (o : ℕ) → next o ≡ cond (nat_eq s o) now (streams o) → (nat_eq s o ≡ false → about o x ≡ false)
+      → At now (port_facts (l ++ x ∷ []) s) → At (streams o) (port_facts l o)
+      → (b : Bool) → nat_eq s o ≡ b → At (next o) (port_facts (l ++ x ∷ []) o)
+  at_case o set apart here old true is =
+      subst (λ (n : Option Seen). At n (port_facts (l ++ x ∷ []) o)) (sym (set ∙ ap (λ b. cond b now (streams o)) is))
+      (subst (λ (k : ℕ). At now (port_facts (l ++ x ∷ []) k)) (eqb-true s o is) here)
+  at_case o set apart here old false is =
+      subst (λ (n : Option Seen). At n (port_facts (l ++ x ∷ []) o)) (sym (set ∙ ap (λ b. cond b now (streams o)) is))
+      (subst (λ (f : PortFacts). At (streams o) f) (sym (elsewhere l x o (apart is))) old)
+
+  behind_case : (after : ℕ) (o : ℕ) → after < o → (last < o → port_facts l o ≡ no_facts) → last ≤ after → (s ≡ o → ⊥)
+      → (nat_eq s o ≡ false → about o x ≡ false) → (b : Bool) → nat_eq s o ≡ b → port_facts (l ++ x ∷ []) o ≡ no_facts
+  behind_case after o h n le ne apart true is = absurd (ne (eqb-true s o is))
+  behind_case after o h n le ne apart false is = elsewhere l x o (apart is) ∙ n (omega arith)
+
+  pub ties_more : (after : ℕ) → IsSet s now streams next → ((o : ℕ) → nat_eq s o ≡ false → about o x ≡ false)
+      → last ≤ after → (after < s → ⊥) → has_ended (l ++ x ∷ []) ≡ e → opened_count (l ++ x ∷ []) ≡ after → At now (port_facts (l ++ x ∷ []) s)
+      → (f : Bool) → Ties streams last l f → Ties next after (l ++ x ∷ []) e
+  ties_more after set apart le in_range ends count here f t =
+      ties_from next after (l ++ x ∷ []) e (λ o. at_case o (set o) (apart o) here (at_each streams last l f t o) (nat_eq s o) refl)
+      (λ o h. behind_case after o h (λ b. behind_facts last l t.2 o b) le (λ is. in_range (subst (λ (k : ℕ). after < k) (sym is) h)) (apart o)
+      (nat_eq s o) refl)
+      ends count
+
+-- ---- what the entry says of its own session
+
+at_opened : (f : PortFacts) → f ≡ no_facts → At (Some fresh) (record f { opened = true })
+at_opened f n = record {
+  opens = subst (λ (g : PortFacts). (true && not (g.gone || g.shut)) ≡ true) (sym n) refl;
+  fed = λ _. ap (λ (g : PortFacts). g.fed) n;
+  given = λ _. ap (λ (g : PortFacts). g.given) n;
+}
+
+at_fed : (now : Option Seen) (f : PortFacts) (b : List ℕ) → At now f → At (option_map (then_received b) now) (record f { fed = f.fed ++ b })
+at_fed None f b a = record { opens = a.opens; fed = λ h. absurd (both_ways false refl h); given = λ h. absurd (both_ways false refl h) }
+at_fed (Some x) f b a = record { opens = a.opens; fed = λ h. ap (λ (y : List ℕ). y ++ b) (a.fed h); given = a.given }
+
+at_given : (now : Option Seen) (f : PortFacts) (b : List ℕ) → At now f → At (option_map (then_sent b) now) (record f { given = f.given ++ b })
+at_given None f b a = record { opens = a.opens; fed = λ h. absurd (both_ways false refl h); given = λ h. absurd (both_ways false refl h) }
+at_given (Some x) f b a = record { opens = a.opens; fed = a.fed; given = λ h. ap (λ (y : List ℕ). y ++ b) (a.given h) }
+
+pub at_paused : (now : Option Seen) (f : PortFacts) (b : Bool) → At now f → At (option_map (then_paused b) now) f
+at_paused None f b a = a
+at_paused (Some x) f b a = record { opens = a.opens; fed = a.fed; given = a.given }
+
+and_none : (b : Bool) → (b && false) ≡ false
+and_none true = refl
+and_none false = refl
+
+or_all : (b : Bool) → (b || true) ≡ true
+or_all true = refl
+or_all false = refl
+
+at_gone : (f : PortFacts) → At None (record f { gone = true })
+at_gone f = record { opens = and_none f.opened; fed = λ h. absurd (both_ways false refl h); given = λ h. absurd (both_ways false refl h) }
+
+at_shut : (f : PortFacts) → At None (record f { shut = true })
+at_shut f = record {
+  opens = ap (λ (b : Bool). f.opened && not b) (or_all f.gone) ∙ and_none f.opened;
+  fed = λ h. absurd (both_ways false refl h);
+  given = λ h. absurd (both_ways false refl h);
+}
+
+-- ---- each entry
+
+module _ (streams next : ℕ → Option Seen) (last after : ℕ) (l : List PortRecord) (e : Bool) (s : ℕ) (t : Ties streams last l e) where
+  pub ties_opened : s ≡ last + 1 → after ≡ s → IsSet s (Some fresh) streams next → Ties next after (l ++ Opened s ∷ []) e
+  ties_opened n a set =
+      ties_more streams next last l e s (Some fresh) (Opened s) after set (λ o h. h) (omega arith) (λ h. absurd (omega arith))
+      (ended_same l (Opened s) refl ∙ t.3) (omega (arith, count_more l s))
+      (subst (λ (f : PortFacts). At (Some fresh) f) (sym (opened_here l s)) (at_opened (port_facts l s) (behind_facts last l t.2 s (omega arith)))) e t
+
+  pub ties_fed : (b : List ℕ) → is_open s l ≡ true → after ≡ last → IsSet s (option_map (then_received b) (streams s)) streams next
+      → Ties next after (l ++ Data s b ∷ []) e
+  ties_fed b is_open_now a set =
+      ties_more streams next last l e s (option_map (then_received b) (streams s)) (Data s b) after set (λ o h. h) (omega arith)
+      (λ h. not_behind streams last l e t s is_open_now (omega arith))
+      (ended_same l (Data s b) refl ∙ t.3) (count_same l (Data s b) refl ∙ t.4 ∙ sym a)
+      (subst (λ (f : PortFacts). At (option_map (then_received b) (streams s)) f) (sym (fed_here l s b))
+      (at_fed (streams s) (port_facts l s) b (at_each streams last l e t s))) e t
+
+  pub ties_given : (b : List ℕ) → is_open s l ≡ true → after ≡ last → IsSet s (option_map (then_sent b) (streams s)) streams next
+      → Ties next after (l ++ Accepted s b ∷ []) e
+  ties_given b is_open_now a set =
+      ties_more streams next last l e s (option_map (then_sent b) (streams s)) (Accepted s b) after set (λ o h. h) (omega arith)
+      (λ h. not_behind streams last l e t s is_open_now (omega arith))
+      (ended_same l (Accepted s b) refl ∙ t.3) (count_same l (Accepted s b) refl ∙ t.4 ∙ sym a)
+      (subst (λ (f : PortFacts). At (option_map (then_sent b) (streams s)) f) (sym (accepted_here l s b))
+      (at_given (streams s) (port_facts l s) b (at_each streams last l e t s))) e t
+
+  pub ties_gone : is_open s l ≡ true → after ≡ last → IsSet s None streams next → Ties next after (l ++ Gone s ∷ []) e
+  ties_gone is_open_now a set =
+      ties_more streams next last l e s None (Gone s) after set (λ o h. h) (omega arith) (λ h. not_behind streams last l e t s is_open_now (omega arith))
+      (ended_same l (Gone s) refl ∙ t.3) (count_same l (Gone s) refl ∙ t.4 ∙ sym a)
+      (subst (λ (f : PortFacts). At None f) (sym (gone_here l s)) (at_gone (port_facts l s))) e t
+
+  pub ties_shut : is_open s l ≡ true → after ≡ last → IsSet s None streams next → Ties next after (l ++ Shut s ∷ []) e
+  ties_shut is_open_now a set =
+      ties_more streams next last l e s None (Shut s) after set (λ o h. h) (omega arith) (λ h. not_behind streams last l e t s is_open_now (omega arith))
+      (ended_same l (Shut s) refl ∙ t.3) (count_same l (Shut s) refl ∙ t.4 ∙ sym a)
+      (subst (λ (f : PortFacts). At None f) (sym (shut_here l s)) (at_shut (port_facts l s))) e t
+
+  -- the stream is paused, or no longer, and nothing is told
+  paused_case : (b : Bool) (o : ℕ) → next o ≡ cond (nat_eq s o) (option_map (then_paused b) (streams s)) (streams o) → (c : Bool) → nat_eq s o ≡ c
+      → At (next o) (port_facts l o)
+  paused_case b o set true is =
+      subst (λ (n : Option Seen). At n (port_facts l o)) (sym (set ∙ ap (λ c. cond c (option_map (then_paused b) (streams s)) (streams o)) is))
+      (subst (λ (k : ℕ). At (option_map (then_paused b) (streams s)) (port_facts l k)) (eqb-true s o is)
+      (at_paused (streams s) (port_facts l s) b (at_each streams last l e t s)))
+  paused_case b o set false is =
+      subst (λ (n : Option Seen). At n (port_facts l o)) (sym (set ∙ ap (λ c. cond c (option_map (then_paused b) (streams s)) (streams o)) is))
+      (at_each streams last l e t o)
+
+  pub ties_paused : (b : Bool) → after ≡ last → IsSet s (option_map (then_paused b) (streams s)) streams next → Ties next after l e
+  ties_paused b a set =
+      ties_from next after l e (λ o. paused_case b o (set o) (nat_eq s o) refl) (λ o h. behind_facts last l t.2 o (omega arith)) t.3 (t.4 ∙ sym a)
+
+pub ties_ended : (streams : ℕ → Option Seen) (last : ℕ) (l : List PortRecord) (e : Bool) → Ties streams last l e → Ties streams last (l ++ Ended ∷ []) true
+ties_ended streams last l e t =
+    ties_from streams last (l ++ Ended ∷ []) true
+    (λ s. subst (λ (f : PortFacts). At (streams s) f) (sym (elsewhere l Ended s refl)) (at_each streams last l e t s))
+    (λ s b. elsewhere l Ended s refl ∙ behind_facts last l t.2 s b) (ended_now l) (count_same l Ended refl ∙ t.4)
+
+-- a port that was just made
+pub ties_none : (streams : ℕ → Option Seen) → ((s : ℕ) → streams s ≡ None) → (last : ℕ) → last ≡ 0 → Ties streams last [] false
+ties_none streams none last zero =
+    ties_from streams last [] false
+    (λ s. subst (λ (n : Option Seen). At n no_facts) (sym (none s))
+    (record { opens = refl; fed = λ h. absurd (both_ways false refl h); given = λ h. absurd (both_ways false refl h) }))
+    (λ s b. refl) refl (sym zero)
+
+-- ---- the same of a port's streams
+
+module _ (served : Served) (next : Streams) where
+  abbrev old : Streams
+  old = served.streams
+
+  abbrev told : List PortRecord
+  told = served.told.items
+
+  abbrev pub Tie : List PortRecord → Type 0
+  Tie events = Ties (shown next) next.last events served.is_over
+
+  pub tie_kept : Keeps old next → Tie told
+  tie_kept k = ties_same (shown old) (shown next) old.last next.last told served.is_over k.last k.same served.ties
+
+  module _ (s : ℕ) where
+    pub tie_paused : (b : Bool) → Sets s (option_map (then_paused b) (shown old s)) old next → Tie told
+    tie_paused b k = ties_paused (shown old) (shown next) old.last next.last told served.is_over s served.ties b k.last k.set
+
+    pub tie_opened : Opens s old next → Tie (told ++ Opened s ∷ [])
+    tie_opened k = ties_opened (shown old) (shown next) old.last next.last told served.is_over s served.ties k.number k.last k.set
+
+    pub tie_fed : (b : List ℕ) → is_open s told ≡ true → Sets s (option_map (then_received b) (shown old s)) old next
+        → Tie (told ++ Data s b ∷ [])
+    tie_fed b now k = ties_fed (shown old) (shown next) old.last next.last told served.is_over s served.ties b now k.last k.set
+
+    pub tie_given : (b : List ℕ) → is_open s told ≡ true → Sets s (option_map (then_sent b) (shown old s)) old next
+        → Tie (told ++ Accepted s b ∷ [])
+    tie_given b now k = ties_given (shown old) (shown next) old.last next.last told served.is_over s served.ties b now k.last k.set
+
+    pub tie_gone : is_open s told ≡ true → Sets s None old next → Tie (told ++ Gone s ∷ [])
+    tie_gone now k = ties_gone (shown old) (shown next) old.last next.last told served.is_over s served.ties now k.last k.set
+
+    pub tie_shut : is_open s told ≡ true → Sets s None old next → Tie (told ++ Shut s ∷ [])
+    tie_shut now k = ties_shut (shown old) (shown next) old.last next.last told served.is_over s served.ties now k.last k.set

@@ -1,0 +1,41 @@
+-- What clauses see of one open stream.
+use Rattle.std.specs.Prelude.{◌≡◌, Bool, false, cond, ℕ, List, [], ◌++◌, Option, None, Some}
+use Rattle.std.specs.Bool.{nat_eq}
+
+pub record Seen : Type 0 where
+  pub paused : Bool
+  pub received : List ℕ
+  pub sent : List ℕ
+
+-- a stream that was just opened
+abbrev pub fresh : Seen
+fresh = record { paused = false; received = []; sent = [] }
+
+-- these bytes were read from it, or it took them
+abbrev pub then_received : List ℕ → Seen → Seen
+then_received bytes x = record x { received = x.received ++ bytes }
+
+abbrev pub then_sent : List ℕ → Seen → Seen
+then_sent bytes x = record x { sent = x.sent ++ bytes }
+
+-- it is paused from now on, or no longer
+abbrev pub then_paused : Bool → Seen → Seen
+then_paused b x = record x { paused = b }
+
+-- whether it is open and paused
+abbrev pub is_paused : Option Seen → Bool
+is_paused None = false
+is_paused (Some x) = x.paused
+
+-- what was read from it, and what it took
+abbrev pub received_of : Option Seen → List ℕ
+received_of None = []
+received_of (Some x) = x.received
+
+abbrev pub sent_of : Option Seen → List ℕ
+sent_of None = []
+sent_of (Some x) = x.sent
+
+-- of the open streams, the one of this number is now this one, or closed, and no other changes
+abbrev pub IsSet : ℕ → Option Seen → (ℕ → Option Seen) → (ℕ → Option Seen) → Type 0
+IsSet session now before after = (other : ℕ) → after other ≡ cond (nat_eq session other) now (before other)

@@ -1,0 +1,131 @@
+//! Streams that were shut, and are read a little longer. A stream that is closed while input waits unread is reset, and its
+//! peer may lose the last answer; so its sending half is ended, and what still comes is dropped.
+
+use mio::net::TcpStream;
+use std::alloc::{AllocError, Global};
+use std::collections::VecDeque;
+use std::io::{ErrorKind, Read};
+use std::net::Shutdown;
+use std::time::{Clock, Duration, Instant};
+
+/// So many such streams a port has at most; of more the oldest is closed.
+const MOST_LINGERING: usize = 64;
+
+/// So long a stream is read, in milliseconds, and so much of it.
+const LINGER_MILLIS: u64 = 2000;
+
+const LINGER_BYTES: usize = 16 * 1024 * 1024;
+
+/// So often one is read in a row.
+const READS: usize = 64;
+
+#[derive(Drop)]
+struct LingeringStream {
+    stream: TcpStream,
+    since: Instant,
+    // So many more bytes are read.
+    left: usize,
+}
+
+/// Whether more of a stream may come.
+#[derive(Clone, Copy)]
+enum Drained {
+    /// The peer has ended it, or it has had its share.
+    Over,
+    Empty,
+    More,
+}
+
+impl LingeringStream {
+    fn drain(&mut self, scratch: &mut [u8]) -> Drained {
+        for _ in 0..READS {
+            match (&self.stream).read(scratch) {
+                Ok(0) => return Drained::Over,
+                Ok(count) => self.left = self.left.saturating_sub(count),
+                Err(error) if error.kind() == ErrorKind::WouldBlock => return Drained::Empty,
+                Err(_) => return Drained::Over,
+            }
+            if self.left == 0 {
+                return Drained::Over;
+            }
+        }
+        Drained::More
+    }
+
+    fn is_over<R: Clock>(&self, rt: &R) -> bool {
+        match self.since.elapsed(rt) {
+            Ok(read) => read >= Duration::from_millis(LINGER_MILLIS),
+            Err(_) => true,
+        }
+    }
+}
+
+/// Such streams in the order in which they were shut.
+#[derive(Drop)]
+pub(crate) struct LingeringStreams {
+    streams: VecDeque<LingeringStream>,
+    // Something may have come.
+    is_ready: bool,
+}
+
+impl LingeringStreams {
+    pub(crate) fn new(alloc: Global) -> Result<LingeringStreams, AllocError> {
+        Ok(LingeringStreams {
+            streams: VecDeque::with_capacity(alloc, MOST_LINGERING)?,
+            is_ready: false,
+        })
+    }
+
+    pub(crate) fn len(&self) -> usize {
+        self.streams.len()
+    }
+
+    pub(crate) fn is_ready(&self) -> bool {
+        self.is_ready
+    }
+
+    // Something came, of a stream that isn't open.
+    pub(crate) fn mark(&mut self) {
+        self.is_ready = true;
+    }
+
+    // A stream whose sending half can't be ended is closed.
+    pub(crate) fn add<R: Clock>(&mut self, rt: &R, stream: TcpStream) {
+        if stream.shutdown(Shutdown::Write).is_err() {
+            return;
+        }
+        let Ok(since) = Instant::now(rt) else {
+            return;
+        };
+        if self.streams.len() >= MOST_LINGERING {
+            let _ = self.streams.pop_front();
+        }
+        let _ = self.streams.push_back(LingeringStream {
+            stream,
+            since,
+            left: LINGER_BYTES,
+        });
+        self.is_ready = true;
+    }
+
+    // Drops what came, and closes the streams that are over.
+    pub(crate) fn drain<R: Clock>(&mut self, rt: &R, scratch: &mut [u8]) {
+        let was_ready = self.is_ready;
+        self.is_ready = false;
+        for _ in 0..self.streams.len() {
+            let Some(mut lingering) = self.streams.pop_front() else {
+                return;
+            };
+            if was_ready {
+                match lingering.drain(scratch) {
+                    Drained::Over => continue,
+                    Drained::More => self.is_ready = true,
+                    Drained::Empty => {}
+                }
+            }
+            if !lingering.is_over(rt) {
+                let _ = self.streams.push_back(lingering);
+            }
+        }
+    }
+}

@@ -1,0 +1,42 @@
+//! What a port notes of itself, for clauses alone.
+
+ghost use Rattle.std.specs.Prelude.{◌≡◌};
+
+use proto::Answered;
+use trace::{Noted, Trace};
+use worker_port::{PortRecord, ToldHistory};
+
+/// What is told.
+#[derive(Clone, Copy)]
+pub(crate) enum PortNote<'a> {
+    Opened(u64),
+    Data(u64, &'a [u8]),
+    Gone(u64),
+    Ended,
+    Accepted(u64, &'a [u8]),
+    Shut(u64),
+}
+
+impl Noted<PortRecord> for PortNote<'_> {
+    ghost use Rattle.net.specs.Notes.{told_by};
+
+    ghost noted = { told_by };
+}
+
+#[derive(Clone, Copy)]
+struct History<'a> {
+    told: &'a ToldHistory,
+}
+
+impl Noted<Answered> for History<'_> {
+    ghost noted = { λ history. history.told.now };
+}
+
+/// The history by which bytes are given.
+pub(crate) fn given_by(told: ToldHistory) -> Trace<Answered>
+    ensures { result.items ≡ told }
+{
+    let mut history = Trace::new();
+    history.note_as(&History { told: &told });
+    history
+}

@@ -1,0 +1,189 @@
+//! The lenient dialect, through the public calls, beside what the strict one makes of the same bytes.
+
+use crate::common::check_session;
+use std::alloc::{AllocError, Global};
+use std::process::Abort;
+use std::sync::Wait;
+use std::test::Fail;
+use std::thread::Threads;
+use std::time;
+
+const BAD_LINE: &str = "CLIENT_ERROR bad command line format\r\n";
+
+const TOO_LONG: &str = "CLIENT_ERROR line too long\r\n";
+
+const ONE_HIT: &str = "VALUE a 0 1\r\nx\r\nEND\r\n";
+
+/// What a session sends behind `set a 0 0 1`, and what it is then given leniently and strictly.
+const LINES: [(&str, &str, &str); 14] = [
+    ("get a \r\n", ONE_HIT, BAD_LINE),
+    ("get a   \r\n", ONE_HIT, BAD_LINE),
+    ("gets a b \r\n", "VALUE a 0 1 1\r\nx\r\nEND\r\n", BAD_LINE),
+    ("delete a \r\n", "DELETED\r\n", BAD_LINE),
+    ("flush_all \r\n", "OK\r\n", BAD_LINE),
+    (
+        "flush_all 0 noreply \r\nget a\r\n",
+        "END\r\n",
+        "CLIENT_ERROR bad command line format\r\nVALUE a 0 1\r\nx\r\nEND\r\n",
+    ),
+    (
+        "quit \r\nget a\r\n",
+        "",
+        "CLIENT_ERROR bad command line format\r\nVALUE a 0 1\r\nx\r\nEND\r\n",
+    ),
+    ("set a 0 0 1 \r\ny\r\n", "STORED\r\n", BAD_LINE),
+    (
+        "set a 0 0 1 noreply \r\ny\r\nget a\r\n",
+        "VALUE a 0 1\r\ny\r\nEND\r\n",
+        BAD_LINE,
+    ),
+    ("get \r\n", BAD_LINE, BAD_LINE),
+    ("get  \r\n", BAD_LINE, BAD_LINE),
+    (
+        "set a 0 0 2\r\nx \r\nget a\r\n",
+        "STORED\r\nVALUE a 0 2\r\nx \r\nEND\r\n",
+        "STORED\r\nVALUE a 0 2\r\nx \r\nEND\r\n",
+    ),
+    (" \r\n", "ERROR\r\n", "ERROR\r\n"),
+    (
+        "get  a\r\n get a\r\n",
+        "CLIENT_ERROR bad command line format\r\nERROR\r\n",
+        "CLIENT_ERROR bad command line format\r\nERROR\r\n",
+    ),
+];
+
+/// The text behind the request that stores `x` under `a`, or behind its answer.
+fn behind_set(alloc: Global, first: &str, text: &str) -> Result<String, AllocError> {
+    let mut all = String::from_str(alloc, first)?;
+    all.push_str(text)?;
+    Ok(all)
+}
+
+fn check_line<H: Abort + Threads + Wait + time::Clock + Sync>(
+    rt: &H,
+    alloc: Global,
+    words: &str,
+    input: &str,
+    output: &str,
+) -> Result<(), Fail> {
+    let sent = behind_set(alloc, "set a 0 0 1\r\nx\r\n", input)?;
+    let given = behind_set(alloc, "STORED\r\n", output)?;
+    check_session(rt, alloc, words, sent.as_bytes(), given.as_bytes(), input)
+}
+
+fn check_lines<H: Abort + Threads + Wait + time::Clock + Sync>(
+    rt: &H,
+    alloc: Global,
+    rows: &[(&str, &str, &str)],
+) -> Result<(), Fail> {
+    for (input, leniently, strictly) in rows {
+        check_line(rt, alloc, "--lenient", input, leniently)?;
+        check_line(rt, alloc, "", input, strictly)?;
+    }
+    Ok(())
+}
+
+#[test]
+fn spaces_before_the_end_of_a_line(rt: HostRuntime) -> Result<(), Fail> {
+    check_lines(&rt, rt.alloc(), &LINES)
+}
+
+/// So many letters, and what stands behind them; what a session that sends them is given leniently.
+const LENGTHS: [(usize, &str, &str); 4] = [
+    (32_766, "\r\nget a\r\n", "ERROR\r\nEND\r\n"),
+    (32_767, "\r\nget a\r\n", TOO_LONG),
+    (32_768, "get a\r\n", TOO_LONG),
+    (32_765, "  \r\nget a\r\n", TOO_LONG),
+];
+
+fn check_lengths<H: Abort + Threads + Wait + time::Clock + Sync>(
+    rt: &H,
+    alloc: Global,
+    rows: &[(usize, &str, &str)],
+) -> Result<(), Fail> {
+    for (count, behind, leniently) in rows {
+        let mut input = vec![in alloc; b'a'; *count]?;
+        input.extend_from_slice(behind.as_bytes())?;
+        let bytes = input.as_slice();
+        check_session(rt, alloc, "--lenient", bytes, leniently.as_bytes(), *count)?;
+        check_session(rt, alloc, "", bytes, TOO_LONG.as_bytes(), *count)?;
+    }
+    Ok(())
+}
+
+#[test]
+fn the_longest_line(rt: HostRuntime) -> Result<(), Fail> {
+    check_lengths(&rt, rt.alloc(), &LENGTHS)
+}
+
+/// A key of 24 bytes.
+fn push_key(alloc: Global, all: &mut Vec<u8>, number: u64) -> Result<(), AllocError> {
+    let digits = number.saturating_add(100_000_000).to_string(alloc)?;
+    all.extend_from_slice(b"key-of-24-bytes")?;
+    all.extend_from_slice(digits.as_bytes())
+}
+
+/// Each other key of 1,000 is stored.
+fn push_sets(alloc: Global, input: &mut Vec<u8>, output: &mut Vec<u8>) -> Result<(), AllocError> {
+    for number in 0..500 {
+        input.extend_from_slice(b"set ")?;
+        push_key(alloc, input, 2 * number)?;
+        input.extend_from_slice(b" 0 0 1\r\nx\r\n")?;
+        output.extend_from_slice(b"STORED\r\n")?;
+    }
+    Ok(())
+}
+
+/// All 1,000 are asked for at once.
+fn push_get(alloc: Global, input: &mut Vec<u8>) -> Result<(), AllocError> {
+    input.extend_from_slice(b"get")?;
+    for number in 0..1000 {
+        input.extend_from_slice(b" ")?;
+        push_key(alloc, input, number)?;
+    }
+    input.extend_from_slice(b"\r\n")
+}
+
+/// Those that are there are shown in order.
+fn push_hits(alloc: Global, output: &mut Vec<u8>) -> Result<(), AllocError> {
+    for number in 0..500 {
+        output.extend_from_slice(b"VALUE ")?;
+        push_key(alloc, output, 2 * number)?;
+        output.extend_from_slice(b" 0 1\r\nx\r\n")?;
+    }
+    output.extend_from_slice(b"END\r\n")
+}
+
+fn check_many_keys<H: Abort + Threads + Wait + time::Clock + Sync>(
+    rt: &H,
+    alloc: Global,
+) -> Result<(), Fail> {
+    let mut input = Vec::new(alloc);
+    let mut stored = Vec::new(alloc);
+    push_sets(alloc, &mut input, &mut stored)?;
+    push_get(alloc, &mut input)?;
+    let mut shown = Vec::from_slice(alloc, stored.as_slice())?;
+    push_hits(alloc, &mut shown)?;
+    check_session(
+        rt,
+        alloc,
+        "--lenient",
+        input.as_slice(),
+        shown.as_slice(),
+        "1,000 keys",
+    )?;
+    stored.extend_from_slice(TOO_LONG.as_bytes())?;
+    check_session(
+        rt,
+        alloc,
+        "",
+        input.as_slice(),
+        stored.as_slice(),
+        "1,000 keys",
+    )
+}
+
+#[test]
+fn a_get_of_1000_keys(rt: HostRuntime) -> Result<(), Fail> {
+    check_many_keys(&rt, rt.alloc())
+}

@@ -1,0 +1,20 @@
+-- The list of sessions that notes tell, with one more note.
+use Rattle.std.proofs.Common.{◌≡◌, ℕ, List, [], ◌∷◌, ◌++◌, refl}
+use Rattle.session_book.specs.declared.causes.EndCause.{EndCause}
+use Rattle.std.specs.Prelude.{IfSome}
+use Rattle.worker.specs.EndCauses.{Rises}
+use Rattle.worker.specs.declared.session_list.SessionList.TheInside.{Inside}
+use Rattle.worker.specs.declared.session_list.SessionNote.{SessionNote}
+use Rattle.worker.specs.SessionLists.{and_noted, listed_from, listed}
+
+more_from : (sessions : List (ℕ × EndCause)) (notes : List SessionNote) (note : SessionNote)
+    → listed_from sessions (notes ++ note ∷ []) ≡ and_noted (listed_from sessions notes) note
+more_from sessions [] note = refl
+more_from sessions (x ∷ notes) note = more_from (and_noted sessions x) notes note
+
+pub listed_more : (notes : List SessionNote) (note : SessionNote) → listed (notes ++ note ∷ []) ≡ and_noted (listed notes) note
+listed_more notes note = more_from [] notes note
+
+-- what is stored is the list that the notes tell, where its numbers rise
+abbrev pub IsStored : Inside → Type 0
+IsStored l = Rises (listed l.notes.items) → IfSome l.stored (λ entries. entries.items ≡ listed l.notes.items)

@@ -1,5 +1,5 @@
 #!/usr/bin/env bash
-# Puts the program, its man page, completion, unit and documents below PREFIX (/usr/local), or takes them away again;
+# Puts the program, its man page, completion, units and documents below PREFIX (/usr/local), or takes them away again;
 # DESTDIR goes before each place. `make install`, `make uninstall` and the Debian package call it. Usage: install.sh
 # put|remove.
 set -eu
@@ -9,6 +9,8 @@ units=${UNITS:-$prefix/lib/systemd/system}
 documents=$prefix/share/doc/segcached
 defaults=${DESTDIR:-}/etc/default/segcached
 program=crates/segcached/out/segcached
+pages="INSTALL OPERATIONS CLIENTS PERFORMANCE"
+absent="ARCHITECTURE|DECISIONS|GATE|PROOFS|TESTING"
 made=$(mktemp -d)
 trap 'rm -rf "$made"' EXIT
 
@@ -18,12 +20,33 @@ each_file() {
   "$1" 644 "$made/segcached.1" "$prefix/share/man/man1/segcached.1"
   "$1" 644 packaging/segcached.bash "$prefix/share/bash-completion/completions/segcached"
   "$1" 644 "$made/segcached.service" "$units/segcached.service"
+  "$1" 644 "$made/segcached@.service" "$units/segcached@.service"
   "$1" 644 crates/segcached/out/PROVED "$documents/PROVED"
-  for page in INSTALL OPERATIONS CLIENTS PERFORMANCE; do
-    "$1" 644 docs/$page.md "$documents/$page.md"
+  for page in $pages; do
+    "$1" 644 "$made/$page.md" "$documents/$page.md"
+  done
+  for picture in performance misses; do
+    "$1" 644 docs/$picture.svg "$documents/$picture.svg"
   done
   "$1" 755 tools/script_of.py "$documents/examples/script_of.py"
   "$1" 644 tools/refused_lines.py "$documents/examples/refused_lines.py"
+  "$1" 755 examples/probe.sh "$documents/examples/probe.sh"
+  for example in Containerfile kubernetes.yaml twemproxy/three_caches.yml; do
+    "$1" 644 examples/$example "$documents/examples/$example"
+  done
+}
+
+# Makes what differs by PREFIX or by place: the man page, the units, and the pages, whose examples lie beside them, and
+# in which a link to a page that isn't installed is its text alone.
+make_files() {
+  tools/man_page.sh $program >"$made/segcached.1"
+  sed "s|/usr/bin/|$prefix/bin/|" systemd/segcached.service >"$made/segcached.service"
+  sed -e '1,2c # An instance of segcached; its options stand in /etc/default/segcached-NAME.' \
+    -e 's|^EnvironmentFile=.*|&-%i|' -e 's|^Description=segcached|& (%i)|' \
+    "$made/segcached.service" >"$made/segcached@.service"
+  for page in $pages; do
+    sed -E -e 's|\]\(\.\./examples/|](examples/|g' -e 's/\[([^]]*)\]\('"($absent)"'\.md[^)]*\)/\1/g' docs/$page.md >"$made/$page.md"
+  done
 }
 
 put_file() {
@@ -36,8 +59,11 @@ remove_file() {
 
 case $1 in
 put)
-  tools/man_page.sh $program >"$made/segcached.1"
-  sed "s|/usr/bin/|$prefix/bin/|" systemd/segcached.service >"$made/segcached.service"
+  type help2man >/dev/null 2>&1 || {
+    echo "make install: it needs help2man" >&2
+    exit 1
+  }
+  make_files
   each_file put_file
   # Options that somebody has written stay.
   [ -e "$defaults" ] || install -D -m 644 packaging/segcached.default "$defaults"

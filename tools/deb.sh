@@ -18,7 +18,7 @@ version=$(dpkg-parsechangelog --show-field Version)
 work=$(mktemp -d)
 trap 'rm -rf "$work"' EXIT
 mkdir "$work/segcached"
-cp -r --parents debian docs packaging systemd tools $program crates/segcached/out/PROVED "$work/segcached"
+cp -r --parents debian docs examples packaging systemd tools $program crates/segcached/out/PROVED "$work/segcached"
 (cd "$work/segcached" && dpkg-buildpackage --build=binary --no-sign) >"$work/log" 2>&1 || {
   tail -n 30 "$work/log"
   exit 1

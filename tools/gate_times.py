@@ -10,20 +10,18 @@
 
 A process is counted by the processor time that it had when it was last seen, so each may miss a quarter of a second. The prover's
 builds are counted with the proofs; what LLVM, the tests and the programs take themselves isn't counted.
-
-The table has beside each crate what it cost in tools/gate_minutes_before.tsv, an earlier run to compare with.
 """
 import os
 import re
 import shutil
 import signal
 import sys
+import textwrap
 import time
 from collections import defaultdict
 
 TOP = os.path.dirname(os.path.dirname(os.path.abspath(__file__)))
 MINUTES = f"{TOP}/tools/gate_minutes.tsv"
-BEFORE = f"{TOP}/tools/gate_minutes_before.tsv"
 PAGE = f"{TOP}/docs/GATE.md"
 # The table stands between these lines of the page.
 BEGIN, END = "<!-- The table is written by tools/gate_times.py. -->", "<!-- The end of the table. -->"
@@ -138,33 +136,29 @@ def measure(path):
     write_minutes(path, minutes_in(seen), f"{when}, {took}, {host}, with a load of {load} in the 1, 5 and 15 minutes before")
 
 
-def row(words):
-    return "| " + " | ".join(words) + " |"
+def row(name, costs):
+    return f"{name:<18}" + "".join(f"{cost:>8}" for cost in costs)
 
 
 def cell(minutes):
     return f"{minutes:.1f}" if minutes >= 0.05 else ""
 
 
-def table_of(now, before):
-    """A table of what each crate costs, with what it cost before."""
-    rows = [row(["Crate", "Proofs", "Tests", "Must-fail edits", "In all", "Before"]), "|---|---|---|---|---|---|"]
-    for crate in sorted(now, key=lambda it: -in_all(now[it])):
-        earlier = cell(in_all(before[crate])) if crate in before else ""
-        rows.append(row([f"`{crate}`", *map(cell, now[crate].values()), cell(in_all(now[crate])), earlier]))
-    gone = [crate for crate in before if crate not in now]
-    rows += [row([f"`{crate}`", "", "", "", "", cell(in_all(before[crate]))]) for crate in gone]
-    for name, sums in (("all", sums_of(now)), ("all, before", sums_of(before))):
-        rows.append(row([name, *(f"{it:.0f}" for it in sums.values()), f"{in_all(sums):.0f}", ""]))
+def table_of(minutes):
+    """A table of what each crate costs."""
+    rows = [row("", [*KINDS, "in all"])]
+    for crate in sorted(minutes, key=lambda it: -in_all(minutes[it])):
+        rows.append(row(crate, map(cell, [*minutes[crate].values(), in_all(minutes[crate])])))
+    sums = sums_of(minutes)
+    rows.append(row("all", [f"{it:.0f}" for it in [*sums.values(), in_all(sums)]]))
     return "\n".join(rows) + "\n"
 
 
 def write_page():
     head, _, rest = read(PAGE).partition(BEGIN)
     tail = rest.partition(END)[2]
-    notes = f"- Now: {note_of(MINUTES)}\n- Before: {note_of(BEFORE)}\n"
     with open(PAGE, "w", encoding="utf-8") as file:
-        file.write(f"{head}{BEGIN}\n\n{notes}\n{table_of(read_minutes(MINUTES), read_minutes(BEFORE))}\n{END}{tail}")
+        file.write(f"{head}{BEGIN}\n\n```text\n{textwrap.fill(note_of(MINUTES), 96)}\n\n{table_of(read_minutes(MINUTES))}```\n\n{END}{tail}")
 
 
 def sums_in_words(minutes):
@@ -183,7 +177,7 @@ def main():
     if not minutes:
         sys.exit(f"{path} holds no minutes")
     if verb == "show":
-        print(table_of(minutes, read_minutes(BEFORE)))
+        print(table_of(minutes))
     elif verb == "sums":
         print(sums_in_words(minutes))
     else:

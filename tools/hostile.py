@@ -464,7 +464,7 @@ def one_refusal(environment):
         status, fault = ended.status, ended.fault
     if status == 1 and re.fullmatch(r"fault: (out of memory|cannot start a thread)\n", fault):
         return "a fault at the start"
-    if status != 0 or fault or found[1:] == found[:1] != ["sessions whole"]:
+    if status != 0 or fault not in ("", "serving has ended\n") or found[1:] == found[:1] != ["sessions whole"]:
         raise Trouble(f"status {status}, standard error {fault!r}, {' and '.join(found)}")
     return next((it for it in found if it != "sessions whole"), "sessions whole")
 

@@ -209,6 +209,16 @@ def conditions(results):
     return f"segcached has segments of {SEGMENT_SIZE >> 10} KiB, and of 1 MiB with lives. {held}"
 
 
+def ratios(results):
+    """The ratios in a line, from the least to the greatest of each kind of point."""
+    kinds = {}
+    for point, sides in results.items():
+        name = f"{point.value:,} bytes{', with lives' if point.lives else ''}" if point.times == TIMES else f"keys of {point.times:g} times the memory"
+        kinds.setdefault(name, []).append(ratio(sides))
+    said = [f"{name} {min(it):.2f}" + (f" to {max(it):.2f}" if len(it) > 1 else "") for name, it in kinds.items()]
+    return f"segcached's misses beside memcached's: {'; '.join(said)}."
+
+
 def segment_table(points, results):
     """A row for each kind of load, a column for each size of a segment."""
     sizes = " | ".join(f"{size >> 10} KiB" for size in SEGMENT_SIZES)

@@ -4,7 +4,7 @@
 set -eu
 cd "$(dirname "$0")/.."
 packages=(python3-pytest python3-hypothesis python3-pymemcache python3-pylibmc netcat-openbsd libmemcached-tools
-  nutcracker gcc libc6-dev)
+  nutcracker spin gcc libc6-dev)
 install() { apt-get update && apt-get install -y --no-install-recommends "$@"; }
 dpkg -s "${packages[@]}" >/dev/null 2>&1 || install "${packages[@]}" >/dev/null
 [[ $* == *tools/tests* ]] || set -- tools/tests "$@"

@@ -1,13 +1,14 @@
 #!/usr/bin/env bash
-# The package, tried: it is made of the proved program alone, lintian finds no error in it, it needs the C library
-# alone, and the unit is tight. A clean root, made by Debian's tools, takes it; its user serves from there; and nothing
-# is left once it has gone. Then `make install` and `make uninstall`, and the completion. Usage: try_deb.sh [LOG], where
+# The package, tried: it is made of the proved program alone, lintian has no warning of it, it needs the C library
+# alone, its units are tight, and its pages' links lead to what is in it. A clean root, made by Debian's tools, takes it;
+# its user serves from there; and nothing is left once it has gone. Then `make install` and `make uninstall`, the
+# completion, and the program behind a container's init. Usage: try_deb.sh [LOG], where
 # LOG is what `rt ci` said of the program's crates, of which the record of the proofs is then written. The last line is
 # 'N passed, M failed'.
 set -u
 cd "$(dirname "$0")/.."
 program=crates/segcached/out/segcached
-packages=(dpkg-dev debhelper help2man lintian mmdebstrap systemd)
+packages=(dpkg-dev debhelper help2man lintian mmdebstrap systemd tini)
 missing=()
 for package in "${packages[@]}"; do
   dpkg -s "$package" >/dev/null 2>&1 || missing+=("$package")
@@ -60,9 +61,30 @@ needs_the_c_library_alone() {
   grep -qxE 'libc6 \(>= [0-9.]+\)' "$work/depends"
 }
 
-# The exposure, which systemd counts from 0 to 10, is at most 2.
-has_tight_unit() {
-  systemd-analyze security --offline=true --threshold=20 systemd/segcached.service
+# Of the service and of an instance; the exposure, which systemd counts from 0 to 10, is at most 2.
+has_tight_units() {
+  local units=$work/units
+  dpkg-deb --extract "$work/segcached.deb" "$work/content"
+  mkdir "$units"
+  cp "$work/content/lib/systemd/system/segcached.service" "$units"
+  cp "$work/content/lib/systemd/system/segcached@.service" "$units/segcached@one.service"
+  sed -i "s|/usr/bin/segcached|$PWD/$program|" "$units"/*
+  systemd-analyze verify --man=no "$units"/* 2>&1 | tee "$work/complaints"
+  [ ! -s "$work/complaints" ] || return 1
+  grep -qx 'EnvironmentFile=/etc/default/segcached-%i' "$units/segcached@one.service" || return 1
+  for unit in "$units"/*; do
+    systemd-analyze security --offline=true --threshold=20 "$unit" || return 1
+  done
+}
+
+# Each link of the package's pages to a file.
+has_what_its_pages_link_to() {
+  local pages=$work/content/usr/share/doc/segcached links
+  links=$(grep -ohE '\]\([^)#:]+' "$pages"/*.md | sed 's/^](//' | sort -u)
+  [ "$(wc -l <<<"$links")" -ge 5 ] || return 1
+  for link in $links; do
+    [ -e "$pages/$link" ] || { echo "$link" && return 1; }
+  done
 }
 
 makes_clean_root() {
@@ -108,6 +130,35 @@ serves_as_its_user() {
   [ $took -lt 1000 ] && { [ $status -eq 0 ] || [ $status -eq $((128 + 15)) ]; }
 }
 
+# Process 1 of a container doesn't end by SIGTERM; behind tini the program does within a second.
+ends_behind_an_init() {
+  local init began took
+  unshare --pid --fork --kill-child tini -- "$PWD/$program" serve --listen 127.0.0.1:0 >"$work/first" &
+  for _ in $(seq 100); do
+    [ -s "$work/first" ] && break
+    sleep 0.05
+  done
+  init=$(pgrep -P $!)
+  began=$(date +%s%N)
+  kill -TERM "$init"
+  wait $!
+  took=$((($(date +%s%N) - began) / 1000000))
+  echo "ended after $took ms"
+  [ -s "$work/first" ] && [ $took -lt 1000 ]
+}
+
+# While a process of its user runs a purge is done, and the user stays. (userdel looks for it in /proc)
+purges_beside_a_process() {
+  local process
+  chroot --userspec=segcached:segcached "$root" sleep 60 &
+  process=$!
+  sleep 0.2
+  # shellcheck disable=SC2016  # (the inner shell's words)
+  unshare --mount sh -c 'mount --rbind /proc "$1/proc" && exec chroot "$1" dpkg --purge segcached' sh "$root" || return 1
+  kill $process
+  chroot "$root" getent passwd segcached && chroot "$root" userdel segcached
+}
+
 # After a removal its options and its user stay, as Debian wants it; after a purge nothing does.
 leaves_nothing() {
   chroot "$root" dpkg --remove segcached
@@ -125,6 +176,18 @@ installs_and_uninstalls() {
   printf 'stats\r\n' | "$here/share/doc/segcached/examples/script_of.py" refused - | grep '1 refused of 1' || return 1
   make uninstall PREFIX=/opt/cache DESTDIR="$to" || return 1
   [ -z "$(find "$to" -not -type d)" ]
+}
+
+# Without help2man `make install` says so in one line.
+says_what_it_needs() {
+  local without=$work/without
+  mkdir "$without"
+  for word in bash cat cp dirname install mktemp rm sed; do
+    ln -s "$(type -P $word)" "$without/$word"
+  done
+  PATH=$without DESTDIR="$work/nowhere" packaging/install.sh put 2>"$work/needs" && return 1
+  cat "$work/needs"
+  [ "$(cat "$work/needs")" = "make install: it needs help2man" ] && [ ! -e "$work/nowhere" ]
 }
 
 # Runs the completion as bash does, over words of which the last is to be completed.
@@ -145,14 +208,19 @@ completes_words() {
 [ $# -eq 0 ] || part python3 tools/proved.py write --log "$1"
 part refuses_other_programs
 part makes_package
-part lintian --fail-on error --allow-root "$work/segcached.deb"
+part lintian --fail-on error,warning --allow-root "$work/segcached.deb"
 part needs_the_c_library_alone
-part has_tight_unit
+part has_tight_units
+part has_what_its_pages_link_to
 part makes_clean_root
 part installs
 part serves_as_its_user
 part leaves_nothing
+part installs
+part purges_beside_a_process
 part installs_and_uninstalls
+part says_what_it_needs
 part completes_words
+part ends_behind_an_init
 echo "$passed passed, $failed failed"
 [ "$failed" -eq 0 ]

@@ -45,6 +45,11 @@ $version = client()->getVersion();
 check('getVersion', is_array($version) && count($version) === 1 && current($version) !== '255.255.255', true);
 $stats = client()->getStats();
 check('getStats', is_array($stats) && count((array)current($stats)) > 5, true);
+$names = [];
+for ($n = 0; $n < 1000; $n++) { $names[sprintf('a-name-of-24-bytes-%05d', $n)] = $n; }
+$client->setMulti($names);
+$got = client()->getMulti(array_keys($names));
+check('getMulti_1000', $got == $names, true);
 check('flush', client()->flush(), true);
 echo 'php-memcached works: ', implode(' ', $works), "\n";
 echo 'php-memcached fails: ', implode(' ', $fails), "\n";

@@ -34,6 +34,8 @@ def main():
     calls.check("touch", lambda: pylibmc.Client(server).touch("py-b", 60), True)
     calls.check("get_stats", lambda: bool(pylibmc.Client(server).get_stats()[0][1]), True)
     calls.check("binary", lambda: pylibmc.Client(server, binary=True).set("py-bin", "x"), True)
+    names = {f"a-name-of-24-bytes-{n:05}": n for n in range(1000)}
+    calls.check("get_multi_1000", lambda: (client.set_multi(names), pylibmc.Client(server).get_multi(list(names)))[1], names)
     calls.check("flush_all", lambda: pylibmc.Client(server).flush_all(), True)
     calls.report()
 

@@ -5,6 +5,7 @@ import sys
 
 import pytest
 import served
+from asking import ask
 
 CLIENTS = f"{served.TOP}/tools/clients"
 
@@ -63,12 +64,19 @@ def test_memcflush_writes_a_space_behind_its_request_which_is_a_fault(server, ru
     assert run("memcflush", f"--servers=127.0.0.1:{server.port}") == (1, b"")
 
 
+def test_with_lenient_lines_memcflush_flushes(program, run):
+    with served.Server(program, "--lenient") as server, server.connect() as stream:
+        ask(stream, b"set a 0 0 1\r\nx\r\n", b"STORED\r\n")
+        assert run("memcflush", f"--servers=127.0.0.1:{server.port}") == (0, b"")
+        ask(stream, b"get a\r\n", b"END\r\n")
+
+
 # ---- all that docs/CLIENTS.md names
 
-PACKAGES = """python3-memcache python3-binary-memcached php-cli php-memcached php-memcache libcache-memcached-perl
+PACKAGES = """python3-django python3-memcache python3-binary-memcached php-cli php-memcached php-memcache libcache-memcached-perl
     libcache-memcached-fast-perl libmemcached-libmemcached-perl ruby ruby-dalli nginx-light""".split()
 CALLS = [
-    *[(sys.executable, f"{name}_calls.py") for name in ("pylibmc", "python_memcached", "binary_memcached", "nginx")],
+    *[(sys.executable, f"{name}_calls.py") for name in ("pylibmc", "python_memcached", "binary_memcached", "django", "nginx")],
     *[("php", f"{name}_calls.php") for name in ("php_memcached", "php_memcache")],
     *[("perl", "perl_calls.pl", name) for name in
       ("Cache::Memcached", "Cache::Memcached::Fast", "Memcached::libmemcached")],
@@ -85,11 +93,13 @@ def all_clients(request):
         subprocess.run(install, check=True, stdout=subprocess.DEVNULL)
 
 
-def test_each_call_of_each_client_works_or_fails_as_expected(server, all_clients):
+@pytest.mark.parametrize("words, expected", [([], "expected"), (["--lenient"], "expected_lenient")], ids=["strict", "lenient"])
+def test_each_call_of_each_client_works_or_fails_as_expected(program, all_clients, words, expected):
     said, environment = [], {**os.environ, "PYTHONDONTWRITEBYTECODE": "1"}
-    for language, file, *words in CALLS:
-        line = [language, f"{CLIENTS}/{file}", *words, str(server.port)]
-        ran = subprocess.run(line, stdout=subprocess.PIPE, text=True, timeout=100, env=environment)
-        said += [it.rstrip() for it in ran.stdout.splitlines()]
-    with open(f"{CLIENTS}/expected", encoding="utf-8") as file:
+    with served.Server(program, *words) as server:
+        for language, file, *given in CALLS:
+            line = [language, f"{CLIENTS}/{file}", *given, str(server.port)]
+            ran = subprocess.run(line, stdout=subprocess.PIPE, text=True, timeout=100, env=environment)
+            said += [it.rstrip() for it in ran.stdout.splitlines()]
+    with open(f"{CLIENTS}/{expected}", encoding="utf-8") as file:
         assert said == file.read().splitlines()

@@ -199,19 +199,23 @@ def test_the_minutes_are_read_as_they_were_written(tmp_path):
     assert gate_times.read_minutes(path) == minutes
     assert gate_times.note_of(path) == "a run"
     assert gate_times.sums_in_words(minutes) == "7 processor minutes of the prover, 2 for proofs, 2 for tests, 3 for edits"
-    table = gate_times.table_of(minutes, {"left": minutes["left"], "gone": minutes["right"]})
-    assert "| `left` | 1.5 |  | 3.0 | 4.5 | 4.5 |" in table
-    assert "| `gone` |  |  |  |  | 2.5 |" in table
+    table = gate_times.table_of(minutes)
+    assert [line.split() for line in table.splitlines()] == [
+        ["proofs", "tests", "edits", "in", "all"],
+        ["left", "1.5", "3.0", "4.5"],
+        ["right", "0.5", "2.0", "2.5"],
+        ["all", "2", "2", "3", "7"],
+    ]
 
 
 def test_the_page_has_the_recorded_minutes():
     with open(gate_times.PAGE, encoding="utf-8") as file:
         page = file.read()
-    assert gate_times.table_of(gate_times.read_minutes(gate_times.MINUTES), gate_times.read_minutes(gate_times.BEFORE)) in page
+    assert gate_times.table_of(gate_times.read_minutes(gate_times.MINUTES)) in page
 
 
-def test_the_readme_names_the_kit():
-    with open(f"{TOP}/README.md", encoding="utf-8") as file:
+def test_the_page_names_the_kit():
+    with open(gate_times.PAGE, encoding="utf-8") as file:
         assert f"`{machine.kit()}`" in file.read()
 
 

@@ -105,3 +105,12 @@ def test_a_life_begins_at_once_and_one_that_is_over_is_none(client):
     assert client.get("brief") == b"x"
     assert client.set("over", b"x", expire=int(time.time()) - 5) is True
     assert client.get("over") is None
+
+
+def test_a_thousand_keys_are_got_at_once_where_lines_are_lenient(program):
+    values = {f"a-name-of-24-bytes-{number:05}": b"%d" % number for number in range(1000)}
+    with served.Server(program, "--lenient") as server:
+        client = Client(("127.0.0.1", server.port), timeout=10, default_noreply=False)
+        assert client.set_many(values) == []
+        assert client.get_many(list(values)) == values
+        client.quit()

@@ -1,5 +1,6 @@
 """Keys spread over three caches, one of which is stopped: by pymemcache, by libmemcached, and by twemproxy."""
 import contextlib
+import random
 import re
 import time
 
@@ -130,3 +131,15 @@ def test_behind_twemproxy_the_keys_of_a_stopped_cache_and_no_others_are_lost(cac
         client.close()
     errors = sum(count for _, count in answers.values())
     say(f"shares of {sizes}; one cache stopped, its {len(lost)} keys and no other are lost ({errors} errors meanwhile)")
+
+
+def test_behind_twemproxy_many_keys_are_got_at_once_where_lines_are_lenient(serve, tmp_path):
+    """It writes a space before the end of each line that it splits."""
+    wanted, chance = values(2000), random.Random(50)
+    with twemproxy([serve("--workers", "1", "--lenient").port for _ in range(3)], tmp_path) as port:
+        client = Client(("127.0.0.1", port), timeout=10, default_noreply=False)
+        assert all(client.set(key, value) for key, value in list(wanted.items())[:1000])
+        for _ in range(400):
+            names = chance.sample(list(wanted), chance.randint(2, 200))
+            assert client.get_many(names) == {key: wanted[key] for key in names if int(key[4:]) < 1000}
+        client.close()

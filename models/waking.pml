@@ -1,0 +1,435 @@
+/* How segcached's storage thread and its workers park, wait in a port, and are woken.
+
+   Beside each step stands the code that it models: crate, file and function. Each load and each store of what threads share is
+   a step of its own; what a thread does with memory of its own goes with them. An idle turn that spins does nothing but look
+   again, so it is left out. So are all time-outs: who isn't woken sleeps for ever, and spin finds a run that ends before its
+   threads do. The other wrong end that it finds is a run that goes on for ever.
+
+   A client sends some requests at any time, waits for their answers and closes. There is one stream for each worker. A peer
+   takes all that it is given, since a worker doesn't sleep while one doesn't; and one that has closed is gone at once, since a
+   port that waits whether answers cease looks again by time-outs.
+
+   Without SOCKETS the port is any that brings requests, nothing or its end, and nothing only where the worker may not wait.
+   Each other name that is asked for by #ifdef makes a wrong protocol: tools/tests/test_waking.py has them refused. */
+
+#ifndef WORKERS
+#define WORKERS 2
+#endif
+#ifndef REQUESTS
+#define REQUESTS 2           /* the most of the first client; each further one has one less */
+#endif
+#ifndef WINDOW
+#define WINDOW 3             /* proto/limits.rt: WINDOW */
+#endif
+#define EIGHTH 2             /* storage_thread/serving.rt: ANSWERS_A_FLUSH */
+#define WAKER_ROOM 1         /* the bytes that fit into a waker of which nobody reads */
+#define NOBODY WORKERS
+
+#ifdef SOCKETS
+#define OWN
+#else
+#define OWN atomic           /* a port that is no socket: what it brings is the worker's own matter */
+#endif
+
+typedef ParkingWord { bool is_parked, sleeps };
+
+ParkingWord storage_word, worker_words[WORKERS];   /* exchange/signals.rt: parking, worker_parking */
+byte posted[WORKERS], done[WORKERS];               /* exchange/steps.rt: send_put, tell_answers */
+byte bye[WORKERS];                                 /* the number of the worker's bye, once it stands in its slot */
+byte streams[WORKERS];                             /* net/hand.rt: Hand */
+bool has_ended[WORKERS];                           /* net/hand.rt: Hand */
+byte wakes[WORKERS];                               /* the waker's bytes that weren't read */
+bool waker_event[WORKERS], stream_event[WORKERS];  /* what epoll tells next */
+bool is_registered[WORKERS], has_closed[WORKERS];
+byte clients_left = WORKERS;
+byte input[WORKERS], given[WORKERS];               /* requests in a stream, and answers that its peer was given */
+
+inline announce(word) { word.is_parked = true }    /* exchange/parking_word.rt: announce */
+
+inline cancel(word) { word.is_parked = false }     /* exchange/parking_word.rt: cancel */
+
+inline park(word) {                                /* exchange/parking_word.rt: park */
+  atomic { if :: word.is_parked -> word.sleeps = true :: else fi };
+  !word.sleeps;
+  cancel(word)
+}
+
+inline unpark(word) {                              /* exchange/parking_word.rt: unpark */
+#ifndef NO_UNPARK
+  if
+  :: word.is_parked ->
+     atomic { was_parked = word.is_parked; word.is_parked = false };
+     if :: was_parked -> d_step { word.sleeps = false; was_parked = false } :: else fi
+  :: else
+  fi
+#else
+  skip
+#endif
+}
+
+inline reset(word) {                               /* exchange/idle_turns.rt: reset */
+  if :: announced -> cancel(word); announced = false :: else fi
+}
+
+inline turn(word) {                                /* exchange/idle_turns.rt: turn */
+  if
+  :: announced -> park(word); announced = false
+  :: else ->
+     announce(word); announced = true;
+#ifdef NO_SECOND_LOOK
+     park(word); announced = false
+#endif
+  fi
+}
+
+/* The storage thread. */
+
+inline flush_answers() {                           /* exchange/storage_batch.rt: flush_answers */
+  if
+  :: waiting -> d_step { done[waiting_lane] = counts[waiting_lane]; waiting = false; waiting_lane = 0; untold = 0 }
+  :: else
+  fi
+}
+
+inline unpark_answered() {                         /* storage_thread/answered_worker.rt: unpark */
+  if
+  :: answered != NOBODY -> unpark(worker_words[answered]); answered = NOBODY
+  :: else
+  fi
+}
+
+inline tell() {                                    /* storage_thread/serving.rt: tell */
+#ifdef UNPARK_BEFORE_TELL
+  unpark_answered();
+  flush_answers()
+#else
+  flush_answers();
+  unpark_answered()
+#endif
+}
+
+inline tell_eighth() {                             /* storage_thread/serving.rt: tell_eighth */
+#ifdef NO_EIGHTH
+  skip
+#else
+  if
+#ifdef EIGHTH_UNPARKS_ALONE
+  :: executed == 0 -> unpark_answered()
+#else
+  :: executed == 0 -> tell()
+#endif
+  :: else
+  fi
+#endif
+}
+
+inline note() {                                    /* storage_thread/answered_worker.rt: note */
+  if
+  :: answered != lane ->
+     unpark_answered();
+     answered = lane
+  :: else
+  fi
+}
+
+inline look() {                                    /* exchange/storage_batch.rt: look */
+  d_step {
+    lane = (last + 1 + looks) % WORKERS; looks++;
+    looked_lane = lane; named = posted[lane]; found = (named > counts[lane]); is_bye = (counts[lane] + 1 == bye[lane])
+  }
+}
+
+inline take_next() {                               /* storage_thread/serving.rt: take_next */
+  tell_eighth();
+  if
+  :: named > counts[looked_lane] ->                /* exchange/storage_batch.rt: next_seen */
+     d_step { lane = looked_lane; found = true; is_bye = (counts[lane] + 1 == bye[lane]) }
+  :: else ->
+#ifndef TELLS_EIGHTHS_ALONE
+     tell();
+#endif
+     do                                            /* exchange/storage_batch.rt: next */
+     :: looks < WORKERS && !found -> look()
+     :: else -> looks = 0; break
+     od
+  fi
+}
+
+inline execute() {                                 /* storage_thread/serving.rt: execute */
+  assert(untold < EIGHTH);
+  if                                               /* exchange/storage_batch.rt: make_way */
+  :: waiting && waiting_lane != lane -> flush_answers()
+  :: else
+  fi;
+  d_step {                                         /* exchange/storage_batch.rt: add_answer */
+    counts[lane]++; waiting = true; waiting_lane = lane; untold++;
+    executed = (executed + 1) % EIGHTH
+  }
+}
+
+proctype storage() {                               /* storage_thread/serving.rt: run_storage */
+  byte counts[WORKERS];
+  byte last = WORKERS - 1, looked_lane, named, lane, looks, waiting_lane, untold, executed;
+  byte left = WORKERS, answered = NOBODY;
+  bool waiting, found, is_bye, announced, was_parked;
+  do
+  :: left == 0 -> tell(); break
+  :: else ->
+     take_next();
+     if
+     :: found && is_bye ->
+        d_step { last = lane; counts[lane]++; done[lane] = counts[lane]; left-- };   /* exchange/steps.rt: settle_bye */
+        reset(storage_word)
+     :: found && !is_bye ->
+        last = lane; execute(); note(); reset(storage_word)
+     :: !found -> turn(storage_word)               /* storage_thread/serving.rt: pass_turn */
+     fi;
+     d_step { found = false; is_bye = false; lane = 0 }
+  od
+}
+
+/* A worker and its port. */
+
+#ifdef SOCKETS
+inline open_next() {                               /* net/port.rt: open_next */
+  if
+  :: streams[me] > 0 ->                            /* net/hand.rt: take */
+     d_step {                                      /* net/streams.rt: open */
+       streams[me]--; is_open = true; event = true;
+       is_registered[me] = true; stream_event[me] = input[me] > 0 || has_closed[me]
+     }
+  :: else
+  fi
+}
+
+inline read_ready() {                              /* net/port.rt: read_ready */
+  if
+  :: !event && is_ready ->                         /* net/streams.rt: read */
+     d_step {
+       is_ready = false;
+       if
+       :: input[me] > 0 -> unasked = unasked + input[me]; input[me] = 0; event = true; is_ready = saw_close
+       :: input[me] == 0 && has_closed[me] -> is_open = false; event = true
+       :: else
+       fi
+     }
+  :: else
+  fi
+}
+
+inline known_event() {                             /* net/port.rt: known_event */
+  open_next();
+  read_ready()
+}
+
+inline look_at_sockets(waits) {                    /* net/port.rt: look */
+  atomic {
+    !waits || waker_event[me] || stream_event[me];
+    d_step {
+      woken = waker_event[me]; waker_event[me] = false;
+      if                                           /* net/streams.rt: mark */
+      :: stream_event[me] -> stream_event[me] = false; is_ready = true; saw_close = has_closed[me]
+      :: else
+      fi
+    }
+  };
+  if :: woken -> d_step { wakes[me] = 0; woken = false } :: else fi   /* net/hand.rt: clear_wakes */
+}
+
+inline end_if_over() {                             /* net/hand.rt: is_over */
+  if
+  :: !event && !is_open && has_ended[me] ->
+     if :: streams[me] == 0 -> d_step { event = true; port_ended = true } :: else fi
+  :: else
+  fi
+}
+
+inline next_event() {                              /* net/port.rt: next_event */
+  known_event();
+#ifndef ENDS_BEHIND_ITS_LOOK
+  end_if_over();
+#endif
+  if
+  :: event
+  :: !event && !may_wait                           /* net/port.rt: CALLS_EACH_POLL */
+  :: !event ->
+     look_at_sockets(may_wait);
+     known_event();
+#ifdef ENDS_BEHIND_ITS_LOOK
+     end_if_over()
+#endif
+  fi
+}
+#else
+inline next_event() {                              /* worker_port/port.rt: Port */
+  if
+  :: unsent > 0 -> d_step { unsent--; unasked++; event = true }
+  :: d_step { event = true; port_ended = true; unsent = 0 }
+  :: !may_wait
+  fi
+}
+#endif
+
+inline ask_sessions() {                            /* worker/run.rt: ask_sessions */
+  d_step {                                         /* exchange/worker_batch.rt: put */
+    asked = WINDOW - (sent + put - back);
+    asked = (unasked < asked -> unasked : asked);
+    put = put + asked; unasked = unasked - asked; asked = 0
+  }
+}
+
+inline take_events() {                             /* worker/run.rt: take_events */
+  do
+  :: port_ended -> break
+  :: !port_ended ->
+     d_step {                                      /* worker/worker.rt: may_wait */
+       event = false;
+#ifdef WAITS_OVER_UNSENT
+       may_wait = sent == back && unasked == 0
+#else
+       may_wait = sent + put == back && unasked == 0
+#endif
+     };
+     next_event();
+     if
+     :: !event -> break
+     :: event ->
+        moved = true;
+        ask_sessions();
+        if :: unasked > 0 -> break :: true -> break :: unasked == 0 fi   /* worker/run.rt: EVENTS_A_TURN */
+     fi
+  od;
+  atomic { event = false; may_wait = false }
+}
+
+inline flush() {                                   /* worker/sending.rt: flush */
+  if
+  :: put > 0 ->
+#ifdef WAKE_BEFORE_STORE
+     unpark(storage_word);
+#endif
+     d_step { sent = sent + put; put = 0; posted[me] = sent };   /* exchange/worker_batch.rt: flush */
+#ifndef WAKE_BEFORE_STORE
+     unpark(storage_word)
+#endif
+  :: else
+  fi
+}
+
+inline settle_answers() {                          /* worker/run.rt: settle_answers */
+  do
+  :: sent == back -> break
+  :: sent > back ->                                /* exchange/worker_batch.rt: take, take_seen */
+     d_step {
+       known = done[me]; unoffered = unoffered + known - back;
+       moved = (moved || known > back); known_all = (known == back); back = known; known = 0
+     };
+     if :: known_all -> known_all = false; break :: else fi
+  od
+}
+
+inline give_output() {                             /* worker/run.rt: give_output */
+  d_step { given[me] = given[me] + unoffered; unoffered = 0 }
+}
+
+proctype worker(byte me) {                         /* worker/run.rt: run_worker */
+  byte unsent = REQUESTS - me, unasked, asked, put, sent, back, known, unoffered;
+  bool is_open, is_ready, saw_close, port_ended, woken, event, may_wait, moved, known_all, announced, was_parked;
+  do
+  :: OWN {                                         /* worker/run.rt: take_turn */
+       take_events();
+       ask_sessions();
+       moved = (moved || put > 0)
+     };
+     flush();
+     settle_answers();
+     give_output();
+     if
+     :: moved -> moved = false; reset(worker_words[me])   /* worker/waiting.rt: reset */
+     :: !moved && port_ended && sent == back && unasked == 0 -> break   /* worker/run.rt: has_drained */
+     :: !moved && sent > back -> turn(worker_words[me])   /* worker/waiting.rt: turn */
+     :: !moved && sent == back && !port_ended      /* (it yields) */
+     fi
+  od;
+  atomic { bye[me] = sent + 1; posted[me] = bye[me] };   /* exchange/steps.rt: put_bye */
+#ifndef BYE_WITHOUT_WAKE
+  unpark(storage_word)                             /* worker/sending.rt: say_bye */
+#endif
+}
+
+#ifdef SOCKETS
+/* The listener and the clients. */
+
+inline wake(which) {                               /* net/hand.rt: wake */
+  atomic {
+    if
+    :: wakes[which] < WAKER_ROOM -> wakes[which]++; waker_event[which] = true
+    :: else
+    fi
+  }
+}
+
+inline offer() {                                   /* net/hand.rt: offer */
+#ifdef WAKE_BEFORE_OFFER
+  wake(at);
+#endif
+  streams[at]++;
+#ifndef WAKE_BEFORE_OFFER
+#ifndef OFFER_WITHOUT_WAKE
+  wake(at)
+#endif
+#endif
+}
+
+inline end() {                                     /* net/hand.rt: end */
+  has_ended[at] = true;
+#ifndef END_WITHOUT_WAKE
+  wake(at)
+#endif
+}
+
+proctype listener() {                              /* net/listener.rt: run */
+  byte at;
+  bool ends_at_once;
+  do
+  :: at < WORKERS -> offer(); at++
+  :: else -> at = 0; break
+  od;
+  if :: ends_at_once = true :: true fi;            /* it ends at once, or when all are served */
+  ends_at_once || clients_left == 0;
+  do
+  :: at < WORKERS -> end(); at++
+  :: else -> break
+  od
+}
+
+proctype client(byte me) {
+  byte sent;
+  do
+  :: sent < REQUESTS - me -> atomic { sent++; input[me]++; stream_event[me] = is_registered[me] }
+  :: break
+  od;
+  given[me] == sent;
+  atomic { has_closed[me] = true; stream_event[me] = is_registered[me]; clients_left-- }
+}
+
+#endif
+
+init {
+  byte at;
+  atomic {
+    run storage();
+#ifdef SOCKETS
+    run listener();
+#endif
+    do
+    :: at < WORKERS ->
+       run worker(at);
+#ifdef SOCKETS
+       run client(at);
+#endif
+       at++
+    :: else -> break
+    od
+  }
+}

@@ -1,0 +1,244 @@
+#!/usr/bin/env python3
+"""Finds what a reader has to know of a contract: each definition of the repository's specs on which its clauses rest.
+
+    tools/closure.py [--tree DIR] [--text] [FILE:FUNCTION ..]     lists them; with no contract those of docs/HEADLINE.md
+    tools/closure.py [--tree DIR] fill                            writes the definitions' texts into docs/HEADLINE.md
+    tools/closure.py [--tree DIR] check                           says where that page and the sources differ, with status 1
+
+FILE stands below crates (group/src/run.rt), FUNCTION is a name, or TYPE::NAME in a trait or an impl. A clause's names
+lead to definitions by the imports of its file, and so does each definition. What the kit defines isn't followed. A type
+that is declared in the code is listed, and not followed further: its fields stand there.
+"""
+import argparse
+import os
+import re
+import sys
+from collections import namedtuple
+
+TOP = os.path.dirname(os.path.dirname(os.path.abspath(__file__)))
+PAGE = "docs/HEADLINE.md"
+
+# Where a definition begins, and what it is called.
+BEGINNING = re.compile(r"(?:pub |abbrev |unfoldable )*(?:abbrev|unfoldable|record|data)(?: pub)? ([^\s:({]+)")
+NAME = re.compile(r"«[^»]*»|[^\W\d][\w?'!×]*")
+BINDERS = (re.compile(r"[({]\s*([^\W\d][\w' ]*?)\s*:[^:]"), re.compile(r"λ ([\w' ]+)\."), re.compile(r"\blet (\w+) ="))
+
+# A definition, by the crate and file in which it stands: the line at which the comment above it begins, and its own first and
+# last. Of a type of the code the lines are left out.
+Definition = namedtuple("Definition", "crate file name above first last", defaults=(0, 0, 0))
+
+
+class Trouble(Exception):
+    """Why there is no closure."""
+
+
+def read(path):
+    with open(path, encoding="utf-8") as file:
+        return file.read()
+
+
+def without_comments(text):
+    return re.sub(r"(^|\s)(--|//).*", r"\1", text)
+
+
+def imports_of(text, word):
+    """By the name that a file uses: the module and the name there, or the module alone for an alias of one."""
+    found = {}
+    for path, names, alias in re.findall(
+        rf"^\s*(?:pub )?{word}([\w.]+?)(?:\.\{{([^}}]*)\}}| as (\w+))\s*;?\s*$", text, re.MULTILINE
+    ):
+        if alias:
+            found[alias] = (path, None)
+        for name in filter(None, map(str.strip, names.split(","))):
+            there, _, here = name.partition(" as ")
+            found[(here or there).strip()] = (path, there.strip())
+    return found
+
+
+class Sources:
+    """The specs of a tree, read as they are asked for."""
+
+    def __init__(self, tree):
+        self.tree, self.files = tree, {}
+
+    def path(self, *parts):
+        return os.path.join(self.tree, "crates", *parts)
+
+    def spec(self, crate, file):
+        """The definitions of a file of specs, by name, its lines, and its imports."""
+        if (crate, file) not in self.files:
+            text = read(self.path(crate, "specs", f"{file.replace('.', '/')}.antt"))
+            lines = text.splitlines()
+            defined, name, above = {}, None, 0
+            for at, line in enumerate(lines, 1):
+                begins = BEGINNING.match(line)
+                if begins:
+                    name = begins[1]
+                    defined[name] = Definition(crate, file, name, above or at, at, at)
+                elif line.startswith(("--", "use ", "pub use ", "pub mod ")):
+                    name = None
+                elif name and line.strip():
+                    defined[name] = defined[name]._replace(last=at)
+                above = (above or at) if line.startswith("--") else 0
+            self.files[crate, file] = defined, lines, imports_of(text, "use ")
+        return self.files[crate, file]
+
+    def text_of(self, definition, with_comment=False):
+        first = definition.above if with_comment else definition.first
+        return "\n".join(self.spec(definition.crate, definition.file)[1][first - 1 : definition.last])
+
+    def find(self, module, name):
+        """What an imported name is: a definition, a type of the code, or None where the kit has it."""
+        parts = module.split(".")
+        if parts[0] != "Rattle" or parts[2:3] != ["specs"] or not os.path.isdir(self.path(parts[1])):
+            return None
+        crate, within = parts[1], parts[3:]
+        if within[:1] == ["declared"]:
+            type_at = next(at for at, part in enumerate(within) if part[0].isupper())
+            return Definition(crate, "/".join(within[1:type_at]), within[type_at])
+        defined, _, imports = self.spec(crate, ".".join(within))
+        if name in defined:
+            return defined[name]
+        return self.find(*imports[name]) if name in imports else None
+
+    def cited(self, text, imports, defined):
+        """The definitions and types that a text names by these imports, or by the definitions of its own file."""
+        text = without_comments(text)
+        bound = {name for form in BINDERS for names in form.findall(text) for name in names.split()}
+        text = re.sub(r"\bpub [\w'«»]+ :", " ", text)
+        text = re.sub(r"([{;]\s*)[\w'«»]+ = ", r"\1", text)
+        for match in NAME.finditer(text):
+            name, before = match[0], text[: match.start()]
+            if before.endswith("."):
+                alias = re.search(r"\w+(?=\.$)", before)
+                if alias and imports.get(alias[0], ("", ""))[1] is None:
+                    yield self.find(imports[alias[0]][0], name)
+            elif name in imports and imports[name][1] is not None:
+                yield self.find(*imports[name])
+            elif name in defined and name not in bound:
+                yield defined[name]
+
+    def cited_by(self, definition):
+        if not definition.first:
+            return []
+        defined, _, imports = self.spec(definition.crate, definition.file)
+        found = self.cited(self.text_of(definition), imports, defined)
+        return [it for it in dict.fromkeys(found) if it and it != definition]
+
+    def clauses(self, contract):
+        """The texts of a contract's clauses, and the imports of its file."""
+        file, _, function = contract.partition(":")
+        text = read(self.path(file))
+        owner, _, name = function.rpartition("::")
+        start = re.search(rf"^(?:pub )?(?:trait|impl)\b[^{{;]*\b{owner}\b", text, re.MULTILINE) if owner else re.match("", text)
+        start = start and re.compile(rf"\bfn {name}\b").search(text, start.end())
+        if not start:
+            raise Trouble(f"{file} has no {function}")
+        at = re.compile(r"\brequires\b|\bensures\b|\{|;$", re.MULTILINE).search(text, start.end()).start()
+        clauses = []
+        while clause := re.compile(r"(?:\s|//.*)*(?:requires|ensures)\b[^{]*\{").match(text, at):
+            depth, at = 1, clause.end()
+            while depth:
+                depth += {"{": 1, "}": -1}.get(text[at], 0)
+                at += 1
+            clauses.append(text[clause.start() : at].strip())
+        return clauses, imports_of(text, "ghost use ")
+
+    def closure(self, contracts):
+        """The definitions and types on which contracts rest, in the order in which a reader meets them."""
+        found, waiting = {}, []
+        for contract in contracts:
+            clauses, imports = self.clauses(contract)
+            waiting += self.cited("\n".join(clauses), imports, {})
+        while waiting:
+            definition = waiting.pop(0)
+            if definition and definition not in found:
+                found[definition] = None
+                waiting += self.cited_by(definition)
+        return [it for it in found if it.first], [it for it in found if not it.first]
+
+
+def place_of(definition):
+    return f"{definition.crate}/specs/{definition.file.replace('.', '/')}.antt"
+
+
+def counts_of(definitions):
+    lines = sum(it.last - it.above + 1 for it in definitions)
+    return f"{len(definitions)} definitions in {len(set(map(place_of, definitions)))} files, {lines} lines"
+
+
+def contracts_of(page):
+    """The contracts that a page leads from."""
+    return re.findall(r"^<!-- contract ([\w/.]+:[\w:]+) -->$", page, re.MULTILINE)
+
+
+# An entry of the page: the names that one sentence explains, in a line of its own, and the texts behind it. Where it
+# explains several, each has the comment of the sources above it.
+ENTRY = re.compile(r"^<!-- ((?:\w+\.\w+\.\S+ ?)+)-->\n(?:\*In .*\*\n\n```text\n(?:.*\n)*?```\n)?", re.MULTILINE)
+CONTRACT = re.compile(r"^<!-- contract ([\w/.]+:[\w:]+) -->\n(?:```text\n(?:.*\n)*?```\n)?", re.MULTILINE)
+COUNTS = re.compile(r"^<!-- counts -->\n.*\n", re.MULTILINE)
+
+
+def key_of(definition):
+    return f"{definition.crate}.{definition.file}.{definition.name}"
+
+
+def filled(page, sources):
+    """The page with the texts that the sources have now, and what is wrong with its entries."""
+    definitions, types = sources.closure(contracts_of(page))
+    by_key = {key_of(it): it for it in definitions}
+    named = [key for match in ENTRY.finditer(page) for key in match[1].split()]
+    wrong = [f"{key} stands twice" for key in dict.fromkeys(named) if named.count(key) > 1]
+    wrong += [f"{key} has no entry" for key in by_key if key not in named]
+    wrong += [f"{key} is no longer cited" for key in named if key not in by_key]
+
+    def entry(match):
+        here = [by_key[key] for key in match[1].split() if key in by_key]
+        if not here:
+            return match[0]
+        texts = "\n\n".join(sources.text_of(it, with_comment=len(here) > 1) for it in here)
+        places = ", ".join(f"`{it}`" for it in dict.fromkeys(map(place_of, here)))
+        return f"<!-- {match[1].strip()} -->\n*In {places}*\n\n```text\n{texts}\n```\n"
+
+    def contract(match):
+        clauses = "\n".join(sources.clauses(match[1])[0])
+        return f"<!-- contract {match[1]} -->\n```text\n{clauses}\n```\n"
+
+    page = CONTRACT.sub(contract, ENTRY.sub(entry, page))
+    counts = f"{counts_of(definitions)}, over {len(types)} types of the code."
+    return COUNTS.sub(f"<!-- counts -->\n{counts}\n", page), wrong
+
+
+def main():
+    parser = argparse.ArgumentParser(description=__doc__, formatter_class=argparse.RawDescriptionHelpFormatter)
+    parser.add_argument("--tree", default=TOP, help="the repository whose sources are read")
+    parser.add_argument("--text", action="store_true", help="with the definitions' texts")
+    parser.add_argument("contracts", nargs="*")
+    given = parser.parse_args()
+    sources, path = Sources(given.tree), os.path.join(TOP, PAGE)
+    if given.contracts in (["fill"], ["check"]):
+        page = read(path)
+        now, wrong = filled(page, sources)
+        if given.contracts == ["fill"]:
+            with open(path, "w", encoding="utf-8") as file:
+                file.write(now)
+        elif now != page:
+            wrong.append(f"{PAGE} has not the texts of the sources: tools/closure.py fill")
+        print("\n".join(wrong) or counts_of(sources.closure(contracts_of(page))[0]))
+        return bool(wrong)
+    definitions, types = sources.closure(given.contracts or contracts_of(read(path)))
+    for it in definitions:
+        print(f"crates/{place_of(it)}:{it.above}-{it.last} {it.name}")
+        if given.text:
+            print(sources.text_of(it, with_comment=True) + "\n")
+    for it in types:
+        print(f"crates/{it.crate}/src/{it.file}.rt {it.name}")
+    print(f"{counts_of(definitions)}; {len(types)} types of the code")
+    return 0
+
+
+if __name__ == "__main__":
+    try:
+        sys.exit(main())
+    except Trouble as trouble:
+        sys.exit(str(trouble))

@@ -1,0 +1,71 @@
+#!/usr/bin/env python3
+"""Makes docs/EDITS.md from the must-fail edits: which wrong bodies the prover refuses, and by whose contract.
+
+    tools/edits.py write    writes the page
+    tools/edits.py check    says where the page or an edit is amiss, with status 1
+
+The first line of an edit is '# CALL: WRONG BODY': the call whose contract it turns, as docs/PROOFS.md names it, and what
+the body does. `rt` doesn't read that line.
+"""
+import glob
+import os
+import re
+import sys
+
+TOP = os.path.dirname(os.path.dirname(os.path.abspath(__file__)))
+HEAD = """# Wrong bodies
+
+Each is a body that the gate plants and the prover has to refuse: an edit in `crates/CRATE/must-fail`.
+The contract is the one that it turns, as [PROOFS.md](PROOFS.md) names it; the proof that fails may be
+that of a function below it. `tools/edits.py write` makes this page from the edits' first lines.
+"""
+
+
+def read(path):
+    with open(path, encoding="utf-8") as file:
+        return file.read()
+
+
+def edits(tree=TOP):
+    """Each edit: its crate and name, with the call and the wrong body that its first line says, or None."""
+    for path in sorted(glob.glob(f"{tree}/crates/*/must-fail/*.edit")):
+        crate, name = path.split("/")[-3], os.path.basename(path)[: -len(".edit")]
+        says = re.match(r"# ([\w:]+): (\S.*)\n", read(path))
+        yield crate, name, says and says.groups()
+
+
+def page_of(found):
+    """The page, a table for each crate."""
+    lines, last = [HEAD], None
+    for crate, name, says in sorted(found, key=lambda it: (it[0], it[2] or ("", ""), it[1])):
+        if crate != last:
+            lines += ["" if last else None, f"## `{crate}`", "", "| Contract | Wrong body | Edit |", "|---|---|---|"]
+            last = crate
+        call, body = says or ("", "")
+        lines.append(f"| `{call}` | {body} | `{name}` |")
+    return "\n".join(line for line in lines if line is not None) + "\n"
+
+
+def amiss(found, page, proofs):
+    """What is wrong with these edits and this page, beside the page of promises, which may leave a call's type out."""
+    named = {word for text in re.findall(r"`([^`]*)`", proofs) for word in re.findall(r"\w+", text)}
+    wrong = [f"{crate}/{name} doesn't begin with '# CALL: WRONG BODY'" for crate, name, says in found if not says]
+    calls = [(f"{crate}/{name}", says[0]) for crate, name, says in found if says]
+    wrong += [f"{edit}: docs/PROOFS.md has no {call}" for edit, call in calls if call.rpartition(":")[2] not in named]
+    return wrong + ([] if page == page_of(found) else ["docs/EDITS.md isn't what the edits say: tools/edits.py write"])
+
+
+def main():
+    found, path = list(edits()), f"{TOP}/docs/EDITS.md"
+    if sys.argv[1:] == ["write"]:
+        with open(path, "w", encoding="utf-8") as file:
+            file.write(page_of(found))
+    elif sys.argv[1:] != ["check"]:
+        sys.exit(__doc__)
+    wrong = amiss(found, read(path), read(f"{TOP}/docs/PROOFS.md"))
+    print("\n".join(wrong) or f"{len(found)} edits")
+    return bool(wrong)
+
+
+if __name__ == "__main__":
+    sys.exit(main())

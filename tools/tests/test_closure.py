@@ -1,0 +1,150 @@
+"""Tests of what `tools/closure.py` finds, over a small tree that is written here, and that docs/HEADLINE.md has what its
+contracts rest on. They take a second.
+
+    python3 -m pytest tools/tests/test_closure.py
+"""
+import os
+import sys
+
+import pytest
+
+TOP = os.path.dirname(os.path.dirname(os.path.dirname(os.path.abspath(__file__))))
+sys.path.insert(0, f"{TOP}/tools")
+
+import closure  # noqa: E402
+
+FILES = {
+    "low/specs/Sizes.antt": """-- Sizes.
+use Rattle.std.specs.Prelude.{ℕ}
+
+-- how large
+-- a thing is
+pub record Size : Type 0 where
+  pub width : ℕ
+
+abbrev pub unused : ℕ
+unused = 1
+
+unfoldable pub limit : ℕ
+limit = 8
+""",
+    "low/specs/Kinds.antt": """use Rattle.std.specs.Prelude.{ℕ, Bool, true, false}
+use Rattle.low.specs.declared.parts.shape.Shape.{Shape}
+use Rattle.low.specs.declared.parts.shape.Shape.TheVariants as is
+use Rattle.low.specs.Sizes as sizes
+
+-- whether it is round, and not unused
+abbrev pub is_round : Shape → Bool
+is_round is.Round = true
+
+is_round (is.Square limit) = false
+-- the most
+abbrev pub most : ℕ
+most = sizes.limit
+
+abbrev pub shadowed : ℕ
+shadowed = 2
+
+abbrev pub IsSmall : ℕ → Type 0
+IsSmall n = (shadowed : ℕ) × (n ≤ shadowed) × (n ≤ most)
+""",
+    "high/src/call.rt": """ghost use Rattle.std.specs.Prelude.{◌≡◌};
+ghost use Rattle.low.specs.Kinds.{is_round, IsSmall};
+ghost use Rattle.low.specs.Sizes.{Size as Sized};
+
+pub fn other(n: u64)
+    requires { IsSmall n }
+{
+}
+
+pub trait Thing {
+    fn call(&mut self, n: [u8; 4]) -> u64
+        requires small { IsSmall n } // and never is_round
+        ensures size { (s : Sized) → (record { is_round = n }) ≡ s.IsSmall };
+}
+
+impl Thing for Other {
+    fn call(&mut self) {
+        is_round
+    }
+}
+""",
+}
+
+
+@pytest.fixture
+def tree(tmp_path):
+    for name, text in FILES.items():
+        path = tmp_path / "crates" / name
+        path.parent.mkdir(parents=True, exist_ok=True)
+        path.write_text(text, encoding="utf-8")
+    return str(tmp_path)
+
+
+def test_a_contract_leads_to_what_its_clauses_name_and_what_that_rests_on(tree):
+    definitions, types = closure.Sources(tree).closure(["high/src/call.rt:Thing::call"])
+    found = ["low.Kinds.IsSmall", "low.Sizes.Size", "low.Kinds.most", "low.Sizes.limit"]
+    assert [closure.key_of(it) for it in definitions] == found
+    assert types == []
+    assert closure.counts_of(definitions) == "4 definitions in 2 files, 11 lines"
+
+
+def test_a_type_of_the_code_is_told_by_its_file(tree):
+    with open(f"{tree}/crates/high/src/call.rt", "a", encoding="utf-8") as file:
+        file.write("fn last()\n    ensures { is_round result }\n{\n}\n")
+    definitions, types = closure.Sources(tree).closure(["high/src/call.rt:last"])
+    assert [closure.key_of(it) for it in definitions] == ["low.Kinds.is_round"]
+    assert [(it.crate, it.file, it.name) for it in types] == [("low", "parts/shape", "Shape")]
+    assert closure.Sources(tree).text_of(definitions[0]).count("\n") == 3
+
+
+def test_a_function_that_isnt_there_is_said(tree):
+    with pytest.raises(closure.Trouble, match="high/src/call.rt has no Thing::none"):
+        closure.Sources(tree).closure(["high/src/call.rt:Thing::none"])
+
+
+PAGE = """# Page
+<!-- contract high/src/call.rt:other -->
+It is small.
+<!-- low.Kinds.IsSmall low.Kinds.most -->
+<!-- low.Sizes.unused -->
+<!-- counts -->
+none yet
+"""
+
+FILLED = """# Page
+<!-- contract high/src/call.rt:other -->
+```text
+requires { IsSmall n }
+```
+It is small.
+<!-- low.Kinds.IsSmall low.Kinds.most -->
+*In `low/specs/Kinds.antt`*
+
+```text
+abbrev pub IsSmall : ℕ → Type 0
+IsSmall n = (shadowed : ℕ) × (n ≤ shadowed) × (n ≤ most)
+
+-- the most
+abbrev pub most : ℕ
+most = sizes.limit
+```
+<!-- low.Sizes.unused -->
+<!-- counts -->
+3 definitions in 2 files, 7 lines, over 0 types of the code.
+"""
+
+
+def test_the_page_has_the_texts_and_says_what_has_no_entry(tree):
+    page, wrong = closure.filled(PAGE, closure.Sources(tree))
+    assert page == FILLED
+    assert wrong == ["low.Sizes.limit has no entry", "low.Sizes.unused is no longer cited"]
+    assert closure.filled(page, closure.Sources(tree)) == (page, wrong)
+
+
+def test_the_headlines_page_has_what_its_contracts_rest_on():
+    page = closure.read(f"{TOP}/{closure.PAGE}")
+    assert len(closure.contracts_of(page)) == 2
+    now, wrong = closure.filled(page, closure.Sources(TOP))
+    assert wrong == []
+    assert now == page

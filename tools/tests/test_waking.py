@@ -1,0 +1,68 @@
+"""The model of waking, models/waking.pml: spin finds no state in which a thread sleeps over work, and refuses wrong protocols."""
+import re
+import subprocess
+
+import pytest
+from served import TOP
+
+MODEL = f"{TOP}/models/waking.pml"
+# Two workers over ports that are no sockets; one worker over sockets, with a listener and a client.
+LANES = ("-DWORKERS=2", "-DREQUESTS=2")
+SOCKETS = ("-DWORKERS=1", "-DREQUESTS=3", "-DSOCKETS")
+SLEEPS = "invalid end state"
+TELLS_LATE = "assertion violated (untold<2)"
+# Each wrong protocol, where it is tried, and what spin says of it.
+WRONG = {
+    "NO_SECOND_LOOK": (LANES, SLEEPS),
+    "WAKE_BEFORE_STORE": (LANES, SLEEPS),
+    "NO_UNPARK": (LANES, SLEEPS),
+    "BYE_WITHOUT_WAKE": (LANES, SLEEPS),
+    "UNPARK_BEFORE_TELL": (LANES, SLEEPS),
+    "EIGHTH_UNPARKS_ALONE": (LANES, SLEEPS),
+    "TELLS_EIGHTHS_ALONE": (LANES, SLEEPS),
+    "NO_EIGHTH": (SOCKETS, TELLS_LATE),
+    "WAITS_OVER_UNSENT": (SOCKETS, SLEEPS),
+    "OFFER_WITHOUT_WAKE": (SOCKETS, SLEEPS),
+    "WAKE_BEFORE_OFFER": (SOCKETS, SLEEPS),
+    "END_WITHOUT_WAKE": (SOCKETS, SLEEPS),
+    "ENDS_BEHIND_ITS_LOOK": (SOCKETS, SLEEPS),
+}
+
+
+def searched(*words):
+    """Whether spin found nothing wrong in all that there is, and what it said."""
+    ran = subprocess.run([f"{TOP}/tools/spin.sh", MODEL, *words], capture_output=True, text=True, timeout=600)
+    assert not ran.stderr, ran.stderr
+    return ran.returncode == 0, ran.stdout
+
+
+@pytest.mark.parametrize("world", [LANES, SOCKETS], ids=["lanes", "sockets"])
+def test_no_thread_sleeps_over_work_and_each_run_ends(world, say):
+    is_right, said = searched(*world)
+    say(f"{int(re.search('([0-9]+) states, stored', said)[1]):,} states")
+    assert is_right, said
+
+
+@pytest.mark.parametrize("name", WRONG)
+def test_a_wrong_protocol_is_refused(name):
+    world, fault = WRONG[name]
+    is_right, said = searched(*world, f"-D{name}")
+    assert not is_right
+    assert f"pan:1: {fault}" in said
+
+
+def test_the_wrong_protocols_are_those_of_the_model():
+    with open(MODEL, encoding="ascii") as file:
+        named = set(re.findall(r"^#ifn?def ([A-Z_]+)", file.read(), re.MULTILINE))
+    assert named - {"WORKERS", "REQUESTS", "WINDOW", "SOCKETS"} == set(WRONG)
+
+
+def test_the_code_beside_the_steps_is_there():
+    with open(MODEL, encoding="ascii") as file:
+        cited = re.findall(r"/\* (\w+)/(\w+\.rt): (.*?) \*/", file.read())
+    assert len(cited) > 40
+    for crate, name, items in cited:
+        with open(f"{TOP}/crates/{crate}/src/{name}", encoding="utf-8") as file:
+            code = file.read()
+        for item in items.split(", "):
+            assert re.search(rf"\b(?:fn|const|struct|trait) {item}\b", code), f"{crate}/{name}: {item}"

@@ -1,4 +1,4 @@
-.PHONY: help run serve test quick bench soak install uninstall deb
+.PHONY: help run serve test quick bench soak peers install uninstall deb
 
 help: ## says what each target does
 	@awk -F ':.*## ' '/^[a-z]+:.*## /{printf "make %-9s %s\n", $$1, $$2}' Makefile
@@ -15,11 +15,14 @@ test: ## the gate: every proof from nothing, the wrong bodies that must be refus
 quick: ## for daily work: proves what changed since the last run, and runs the rows
 	@bash tools/quick.sh
 
-bench: ## compares a served segcached with memcached; writes the tables and pictures of docs/PERFORMANCE.md (18 minutes)
+bench: ## compares a served segcached with memcached; writes the tables and pictures of docs/PERFORMANCE.md (half an hour)
 	@bash tools/bench.sh --write
 
 soak: ## hostile use of a served segcached, long: about 40 minutes
 	@python3 tools/hostile.py --long
+
+peers: ## other people's suites against the proved program: what fails is what the documents say (5 minutes)
+	@python3 tools/peers.py
 
 install: ## puts the proved program and what goes with it below PREFIX (/usr/local); DESTDIR goes before
 	@python3 tools/proved.py check

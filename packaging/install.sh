@@ -10,7 +10,7 @@ documents=$prefix/share/doc/segcached
 defaults=${DESTDIR:-}/etc/default/segcached
 program=crates/segcached/out/segcached
 pages="INSTALL OPERATIONS CLIENTS PERFORMANCE"
-absent="ARCHITECTURE|DECISIONS|GATE|PROOFS|TESTING"
+absent="ARCHITECTURE|DECISIONS|EDITS|GATE|HEADLINE|PROOFS|TESTING"
 made=$(mktemp -d)
 trap 'rm -rf "$made"' EXIT
 

@@ -1,0 +1,45 @@
+"""Tests of the documents: each link leads to a file and a heading there, and what PROOFS and ARCHITECTURE quote stands in the crates.
+They take a second.
+
+    python3 -m pytest tools/tests/test_documents.py
+"""
+import glob
+import os
+import re
+
+import pytest
+
+TOP = os.path.dirname(os.path.dirname(os.path.dirname(os.path.abspath(__file__))))
+PAGES = sorted(glob.glob(f"{TOP}/*.md") + glob.glob(f"{TOP}/docs/*.md"))
+FILES = [it for it in glob.glob(f"{TOP}/*/**", recursive=True) if "/out/" not in it]
+
+
+def read(path):
+    with open(path, encoding="utf-8") as file:
+        return file.read()
+
+
+def prose(page):
+    return re.sub(r"^ *```.*?^ *```", "", read(page), flags=re.DOTALL | re.MULTILINE)
+
+
+def anchors(page):
+    """As a browser names the headings of a page."""
+    return {re.sub(r"[^\w -]", "", it.lower()).replace(" ", "-") for it in re.findall(r"^#+ (.*)", prose(page), re.MULTILINE)}
+
+
+@pytest.mark.parametrize("page", PAGES, ids=os.path.basename)
+def test_each_link_leads_to_a_file_and_a_heading(page):
+    for link in re.findall(r"\]\(([^)\s]+)\)", re.sub(r"`[^`]*`", "", prose(page))):
+        name, _, heading = link.partition("#")
+        file = os.path.join(os.path.dirname(page), name) if name else page
+        assert os.path.exists(file), link
+        assert not heading or heading in anchors(file), link
+
+
+@pytest.mark.parametrize("page", ["PROOFS", "ARCHITECTURE"])
+def test_what_is_quoted_stands_in_the_crates(page):
+    sources = [it for it in FILES if re.search(r"/crates/\w+/(src|specs)/.*\.", it)]
+    known = re.findall(r"\w+", " ".join([*map(read, sources), *FILES]))
+    quoted = re.findall(r"\w\w+", " ".join(re.findall(r"`[^`]*`", prose(f"{TOP}/docs/{page}.md"))))
+    assert set(quoted) - set(known) == set()

@@ -8,6 +8,7 @@ A server listens on a free port of 127.0.0.1 unless it is told another address, 
 import os
 import re
 import resource
+import signal
 import socket
 import struct
 import subprocess
@@ -33,12 +34,15 @@ class Process:
     """A process that is ended with the block that uses it."""
 
     def __init__(self, words, environment=None, limits=None):
-        def limit():
+        def begin():
+            # (What runs these may ignore them, as a shell's background or nohup does, and a child would, too.)
+            for number in (signal.SIGHUP, signal.SIGINT):
+                signal.signal(number, signal.SIG_DFL)
             for what, most in (limits or {}).items():
                 resource.setrlimit(what, (most, most))
 
         pipe = subprocess.PIPE
-        self.process = subprocess.Popen(words, stdout=pipe, stderr=pipe, text=True, env=environment, preexec_fn=limit)
+        self.process = subprocess.Popen(words, stdout=pipe, stderr=pipe, text=True, env=environment, preexec_fn=begin)
         self.was_stopped = False
 
     def stop(self):

@@ -345,9 +345,9 @@ proctype worker(byte me) {                         /* worker/run.rt: run_worker 
      settle_answers();
      give_output();
      if
-     :: moved -> moved = false; reset(worker_words[me])   /* worker/waiting.rt: reset */
+     :: moved -> moved = false; reset(worker_words[me])   /* worker/pauses.rt: reset */
      :: !moved && port_ended && sent == back && unasked == 0 -> break   /* worker/run.rt: has_drained */
-     :: !moved && sent > back -> turn(worker_words[me])   /* worker/waiting.rt: turn */
+     :: !moved && sent > back -> turn(worker_words[me])   /* worker/pauses.rt: turn */
      :: !moved && sent == back && !port_ended      /* (it yields) */
      fi
   od;

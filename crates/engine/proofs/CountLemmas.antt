@@ -1,7 +1,7 @@
 -- Reads that are counted one after the other.
 use Rattle.std.proofs.Common.{ℕ, List, [], ◌∷◌, ◌++◌, refl, sym, subst}
 use Rattle.std.proofs.lemmas.List.{map-append}
-use Rattle.proto.specs.Hits.{Hit}
+use Rattle.proto.specs.declared.hits.Hit.{Hit}
 use Rattle.engine.specs.Counting.{CountsEach, keys_of}
 
 -- one more read

@@ -7,7 +7,8 @@ use Rattle.std.specs.FinMap as map
 use Rattle.std.proofs.lemmas.List.{map-append}
 use Rattle.std.proofs.lemmas.List.Elements.{All-push, filter_map-append}
 use Rattle.std.proofs.lemmas.List.Sums.{sum_by-append, sum_by-cons}
-use Rattle.proto.specs.Hits.{Hit, packed_size}
+use Rattle.proto.specs.Hits.{hit_room}
+use Rattle.proto.specs.declared.hits.Hit.{Hit}
 use Rattle.proto.specs.Cache.{Entry, Entries}
 use Rattle.proto.specs.Commands.{hit_of, hits_of}
 use Rattle.engine.specs.declared.hits.Found.{Found}
@@ -65,16 +66,16 @@ pub hits_more : (old : List Hit) (hit : Hit) (rest all : List Hit) → old ++ (h
 hits_more old hit rest all is = append_assoc old (hit ∷ []) rest ∙ is
 
 -- the room that is left behind it
-pub room_less : (room : ℕ) (hit : Hit) (rest : List Hit) → room ≡ sum_by packed_size (hit ∷ rest)
-    → room - packed_size hit ≡ sum_by packed_size rest
+pub room_less : (room : ℕ) (hit : Hit) (rest : List Hit) → room ≡ sum_by hit_room (hit ∷ rest)
+    → room - hit_room hit ≡ sum_by hit_room rest
 room_less room hit rest is =
-    let parts : sum_by packed_size (hit ∷ rest) ≡ sum_by packed_size (hit ∷ []) + sum_by packed_size rest =
-    sum_by-append packed_size (hit ∷ []) rest in
+    let parts : sum_by hit_room (hit ∷ rest) ≡ sum_by hit_room (hit ∷ []) + sum_by hit_room rest =
+    sum_by-append hit_room (hit ∷ []) rest in
     omega (arith, is, parts)
 
 -- the first of some hits has room
-pub room_first : (room : ℕ) (hit : Hit) (rest : List Hit) → room ≡ sum_by packed_size (hit ∷ rest)
-    → packed_size hit ≤ room
+pub room_first : (room : ℕ) (hit : Hit) (rest : List Hit) → room ≡ sum_by hit_room (hit ∷ rest)
+    → hit_room hit ≤ room
 room_first room hit rest is =
-    let parts = sum_by-cons packed_size hit rest in
+    let parts = sum_by-cons hit_room hit rest in
     omega (arith, is, parts)

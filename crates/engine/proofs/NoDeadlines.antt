@@ -9,7 +9,7 @@ use Rattle.proto.specs.declared.message.Request.TheVariants.{Get, Set, Add, Repl
 use Rattle.proto.specs.declared.message.Reply.{Reply}
 use Rattle.proto.specs.declared.message.Reply.TheVariants.{Stored, Number}
 use Rattle.proto.specs.Cache.{Entry, Entries, Cache, has_arrived, deadline_of}
-use Rattle.proto.specs.Commands.{Outcome, max_cas, write, put, is_too_large, put_same, is_number, change, act}
+use Rattle.proto.specs.Commands.{Outcome, write, put, is_too_large, put_same, is_number, change, act}
 use Rattle.proto.specs.Steps.{deadline_at}
 use Rattle.proto.specs.Stored.{SetsNoDeadline}
 use Rattle.proto.proofs.StepLemmas.{deadline_at-insert}
@@ -37,7 +37,7 @@ none_write cache key entry reply undated =
     let e = entry (cache.last_cas + 1) in
     let there : deadline_at (map.insert cache.entries key e) key ≡ e.deadline =
     deadline_at-insert cache.entries key e in
-    none_if cache.entries (cache.last_cas == max_cas) _ _ tt (elim (undated (cache.last_cas + 1)) [
+    none_if cache.entries (cache.last_cas == 2 ^ 64 - 1) _ _ tt (elim (undated (cache.last_cas + 1)) [
       | inl none ↦ inl (there ∙ none)
       | inr same ↦ inr (there ∙ same)
     ])

@@ -11,8 +11,8 @@ use Rattle.std.specs.Map.{lookup, IsKeyTest, AreApart, KeepsOthers}
 use Rattle.std.proofs.lemmas.Bool.{cases_Bool}
 use Rattle.std.proofs.lemmas.Map.Text.{is_eq-slice_cmp}
 use Rattle.std.proofs.lemmas.Slice.Eq.{bytes_eq-Decides}
-use Rattle.proto.specs.Cache.{Entry, no_entries, is_live, live}
-use Rattle.proto.proofs.CacheLemmas.{same_entries, get-insert, get-remove, if_live, get-live}
+use Rattle.proto.specs.Cache.{Entry, no_entries, live}
+use Rattle.proto.proofs.CacheLemmas.{same_entries, is_live, get-insert, get-remove, if_live, get-live}
 use Rattle.engine.specs.PlainEntries.{entries_of}
 use Rattle.proto.proofs.StepLemmas.{live-empty}
 

@@ -9,7 +9,7 @@ use Rattle.proto.specs.declared.message.Request.TheVariants.{Get, Set, Add, Repl
 use Rattle.proto.specs.declared.message.Reply.{Reply}
 use Rattle.proto.specs.declared.message.Reply.TheVariants.{NoMemory, Stored, Number}
 use Rattle.proto.specs.Cache.{Entry, Cache, has_arrived, deadline_of}
-use Rattle.proto.specs.Commands.{Outcome, max_cas, write, put, is_too_large, put_same, is_number, change, act}
+use Rattle.proto.specs.Commands.{Outcome, write, put, is_too_large, put_same, is_number, change, act}
 
 -- the outcome isn't answered with a want of memory
 abbrev pub Answers : Outcome → Type 0
@@ -23,7 +23,7 @@ answers_if false x y on off = off
 -- nor is a write
 answers_write : (cache : Cache) (key : List ℕ) (entry : ℕ → Entry) (reply : Reply) → reply ≢ NoMemory
     → Answers (write cache key entry reply)
-answers_write cache key entry reply other = answers_if (cache.last_cas == max_cas) _ _ (λ e. cc) other
+answers_write cache key entry reply other = answers_if (cache.last_cas == 2 ^ 64 - 1) _ _ (λ e. cc) other
 
 -- nor a put
 answers_put : (cache : Cache) (t : ℕ) (p : Put) → Answers (put cache t p)

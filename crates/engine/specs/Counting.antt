@@ -1,6 +1,6 @@
 -- Which reads are counted, and what stays alike.
 use Rattle.std.specs.Prelude.{◌≡◌, ℕ, List, [], ◌∷◌, map}
-use Rattle.proto.specs.Hits.{Hit}
+use Rattle.proto.specs.declared.hits.Hit.{Hit}
 use Rattle.proto.specs.declared.message.Reply.{Reply}
 use Rattle.proto.specs.declared.message.Reply.TheVariants.{Stored, NotStored, Exists, NotFound, Values, Deleted, Number, Flushed, TooLarge, NoMemory}
 use Rattle.proto.specs.declared.message.Reply.TheVariants.{NotNumber, NoCas}

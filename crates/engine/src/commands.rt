@@ -3,7 +3,7 @@
 ghost use Rattle.std.specs.Prelude.{◌≡◌, ◌≤◌, false};
 ghost use Rattle.std.specs.FinMap as map;
 ghost use Rattle.proto.specs.Cache.{found_at, has_arrived};
-ghost use Rattle.proto.specs.Commands.{write, put, take_out, change, flush, is_too_large, only_reply, hits_of, act};
+ghost use Rattle.proto.specs.Commands.{write, put, take_out, change, flush, is_too_large, leaving, hits_of, act};
 ghost use Rattle.proto.specs.Sizes.{item_limit};
 ghost use Rattle.proto.specs.History.{max_moment};
 ghost use Rattle.engine.specs.Written.{MayBeWritten};
@@ -151,11 +151,11 @@ impl<M: LiveMap> Engine<M> {
         is_too_large(self.map.item_limit(), item)
     }
 
-    fn get(&mut self, keys: &mut Keys) -> Reply
-        ensures leaves { Leaves M.LiveMap self.old self.new (only_reply (cache_in M.entries self.old) (Reply.Values (hits_of (M.entries self.old.map) keys.old))) result }
+    fn get(&mut self, keys: &mut Keys, with_cas: bool) -> Reply
+        ensures leaves { Leaves M.LiveMap self.old self.new (leaving (cache_in M.entries self.old) (Reply.Values (hits_of (M.entries self.old.map) keys.old))) result }
         ensures same { keys.new ≡ keys.old }
     {
-        match hits_of(&mut self.map, keys) {
+        match hits_of(&mut self.map, keys, with_cas) {
             Ok(hits) => Reply::Values(hits.finish()),
             Err(_) => Reply::NoMemory,
         }
@@ -220,7 +220,7 @@ impl<M: LiveMap> Engine<M> {
         ensures same { request.new ≡ request.old }
     {
         match request {
-            Request::Get { keys, .. } => self.get(keys),
+            Request::Get { keys, with_cas } => self.get(keys, *with_cas),
             Request::Set(item) => self.set(item),
             Request::Add(item) => self.add(item),
             Request::Replace(item) => self.replace(item),

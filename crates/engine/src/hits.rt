@@ -2,7 +2,7 @@
 
 ghost use Rattle.std.specs.Prelude.{◌≡◌, ◌+◌, ◌<◌, ◌∷◌, [], length, sum_by, IfOk, IfSome, OnErr};
 ghost use Rattle.proto.specs.Commands.{hit_of, hits_of};
-ghost use Rattle.proto.specs.Hits.{packed_size};
+ghost use Rattle.proto.specs.Hits.{hit_room};
 ghost use Rattle.proto.specs.SeenHits.{seen_hit};
 ghost use Rattle.engine.specs.Shown.{entry_of};
 ghost use Rattle.engine.specs.Finding.{AreFound, HasFound, keys_found};
@@ -42,7 +42,7 @@ fn found_at<'k, P: Copy>(key: &'k [u8], place: P) -> Found<'k, P>
 
 /// The room with that of one more hit; None where it is more than memory can have.
 fn room_with(room: usize, hit: HitRef) -> Option<usize>
-    ensures { IfSome result (λ n. n ≡ room + packed_size (seen_hit hit.entry)) }
+    ensures { IfSome result (λ n. n ≡ room + hit_room (seen_hit hit.entry)) }
 {
     room.checked_add(hit.room()?)
 }
@@ -53,7 +53,7 @@ fn find_keys<'k, M: LiveMap>(
     keys: &'k Keys,
 ) -> Result<(Vec<Found<'k, M::Place>>, usize), NoMemory>
     ensures found { IfOk result (λ f. HasFound M.LiveMap map.now keys.now f.0.items) }
-    ensures room { IfOk result (λ f. f.1 ≡ sum_by packed_size (hits_of (M.entries map.now) keys.now)) }
+    ensures room { IfOk result (λ f. f.1 ≡ sum_by hit_room (hits_of (M.entries map.now) keys.now)) }
     ensures err { OnErr result (0 < length (hits_of (M.entries map.now) keys.now)) }
 {
     let mut found = Vec::new(keys.allocator());
@@ -74,7 +74,7 @@ fn find_keys<'k, M: LiveMap>(
 /// The hits of keys that were found, for which there is room; a read of each is counted. The writer is new.
 fn hits_found<M: LiveMap>(map: &mut M, found: &[Found<M::Place>], hits: HitWriter) -> HitWriter
     requires found { AreFound M.LiveMap map.old found.now }
-    requires hits { hits ≡ record { hits = []; room = sum_by packed_size (hits_of (M.entries map.old) (keys_found found.now)) } }
+    requires hits { hits ≡ record { hits = []; room = sum_by hit_room (hits_of (M.entries map.old) (keys_found found.now)) } }
     ensures { HasShown M.LiveMap map.old (keys_found found.now) map.new result }
 {
     let mut hits = hits;
@@ -138,13 +138,17 @@ fn hits_of_keys<M: LiveMap>(
 
 /// The hits of the keys, in the room that they were lent where that is large enough; a read of each is counted. Where
 /// none of the keys is there no memory is taken, and where memory is refused no read is counted.
-pub fn hits_of<M: LiveMap>(map: &mut M, keys: &mut Keys) -> Result<HitWriter, NoMemory>
+pub fn hits_of<M: LiveMap>(
+    map: &mut M,
+    keys: &mut Keys,
+    with_cas: bool,
+) -> Result<HitWriter, NoMemory>
     ensures same { keys.new ≡ keys.old }
     ensures ok { IfOk result (λ written. HasShown M.LiveMap map.old keys.old map.new written) }
     ensures err { OnErr result (0 < length (hits_of (M.entries map.old) keys.old)) }
     ensures refused { OnErr result (map.new ≡ map.old) }
 {
-    let hits = HitWriter::in_buffer(keys.take_buffer());
+    let hits = HitWriter::in_buffer(keys.take_buffer(), with_cas);
     match keys.only() {
         Some(only) => hit_of_only(map, only, hits),
         None => hits_of_keys(map, keys, hits),

@@ -1,7 +1,7 @@
 //! Entries of a cache.
 
-ghost use Rattle.std.specs.Prelude.{◌≡◌, List, ℕ, Option, Some, None};
-ghost use Rattle.proto.specs.Cache.{is_live};
+ghost use Rattle.std.specs.Prelude.{◌≡◌, List, ℕ, Option, Some, None, not};
+ghost use Rattle.proto.specs.Cache.{has_arrived};
 
 use crate::has_arrived;
 use proto::ByteString;
@@ -63,7 +63,7 @@ impl Entry {
     }
 
     pub fn is_live(&self, now: u64) -> bool
-        ensures { result ≡ is_live self.now now }
+        ensures { result ≡ not (has_arrived self.now.deadline now) }
     {
         !has_arrived(self.deadline, now)
     }

@@ -44,7 +44,7 @@ pub few_answers : (c : WorkerState) (d : ℕ) (g : List Answered) → Learnt c d
 few_answers c d g h = let e = ap length h.asks in
     omega (arith, e, length-map (worker_share g c.worker) posted_of, length-take d c.sent)
 
--- after a load of done that found d, so many answers are known
+-- after a load of done that found d, d answers are known, or all n where those are fewer
 pub told_of_load : (c : WorkerState) (d n known : ℕ) (g : List Answered) → Learnt c d g → length c.sent ≡ n
     → ((d < n) × (known ≡ d)) ⊎ ((n ≤ d) × (known ≡ n))
     → (asked_posted (worker_share g c.worker) ≡ take known c.sent) × (length (worker_share g c.worker) ≡ known)

@@ -212,7 +212,7 @@ range_split a (suc k) m = ap (range_with_len a) (let e : suc k + m ≡ suc (k + 
     (range_split (a + 1) k m ∙ ap (λ (z : ℕ). range_with_len (a + 1) k ++ range_with_len z m)
     (let e : a + 1 + k ≡ a + suc k = omega arith in e))
 
--- the lane after so many looks behind the last one
+-- the lane after k looks behind the last one
 pub turn_above : (workers last k : ℕ) → last + 1 + k < workers
     → StartsWith (lanes_in_turn workers last) (range_with_len (last + 1) k ++ (last + 1 + k) ∷ [])
 turn_above workers last k small = let small' : last + 1 + k < workers = small in

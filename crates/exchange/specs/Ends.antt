@@ -110,7 +110,7 @@ abbrev pub CanPost : WorkerView → Type 0
 CanPost view = (length view.sent < length view.back + 64) × (view.said_bye ≡ false) × (length view.sent < max_posts)
 
 -- What a worker is told where it reads how many of its messages are done: a legal history that begins with the
--- one that it had seen, in which its requests are the first so many of those that it sent, or all of them where
+-- one that it had seen, in which its requests are the first `done` of those that it sent, or all of them where
 -- its bye is one of the messages that are done.
 pub record IsToldDone (view : WorkerView) (done : ℕ) (told : List Answered) : Type 0 where
   pub legal : Legal view.geometry told
@@ -167,7 +167,7 @@ flushed view = record { end = record view.end { sent = view.end.sent ++ view.put
 
 -- Storage's calls
 
--- so many messages of the lane are done
+-- how many messages of the lane are done
 abbrev pub done_in : StorageView → ℕ → ℕ
 done_in view lane = length (worker_share view.history lane) + times lane view.byes
 

@@ -103,7 +103,7 @@ storage_at me = storage_state_in (known_by me)
 
 -- The table
 
--- the table has the words and slots of so many lanes
+-- the table has the words and slots of a lane for each worker
 abbrev pub IsTableSized : TableId → ℕ → Type 0
 IsTableSized table workers = (table.words ≡ 16 * workers) × (table.slots ≡ 64 * workers)
 
@@ -129,8 +129,8 @@ exchanged_to me slot content = (known_by me, (slot, content) ∷ rest (slots_of 
 
 -- A worker's end
 
--- The history that a worker saw: it is legal, its requests there are the first of those that it sent, so many as
--- the number says, and the answers that it took back are the first of its entries there
+-- The history that a worker saw: it is legal, its requests there are the first `known` of those that it
+-- sent, and the answers that it took back are the first of its entries there
 pub record HasToldOf (worker : WorkerState) (known : ℕ) : Type 0 where
   pub legal : Legal worker.geometry worker.seen
   pub asked : asked_posted (worker_share worker.seen worker.worker) ≡ take known worker.sent
@@ -157,13 +157,13 @@ MayPost me worker count = (me ≡ (Worker (worker_at me), [])) × ((worker_at me
     × ((worker_at me).slot_held ≡ 0) × ((worker_at me).said_bye ≡ false)
     × (placed (worker_at me) < length (worker_at me).back + 64) × (count < 2 ^ 63)
 
--- the seat is this worker's, has sent or put this many requests, and holds no slot
+-- the seat is this worker's, has sent or put `count` requests, and holds no slot
 abbrev pub MayPut : SeatState → ℕ → ℕ → Type 0
 MayPut me worker count = (me ≡ (Worker (worker_at me), [])) × ((worker_at me).worker ≡ worker)
     × (placed (worker_at me) ≡ count)
     × ((worker_at me).slot_held ≡ 0) × ((worker_at me).said_bye ≡ false)
 
--- the seat is this worker's, has taken back so many, holds no slot, and saw a further answer
+-- the seat is this worker's, has taken back `back` answers, holds no slot, and saw a further one
 abbrev pub HasSeen : SeatState → ℕ → ℕ → Type 0
 HasSeen me worker back = (me ≡ (Worker (worker_at me), [])) × ((worker_at me).worker ≡ worker)
     × (length (worker_at me).back ≡ back)
@@ -171,7 +171,7 @@ HasSeen me worker back = (me ≡ (Worker (worker_at me), [])) × ((worker_at me)
     × (length (worker_at me).back
     < length (worker_share (worker_at me).seen (worker_at me).worker))
 
--- the seat is this worker's, has sent and taken back so many, and holds no slot
+-- the seat is this worker's, has sent `sent` requests and taken back `back` answers, and holds no slot
 abbrev pub MayTake : SeatState → ℕ → ℕ → ℕ → Type 0
 MayTake me worker sent back = (me ≡ (Worker (worker_at me), [])) × ((worker_at me).worker ≡ worker)
     × (length (worker_at me).sent ≡ sent)
@@ -196,7 +196,7 @@ StateTakes worker done result after = (told : List Answered) × Learnt worker do
 
 -- Storage's end
 
--- storage's seat holds no slot, and has settled so many messages of the lane
+-- storage's seat holds no slot, and has settled `count` messages of the lane
 abbrev pub MayLook : SeatState → ℕ → ℕ → Type 0
 MayLook me lane count = (me ≡ (Storage (storage_at me), [])) × (settled (storage_at me) lane ≡ count)
     × ((storage_at me).holding ≡ None)
@@ -219,13 +219,13 @@ Looks storage lane posted result me = (posted < 2 ^ 64) × MatchOption result ((
     (λ message. (settled storage lane < posted) × IsSent storage lane message
     × (me ≡ (Storage (with_opened storage lane posted message), (lane_slot lane (settled storage lane), None) ∷ [])))
 
--- storage's seat holds the slot of this message of the lane, of which so many were settled before
+-- storage's seat holds the slot of this message of the lane, of which `count` were settled before
 abbrev pub HoldsTaken : SeatState → ℕ → ℕ → LaneMessage → Type 0
 HoldsTaken me lane count message = (me ≡ (Storage (storage_at me), (lane_slot lane count, None) ∷ []))
     × (settled (storage_at me) lane ≡ count)
     × ((storage_at me).holding ≡ Some (lane, message)) × (count + 1 < 2 ^ 64)
 
--- storage's seat has settled so many messages of this lane, and the answers that weren't told of are all of it
+-- storage's seat has settled `count` messages of this lane, and the answers that weren't told of are all of it
 abbrev pub MayTell : SeatState → ℕ → ℕ → Type 0
 MayTell me lane count = (known_by me ≡ Storage (storage_at me)) × (settled (storage_at me) lane ≡ count)
     × ((other : ℕ) → other ≢ lane → worker_share (storage_at me).history other
@@ -255,7 +255,7 @@ pub record StorageAgrees (me : SeatState) (workers last : ℕ) (counts : List �
   pub holds : (lane : ℕ) (message : LaneMessage) → (storage_at me).holding ≡ Some (lane, message)
       → (lane < workers) × (settled (storage_at me) lane + 1 < 2 ^ 64) × ((posted : Posted) × (message ≡ Ask posted))
 
--- what storage knows once it has made so many workers
+-- what storage knows once it has made `made` workers
 abbrev pub made_storage_state : Sizes → ℕ → StorageState
 made_storage_state geometry made = record {
   geometry = geometry;

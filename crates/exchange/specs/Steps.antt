@@ -91,7 +91,7 @@ bye_posted step before found after = (worker : WorkerState) (slot : ℕ)
     → before ≡ (Worker worker, (slot, Some Bye) ∷ []) → after ≡ (Worker (with_bye worker), [])
 
 -- what a worker learns at the load of done: a legal history that begins with what it had seen, in which its requests
--- are the first of those sent, so many as are done
+-- are the first `done` of those sent
 pub record Learnt (worker : WorkerState) (done : ℕ) (told : List Answered) : Type 0 where
   pub legal : Legal worker.geometry told
   pub later : StartsWith told worker.seen
@@ -197,7 +197,7 @@ seen_opened step before found after = (storage : StorageState) (lane place count
     → get_elem? storage.looks place ≡ some (lane, count)
     → settled storage lane < count → SeenTells storage lane (slots_of before) after
 
--- the store of done, with an answer
+-- a load of done, with an answer
 abbrev pub answered : StepTells
 answered step before found after = (storage : StorageState) (answer : Answered) (slot : ℕ)
     → before ≡ (Storage storage, (slot, Some (Answer answer)) ∷ [])

@@ -8,10 +8,10 @@ use std::time::Duration;
 /// How often an idle turn spins: with the look for work it takes some 200 nanoseconds.
 const SPINS_A_TURN: u32 = 4;
 
-/// A thread that was forgotten looks for work again after so long.
+/// How long a thread parks at most: one that was forgotten looks for work again then.
 const LONGEST_PARK_MILLIS: u64 = 100;
 
-/// Idle turns in a row: the thread spins in so many of them, and then parks until it is unparked. So an idle thread costs
+/// Idle turns in a row: the thread spins in the first `most` of them, and then parks until it is unparked. So an idle thread costs
 /// nothing. It never yields: on a machine whose processors are all busy a thread that yields waits for its turn behind all
 /// others, while one that was woken goes before them.
 #[derive(Drop)]
@@ -22,7 +22,7 @@ pub struct IdleTurns {
 }
 
 impl IdleTurns {
-    /// Behind so many turns that spin the thread parks.
+    /// The thread parks behind `most` turns that spin.
     pub fn new(most: u32) -> IdleTurns {
         IdleTurns {
             most,

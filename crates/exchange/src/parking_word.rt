@@ -30,7 +30,7 @@ impl ParkingWord {
         self.word.store(PARKED, Ordering::SeqCst);
     }
 
-    /// Parks, unless there was an `unpark` since the announcement, for so long at most. It may return early.
+    /// Parks, unless there was an `unpark` since the announcement, for `longest` at most. It may return early.
     pub fn park<R: Wait>(&self, rt: &R, longest: Duration) {
         self.word.park_timeout(rt, PARKED as u32, longest);
         self.cancel();

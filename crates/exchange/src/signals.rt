@@ -1,17 +1,15 @@
 //! What workers and the storage thread leave for each other beside their lanes.
 
 use crate::ParkingWord;
+use crate::slots::slot_at;
 use proto::{MAX_WORKERS, WINDOW};
 use std::alloc::{AllocError, Global};
 use std::hash::{FoldHasher, Hasher};
 use std::sync::atomic::{AtomicU64, Ordering};
 
-/// The hints of a worker: one for each request that may be on its way.
-const HINTS: usize = WINDOW as usize;
-
-/// The words that the storage thread and the workers park on, and a row of hints: the hashes of the keys that the requests on
-/// their way begin with. By these storage reads ahead what it will look up. No answer rests on a hint: one that is missing, or
-/// of another request, costs time alone.
+/// The words that the storage thread and the workers park on, and a row of hints, one for each slot of a lane: the hashes of
+/// the keys that the requests on their way begin with. By these storage reads ahead what it will look up. No answer rests on a
+/// hint: one that is missing, or of another request, costs time alone.
 #[derive(Drop)]
 pub struct StorageSignals {
     parking: ParkingWord,
@@ -21,8 +19,8 @@ pub struct StorageSignals {
 }
 
 impl StorageSignals {
-    /// A signals for so many workers. A single one leaves no hints, since hashing each key first takes it more time than
-    /// storage wins. The hasher is the one by which the store looks keys up.
+    /// The signals of a group of workers. A single worker leaves no hints, since hashing each key first takes it more time
+    /// than storage wins. The hasher is the one by which the store looks keys up.
     pub fn new(
         alloc: Global,
         hasher: FoldHasher,
@@ -32,7 +30,11 @@ impl StorageSignals {
         for _ in 0..workers {
             words.push(ParkingWord::new())?;
         }
-        let count = if workers > 1 { MAX_WORKERS * HINTS } else { 0 };
+        let count = if workers > 1 {
+            MAX_WORKERS * WINDOW as usize
+        } else {
+            0
+        };
         let mut hints = Vec::with_capacity(alloc, count)?;
         for _ in 0..count {
             hints.push(AtomicU64::new(0))?;
@@ -58,7 +60,7 @@ impl StorageSignals {
     /// The worker is about to post its message of this number, a request that begins with the key. Messages are counted
     /// from 0.
     pub fn leave_hint(&self, worker: usize, number: u64, key: &[u8]) {
-        if let Some(hint) = self.hints.get(place_of(worker, number)) {
+        if let Some(hint) = self.hints.get(slot_at(worker % MAX_WORKERS, number)) {
             let mut hasher = self.hasher;
             hasher.write(key);
             hint.store(hasher.finish(), Ordering::Relaxed);
@@ -72,13 +74,9 @@ impl StorageSignals {
 
     /// The hash that was left for the worker's message of this number, or for one 64, 128 .. before.
     pub fn hint(&self, worker: usize, number: u64) -> u64 {
-        match self.hints.get(place_of(worker, number)) {
+        match self.hints.get(slot_at(worker % MAX_WORKERS, number)) {
             Some(hint) => hint.load(Ordering::Relaxed),
             None => 0,
         }
     }
-}
-
-fn place_of(worker: usize, number: u64) -> usize {
-    worker % MAX_WORKERS * HINTS + number as usize % HINTS
 }

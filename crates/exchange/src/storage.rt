@@ -10,6 +10,9 @@ use std::marker::Model;
 use std::sync::Arc;
 
 /// What storage takes requests from, and answers them. One thread at a time uses it.
+///
+/// The storage thread of the server goes on with its batch. The calls that go message by message serve tests and measurements
+/// alone: `next`, `answer`, `is_open` and `workers`.
 #[derive(Drop)]
 pub struct StorageEnd {
     batch: StorageBatch,
@@ -107,8 +110,8 @@ impl StorageEnd {
         self.batch.next()
     }
 
-    // Brings a worker's end of this exchange and storage's together, and tells how many requests the
-    // worker sent and how many answers it took back.
+    /// Brings a worker's end of this exchange and storage's together, and tells how many requests the
+    /// worker sent and how many answers it took back.
     pub(crate) fn compare(&mut self, end: WorkerEnd) -> (u64, u64)
         requires { end.exchange ≡ self.old.exchange }
         ensures same { self.new ≡ self.old }

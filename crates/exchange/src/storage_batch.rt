@@ -116,7 +116,7 @@ impl StorageBatch {
         self.add_answer(answered);
     }
 
-    // Tells of the answers that wait, where they are of another lane.
+    /// Tells of the answers that wait, where they are of another lane.
     fn make_way(&mut self, lane: usize)
         ensures end { self.new.end ≡ self.old.end }
         ensures told { (self.new.told ≡ self.old.told) ⊎ (self.new.told ≡ self.old.end.history) }
@@ -127,7 +127,7 @@ impl StorageBatch {
         }
     }
 
-    // Answers the open request, where the answers that wait are of its lane.
+    /// Answers the open request, where the answers that wait are of its lane.
     fn add_answer(&mut self, answered: Answered)
         requires open_request { self.old.end.open_request ≡ Some (answered.worker, posted_of answered) }
         requires legal { Legal self.old.end.geometry (self.old.end.history ++ answered ∷ []) }
@@ -158,7 +158,7 @@ impl StorageBatch {
         }
     }
 
-    // Looks at one lane, and takes its next message out, if there is one.
+    /// Looks at one lane, and takes its next message out, if there is one.
     fn look(&mut self, lane: usize) -> Option<Taken>
         requires { (self.old.end.open_request ≡ None) × (lane < self.old.end.workers) }
         ensures looks { LooksAt self.old.end lane result self.new.end }
@@ -252,8 +252,8 @@ impl StorageBatch {
         (lane, count, self.named.saturating_sub(count))
     }
 
-    // Brings a worker's end of this exchange and storage's together, and tells how many requests the
-    // worker sent and how many answers it took back.
+    /// Brings a worker's end of this exchange and storage's together, and tells how many requests the
+    /// worker sent and how many answers it took back.
     pub(crate) fn compare(&mut self, end: WorkerEnd) -> (u64, u64)
         requires { end.exchange ≡ self.old.end.exchange }
         ensures same { self.new ≡ self.old }

@@ -9,6 +9,10 @@ use std::snapshot::Snapshot;
 use std::sync::Arc;
 
 /// What a worker posts its requests with, and takes the answers back. One thread at a time uses it.
+///
+/// A worker of the server goes on with its batch, and comes back for `bye`. The calls that post and take message by message
+/// serve tests and measurements alone: `post`, `take`, and `sent`, `outstanding` and `said_bye`, by which their callers know
+/// what they may do.
 #[derive(Drop)]
 pub struct WorkerEnd {
     batch: WorkerBatch,
@@ -69,7 +73,7 @@ impl WorkerEnd {
         self.batch
     }
 
-    // The seat, and the numbers of requests and of answers.
+    /// The seat, and the numbers of requests and of answers.
     pub(crate) fn into_seat(self) -> (LaneSeat, u64, u64)
         ensures seated { (c : WorkerState) × (result.0.me ≡ (Worker c, [])) × (self ≡ worker_view result.0.table_id c) }
         ensures lane { IsLane result.0.table_id self.worker }

@@ -76,7 +76,7 @@ impl WorkerBatch {
         }
     }
 
-    // The seat, and the numbers of requests and of answers.
+    /// The seat, and the numbers of requests and of answers.
     pub(crate) fn into_seat(self) -> (LaneSeat, u64, u64)
         ensures seated { (c : WorkerState) × (result.0.me ≡ (Worker c, [])) × (self.end ≡ worker_view result.0.table_id c) }
         ensures lane { IsLane result.0.table_id self.end.worker }

@@ -1,7 +1,7 @@
 -- What the threads left makes the run of a group.
-use Rattle.std.proofs.Common.{◌≡◌, ℕ, zero, suc, ◌<◌, ◌≤◌, List, [], ◌∷◌, ◌++◌, length, map, Contains, Option, refl, sym, ap, subst, ◌∙◌, append-nil, arith}
+use Rattle.std.proofs.Common.{◌≡◌, ℕ, ◌<◌, ◌≤◌, List, [], length, map, Option, refl, sym, ap, subst, ◌∙◌, append-nil}
 use Rattle.std.specs.Prelude.{All, slice_index, slice_index_or}
-use Rattle.std.proofs.lemmas.List.{length-map, map-append}
+use Rattle.std.proofs.lemmas.List.{length-map}
 use mathlib.Core.Option.{some}
 use lib.ListN.{get_elem?}
 use Rattle.proto.specs.declared.dialect.Dialect.{Dialect}
@@ -12,14 +12,13 @@ use Rattle.proto.specs.History.{worker_share, asked_posted}
 use Rattle.exchange.specs.declared.gathering.Gathered.{Gathered}
 use Rattle.exchange.specs.Ends.{WorkerView, StorageView, AreMade, AreTogether, AreCounted, new_worker_view, new_storage_view}
 use Rattle.exchange.proofs.Lists.{at_below, at_some, starts_trans}
-use Rattle.storage_thread.specs.Serving.{IsTimed}
 use Rattle.storage_thread.specs.declared.serving.StorageReport.{StorageReport}
 use Rattle.worker_port.specs.Ports.{PortStory}
 use Rattle.worker.specs.declared.report.WorkerReport.{WorkerReport}
-use Rattle.worker.specs.Reports.{IsReported, IsSessionAnswered}
+use Rattle.worker.specs.Reports.{AreAnsweredIn}
 use Rattle.group.specs.declared.report.GroupReport.{GroupReport}
-use Rattle.group.specs.Threads.{AreJoined, AreEach, HasSentNothing, IsPortOf, ArePortsOf, IsPortAt, IsLeftByStorage, KeepsWorker, KeepsStorage, ends_of, worker_of, workers_of}
-use Rattle.group.specs.Headline.{AreAnsweredIn, IsWorkerOf, IsRun}
+use Rattle.group.specs.Threads.{AreJoined, AreEach, HasSentNothing, ArePortsOf, IsPortAt, IsLeftByStorage, KeepsWorker, KeepsStorage, ends_of, worker_of, workers_of}
+use Rattle.group.specs.Headline.{IsHistoryOf, IsWorkerOf, IsRun}
 use Rattle.group.proofs.Places.{at_map, at_mapped}
 use Rattle.storage_thread.proofs.Callers.{or_at}
 
@@ -61,48 +60,6 @@ module _ {P : Type 0} (told : P → Option PortStory) (leads_to : P → P → Ty
         (λ i. (h.2 i, (is ∙ (λ j. new_worker_view (sym same j) g w)) i)) (kept.1 w h.0 report h.1 at);
   }
 
-  -- a list at one of its elements
-  split_at : {A : Type 0} (xs : List A) (k : ℕ) (d : A) → k < length xs
-      → (before : List A) × (after : List A) × (xs ≡ before ++ slice_index_or xs k d ∷ after)
-  split_at [] k d low = absurd (omega arith)
-  split_at (y ∷ xs) zero d low = ([], xs, refl)
-  split_at (y ∷ xs) (suc k) d low = let t = split_at xs k d (omega arith) in (y ∷ t.0, t.1, λ i. y ∷ t.2 i)
-
-  asked_split : (share : List Answered) (e : Answered) → Contains share e
-      → (before : List Posted) × (after : List Posted)
-      × (asked_posted share ≡ before ++ record { session = e.session; number = e.number; request = e.request } ∷ after)
-  asked_split share e has =
-      let as_posted = λ (a : Answered). let p : Posted =
-      record { session = a.session; number = a.number; request = a.request } in p in
-      let t = split_at share has.0 e has.1 in (
-        map as_posted t.0,
-        map as_posted t.1,
-        ap asked_posted (t.2 ∙ ap (λ (a : Answered). t.0 ++ a ∷ t.1) has.2) ∙ map-append as_posted t.0 (e ∷ t.1),
-      )
-
-  -- what a worker reports of itself holds in each history that has its requests and its answers
-  pub served : (h : List Answered) (w : ℕ) (r : WorkerReport P) → r.worker_end.worker ≡ w
-      → r.worker_end.back ≡ worker_share h r.worker_end.worker
-      → asked_posted (worker_share h r.worker_end.worker) ≡ r.worker_end.sent
-      → (story : PortStory) → IsReported story.dialect story.events r.worker_end r.sessions.items r.unopened
-      → AreAnsweredIn story.dialect story.events h w r.sessions.items r.unopened
-  served h w r is back sent story told = record {
-    ended = told.ended;
-    once = told.once;
-    opened = told.opened;
-    refused = told.refused;
-    counted = told.counted;
-    accepts = told.accepts;
-    no_stranger = told.no_stranger;
-    placed = λ e has.
-        let t = asked_split (worker_share h w) e has in
-        told.placed (record { session = e.session; number = e.number; request = e.request }) t.0 t.1
-        (sym sent ∙ ap (λ n. asked_posted (worker_share h n)) is ∙ t.2);
-    answered = λ s cause found messages rest reads.
-        subst (λ n. IsSessionAnswered story.events h n s cause messages) is
-        (told.answered s cause found h (sym back) sent messages rest reads);
-  }
-
   pub worker_holds : (sizes : Sizes) (s : StorageView) (g : Gathered) (port : P) (w : ℕ) (r : WorkerReport P)
       → KeepsWorker told leads_to port (new_worker_view s.exchange sizes w) r
       → AreCounted s r.worker_end (slice_index g.sent r.worker_end.worker) (slice_index g.back r.worker_end.worker)
@@ -125,7 +82,10 @@ module _ {P : Type 0} (told : P → Option PortStory) (leads_to : P → P → Ty
             } in p))
             ∙ ap length kept.over.all_back);
         strangers = kept.strangers;
-        served = λ story tells. served s.history w r is all.0 sent story (kept.reported story tells);
+        listed = λ story tells. (kept.reported story tells).listed;
+        answered = λ story tells.
+            subst (λ n. AreAnsweredIn s.history story.dialect story.events n r.sessions.items) is
+            ((kept.reported story tells).answered s.history (sym all.0) sent);
         given_by = λ story tells. starts_trans s.history r.worker_end.seen story.history counted.compared.seen
             (kept.whose story tells).later;
         spelled = kept.spelled;
@@ -161,43 +121,38 @@ module _ {P : Type 0} (told : P → Option PortStory) (leads_to : P → P → Ty
   run {C} clock_told clock_leads keeps sizes ports clock reports storage report stored joined workers_are clock_is
       executed_is counted beyond = record {
         history = storage.storage_end.history;
-        legal = stored.legal;
-        inside = stored.inside;
-        executed = executed_is ∙ stored.executed;
-        one_each = ap length workers_are ∙ length-map reports worker_of ∙ joined.one_each;
-        each = λ w port worker there at.
-            let q = at_mapped worker_of reports w worker (subst (λ l. get_elem? l w ≡ some worker) workers_are at) in
-            subst (IsWorkerOf told leads_to storage.storage_end.history report.gathered port w) q.2
-            (worker_holds sizes storage.storage_end report.gathered port w q.0 (joined.each w port q.0 there q.1)
-            (counted w q.0.worker_end (at_map (λ (r : WorkerReport P). r.worker_end) reports w q.0 q.1)));
-        none_beyond = λ w le. beyond w (subst (λ n. n ≤ w) (sym stored.same.1) le);
-        leads = subst (clock_leads clock) (sym clock_is) stored.leads;
-        moments = subst (λ (c : C). IsTimed (clock_told clock) (clock_told c) storage.storage_end.history)
-            (sym clock_is) stored.moments;
+        made = subst (λ (y : C × ℕ). IsHistoryOf clock_told clock_leads sizes (length ports) clock y.0 y.1
+            storage.storage_end.history) (λ i. (sym clock_is i, sym executed_is i)) stored.made;
+        answered = record {
+          one_each = ap length workers_are ∙ length-map reports worker_of ∙ joined.one_each;
+          each = λ w port worker there at.
+              let q = at_mapped worker_of reports w worker (subst (λ l. get_elem? l w ≡ some worker) workers_are at) in
+              subst (IsWorkerOf told leads_to storage.storage_end.history report.gathered port w) q.2
+              (worker_holds sizes storage.storage_end report.gathered port w q.0 (joined.each w port q.0 there q.1)
+              (counted w q.0.worker_end (at_map (λ (r : WorkerReport P). r.worker_end) reports w q.0 q.1)));
+          none_beyond = λ w le. beyond w (subst (λ n. n ≤ w) (sym stored.same.1) le);
+        };
         bounded = stored.bounded;
       }
 
--- ends as they are made have sent nothing
--- the port of worker w is that of its end, as it was made
-port_at : {P : Type 0} (told : P → Option PortStory) (g : Sizes) (d : Dialect) (w : ℕ) (s : StorageView) (port : P) (end : WorkerView)
-    → IsPortOf told g d w port → end ≡ new_worker_view s.exchange g w → IsPortAt told d port end
-port_at told g d w s port end h is = subst (IsPortAt told d port) (sym is) (record {
-  whose = λ story e. let k = h.whose story e in record {
-    worker_is = k.0;
-    sizes_are = k.1;
-    later = ([], sym k.2 ∙ sym (append-nil story.history));
-  };
-  spelled = λ story e. (h.whose story e).3;
-})
-
+-- the ports are those of the ends, as they were made
 pub ports_at : {P : Type 0} (told : P → Option PortStory) (n : ℕ) (g : Sizes) (d : Dialect) (ports : List P) (ends : List WorkerView)
     (s : StorageView) → AreMade n g ends s → length ports ≡ n → ArePortsOf told g d ports
     → AreEach (IsPortAt told d) ports ends
 ports_at told n g d ports ends s made long h = (
   long ∙ sym made.0,
-  λ w port end at there. port_at told g d w s port end (h w port at) (made.1 w end there),
+  λ w port end at there. subst (IsPortAt told d port) (sym (made.1 w end there)) (record {
+    silent = λ story e. (h w port at story e).3;
+    whose = λ story e. let k = h w port at story e in record {
+      worker_is = k.0;
+      sizes_are = k.1;
+      later = ([], sym k.4 ∙ sym (append-nil story.history));
+    };
+    spelled = λ story e. (h w port at story e).2;
+  }),
 )
 
+-- ends as they are made have sent nothing
 pub fresh_ends : (n : ℕ) (g : Sizes) (ends : List WorkerView) (s : StorageView) → AreMade n g ends s
     → All HasSentNothing ends
 fresh_ends n g ends s made k d low = subst HasSentNothing

@@ -1,14 +1,12 @@
 -- What the threads of a group leave.
-use Rattle.std.specs.Prelude.{◌≡◌, ℕ, ◌<◌, ◌^◌, ◌-◌, true, false, List, [], length, map, min, All, Option, Some, None, is_some, IsSome, IfSome}
+use Rattle.std.specs.Prelude.{◌≡◌, ℕ, true, false, List, [], length, map, Option, Some, None, is_some, IsSome, IfSome}
 use mathlib.Core.Option.{some}
 use lib.ListN.{get_elem?}
 use Rattle.proto.specs.declared.dialect.Dialect.{Dialect}
-use Rattle.proto.specs.History.{Legal}
 use Rattle.proto.specs.Sizes.{Sizes}
-use Rattle.proto.specs.declared.history.Answered.{Answered}
 use Rattle.exchange.specs.Ends.{WorkerView, StorageView, new_worker_view, new_storage_view}
 use Rattle.storage_thread.specs.Keeping.{MayForgetNothing}
-use Rattle.storage_thread.specs.Serving.{IsTimed, IsSameExchange}
+use Rattle.storage_thread.specs.Serving.{IsSameExchange}
 use Rattle.storage_thread.specs.declared.serving.StorageReport.{StorageReport}
 use Rattle.worker_port.specs.Ports.{PortStory}
 use Rattle.worker_port.specs.Giving.{IsStoryOf}
@@ -16,6 +14,7 @@ use Rattle.worker.specs.declared.report.WorkerReport.{WorkerReport}
 use Rattle.worker.specs.Reports.{IsReported, IsOver}
 use Rattle.group.specs.declared.start.Finished.{Finished}
 use Rattle.group.specs.declared.report.GroupWorker.{GroupWorker}
+use Rattle.group.specs.Headline.{IsHistoryOf}
 
 -- what a worker's thread leaves of the port and the end that it was given
 pub record KeepsWorker {P : Type 0} (told : P → Option PortStory) (leads_to : P → P → Type 0) (port : P)
@@ -37,12 +36,8 @@ pub record KeepsStorage {C : Type 0} (told : C → Option (List ℕ)) (leads_to 
     (clock : C)
     (end : StorageView) (report : StorageReport C) : Type 0 where
   pub same : IsSameExchange end report.storage_end
-  pub legal : Legal end.geometry report.storage_end.history
-  pub inside : All (λ (e : Answered). e.worker < end.workers) report.storage_end.history
   pub none_open : report.storage_end.open_request ≡ None
-  pub leads : leads_to clock report.clock
-  pub moments : IsTimed (told clock) (told report.clock) report.storage_end.history
-  pub executed : report.executed ≡ min (length report.storage_end.history) (2 ^ 64 - 1)
+  pub made : IsHistoryOf told leads_to end.geometry end.workers clock report.clock report.executed report.storage_end.history
   pub bounded : keeps → MayForgetNothing end.geometry report.storage_end.history
 
 -- what a thread leaves that waited for the start `id`: it ran if it was told to begin, and what it left is kept
@@ -51,27 +46,20 @@ pub record IsFinished {T : Type 0} (id : ℕ) (keeps : T → Type 0) (finished :
   pub did_run : finished.told.value ≡ true → IsSome finished.ran
   pub kept : IfSome finished.ran keeps
 
--- a port at which nothing has happened yet, where it tells
-pub record IsSilent {P : Type 0} (told : P → Option PortStory) (port : P) : Type 0 where
-  pub no_events : (story : PortStory) → told port ≡ Some story → story.events ≡ []
-
 -- an end that has sent nothing, and was told of nothing
 abbrev pub HasSentNothing : WorkerView → Type 0
 HasSentNothing end = (end.sent ≡ []) × (end.back ≡ []) × (end.said_bye ≡ false) × (end.seen ≡ [])
 
--- the port of worker w, over a store of these sizes and read in this dialect, by which nothing was given yet, where it
--- tells
-pub record IsPortOf {P : Type 0} (told : P → Option PortStory) (sizes : Sizes) (d : Dialect) (w : ℕ) (port : P)
-    : Type 0 where
-  pub whose : (story : PortStory) → told port ≡ Some story
-      → (story.worker ≡ w) × (story.sizes ≡ sizes) × (story.history ≡ []) × (story.dialect ≡ d)
-
--- the ports of workers 0, 1 and so on
+-- The ports of workers 0, 1 and so on, over a store of these sizes and read in this dialect: where they tell, nothing has
+-- happened at them yet.
 abbrev pub ArePortsOf : {P : Type 0} → (P → Option PortStory) → Sizes → Dialect → List P → Type 0
-ArePortsOf {P} told sizes d ports = (w : ℕ) (port : P) → get_elem? ports w ≡ some port → IsPortOf told sizes d w port
+ArePortsOf {P} told sizes d ports =
+    (w : ℕ) (port : P) → get_elem? ports w ≡ some port → (story : PortStory) → told port ≡ Some story
+    → (story.worker ≡ w) × (story.sizes ≡ sizes) × (story.dialect ≡ d) × (story.events ≡ []) × (story.history ≡ [])
 
--- the port of this end's worker, read in this dialect
+-- the port of this end's worker, at which nothing has happened yet, read in this dialect
 pub record IsPortAt {P : Type 0} (told : P → Option PortStory) (d : Dialect) (port : P) (end : WorkerView) : Type 0 where
+  pub silent : (story : PortStory) → told port ≡ Some story → story.events ≡ []
   pub whose : (story : PortStory) → told port ≡ Some story → IsStoryOf story end
   pub spelled : (story : PortStory) → told port ≡ Some story → story.dialect ≡ d
 

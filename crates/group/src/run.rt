@@ -4,7 +4,7 @@ ghost use Rattle.proto.specs.Sizes.{Sizes};
 ghost use Rattle.proto.specs.Cache.{empty_cache};
 ghost use Rattle.exchange.specs.Ends.{AreTogether, IsCount};
 ghost use Rattle.group.specs.declared.fault.GroupFault.TheVariants.{BadConfig, NoMemory};
-ghost use Rattle.group.specs.Threads.{IsSilent, ArePortsOf, AreJoined, IsLeftByStorage, ends_of, workers_of};
+ghost use Rattle.group.specs.Threads.{ArePortsOf, AreJoined, IsLeftByStorage, ends_of, workers_of};
 ghost use Rattle.group.specs.Headline.{IsRun};
 
 use crate::fault::GroupFault;
@@ -126,8 +126,7 @@ fn run_in<
     clock: C,
     gate: &'s G,
 ) -> Result<GroupReport<P, C>, GroupFault>
-    requires ports { All (IsSilent P.told) ports.items }
-    requires whose { ArePortsOf P.told config.geometry config.dialect ports.items }
+    requires ports { ArePortsOf P.told config.geometry config.dialect ports.items }
     requires empty { (E.cache store ≡ empty_cache 0) × (E.moment store ≡ 0) }
     requires sizes { E.sizes store ≡ config.geometry }
     requires count { IsCount (vec_len ports) }
@@ -192,8 +191,7 @@ pub fn run_group<
     clock: C,
     gate: &G,
 ) -> Result<GroupReport<P, C>, GroupFault>
-    requires ports { All (IsSilent P.told) ports.items }
-    requires whose { ArePortsOf P.told config.geometry config.dialect ports.items }
+    requires ports { ArePortsOf P.told config.geometry config.dialect ports.items }
     requires empty { (E.cache store ≡ empty_cache 0) × (E.moment store ≡ 0) }
     requires sizes { E.sizes store ≡ config.geometry }
     ensures run { IfOk result (λ report. IsRun P.told P.leads_to C.told C.leads_to (E.keeps store []) (E.sizes store) ports.items clock report) }
@@ -211,8 +209,8 @@ pub fn run_group<
         thread::scope_env(),
         rt,
         move |scope| -> Result<GroupReport<P, C>, GroupFault>
-            requires ports { All (IsSilent P.told) ports.items × IsCount (vec_len ports) }
-            requires whose { ArePortsOf P.told config.geometry config.dialect ports.items }
+            requires count { IsCount (vec_len ports) }
+            requires ports { ArePortsOf P.told config.geometry config.dialect ports.items }
             requires store { (E.cache store ≡ empty_cache 0) × (E.moment store ≡ 0) × (E.sizes store ≡ config.geometry) }
             ensures run { IfOk result (λ report. IsRun P.told P.leads_to C.told C.leads_to (E.keeps store []) (E.sizes store) ports.items clock report) }
             ensures fault { IfErr result (λ fault. fault ≢ BadConfig) }

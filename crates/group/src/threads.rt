@@ -5,7 +5,7 @@ ghost use Rattle.worker.specs.declared.report.WorkerReport.{WorkerReport};
 ghost use Rattle.storage_thread.specs.Serving.{IsUnused};
 ghost use Rattle.exchange.specs.Ends.{WorkerView};
 ghost use Rattle.group.specs.declared.fault.GroupFault.TheVariants.{NoThread};
-ghost use Rattle.group.specs.Threads.{IsFinished, HasSentNothing, IsSilent, IsPortAt, KeepsWorker, KeepsStorage, AreEach};
+ghost use Rattle.group.specs.Threads.{IsFinished, HasSentNothing, IsPortAt, KeepsWorker, KeepsStorage, AreEach};
 
 use crate::fault::GroupFault;
 use crate::start::{Finished, wait_for_start};
@@ -81,8 +81,7 @@ fn work<'a, P: Port, G: Gate, R: Wait>(
     gate: &G,
     signals: &StorageSignals,
 ) -> Finished<'a, WorkerReport<P>>
-    requires port { IsSilent P.told port }
-    requires whose { IsPortAt P.told dialect port end }
+    requires port { IsPortAt P.told dialect port end }
     requires fresh { HasSentNothing end }
     ensures { IsFinished start.now.id (KeepsWorker P.told P.leads_to port end) result }
 {
@@ -171,8 +170,7 @@ fn start_worker<'s, 'e, P: Port + Send + 's, G: Gate + Sync, R: Threads + Wait +
     gate: &'s G,
     signals: &'s StorageSignals,
 ) -> Result<WorkerHandle<'s, P>, GroupFault>
-    requires port { IsSilent P.told port }
-    requires whose { IsPortAt P.told dialect port end }
+    requires port { IsPortAt P.told dialect port end }
     requires fresh { HasSentNothing end }
     ensures fault { IfErr result (λ fault. fault ≡ NoThread) }
     ensures start { IfOk result (λ h. h.promise.start.now.id ≡ start.now.id) }
@@ -215,8 +213,7 @@ pub fn start_workers<'s, 'e, P: Port + Send + 's, G: Gate + Sync, R: Threads + W
     signals: &'s StorageSignals,
     mut handles: Vec<WorkerHandle<'s, P>>,
 ) -> Result<Vec<WorkerHandle<'s, P>>, GroupFault>
-    requires ports { All (IsSilent P.told) ports.items }
-    requires whose { AreEach (IsPortAt P.told dialect) ports.items ends.items }
+    requires ports { AreEach (IsPortAt P.told dialect) ports.items ends.items }
     requires ends { All HasSentNothing ends.items }
     requires lengths { vec_len ports ≡ vec_len ends }
     requires room { (handles.items ≡ []) × (vec_len ends ≤ vec_capacity handles) }

@@ -77,14 +77,14 @@ full_row x r j m e lt =
 -- a hash's lowest bits that stand in a slot go into the bits beside a place
 home_bits_narrow : (l : Layout) → nat_le l.place_bits 32 ≡ true → home_bits l ≤ 32 - l.place_bits
 home_bits_narrow l e =
-    let half = min-le_left ((32 - l.place_bits) / 2) 3 in
+    let half = min-le_left ((32 - l.place_bits) / 2) 4 in
     rw e (omega (arith, half))
 
 -- and they are few
-pub home_bits_few : (l : Layout) → home_bits l ≤ 3
+pub home_bits_few : (l : Layout) → home_bits l ≤ 4
 home_bits_few l =
     elim (cases_Bool (nat_le l.place_bits 32)) [
-      | inl y ↦ rw y (min-le_right ((32 - l.place_bits) / 2) 3)
+      | inl y ↦ rw y (min-le_right ((32 - l.place_bits) / 2) 4)
       | inr y ↦ rw y (omega arith)
     ]
 
@@ -129,8 +129,8 @@ tag_room l hash k lt =
           let sum : l.place_bits - 32 + j ≡ 32 = omega (arith, many, most) in
           let whole : 2 ^ 64 ≡ 2 ^ j * 2 ^ l.place_bits =
           ap (λ n. 2 ^ n) (let s : 64 ≡ j + l.place_bits = omega (arith, many, most) in s) ∙ pow-add 2 j l.place_bits in
-          let three = home_bits_few l in
-          let high = mixed (hash / 2 ^ 32) (hash % 2 ^ b) (l.place_bits - 32) b j upper sum (omega (arith, three, most)) low in
+          let four = home_bits_few l in
+          let high = mixed (hash / 2 ^ 32) (hash % 2 ^ b) (l.place_bits - 32) b j upper sum (omega (arith, four, most)) low in
           let is : tag_shift l ≡ l.place_bits - 32 = rw y.0 refl in
           let limit : word_limit l ≡ 2 ^ 64 = rw y.0 refl in
           rw (is, limit)
@@ -161,15 +161,15 @@ pub low_bits : (n k : ℕ) → k < 64 → bit_and n (1 * 2 ^ k % 2 ^ 64 - 1) ≡
 low_bits n k lt = ap (λ m. bit_and n (m - 1)) (one_shl k 64 lt) ∙ and_mask n k
 
 -- the tag of a hash, as shifts and masks make it
-pub tag_said : (hash shift b : ℕ) → hash < 2 ^ 64 → b ≤ 3
+pub tag_said : (hash shift b : ℕ) → hash < 2 ^ 64 → b ≤ 4
     → hash / 2 ^ 32 / 2 ^ (shift + b) * 2 ^ b % 2 ^ 64 + bit_and hash (1 * 2 ^ b % 2 ^ 64 - 1) + 1
     ≡ hash / 2 ^ 32 / 2 ^ (shift + b) * 2 ^ b + hash % 2 ^ b + 1
 tag_said hash shift b lt few =
     let upper : hash / 2 ^ 32 < 2 ^ 32 = div_below hash (2 ^ 32) (2 ^ 32) (omega arith) (omega (arith, lt)) in
     let high : ℕ = hash / 2 ^ 32 / 2 ^ (shift + b) in
     let le : high ≤ hash / 2 ^ 32 = div-le_self (hash / 2 ^ 32) (2 ^ (shift + b)) in
-    let eight : 2 ^ b ≤ 2 ^ 3 = pow-le-pow_right (omega arith) few in
-    let h : high * 2 ^ b ≤ 2 ^ 32 * 2 ^ 3 = mul-le high (2 ^ b) (2 ^ 32) (2 ^ 3) (omega (arith, le, upper)) eight in
+    let sixteen : 2 ^ b ≤ 2 ^ 4 = pow-le-pow_right (omega arith) few in
+    let h : high * 2 ^ b ≤ 2 ^ 32 * 2 ^ 4 = mul-le high (2 ^ b) (2 ^ 32) (2 ^ 4) (omega (arith, le, upper)) sixteen in
     let whole : high * 2 ^ b % 2 ^ 64 ≡ high * 2 ^ b = mod-eq_of_lt (omega (arith, h)) in
     rw (whole, low_bits hash b (omega (arith, few))) refl
 

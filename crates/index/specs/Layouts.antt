@@ -20,9 +20,9 @@ word_limit l = if nat_le l.place_bits 32 then 2 ^ 32 else 2 ^ 64
 abbrev pub tag_shift : Layout → ℕ
 tag_shift l = if nat_le l.place_bits 32 then l.place_bits else l.place_bits - 32
 
--- how many of a hash's lowest bits stand in its slot: half of those beside a place, and three at most
+-- how many of a hash's lowest bits stand in its slot: half of those beside a place, and four at most
 abbrev pub home_bits : Layout → ℕ
-home_bits l = if nat_le l.place_bits 32 then min ((32 - l.place_bits) / 2) 3 else 3
+home_bits l = if nat_le l.place_bits 32 then min ((32 - l.place_bits) / 2) 4 else 4
 
 -- the bits of a hash that stand in its slot, counted from 1: the upper ones, and then the lowest
 unfoldable pub tag_of : Layout → ℕ → ℕ

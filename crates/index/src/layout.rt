@@ -72,12 +72,12 @@ impl Layout {
     pub fn home_bits(self) -> u32
         requires { IsLayout self }
         ensures value { result ≡ home_bits self }
-        ensures few { result ≤ 3 }
+        ensures few { result ≤ 4 }
     {
         if self.is_narrow() {
-            ((32 - self.place_bits) / 2).min(3)
+            ((32 - self.place_bits) / 2).min(4)
         } else {
-            3
+            4
         }
     }
 

@@ -97,7 +97,7 @@ impl Player {
     }
 
     /// Keeps the bytes of an answer. Where memory is wanting those kept so far are dropped.
-    fn keep(&mut self, reply: &Reply) {
+    fn keep(&mut self, reply: &mut Reply) {
         if show_reply(false, reply, &mut self.answers).is_err() {
             self.answers.clear();
         }
@@ -105,11 +105,11 @@ impl Player {
 
     /// Takes an answer, and says whether there was one.
     fn take<R: Wait>(&mut self, rt: &R) -> bool {
-        let Some(answered) = self.end.answer(rt) else {
+        let Some(mut answered) = self.end.answer(rt) else {
             return false;
         };
         if self.load.kept {
-            self.keep(&answered.reply);
+            self.keep(&mut answered.reply);
         }
         drop(answered);
         true

@@ -44,7 +44,7 @@ fn send(book: &mut Book, session: u64, piece: Bytes) -> Result<()> {
 /// Settles a request with no hit, gives the output, and answers how many bytes that is.
 fn answer(alloc: Global, book: &mut Book, session: u64, asked: (Request, u64)) -> Result<usize> {
     let (request, number) = asked;
-    let settled = book.settle(&Answered {
+    let settled = book.settle(&mut Answered {
         worker: 0,
         session,
         number,

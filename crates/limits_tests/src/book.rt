@@ -76,7 +76,7 @@ fn ask(book: &mut Book, session: u64) -> Result<Option<u64>, Fail> {
 /// Settles a request of session 1 with a value of this length.
 fn answer(alloc: Global, book: &mut Book, number: u64, length: usize) -> Result<Settled, Fail> {
     let reply = value_of(alloc, length)?;
-    let answered = Answered {
+    let mut answered = Answered {
         worker: 0,
         session: 1,
         number,
@@ -84,7 +84,7 @@ fn answer(alloc: Global, book: &mut Book, number: u64, length: usize) -> Result<
         moment: 1000,
         reply,
     };
-    Ok(book.settle(&answered))
+    Ok(book.settle(&mut answered))
 }
 
 fn push_hit(hits: &mut HitWriter, value: &[u8]) -> Result<(), NoMemory> {
@@ -101,7 +101,7 @@ fn push_hit(hits: &mut HitWriter, value: &[u8]) -> Result<(), NoMemory> {
 
 fn value_of(alloc: Global, length: usize) -> Result<Reply, Fail> {
     let value = vec![in alloc; b'v'; length]?;
-    let mut hits = HitWriter::in_buffer(SpareBuffer::new(alloc));
+    let mut hits = HitWriter::in_buffer(SpareBuffer::new(alloc), false);
     push_hit(&mut hits, value.as_slice())?;
     Ok(Reply::Values(hits.finish()))
 }

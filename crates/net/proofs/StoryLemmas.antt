@@ -8,7 +8,7 @@ use Rattle.std.proofs.lemmas.Bool.{both_ways, eqb-true, eq-eqb, ne_eqb, cases_lt
 use Rattle.worker_port.specs.declared.events.PortRecord.{PortRecord}
 use Rattle.worker_port.specs.declared.events.PortRecord.TheVariants.{Opened, Data, Gone, Accepted, Shut}
 use Rattle.worker_port.specs.declared.events.PortEvent.TheVariants as event
-use Rattle.worker_port.specs.Ports.{PortStory, then_told, with_pause, are_end_of, was_opened, has_gone, was_shut, is_open}
+use Rattle.worker_port.specs.Ports.{PortStory, then_told, with_pause, was_opened, has_gone, was_shut, is_open}
 use Rattle.net.specs.Seen.{Seen, IsSet, fresh, then_received, then_sent, then_paused, is_paused}
 use Rattle.net.specs.Ties.{Ties}
 use Rattle.net.specs.Stories.{Whose, story, Tells}
@@ -22,7 +22,8 @@ pub told_none : (s : PortStory) → s ≡ then_told [] s
 told_none s = λ i. record s { events = sym (append-nil s.events) i }
 
 told_by : (o : Whose) (streams next : ℕ → Option Seen) (l xs : List PortRecord)
-    → ((o : ℕ) → is_paused (next o) ≡ cond (are_end_of o xs) false (is_paused (streams o))) → story o next (l ++ xs) ≡ then_told xs (story o streams l)
+    → ((o : ℕ) → is_paused (next o) ≡ cond (has_gone o xs || was_shut o xs) false (is_paused (streams o)))
+    → story o next (l ++ xs) ≡ then_told xs (story o streams l)
 told_by o streams next l xs h = λ i. record (story o streams l) { events = l ++ xs; paused = λ k. h k i }
 
 -- a stream that isn't is_open_now isn't paused

@@ -4,7 +4,6 @@ use crate::clients::{ANSWER_A, ANSWER_B, ROW_A, ROW_B, ask, connect, read_all, s
 use command_line::ServeOptions;
 use net::Listener;
 use proto::{Dialect, Geometry};
-use serving::serve;
 use std::alloc::Global;
 use std::io::Eprint;
 use std::net::{Net, Shutdown, TcpStream};
@@ -12,6 +11,7 @@ use std::process::Abort;
 use std::sync::Wait;
 use std::thread::{self, Threads};
 use std::time::{Clock, Duration};
+use subcommands::serve;
 
 /// A port of this machine that is free.
 fn free_port<R: Net + Abort>(rt: &R, alloc: Global) -> u16 {

@@ -12,9 +12,9 @@ use Rattle.std.proofs.lemmas.List.{take_all, append-nil}
 use Rattle.std.proofs.lemmas.Fmt.{decimal_is_IsNumeral_wide, decimal-digits_value, first_decimal, decimal_digit}
 use Rattle.std.proofs.lemmas.Str.{digit_value_digit}
 use Rattle.std.proofs.lemmas.Str.Parse.{IsNumeralModel, digit_from_value}
-use Rattle.proto.specs.Lines.{space, spaced, is_key_byte, is_key, first_word}
+use Rattle.proto.specs.Lines.{is_key_byte, is_key, first_word}
 use Rattle.proto.specs.PlainReader.{◌>>=◌, guarded, key_in, taken, number_in, negative_in, plain_in, signed_in, quiet_in}
-use Rattle.proto.specs.Words.{is_space, IsWord, words_of, words_behind}
+use Rattle.proto.specs.Words.{space, spaced, is_space, IsWord, words_of, words_behind}
 use Rattle.proto.proofs.Numbers.{number_in_some, number_in_none, key_bytes_word, digits_word}
 use Rattle.proto.proofs.WordLists.{some_words, first_word-words_of, words_of_one, words_of_more, spaced-words_of}
 

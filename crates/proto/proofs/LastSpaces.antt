@@ -3,10 +3,12 @@ use Rattle.std.proofs.Common.{◌≡◌, ℕ, false, true, eqb, ◌&&◌, List, 
 use Rattle.std.specs.List.{list_all}
 use Rattle.std.proofs.lemmas.Bool.{and_right}
 use Rattle.std.proofs.lemmas.List.Folds.{list_all-append}
-use Rattle.proto.specs.Lines.{space, without_last_spaces}
+use Rattle.proto.specs.declared.dialect.Dialect.TheVariants.{Lenient}
+use Rattle.proto.specs.Lines.{line_text}
+use Rattle.proto.specs.Words.{space}
 
 -- one space more at the end
-pub last_space : (line : List ℕ) → without_last_spaces (line ++ space ∷ []) ≡ without_last_spaces line
+pub last_space : (line : List ℕ) → line_text Lenient (line ++ space ∷ []) ≡ line_text Lenient line
 last_space [] = refl
 last_space (b ∷ line) = rw (all_more (b ∷ line), last_space line) refl
   where
@@ -18,7 +20,7 @@ last_space (b ∷ line) = rw (all_more (b ∷ line), last_space line) refl
     all_more line = list_all-append (λ c. eqb c space) line (space ∷ []) ∙ and_true _
 
 -- another byte at the end
-pub last_other : (line : List ℕ) (b : ℕ) → eqb b space ≡ false → without_last_spaces (line ++ b ∷ []) ≡ line ++ b ∷ []
+pub last_other : (line : List ℕ) (b : ℕ) → eqb b space ≡ false → line_text Lenient (line ++ b ∷ []) ≡ line ++ b ∷ []
 last_other [] b other = rw other refl
 last_other (a ∷ line) b other = rw (not_all (a ∷ line), last_other line b other) refl
   where

@@ -1,5 +1,5 @@
 -- How long an entry is there that was set.
-use Rattle.std.proofs.Common.{◌≡◌, ℕ, ◌+◌, ◌-◌, ◌*◌, ◌<◌, ◌≤◌, min, max, Bool, true, false, List, Option, Some, None, refl, sym, ap, subst, ◌∙◌, inl, inr}
+use Rattle.std.proofs.Common.{◌≡◌, ℕ, ◌+◌, ◌-◌, ◌*◌, ◌^◌, ◌<◌, ◌≤◌, min, max, Bool, true, false, List, Option, Some, None, refl, sym, ap, subst, ◌∙◌, inl, inr}
 use Rattle.std.proofs.Common.{arith, le-leb}
 use Rattle.std.specs.Prelude.{◌==◌, if◌then◌else◌}
 use Rattle.std.specs.FinMap as map
@@ -9,12 +9,12 @@ use Rattle.proto.specs.declared.message.Request.TheVariants.{Set}
 use Rattle.proto.specs.declared.message.Reply.TheVariants.{Stored, TooLarge, NoCas}
 use Rattle.proto.specs.Sizes.{Sizes, item_limit}
 use Rattle.proto.specs.Cache.{Entry, Entries, Cache, empty_cache, has_arrived, live, found_at, deadline_of}
-use Rattle.proto.specs.Commands.{Outcome, max_cas, leaving, only_reply, put, write, is_too_large, act}
-use Rattle.proto.specs.Steps.{Step, IsDated, MayForget, contains_bytes, without, deadline_at, with_deadline}
-use Rattle.proto.specs.Buckets.{bucket_of, width_of, longest_life, MayLive}
+use Rattle.proto.specs.Commands.{Outcome, leaving, put, write, is_too_large, act}
+use Rattle.proto.specs.Steps.{Step, IsDated, MayForget, without}
+use Rattle.proto.specs.Buckets.{bucket_of, width_of, MayLive}
 use Rattle.proto.specs.Lives.{HasPut, LivesItsTime, LivesForGood}
-use Rattle.proto.proofs.CacheLemmas.{get-live, get-without, if_live}
-use Rattle.proto.proofs.StepLemmas.{get-stored, deadline_at-insert, with_deadline-insert}
+use Rattle.proto.proofs.CacheLemmas.{contains_bytes, get-live, get-without, if_live}
+use Rattle.proto.proofs.StepLemmas.{get-stored, insert-dated}
 
 -- ---- what a set leaves
 
@@ -35,7 +35,7 @@ entry_put t p cas = record { value = p.value; flags = p.flags; deadline = deadli
 -- what a put leaves whose deadline hasn't come: by whether no cas number is left
 abbrev numbered : Cache → ℕ → Put → Bool → Outcome
 numbered cache t p none_left =
-    if none_left then only_reply cache NoCas
+    if none_left then leaving cache NoCas
     else record {
       entries = map.insert cache.entries p.key (entry_put t p (cache.last_cas + 1));
       last_cas = cache.last_cas + 1;
@@ -46,7 +46,7 @@ numbered cache t p none_left =
 
 -- what a put leaves: by whether its deadline has come
 abbrev dated : Cache → ℕ → Put → Bool → Outcome
-dated cache t p come = if come then leaving cache (map.remove cache.entries p.key) Stored
+dated cache t p come = if come then leaving (record cache { entries = map.remove cache.entries p.key }) Stored
     else write cache p.key (entry_put t p) Stored
 
 -- a put that wants a cas number, and is answered as stored, has stored its entry
@@ -68,12 +68,12 @@ sets_numbered cache t p false is =
 sets_waiting : (cache : Cache) (t : ℕ) (p : Put) (b : Bool) → b ≡ false → (dated cache t p b).reply ≡ Stored
     → Sets (dated cache t p b) t p
 sets_waiting cache t p true waits is = absurd (cc waits)
-sets_waiting cache t p false waits is = sets_numbered cache t p (cache.last_cas == max_cas) is
+sets_waiting cache t p false waits is = sets_numbered cache t p (cache.last_cas == 2 ^ 64 - 1) is
 
 -- a set stores its entry: its item isn't too large, its deadline hasn't come, and a cas number is left
 sets_fitting : (cache : Cache) (t : ℕ) (p : Put) (b : Bool) → has_arrived (deadline_of p.exptime t) t ≡ false
-    → (if b then only_reply cache TooLarge else put cache t p).reply ≡ Stored
-    → Sets (if b then only_reply cache TooLarge else put cache t p) t p
+    → (if b then leaving cache TooLarge else put cache t p).reply ≡ Stored
+    → Sets (if b then leaving cache TooLarge else put cache t p) t p
 sets_fitting cache t p true waits is = absurd (cc is)
 sets_fitting cache t p false waits is = sets_waiting cache t p (has_arrived (deadline_of p.exptime t) t) waits is
 
@@ -101,22 +101,20 @@ set_leaves sizes before after t p waits (inl x) =
     let s : Sets done t p = sets_fitting found t p (is_too_large (item_limit sizes) p) waits (sym x.reply_is) in
     let d : IsDated t done.entries (Some p.key) x.dated =
     subst (λ (o : Option (List ℕ)). IsDated t done.entries o x.dated) s.stored x.is_dated in
-    let e : Entry = record s.entry { deadline = d.0 } in
-    let dated : x.dated ≡ map.insert s.old p.key e =
-    d.2 ∙ ap (λ (m : Entries). with_deadline m p.key d.0) s.entries ∙ with_deadline-insert s.old p.key s.entry d.0 in
-    let asked : deadline_at done.entries p.key ≡ deadline_of p.exptime t =
-    ap (λ (m : Entries). deadline_at m p.key) s.entries ∙ deadline_at-insert s.old p.key s.entry ∙ s.deadline in
+    let left = insert-dated t s.old p.key s.entry x.dated
+    (subst (λ (m : Entries). IsDated t m (Some p.key) x.dated) s.entries d) in
+    let e : Entry = record s.entry { deadline = left.0 } in
     let other = others_forgotten sizes found.entries x.dated p.key x.forgotten
     (subst (λ (o : Option (List ℕ)). MayForget sizes found.entries x.dated o x.forgotten) s.stored x.may_forget) in
     let there : map.get (without x.dated x.forgotten) p.key ≡ Some e =
     get-without x.dated x.forgotten p.key
-    ∙ rw other (ap (λ (m : Entries). map.get m p.key) dated ∙ get-stored s.old p.key e) in
+    ∙ rw other (ap (λ (m : Entries). map.get m p.key) left.2 ∙ get-stored s.old p.key e) in
     record {
       entry = e;
       there = ap (λ (m : Entries). map.get m p.key) x.entries ∙ there;
       value = s.value;
       flags = s.flags;
-      may = subst (λ (a : Option ℕ). MayLive t a d.0) asked d.1;
+      may = subst (λ (a : Option ℕ). MayLive t a left.0) s.deadline left.1;
     }
 
 -- ---- what is found of it
@@ -154,7 +152,7 @@ record IsEnd (t life : ℕ) (given : Option ℕ) : Type 0 where
   given_is : given ≡ Some deadline
   later : t < deadline
   not_after : deadline ≤ t + life
-  long_enough : t + min life longest_life < deadline + 2 * width_of (bucket_of (Some life))
+  long_enough : t + min life 8388608 < deadline + 2 * width_of (bucket_of (Some life))
 
 -- what an entry may get that asks for a life of some seconds is a deadline that stands for the end of this life
 ends : (t life : ℕ) (given : Option ℕ) → 1 ≤ life → MayLive t (Some (t + life)) given → IsEnd t life given
@@ -164,10 +162,10 @@ ends t life (Some d) some may =
     record {
       deadline = d;
       given_is = refl;
-      later = may.later;
-      not_after = may.not_after;
-      long_enough = subst (λ (x : ℕ). t + min x longest_life < d + 2 * width_of (bucket_of (Some x))) is
-          may.long_enough;
+      later = may.0;
+      not_after = may.1;
+      long_enough = subst (λ (x : ℕ). t + min x 8388608 < d + 2 * width_of (bucket_of (Some x))) is
+          may.2;
     }
 
 -- a deadline hasn't come at a moment before it

@@ -17,14 +17,12 @@ abbrev pub MomentsFrom : ℕ → List Answered → Type 0
 MomentsFrom t [] = ⊤
 MomentsFrom t (e ∷ history) = (t ≤ e.moment) × (e.moment ≤ max_moment) × MomentsFrom e.moment history
 
--- the requests are steps, one after the other, from the cache before, and these are the caches that they
--- leave
+-- the requests are steps, one after the other, from the cache before, and these are the caches that they leave
 abbrev pub Chain : Sizes → Cache → List Answered → List Cache → Type 0
 Chain sizes before [] [] = ⊤
-Chain sizes before [] (after ∷ caches) = ⊥
-Chain sizes before (e ∷ history) [] = ⊥
 Chain sizes before (e ∷ history) (after ∷ caches) =
     Step sizes before e.moment e.request e.reply after × Chain sizes after history caches
+Chain _ _ _ _ = ⊥
 
 -- the numbers are n, n + 1 and so on
 abbrev pub NumbersFrom : ℕ → List Answered → Type 0

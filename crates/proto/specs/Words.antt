@@ -1,8 +1,14 @@
--- The words of a line, and keys with a space before each.
+-- The words of a line with spaces between them, and keys with a space before each.
 use Rattle.std.specs.Prelude.{◌≡◌, ℕ, Bool, false, eqb, List, [], ◌∷◌, Option, Some, None}
 use Rattle.std.specs.Borrow.{Bor}
-use Rattle.std.specs.List.{list_any, slice_split}
-use Rattle.proto.specs.Lines.{space}
+use Rattle.std.specs.List.{list_any, slice_split, join_with_byte}
+
+abbrev pub space : ℕ
+space = 32
+
+-- the words with one space between each two
+abbrev pub spaced : List (List ℕ) → List ℕ
+spaced words = join_with_byte space words
 
 abbrev pub is_space : ℕ → Bool
 is_space b = eqb b space

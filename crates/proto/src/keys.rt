@@ -1,7 +1,7 @@
 //! The keys of a `get`.
 
 ghost use Rattle.std.specs.Prelude.{◌≡◌, ◌≢◌, ◌≤◌, ◌++◌, ◌∷◌, ◌↔◌, [], length, IfOk, IsTrue, MatchOption, OnErr, OnOk};
-ghost use Rattle.proto.specs.Lines.{space};
+ghost use Rattle.proto.specs.Words.{space};
 ghost use Rattle.proto.specs.Words.{is_space, IsWord};
 ghost use Rattle.std.specs.List.{count_by};
 

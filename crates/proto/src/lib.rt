@@ -33,7 +33,7 @@ pub use geometry::{
 };
 pub use head::{Command, Head};
 pub use history::{Answered, Posted};
-pub use hits::{HitIter, HitRef, HitWriter, Hits};
+pub use hits::{Hit, HitRef, HitWriter, Hits};
 pub use keys::Keys;
 pub use limits::{
     MAX_BLOCK, MAX_KEY, MAX_LENIENT_LINE, MAX_LINE, MAX_POSTS, MAX_SESSIONS, MAX_WORKERS,

@@ -45,7 +45,7 @@ fn next_ask(book: &mut Book) -> Result<Option<(Request, u64)>, NoMemory> {
 /// Settles the next request with this reply.
 fn answer_next(book: &mut Book, reply: Reply) -> Option<Settled> {
     match next_ask(book) {
-        Ok(Some((request, number))) => Some(book.settle(&Answered {
+        Ok(Some((request, number))) => Some(book.settle(&mut Answered {
             worker: 0,
             session: 1,
             number,

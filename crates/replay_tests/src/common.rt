@@ -1,7 +1,6 @@
 //! What the tests share.
 
 use command_line::{Job, Options, geometry_of, parse_words};
-use replay::{Fault, replay};
 use std::alloc::{AllocError, Global};
 use std::fmt::Debug;
 use std::process::Abort;
@@ -9,6 +8,7 @@ use std::sync::Wait;
 use std::test::Fail;
 use std::thread::Threads;
 use std::time;
+use subcommands::{Fault, replay};
 
 /// The values are the same, or it is said at which place they aren't.
 pub fn check_same<T: Copy + PartialEq + Debug, P: Copy + Debug>(

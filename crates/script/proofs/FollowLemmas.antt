@@ -14,8 +14,8 @@ use Rattle.script.specs.Events.{open_after, sent, sent_by, goes_by_event, goes_i
 use Rattle.script.specs.Events as script
 use Rattle.worker_port.specs.declared.events.PortRecord.{PortRecord}
 use Rattle.worker_port.specs.declared.events.PortRecord.TheVariants as was
-use Rattle.worker_port.specs.Ports.{fed, fed_by, has_gone, is_leaving}
-use Rattle.worker_port.proofs.Facts.{any_more, any_no}
+use Rattle.worker_port.specs.Ports.{fed, is_entry, has_gone}
+use Rattle.worker_port.proofs.Facts.{any_more, any_no, fed_both}
 use Rattle.script.specs.PortEvents.{event_session, events_without, send_after, plays_from}
 use Rattle.script.specs.Records.{opened, opened_by}
 use Rattle.script.specs.Following.{Follows, MayGo}
@@ -35,12 +35,12 @@ opens_more : (xs ys : List ScriptEvent)
 opens_more xs ys = filter_map-append script.session_opened_by xs ys
 
 -- one more record puts the bytes that it has of a session behind those that came before
-fed_more : (l l' : List PortRecord) (x : PortRecord) (s : ℕ) → l' ≡ l ++ x ∷ [] → fed s l' ≡ fed s l ++ fed_by s x
-fed_more l l' x s e = ap (fed s) e ∙ flat_map-append (fed_by s) l (x ∷ [])
-    ∙ ap (λ (b : List ℕ). fed s l ++ b) (append-nil (fed_by s x))
+fed_more : (l l' : List PortRecord) (x : PortRecord) (s : ℕ) → l' ≡ l ++ x ∷ [] → fed s l' ≡ fed s l ++ fed s (x ∷ [])
+fed_more l l' x s e = ap (fed s) e ∙ fed_both s l (x ∷ [])
 
 -- a record with no bytes of a session leaves what came of it as it was
-fed_same : (l l' : List PortRecord) (x : PortRecord) (s : ℕ) → l' ≡ l ++ x ∷ [] → fed_by s x ≡ [] → fed s l' ≡ fed s l
+fed_same : (l l' : List PortRecord) (x : PortRecord) (s : ℕ) → l' ≡ l ++ x ∷ [] → fed s (x ∷ []) ≡ []
+    → fed s l' ≡ fed s l
 fed_same l l' x s e none = fed_more l l' x s e ∙ ap (λ (b : List ℕ). fed s l ++ b) none ∙ append-nil (fed s l)
 
 -- an event of another session sends this one nothing
@@ -158,9 +158,9 @@ goes_without s t (x ∷ xs) goes =
     (λ rest. or_second (goes_by_event t x) (goes_in_script xs t) (goes_without s t xs rest)))
 
 -- an entry of which none goes leaves those that have gone
-gone_same : (l l' : List PortRecord) (x : PortRecord) (s : ℕ) → l' ≡ l ++ x ∷ [] → is_leaving s x ≡ false
+gone_same : (l l' : List PortRecord) (x : PortRecord) (s : ℕ) → l' ≡ l ++ x ∷ [] → is_entry (was.Gone s) x ≡ false
     → has_gone s l' ≡ has_gone s l
-gone_same l l' x s e stays = ap (has_gone s) e ∙ any_no (is_leaving s) l x stays
+gone_same l l' x s e stays = ap (has_gone s) e ∙ any_no (is_entry (was.Gone s)) l x stays
 
 -- ---- what the rest of a send is
 
@@ -202,8 +202,8 @@ rest_goes s t bytes =
 -- a step that takes no event away and adds no session and no bytes
 pub follows_still : (played left left' : List ScriptEvent) (l l' : List PortRecord) (x : PortRecord)
     (closed closed' : ℕ → Bool)
-    (can_fail : Bool) → left' ≡ left → l' ≡ l ++ x ∷ [] → opened_by x ≡ None → ((t : ℕ) → fed_by t x ≡ [])
-    → ((t : ℕ) → is_leaving t x ≡ false)
+    (can_fail : Bool) → left' ≡ left → l' ≡ l ++ x ∷ [] → opened_by x ≡ None → ((t : ℕ) → fed t (x ∷ []) ≡ [])
+    → ((t : ℕ) → is_entry (was.Gone t) x ≡ false)
     → ((t : ℕ) → closed' t ≡ closed t) → Follows played left l closed can_fail
     → Follows played left' l' closed' can_fail
 follows_still played left left' l l' x closed closed' can_fail left_is l_is none nothing stays same f = record {
@@ -274,12 +274,12 @@ follows_send played left left' before after l l' s bytes closed closed' can_fail
           (λ other. f.fed_are t (sym (same t) ∙ is_open)
           ∙ (λ i. sym
           (fed_same l l' (was.Data s (take 16384 bytes)) t l_is
-          (ap (λ b. cond b (take 16384 bytes) []) (ne_eqb s t (λ e. other (sym e))))) i ++ stays t other i));
+          (ap (λ b. cond b (take 16384 bytes) [] ++ []) (ne_eqb s t (λ e. other (sym e))))) i ++ stays t other i));
       begun = λ t ended. either_way t s
           (λ here. absurd (true≢false (sym ended ∙ same t ∙ ap closed here ∙ active)))
           (λ other. subst (StartsWith (sent played t))
           (sym (fed_same l l' (was.Data s (take 16384 bytes)) t l_is
-          (ap (λ b. cond b (take 16384 bytes) []) (ne_eqb s t (λ e. other (sym e))))))
+          (ap (λ b. cond b (take 16384 bytes) [] ++ []) (ne_eqb s t (λ e. other (sym e))))))
           (f.begun t (sym (same t) ∙ ended)));
       to_go = λ t goes. f.to_go t
           (ap (λ xs. goes_in_script xs t) left_is ∙ goes_more before (Send s bytes ∷ after) t ∙ sym (goes_around t)
@@ -337,13 +337,14 @@ follows_send played left left' before after l l' s bytes closed closed' can_fail
         ∙ sym (append_assoc (fed s l) (take 16384 bytes) (drop 16384 bytes ++ sent after s))
         ∙ (λ i. sym
         (fed_more l l' (was.Data s (take 16384 bytes)) s l_is
-        ∙ ap (λ b. fed s l ++ cond b (take 16384 bytes) []) (eq-eqb s s refl)) i ++ sym new_sent i)
+        ∙ ap (λ b. fed s l ++ (cond b (take 16384 bytes) [] ++ [])) (eq-eqb s s refl)
+        ∙ ap (λ (xs : List ℕ). fed s l ++ xs) (append-nil (take 16384 bytes))) i ++ sym new_sent i)
 
 -- a session is closed
 pub follows_close : (played left left' : List ScriptEvent) (l l' : List PortRecord) (x : PortRecord) (s : ℕ)
     (closed closed' : ℕ → Bool) (can_fail : Bool) → left' ≡ events_without s left → l' ≡ l ++ x ∷ []
     → opened_by x ≡ None
-    → ((t : ℕ) → fed_by t x ≡ []) → ((t : ℕ) → is_leaving t x ≡ true → MayGo played can_fail t)
+    → ((t : ℕ) → fed t (x ∷ []) ≡ []) → ((t : ℕ) → is_entry (was.Gone t) x ≡ true → MayGo played can_fail t)
     → script.sessions_opened (events_without s left) ≡ script.sessions_opened left → closed s ≡ false → closed' s ≡ true
     → ((t : ℕ) → t ≢ s → closed' t ≡ closed t) → Follows played left l closed can_fail
     → Follows played left' l' closed' can_fail
@@ -362,6 +363,7 @@ follows_close played left left' l l' x s closed closed' can_fail left'_is l_is n
           (λ other. f.begun t (sym (others t other) ∙ gone)));
       to_go = λ t goes. f.to_go t (goes_without s t left (ap (λ xs. goes_in_script xs t) (sym left'_is) ∙ goes));
       gone_by = λ t gone.
-          or_either (has_gone t l) (is_leaving t x) (sym (ap (has_gone t) l_is ∙ any_more (is_leaving t) l x) ∙ gone)
+          or_either (has_gone t l) (is_entry (was.Gone t) x)
+          (sym (ap (has_gone t) l_is ∙ any_more (is_entry (was.Gone t)) l x) ∙ gone)
           (f.gone_by t) (caused t);
     }

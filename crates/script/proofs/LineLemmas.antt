@@ -10,9 +10,8 @@ use Rattle.std.proofs.lemmas.Slice.Eq.{bytes_eq-Decides}
 use Rattle.hex.specs.Hex.{decode_of, is_hex_digit}
 use Rattle.hex.specs.declared.error.FromHexError.{FromHexError}
 use Rattle.hex.proofs.HexLemmas.{decode_of-ok}
-use Rattle.proto.specs.Lines.{spaced}
 use Rattle.proto.specs.PlainReader.{◌>>=◌, guarded, number_in}
-use Rattle.proto.specs.Words.{IsWord, is_space, words_of}
+use Rattle.proto.specs.Words.{spaced, IsWord, is_space, words_of}
 use Rattle.proto.proofs.Options.{bind_some, guarded_some, some_is, none_is_some}
 use Rattle.proto.proofs.Numbers.{number_in_sound, number_in_decimal, decimal_word, chosen}
 use Rattle.proto.proofs.WordLists.{AreWords, words_of-spaced, spaced-words_of}

@@ -2,12 +2,13 @@
 use Rattle.std.proofs.Common.{◌≡◌, ◌≢◌, ℕ, ◌==◌, Bool, true, false, true≢false, not, ◌&&◌, ◌||◌, cond, eq-eqb, ne_eqb}
 use Rattle.std.proofs.Common.{List, [], ◌∷◌, ◌++◌, take, refl, sym}
 use Rattle.std.proofs.Common.{ap, subst, ◌∙◌, Option, Some, None, option_map, Result, Ok, Err}
+use Rattle.worker_port.specs.declared.events.PortRecord.{PortRecord}
 use Rattle.worker_port.specs.declared.events.PortRecord.TheVariants as was
 use Rattle.worker_port.specs.declared.events.PortEvent.{PortEvent}
 use Rattle.worker_port.specs.declared.events.PortEvent.TheVariants as event
 use Rattle.worker_port.specs.declared.events.Gone.{Gone}
 use Rattle.proto.specs.declared.history.Answered.{Answered}
-use Rattle.worker_port.specs.Ports.{PortStory, then_told, then_gave, with_pause, event_records, give_records, are_end_of, IsOpenIn, MayCome}
+use Rattle.worker_port.specs.Ports.{PortStory, then_told, then_gave, with_pause, event_records, give_records, has_gone, was_shut, IsOpenIn, MayCome}
 use Rattle.worker_port.specs.Ports.{is_open}
 use Rattle.script.specs.PortEvents.{is_playable}
 use Rattle.script.specs.States.{PortState, PlayerState, is_held, story_of, story_told, Gives, DropsSession, SetsHeld}
@@ -82,11 +83,12 @@ by_gone : (s t : ℕ) → (((s == t) || false) || false) ≡ (s == t)
 by_gone s t = or_none ((s == t) || false) ∙ or_none (s == t)
 
 -- bytes that are accepted end no session
-no_end : (s : ℕ) (bytes : List ℕ) (n t : ℕ) (b : Bool) → b ≡ cond (are_end_of t (give_records s bytes (Ok n))) false b
+no_end : (s : ℕ) (bytes : List ℕ) (n t : ℕ) (b : Bool)
+    → b ≡ cond (has_gone t (give_records s bytes (Ok n)) || was_shut t (give_records s bytes (Ok n))) false b
 no_end s bytes n t b =
-    bool_cases (n == 0)
-    (λ none. sym (ap (λ c. cond (are_end_of t (cond c [] (was.Accepted s (take n bytes) ∷ []))) false b) none))
-    (λ some. sym (ap (λ c. cond (are_end_of t (cond c [] (was.Accepted s (take n bytes) ∷ []))) false b) some))
+    let ended_if = λ (c : Bool). let l : List PortRecord = cond c [] (was.Accepted s (take n bytes) ∷ []) in
+    cond (has_gone t l || was_shut t l) false b in
+    bool_cases (n == 0) (λ none. sym (ap ended_if none)) (λ some. sym (ap ended_if some))
 
 -- this session is paused or not, and the others as they were
 now_held : (old new : PlayerState) (s t : ℕ) (held : Bool) → SetsHeld old s held new

@@ -3,7 +3,7 @@
 use Rattle.std.specs.Prelude.{◌≡◌, ℕ, ◌<◌, ◌^◌, ◌==◌, List, [], ◌∷◌, length, codes, decimal, if◌then◌else◌, Ok}
 use Rattle.std.specs.List.{onto_first}
 use Rattle.hex.specs.Hex.{decode_of}
-use Rattle.proto.specs.Lines.{spaced}
+use Rattle.proto.specs.Words.{spaced}
 use Rattle.script.specs.declared.event.ScriptEvent.{ScriptEvent}
 use Rattle.script.specs.declared.event.ScriptEvent.TheVariants.{Open, Send, Gone}
 use Rattle.script.specs.declared.event.ScriptLine.{ScriptLine}

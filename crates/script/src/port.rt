@@ -4,7 +4,7 @@ ghost use Rattle.std.specs.Prelude.{◌≡◌, ℕ, ◌++◌, [], ◌∷◌, ◌
 ghost use Rattle.script.specs.Events.{IsPlayable};
 ghost use Rattle.worker_port.specs.declared.events.PortRecord.TheVariants.{Shut};
 ghost use Rattle.worker_port.specs.Ports.{PortStory, then_told, with_pause, event_records, then_gave, IsOpenIn, MayCome, given};
-ghost use Rattle.worker_port.specs.Giving.{MayBeOffered};
+ghost use Rattle.worker_port.specs.Giving.{MayBeGiven};
 ghost use Rattle.script.specs.PortEvents.{is_playable};
 ghost use Rattle.script.specs.PortSessions.{numbers};
 ghost use Rattle.script.specs.Records.{opened};
@@ -126,7 +126,7 @@ impl Port for ScriptPort {
 
     fn give(&mut self, session: u64, bytes: &[u8], history: ToldHistory) -> Result<usize, Gone>
         requires open { IsOpenIn session (story_told self.old) }
-        requires said { MayBeOffered session bytes.now history (story_told self.old) }
+        requires said { (story : PortStory) → story_told self.old ≡ Some story → MayBeGiven story history session bytes.now }
         ensures within { IfOk result (λ n. n ≤ length bytes.now) }
         ensures leads { PlaysOn self.old self.new }
         ensures told { story_told self.new ≡ option_map (then_gave session bytes.now result history) (story_told self.old) }

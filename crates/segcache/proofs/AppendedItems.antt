@@ -148,7 +148,7 @@ may_wait : (t : ℕ) (asked given : Option ℕ) → MayLive t asked given → ha
 may_wait t None None h = refl
 may_wait t None (Some d) h = absurd h
 may_wait t (Some a) None h = refl
-may_wait t (Some a) (Some d) h = lt-leb d t h.later
+may_wait t (Some a) (Some d) h = lt-leb d t h.0
 
 -- an appended item is shown with the entry of its place, and the others as they were
 pub put_shown : (p after : PoolState) (index found : Table) (marks : Marks) (bucket t : ℕ) (i : Item) (place : Place)

@@ -13,9 +13,9 @@ use Rattle.std.proofs.lemmas.Slice.Eq.{bytes_eq-Decides}
 use Rattle.std.proofs.lemmas.Option.{none-some}
 use Rattle.std.proofs.lemmas.List.Sums.{sum_by-cons}
 use Rattle.std.proofs.lemmas.List.Elements.{All-head, All-tail, All-nil, All-cons}
-use Rattle.proto.specs.Cache.{Entry, Entries, entry_size}
-use Rattle.proto.specs.Steps.{size_at, contains_bytes, without}
-use Rattle.proto.proofs.CacheLemmas.{get-remove, if_live}
+use Rattle.proto.specs.Cache.{Entry, Entries}
+use Rattle.proto.specs.Steps.{size_at, without}
+use Rattle.proto.proofs.CacheLemmas.{entry_size, contains_bytes, get-remove, if_live}
 use Rattle.segments.specs.declared.place.Place.{Place}
 use Rattle.segments.specs.Items.{Item, size_of_item, size_of_all}
 use Rattle.segments.specs.Pools.{PoolState, IsPool, Used, Standing, item_in, place_deadline, standing, standing_from, items_of, segment_at, has_live}

@@ -8,8 +8,8 @@ use Rattle.std.proofs.lemmas.List.Sums.{sum_by-cons}
 use Rattle.std.proofs.lemmas.Slice.Eq.{bytes_eq-Decides}
 use Rattle.std.proofs.lemmas.Option.{none-some}
 use Rattle.proto.specs.Cache.{Entry, Entries, has_arrived}
-use Rattle.proto.specs.Steps.{without, contains_bytes}
-use Rattle.proto.proofs.CacheLemmas.{without-nil, same_entries, get-insert, get-remove, get-without}
+use Rattle.proto.specs.Steps.{without}
+use Rattle.proto.proofs.CacheLemmas.{contains_bytes, without-nil, same_entries, get-insert, get-remove, get-without}
 use Rattle.segments.specs.declared.place.Place.{Place}
 use Rattle.segments.specs.Items.{Item}
 use Rattle.segments.specs.Pools.{PoolState, IsPool, Plan, Used, Liveness, segment_at, item_in, place_deadline, has_live}

@@ -8,10 +8,10 @@ use Rattle.std.proofs.lemmas.Option.{none-some}
 use Rattle.proto.specs.Sizes.{Sizes, item_limit}
 use Rattle.proto.specs.Buckets.{bucket_of, time_to_live, MayLive}
 use Rattle.proto.proofs.StepLemmas.{get-stored}
-use Rattle.proto.specs.Cache.{Entry, Entries, is_live, entry_size}
+use Rattle.proto.specs.Cache.{Entry, Entries}
 use Rattle.proto.specs.Steps as steps
 use Rattle.proto.specs.Stored.{StoredItem, written}
-use Rattle.proto.proofs.CacheLemmas.{if_live}
+use Rattle.proto.proofs.CacheLemmas.{entry_size, is_live, if_live}
 use Rattle.engine.specs.Keeping.{StaysKept, AddsNoDeadline, KeepsEntry}
 use Rattle.segments.specs.declared.place.Place.{Place}
 use Rattle.segments.specs.Items.{Item, IsStorable}

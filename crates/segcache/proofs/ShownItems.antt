@@ -7,9 +7,9 @@ use Rattle.std.specs.Ordering.{is_eq, nat_cmp}
 use Rattle.std.specs.Cmp.Lexicographic.{slice_cmp, nat_list_cmp_total}
 use Rattle.std.proofs.lemmas.Bool.{cases_Bool, false≢true}
 use Rattle.std.proofs.lemmas.Option.{none-some}
-use Rattle.proto.specs.Cache.{Entry, no_entries, is_live, live, has_arrived}
-use Rattle.proto.specs.Steps.{contains_bytes, without}
-use Rattle.proto.proofs.CacheLemmas.{same_entries, get-insert, get-remove, get-no_entries, get-without, if_live, get-live, live-live}
+use Rattle.proto.specs.Cache.{Entry, no_entries, live, has_arrived}
+use Rattle.proto.specs.Steps.{without}
+use Rattle.proto.proofs.CacheLemmas.{contains_bytes, is_live, same_entries, get-insert, get-remove, get-no_entries, get-without, if_live, get-live, live-live}
 use Rattle.segments.specs.declared.place.Place.{Place}
 use Rattle.segments.specs.Items.{Item, read_again}
 use Rattle.segments.specs.Pools.{PoolState, item_in, place_deadline}

@@ -8,11 +8,11 @@ use Rattle.proto.specs.declared.message.Reply.{Reply}
 use Rattle.proto.specs.declared.message.Reply.TheVariants.{NoMemory}
 use Rattle.proto.specs.Sizes.{item_limit}
 use Rattle.proto.specs.Buckets.{bucket_of, time_to_live}
-use Rattle.proto.specs.Cache.{Entry, Entries, entry_size, found_at}
+use Rattle.proto.specs.Cache.{Entry, Entries, found_at}
 use Rattle.proto.specs.Commands.{Outcome}
 use Rattle.proto.specs.Steps.{Step, IsDated, MayForget, without}
 use Rattle.proto.specs.Stored.{StoredItem, stored_item_of, item_stored, is_no_memory, written}
-use Rattle.proto.proofs.CacheLemmas.{without-nil}
+use Rattle.proto.proofs.CacheLemmas.{entry_size, without-nil}
 use Rattle.proto.proofs.StepLemmas.{get-stored, dated-insert}
 use Rattle.engine.specs.declared.commands.Engine.{Engine}
 use Rattle.engine.specs.Counting.{CountsEach, keys_of}

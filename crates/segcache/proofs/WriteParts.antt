@@ -10,10 +10,10 @@ use Rattle.std.proofs.lemmas.Bool.{cases_Bool, false≢true, and_parts}
 use Rattle.std.proofs.lemmas.Slice.Eq.{bytes_eq-Decides}
 use Rattle.std.proofs.lemmas.List.Sums.{sum_by-cons}
 use Rattle.proto.specs.Sizes.{Sizes, item_limit}
-use Rattle.proto.specs.Cache.{Entry, Entries, entry_size}
+use Rattle.proto.specs.Cache.{Entry, Entries}
 use Rattle.proto.specs.Buckets.{MayLive}
-use Rattle.proto.specs.Steps.{without, contains_bytes, size_at, MayEvict}
-use Rattle.proto.proofs.CacheLemmas.{same_entries, get-insert, get-remove, get-without}
+use Rattle.proto.specs.Steps.{without, size_at, MayEvict}
+use Rattle.proto.proofs.CacheLemmas.{entry_size, contains_bytes, same_entries, get-insert, get-remove, get-without}
 use Rattle.segments.specs.declared.place.Place.{Place}
 use Rattle.segments.specs.Items.{Item, IsStorable}
 use Rattle.segments.specs.Pools.{PoolState}

@@ -1,7 +1,7 @@
 -- What a request does to the segments.
 use Rattle.std.specs.Prelude.{◌≡◌, ℕ, false, List, Some, None}
 use Rattle.std.specs.FinMap as finite
-use Rattle.proto.specs.Hits.{Hit}
+use Rattle.proto.specs.declared.hits.Hit.{Hit}
 use Rattle.proto.specs.declared.message.Request.{Request}
 use Rattle.proto.specs.declared.message.Reply.{Reply}
 use Rattle.proto.specs.declared.message.Reply.TheVariants.{Values, NoMemory}

@@ -8,8 +8,8 @@ use std::alloc::Global;
 use std::process::Abort;
 use std::test::Fail;
 
-/// The capacity of the buffer that is lent with each request.
-const LENT: usize = 100;
+/// The capacity of the buffer that is lent with each request: room for the hits of any of them.
+const LENT: usize = 200;
 
 /// Requests in order, and the capacity of the buffer that comes back with the reply to each.
 const REQUESTS: [(&str, Option<usize>); 5] = [

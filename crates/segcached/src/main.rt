@@ -1,15 +1,9 @@
 //! `segcached`: serves, and replays scripts.
 #![tactic(auto)]
 
-mod fault;
-
-use crate::fault::Fault;
 use command_line::{
     Job, Options, ServeOptions, WordsFault, geometry_of, parse_words, unreadable_words,
 };
-use proto::Geometry;
-use replay::{cannot_read, replay};
-use serving::{seed_of, serve};
 use std::fs::File;
 use std::io::{self, BufWriter, Eprint};
 use std::net::Net;
@@ -17,6 +11,7 @@ use std::process::ExitCode;
 use std::sync::Wait;
 use std::thread::Threads;
 use std::{env, fs, time};
+use subcommands::{Fault, cannot_read, replay, seed_of, serve};
 
 /// Replays the script in the file that the options name, with these threads.
 fn replay_file<H: Threads + Wait + Sync>(
@@ -25,12 +20,10 @@ fn replay_file<H: Threads + Wait + Sync>(
     options: &Options,
 ) -> Result<(), Fault> {
     let alloc = rt.alloc();
-    let geometry: Geometry = geometry_of(options.segment_size, options.segments).ok_or(
-        replay::Fault::BadGeometry,
-    )?;
+    let geometry = geometry_of(options.segment_size, options.segments).ok_or(Fault::BadGeometry)?;
     let script: File = match fs::open(rt, options.file.as_str()) {
         Ok(script) => script,
-        Err(error) => return Err(cannot_read(alloc, options, &error).into()),
+        Err(error) => return Err(cannot_read(alloc, options, &error)),
     };
     let mut out = BufWriter::new(alloc, io::writer(rt)).map_err(|_| Fault::NoMemory)?;
     replay(threads, alloc, options, geometry, script, &mut out)?;
@@ -44,9 +37,7 @@ fn serve_at<H: Threads + Wait + Net + time::Clock + Eprint + Copy + Drop + Send 
     options: &ServeOptions,
 ) -> Result<(), Fault> {
     let alloc = rt.alloc();
-    let geometry: Geometry = geometry_of(options.segment_size, options.segments).ok_or(
-        serving::Fault::BadGeometry,
-    )?;
+    let geometry = geometry_of(options.segment_size, options.segments).ok_or(Fault::BadGeometry)?;
     let mut out = BufWriter::new(alloc, io::writer(rt)).map_err(|_| Fault::NoMemory)?;
     serve(*threads, alloc, options, geometry, seed_of(rt), &mut out)?;
     Ok(())

@@ -48,7 +48,7 @@ pub at_other : (before after : BookState) (session other : ℕ) (o : Option Sess
     → (other ≡ session → ⊥) → session_of after other ≡ session_of before other
 at_other before after session other o only apart = only other ∙ rw (ne_eqb other session apart) refl
 
--- a session that may stand in a book, with so many unsettled requests
+-- a session that may stand in a book, with this number of unsettled requests
 pub record FitsBook (t : SessionState) (unsettled : ℕ) : Type 0 where
   pub asked : begins_asked t.queue ≡ true
   pub queued : length (asks t.queue) ≡ unsettled

@@ -10,7 +10,8 @@ use Rattle.proto.specs.declared.no_memory.NoMemory.{NoMemory}
 use Rattle.session_book.specs.declared.causes.Unsettled.{Unsettled}
 use Rattle.session_book.specs.declared.causes.Settled.{Settled}
 use Rattle.session_book.specs.declared.causes.Settled.TheVariants as outcomes
-use Rattle.session_book.specs.declared.limits.TheConstants.{MAX_UNSETTLED, MAX_POSTS}
+use Rattle.proto.specs.declared.limits.TheConstants.{WINDOW}
+use Rattle.session_book.specs.declared.limits.TheConstants.{MAX_POSTS}
 use Rattle.session_book.specs.Session.{SessionState, ReadsUpTo, given_request, with_reply}
 use Rattle.session_book.specs.Book.{BookState, session_of, unsettled_in, IsBook, IsOldest, Settles, NextAsk, given_in, stops}
 use Rattle.session_book.specs.Entries.{state_at, AsksEntry, SettlesEntry}
@@ -157,7 +158,7 @@ asks_none before after now session s r result same open_now none given why rest 
 -- an open session gives a request
 pub asks_given : (before after now : BookState) (session : ℕ) (s : SessionState) (q : Request)
     (r : Result (Option Request) NoMemory) → before ≡ now
-    → AsksOpen before after session r → r ≡ Ok (Some q) → length before.unsettled < MAX_UNSETTLED
+    → AsksOpen before after session r → r ≡ Ok (Some q) → length before.unsettled < WINDOW
     → before.posted < MAX_POSTS
     → after ≡ record before {
       sessions = after.sessions;

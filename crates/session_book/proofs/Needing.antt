@@ -7,7 +7,8 @@ use Rattle.std.specs.Bool.{OnFalse}
 use Rattle.std.proofs.lemmas.Bool.{cases_Bool, cases_lt, leb-false}
 use Rattle.std.proofs.lemmas.List.{append-nil, length-take, length-take-le, length-drop, take-append-le}
 use Rattle.proto.specs.declared.dialect.Dialect.{Dialect}
-use Rattle.proto.specs.Grammar.{StorageLine, storage_request, put_of, MakesRequest, LacksEnd, IsBlockWith, SpellsNone}
+use Rattle.proto.specs.Grammar.{StorageLine, put_of, IsBlockWith, SpellsNone}
+use Rattle.proto.specs.PlainReader.{storage_request}
 use Rattle.proto.specs.Lines.{line_end, IsSearched}
 use Rattle.proto.specs.declared.message.Message.TheVariants.{Ask, Fatal}
 use Rattle.proto.specs.declared.message.FatalKind.TheVariants as fatal
@@ -90,9 +91,9 @@ module _ (d : Dialect) (b : List ℕ) (need : ℕ) (a : AwaitsData d b need) whe
   never_there : SpellsNone d b → a.says.size + 2 ≤ length a.rest → ⊥
   never_there none le =
       none need (Fatal fatal.BadChunk)
-      (block_with LacksEnd le
+      (block_with _ le
       (λ ended. none need (Ask (storage_request a.says.command (put_of a.says block)) a.says.quiet)
-      (inr (block_with (MakesRequest _ _) le (record { request_is = refl; quiet_is = refl; ended = ended })))))
+      (inr (block_with _ le (refl, refl, ended)))))
 
 -- what the parser needs isn't there
 pub unfinished_short : (d : Dialect) (b : List ℕ) (need : ℕ) → IsUnfinished d b need → length b < need

@@ -15,7 +15,8 @@ use Rattle.session_book.specs.declared.causes.Received.{Received}
 use Rattle.session_book.specs.declared.causes.Received.TheVariants as received
 use Rattle.session_book.specs.declared.causes.Settled.{Settled}
 use Rattle.session_book.specs.declared.causes.Settled.TheVariants as outcomes
-use Rattle.session_book.specs.declared.limits.TheConstants.{MAX_UNSETTLED, MAX_SESSIONS, MAX_POSTS}
+use Rattle.proto.specs.declared.limits.TheConstants.{WINDOW}
+use Rattle.session_book.specs.declared.limits.TheConstants.{MAX_SESSIONS, MAX_POSTS}
 use Rattle.session_book.specs.Session.{SessionState, new_session, begins_asked, TakesPiece, IsInputFull, held_fed, ReadsUpTo, Stops, with_reply}
 
 -- A worker's book: the worker's number; the dialect of its sessions' lines; the open sessions by their numbers; how many requests got a number;
@@ -114,9 +115,9 @@ given_in (Err e) = []
 abbrev pub unsettled_of : ℕ → Request × ℕ → Unsettled
 unsettled_of session a = record { number = a.1; session = session }
 
--- why no request is given: so many are unsettled, all numbers were given, or the session reads no further
+-- why no request is given: the window is full, all numbers were given, or the session reads no further
 pub data GivesNone (before : BookState) (s : SessionState) : Type 0 where
-  full : MAX_UNSETTLED ≤ length before.unsettled → GivesNone before s
+  full : WINDOW ≤ length before.unsettled → GivesNone before s
   spent : MAX_POSTS ≤ before.posted → GivesNone before s
   stops : Stops s → GivesNone before s
 
@@ -135,7 +136,7 @@ pub record NextAsk (before : BookState) (session : ℕ) (s : SessionState)
     unsettled = before.unsettled ++ map (unsettled_of session) (given_in result);
     looks = after.looks;
   }
-  pub room : length after.unsettled ≤ max MAX_UNSETTLED (length before.unsettled)
+  pub room : length after.unsettled ≤ max WINDOW (length before.unsettled)
   pub enough : after.posted ≤ max MAX_POSTS before.posted
   pub none : result ≡ Ok None → GivesNone before read
 

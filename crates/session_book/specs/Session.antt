@@ -90,7 +90,7 @@ pub record ReadsOn (before : SessionState) (ms : List Message) (after : SessionS
 abbrev pub with_reply : SessionState → Reply → SessionState
 with_reply s reply = record s { queue = left s.queue (reply ∷ []); out = s.out ++ said s.queue (reply ∷ []) }
 
--- so many bytes of the output were given
+-- n bytes of the output were given
 abbrev pub gave : SessionState → ℕ → SessionState
 gave s n = record s { out = drop n s.out }
 

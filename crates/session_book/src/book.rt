@@ -3,19 +3,22 @@
 ghost use Rattle.std.specs.Prelude.{ℕ, ◌≡◌, ◌⊎◌, ◌+◌, ◌≤◌, ◌<◌, ◌↔◌, [], length, is_some, option_map};
 ghost use Rattle.std.specs.Prelude.{OnOk, OnErr, MatchOption};
 ghost use Rattle.session_book.specs.Session.{SessionState, IsEmptied, new_session, gave, finished_by};
+ghost use Rattle.std.specs.Bool.{OnTrue, OnFalse};
 ghost use Rattle.std.specs.Option.{option_and_then};
 ghost use Rattle.std.specs.VecDeque.{deque_len, deque_capacity};
+ghost use Rattle.proto.specs.declared.limits.TheConstants.{WINDOW};
 ghost use Rattle.proto.specs.declared.message.Request.{Request};
 ghost use Rattle.proto.specs.Reading.{asks};
 ghost use Rattle.session_book.specs.Entries.{state_at, AsksEntry, SettlesEntry};
 
 use crate::causes::{EndCause, OpenFault, Received, Settled, Unsettled};
-use crate::limits::{MAX_POSTS, MAX_SESSIONS, MAX_UNSETTLED};
+use crate::limits::{MAX_POSTS, MAX_SESSIONS};
 use crate::open_session::OpenSession;
+use crate::ready_queues::Task;
 use crate::session::Session;
 use crate::upkeep::Upkeep;
 use bytes::Bytes;
-use proto::{Answered, Dialect, NoMemory, Request};
+use proto::{Answered, Dialect, NoMemory, Request, WINDOW};
 use std::alloc::Global;
 use std::collections::{HashMap, VecDeque};
 use std::marker::Model;
@@ -76,7 +79,7 @@ impl Model for Book {
 }
 
 impl Book {
-    ghost use Rattle.session_book.specs.Book.{session_of, out_of, held_of, ChangesSession, Receives, FeedsHeldOf};
+    ghost use Rattle.session_book.specs.Book.{session_of, out_of, ChangesSession, Receives, FeedsHeldOf};
     ghost use Rattle.session_book.specs.Book.{HasNoInput, OnlyAt, IsKnown, NextAsk, Settles};
 
     /// No session is open yet. The worker's number is kept for its owner.
@@ -106,6 +109,7 @@ impl Book {
         }
     }
 
+    /// For tests alone: a worker asks its end.
     pub fn worker(&self) -> usize
         ensures { result ≡ self.now.worker }
     {
@@ -173,24 +177,22 @@ impl Book {
         }
     }
 
-    /// The piece that is held of a session.
-    pub fn held(&self, session: u64) -> &[u8]
-        ensures { result.now ≡ held_of (session_of self.now session) }
+    /// Whether the window is full: no request is given before an answer was settled.
+    pub fn is_full(&self) -> bool
+        ensures full { OnTrue result (WINDOW ≤ length self.now.unsettled) }
+        ensures room { OnFalse result (length self.now.unsettled < WINDOW) }
     {
-        match self.state(session) {
-            Some(state) => state.held(),
-            None => &[],
-        }
+        self.unsettled.len() as u64 >= WINDOW
     }
 
     /// The next request of a session with its number, which the caller posts. Messages that the book answers
-    /// itself are answered in their order; nothing is read while 64 requests are unsettled or all numbers were given. After
+    /// itself are answered in their order; nothing is read while the window is full or all numbers were given. After
     /// `NoMemory` the messages before the refused one stay read.
     pub fn next_ask(&mut self, session: u64) -> Result<Option<(Request, u64)>, NoMemory>
         ensures closed { session_of self.old session ≡ None → (result ≡ Ok None) × (self.new ≡ self.old) }
         ensures open { (s : SessionState) → session_of self.old session ≡ Some s → NextAsk self.old session s result self.new }
     {
-        if self.unsettled.len() >= MAX_UNSETTLED || self.posted >= MAX_POSTS {
+        if self.is_full() || self.posted >= MAX_POSTS {
             return Ok(None);
         }
         let read = ask_session(
@@ -211,8 +213,8 @@ impl Book {
 
     /// Puts the answer to the oldest unsettled request behind the output of its session, and behind it the answers
     /// that waited for it.
-    pub fn settle(&mut self, answered: &Answered) -> Settled
-        ensures { Settles self.old answered.now result self.new }
+    pub fn settle(&mut self, answered: &mut Answered) -> Settled
+        ensures { Settles self.old answered.old result self.new }
     {
         let asked = Unsettled {
             number: answered.number,
@@ -232,7 +234,7 @@ impl Book {
         self.sessions.contains_key(&session)
     }
 
-    /// The output of a session that wasn't given yet.
+    /// The output of a session that wasn't given yet. It serves tests and measurements alone: a worker asks for an offer.
     pub fn out(&self, session: u64) -> &[u8]
         ensures { result.now ≡ out_of (session_of self.now session) }
     {
@@ -264,7 +266,7 @@ impl Book {
         }
     }
 
-    /// So many bytes of the output were given. It answers whether the session has finished by now.
+    /// `n` bytes of the output were given. It answers whether the session has finished by now.
     pub fn gave(&mut self, session: u64, n: usize) -> Option<EndCause>
         requires { n ≤ length (out_of (session_of self.old session)) }
         ensures gave { ChangesSession self.old self.new session (option_map (λ s. gave s n) (session_of self.old session)) }
@@ -276,7 +278,7 @@ impl Book {
         open.gave(session, n, &mut self.upkeep)
     }
 
-    /// Quit or Fatal, once all before it was answered and given.
+    /// Quit or Fatal, once all before it was answered and given. It serves tests alone: an offer and `gave` tell a worker.
     pub fn finished(&self, session: u64) -> Option<EndCause>
         ensures { result ≡ option_and_then finished_by (session_of self.now session) }
     {
@@ -318,56 +320,21 @@ impl Book {
         self.upkeep.reads_on
     }
 
-    /// Takes out the next session whose held piece may fit.
-    pub fn next_to_feed(&mut self) -> Option<u64>
+    /// Takes out the next session that is to be taken up for the task.
+    pub fn next_ready(&mut self, task: Task) -> Option<u64>
         ensures { self.new ≡ self.old }
     {
-        self.upkeep.ready.next_to_feed()
+        self.upkeep.ready.next(task)
     }
 
-    /// Takes out the next session that has input.
-    pub fn next_to_ask(&mut self) -> Option<u64>
-        ensures { self.new ≡ self.old }
-    {
-        self.upkeep.ready.next_to_ask()
-    }
-
-    /// Takes out the next session that may have output or have finished.
-    pub fn next_to_give(&mut self) -> Option<u64>
-        ensures { self.new ≡ self.old }
-    {
-        self.upkeep.ready.next_to_give()
-    }
-
-    /// Takes out the next session whose peer accepted nothing when it was last offered some.
-    pub fn next_to_give_slowly(&mut self) -> Option<u64>
-        ensures { self.new ≡ self.old }
-    {
-        self.upkeep.ready.next_to_give_slowly()
-    }
-
-    pub fn to_feed(&self) -> usize {
-        self.upkeep.ready.to_feed()
-    }
-
-    pub fn to_ask(&self) -> usize {
-        self.upkeep.ready.to_ask()
-    }
-
-    pub fn to_give(&self) -> usize {
-        self.upkeep.ready.to_give()
-    }
-
-    pub fn to_give_slowly(&self) -> usize {
-        self.upkeep.ready.to_give_slowly()
+    /// How many sessions are to be taken up for the task.
+    pub fn ready(&self, task: Task) -> usize {
+        self.upkeep.ready.count(task)
     }
 
     /// No session has anything to do.
     pub fn is_idle(&self) -> bool {
-        self.to_feed() == 0
-            && self.to_ask() == 0
-            && self.to_give() == 0
-            && self.to_give_slowly() == 0
+        self.upkeep.ready.are_empty()
     }
 
     /// Whether more than 1,024 keys stand in unsettled requests, or more than 67,108,864 bytes of output wait, over all
@@ -376,7 +343,7 @@ impl Book {
         self.upkeep.load.is_above_limits()
     }
 
-    /// How often the parser was called; the count stays at the greatest number.
+    /// How often the parser was called, for tests alone. The count stays at the greatest number.
     pub fn looks(&self) -> u64
         ensures { result ≡ self.now.looks }
     {
@@ -408,19 +375,20 @@ fn ask_session(
 /// Gives the first unsettled request of a session its reply. Where there is no memory for it the session is closed.
 fn settle_session(
     sessions: &mut HashMap<u64, OpenSession>,
-    answered: &Answered,
+    answered: &mut Answered,
     upkeep: &mut Upkeep,
 ) -> Settled
-    requires { (s : SessionState) → state_at sessions.old.entries answered.now.session ≡ Some s → 0 < length (asks s.queue) }
-    ensures { SettlesEntry sessions.old.entries answered.now result sessions.new.entries }
+    requires { (s : SessionState) → state_at sessions.old.entries answered.old.session ≡ Some s → 0 < length (asks s.queue) }
+    ensures { SettlesEntry sessions.old.entries answered.old result sessions.new.entries }
 {
-    let Some(open) = sessions.get_mut(&answered.session) else {
+    let session = answered.session;
+    let Some(open) = sessions.get_mut(&session) else {
         return Settled::Dropped;
     };
-    match open.settle(answered, upkeep) {
+    match open.settle(session, &mut answered.reply, upkeep) {
         Ok(()) => Settled::Kept,
         Err(NoMemory) => {
-            sessions.remove(&answered.session);
+            sessions.remove(&session);
             Settled::Starved
         }
     }

@@ -68,8 +68,8 @@ impl Buffer {
     }
 
     /// Puts the answer that shows a reply behind the others.
-    pub fn show_reply(&mut self, with_cas: bool, reply: &Reply) -> Result<(), NoMemory>
-        ensures ok { OnOk result (self.new ≡ self.old ++ reply_bytes with_cas reply.now) }
+    pub fn show_reply(&mut self, with_cas: bool, reply: &mut Reply) -> Result<(), NoMemory>
+        ensures ok { OnOk result (self.new ≡ self.old ++ reply_bytes with_cas reply.old) }
         ensures err { OnErr result (self.new ≡ self.old) }
     {
         show_reply(with_cas, reply, &mut self.bytes)

@@ -1,8 +1,9 @@
 //! What a caller carries over a whole run, over the definitions alone.
 
 ghost use Rattle.std.specs.Prelude.{◌≡◌};
-ghost use Rattle.session_book.specs.declared.limits.TheConstants.{MAX_UNSETTLED, MAX_UNREAD, MAX_WAITING, MAX_KEYS};
-ghost use Rattle.session_book.specs.declared.limits.TheConstants.{MAX_OUTPUT, MAX_SESSIONS, MAX_POSTS};
+ghost use Rattle.proto.specs.declared.limits.TheConstants.{WINDOW};
+ghost use Rattle.session_book.specs.declared.limits.TheConstants.{MAX_UNREAD, MAX_WAITING, MAX_KEYS, MAX_OUTPUT};
+ghost use Rattle.session_book.specs.declared.limits.TheConstants.{MAX_SESSIONS, MAX_POSTS};
 ghost use Rattle.session_book.specs.Accounts.{StartsAccounts, FeedKeeps, ReadKeeps, SettleKeeps, GiveKeeps, ReadBegins};
 ghost use Rattle.session_book.specs.Accounts.{ReadIsWhole, SaidBegins, SaidIsWhole};
 
@@ -25,7 +26,7 @@ pub fn beginnings()
 
 /// The limits of a book in numbers: those that its contracts cite, and those of `is_crowded`.
 pub fn limits()
-    ensures unsettled { MAX_UNSETTLED ≡ 64 }
+    ensures unsettled { WINDOW ≡ 64 }
     ensures unread { MAX_UNREAD ≡ 262144 }
     ensures waiting { MAX_WAITING ≡ 1048576 }
     ensures keys { MAX_KEYS ≡ 1024 }

@@ -17,4 +17,5 @@ mod upkeep;
 
 pub use book::Book;
 pub use causes::{EndCause, OpenFault, Received, Settled};
-pub use limits::{MAX_POSTS, MAX_UNSETTLED};
+pub use limits::MAX_POSTS;
+pub use ready_queues::Task;

@@ -1,10 +1,5 @@
 //! The limits of a book.
 
-use proto::WINDOW;
-
-/// Requests of a worker that may be unsettled at a time, over all its sessions.
-pub const MAX_UNSETTLED: usize = WINDOW as usize;
-
 /// Unread bytes of a session. It is above the longest spelling, a line of 32,768 bytes and a data block of
 /// 131,072 with its end, so a session whose input is full always has a message to read.
 pub const MAX_UNREAD: usize = 262_144;

@@ -10,7 +10,7 @@ use crate::causes::{EndCause, Received, Unsettled};
 use crate::session::Session;
 use crate::upkeep::Upkeep;
 use bytes::Bytes;
-use proto::{Answered, Dialect, NoMemory, Request};
+use proto::{Dialect, NoMemory, Reply, Request};
 use std::alloc::Global;
 use std::collections::VecDeque;
 use std::marker::Model;
@@ -117,17 +117,22 @@ impl OpenSession {
     }
 
     /// Gives the first unsettled request its reply.
-    pub fn settle(&mut self, answered: &Answered, upkeep: &mut Upkeep) -> Result<(), NoMemory>
+    pub fn settle(
+        &mut self,
+        session: u64,
+        reply: &mut Reply,
+        upkeep: &mut Upkeep,
+    ) -> Result<(), NoMemory>
         requires { 0 < length (asks self.old.queue) }
-        ensures { OnOk result (self.new ≡ with_reply self.old answered.now.reply) }
+        ensures { OnOk result (self.new ≡ with_reply self.old reply.old) }
     {
         match &mut self.state {
-            Some(state) => state.settle(answered, upkeep),
+            Some(state) => state.settle(session, reply, upkeep),
             None => unreachable!(),
         }
     }
 
-    /// So many bytes of the output were given.
+    /// `n` bytes of the output were given.
     pub fn gave(&mut self, session: u64, n: usize, upkeep: &mut Upkeep) -> Option<EndCause>
         requires { n ≤ length self.old.out }
         ensures gave { self.new ≡ gave self.old n }

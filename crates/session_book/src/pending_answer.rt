@@ -1,6 +1,7 @@
 //! The answers of a session that are still to be given, in the order of its messages.
 
-ghost use Rattle.std.specs.Prelude.{◌≡◌, ◌++◌, is_some, option_copied, OnOk, OnErr};
+ghost use Rattle.std.specs.Prelude.{◌≡◌, ◌++◌, is_some, OnOk, OnErr};
+ghost use Rattle.std.specs.Option.{option_copied_mut};
 ghost use Rattle.proto.specs.Answers.{answer, is_ask};
 ghost use Rattle.session_book.specs.Kinds.{kind_of};
 
@@ -69,9 +70,9 @@ impl PendingAnswer {
     }
 
     /// Puts the answer behind the output.
-    pub fn show(&self, reply: Option<&Reply>, out: &mut Buffer) -> Result<(), NoMemory>
+    pub fn show(&self, reply: Option<&mut Reply>, out: &mut Buffer) -> Result<(), NoMemory>
         requires { is_some reply ≡ is_ask self.now }
-        ensures ok { OnOk result (out.new ≡ out.old ++ answer self.now (option_copied reply.entry)) }
+        ensures ok { OnOk result (out.new ≡ out.old ++ answer self.now (option_copied_mut reply.entry)) }
         ensures err { OnErr result (out.new ≡ out.old) }
     {
         let message = match (self.kind, reply) {

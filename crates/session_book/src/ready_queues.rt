@@ -3,6 +3,19 @@
 use std::alloc::{AllocError, Global};
 use std::collections::VecDeque;
 
+/// What sessions are taken up for. Each has a queue of its own.
+#[derive(Clone, Copy)]
+pub enum Task {
+    /// Their held piece may fit.
+    Feed,
+    /// They have input.
+    Ask,
+    /// They may have output, or have finished.
+    Give,
+    /// Their peer accepted nothing when it was last offered some.
+    GiveSlowly,
+}
+
 /// A queue of sessions by their numbers. A session that joins it draws a ticket, which counts those that ever joined, and
 /// is in the queue while its ticket is above the number of those that have left: who leaves isn't looked up.
 #[derive(Drop)]
@@ -19,7 +32,7 @@ impl ReadyQueue {
         }
     }
 
-    /// Reserves memory for so many more sessions, twice as much as needed where there is too little.
+    /// Reserves memory for this number of additional sessions, twice as much as needed where there is too little.
     fn reserve(&mut self, additional: usize) -> Result<(), AllocError> {
         if self.sessions.capacity().saturating_sub(self.sessions.len()) < additional {
             self.sessions.reserve(additional.saturating_mul(2))?;
@@ -87,7 +100,7 @@ impl ReadyQueues {
         }
     }
 
-    /// Reserves the memory that so many sessions need.
+    /// Reserves the memory that this number of sessions needs.
     pub(crate) fn reserve(&mut self, sessions: usize) -> Result<(), AllocError> {
         self.feed.reserve(sessions)?;
         self.ask.reserve(sessions)?;
@@ -128,35 +141,30 @@ impl ReadyQueues {
         self.ask.has(tickets.ask)
     }
 
-    pub(crate) fn next_to_feed(&mut self) -> Option<u64> {
-        self.feed.pop()
+    /// Takes out the next session that is to be taken up for the task.
+    pub(crate) fn next(&mut self, task: Task) -> Option<u64> {
+        match task {
+            Task::Feed => self.feed.pop(),
+            Task::Ask => self.ask.pop(),
+            Task::Give => self.give.pop(),
+            Task::GiveSlowly => self.slow.pop(),
+        }
     }
 
-    pub(crate) fn next_to_ask(&mut self) -> Option<u64> {
-        self.ask.pop()
+    /// How many sessions are to be taken up for the task.
+    pub(crate) fn count(&self, task: Task) -> usize {
+        match task {
+            Task::Feed => self.feed.sessions.len(),
+            Task::Ask => self.ask.sessions.len(),
+            Task::Give => self.give.sessions.len(),
+            Task::GiveSlowly => self.slow.sessions.len(),
+        }
     }
 
-    pub(crate) fn next_to_give(&mut self) -> Option<u64> {
-        self.give.pop()
-    }
-
-    pub(crate) fn next_to_give_slowly(&mut self) -> Option<u64> {
-        self.slow.pop()
-    }
-
-    pub(crate) fn to_feed(&self) -> usize {
-        self.feed.sessions.len()
-    }
-
-    pub(crate) fn to_ask(&self) -> usize {
-        self.ask.sessions.len()
-    }
-
-    pub(crate) fn to_give(&self) -> usize {
-        self.give.sessions.len()
-    }
-
-    pub(crate) fn to_give_slowly(&self) -> usize {
-        self.slow.sessions.len()
+    pub(crate) fn are_empty(&self) -> bool {
+        self.feed.sessions.is_empty()
+            && self.ask.sessions.is_empty()
+            && self.give.sessions.is_empty()
+            && self.slow.sessions.is_empty()
     }
 }

@@ -17,17 +17,15 @@ use crate::ready_queues::Tickets;
 use crate::spare_buffers::SpareBuffers;
 use crate::upkeep::Upkeep;
 use bytes::Bytes;
-use proto::{
-    Answered, Dialect, Message, NextView, NoMemory, Reply, Request, next_view_behind, to_message,
-};
+use proto::{Dialect, Message, NextView, NoMemory, Reply, Request, next_view_behind, to_message};
 use std::alloc::Global;
 use std::collections::VecDeque;
 use std::marker::Model;
 
-/// So many bytes of output are given though more will stand behind them.
+/// The bytes of output that are given though more will stand behind them.
 const WORTH_GIVING: usize = 16_384;
 
-/// A held piece is fed once there is room for so many bytes, so that its port gives that many before it is paused again.
+/// The room at which a held piece is fed, so that its port gives as many bytes before it is paused again.
 /// What may then be left to read, 196,608 bytes, is above the longest spelling: a session that is read no further, for want
 /// of a whole message, has the room.
 const WORTH_FEEDING: usize = 65_536;
@@ -39,7 +37,7 @@ pub struct Session {
     alloc: Global,
     dialect: Dialect,
     input: Buffer,
-    /// So many bytes in front of the input were searched for a line's end, and none was there.
+    /// How many bytes in front of the input were searched for a line's end, and none was there.
     searched: usize,
     queue: VecDeque<PendingAnswer>,
     output: Buffer,
@@ -225,9 +223,9 @@ impl Session {
 
     /// Gives the first request of the queue its reply. Where there is no memory for the bytes the session is of no
     /// further use.
-    fn take_reply(&mut self, reply: &Reply, outputs: &mut SpareBuffers) -> Result<(), NoMemory>
+    fn take_reply(&mut self, reply: &mut Reply, outputs: &mut SpareBuffers) -> Result<(), NoMemory>
         requires { 0 < length (asks self.old.queue) }
-        ensures { OnOk result (self.new ≡ with_reply self.old reply.now) }
+        ensures { OnOk result (self.new ≡ with_reply self.old reply.old) }
     {
         outputs.lend(&mut self.output);
         match answer_first(&mut self.queue, reply, &mut self.output) {
@@ -308,22 +306,27 @@ impl Session {
 
     /// Gives the first request of the queue its reply. Where there is no memory for the bytes the session is of no further
     /// use.
-    pub fn settle(&mut self, answered: &Answered, upkeep: &mut Upkeep) -> Result<(), NoMemory>
+    pub fn settle(
+        &mut self,
+        session: u64,
+        reply: &mut Reply,
+        upkeep: &mut Upkeep,
+    ) -> Result<(), NoMemory>
         requires { 0 < length (asks self.old.queue) }
-        ensures { OnOk result (self.new ≡ with_reply self.old answered.now.reply) }
+        ensures { OnOk result (self.new ≡ with_reply self.old reply.old) }
     {
         let before = self.output.len();
-        let settled = self.take_reply(&answered.reply, &mut upkeep.outputs);
+        let settled = self.take_reply(reply, &mut upkeep.outputs);
         if settled.is_err() {
             upkeep.load.output_changed(before, 0);
         } else {
             upkeep.load.output_changed(before, self.output.len());
-            upkeep.ready.give_later(answered.session, &mut self.tickets);
+            upkeep.ready.give_later(session, &mut self.tickets);
         }
         settled
     }
 
-    /// So many bytes of the output were given.
+    /// `n` bytes of the output were given.
     pub fn gave(&mut self, session: u64, n: usize, upkeep: &mut Upkeep)
         requires { n ≤ length self.old.out }
         ensures { self.new ≡ gave self.old n }
@@ -358,7 +361,7 @@ impl Session {
         self.ended.is_some() || self.input.len() <= MAX_UNREAD - WORTH_FEEDING
     }
 
-    /// Of the bytes offered so many were accepted. A session that had too much output is asked again.
+    /// Of the bytes offered `accepted` were taken. A session that had too much output is asked again.
     fn was_given(&mut self, session: u64, accepted: usize, upkeep: &mut Upkeep)
         ensures { self.new ≡ self.old }
     {
@@ -425,13 +428,13 @@ fn put_behind(
 /// Answers the first request of the queue, and the messages up to the next one.
 fn answer_first(
     queue: &mut VecDeque<PendingAnswer>,
-    reply: &Reply,
+    reply: &mut Reply,
     out: &mut Buffer,
 ) -> Result<(), NoMemory>
     requires first { 0 < length queue.old.items }
     requires asked { begins_asked queue.old.items ≡ true }
-    ensures queue { OnOk result (queue.new.items ≡ left queue.old.items (reply.now ∷ [])) }
-    ensures out { OnOk result (out.new ≡ out.old ++ said queue.old.items (reply.now ∷ [])) }
+    ensures queue { OnOk result (queue.new.items ≡ left queue.old.items (reply.old ∷ [])) }
+    ensures out { OnOk result (out.new ≡ out.old ++ said queue.old.items (reply.old ∷ [])) }
 {
     if let Some(pending) = queue.pop_front() {
         pending.show(Some(reply), out)?;

@@ -6,9 +6,10 @@ use crate::buffer::Buffer;
 use proto::SpareBuffer;
 use std::alloc::Global;
 
-/// So many spare buffers are kept at most, and so many bytes of them in all.
+/// The most spare buffers that are kept.
 const MAX_BUFFERS: usize = 128;
 
+/// The most bytes that they have in all.
 const MAX_BYTES: usize = 4_194_304;
 
 /// Spare buffers. A session's buffer borrows the memory of one while there are bytes in it: so a session that is idle keeps
@@ -22,10 +23,15 @@ pub(crate) struct SpareBuffers {
 }
 
 impl SpareBuffers {
+    /// The list takes its room here, and no other call takes any. Where there is no memory for it, no buffer is kept.
     pub(crate) fn new(alloc: Global) -> SpareBuffers {
+        let buffers = match Vec::with_capacity(alloc, MAX_BUFFERS) {
+            Ok(buffers) => buffers,
+            Err(_) => Vec::new(alloc),
+        };
         SpareBuffers {
             alloc,
-            buffers: Vec::new(alloc),
+            buffers,
             bytes: 0,
         }
     }
@@ -51,10 +57,8 @@ impl SpareBuffers {
             return;
         };
         let bytes = self.bytes.saturating_add(spare.capacity());
-        if bytes <= MAX_BYTES
-            && self.buffers.len() < MAX_BUFFERS
-            && self.buffers.push(spare).is_ok()
-        {
+        if bytes <= MAX_BYTES && self.buffers.len() < self.buffers.capacity() {
+            self.buffers.push_reserved(spare);
             self.bytes = bytes;
         }
     }

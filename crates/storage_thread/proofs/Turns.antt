@@ -17,7 +17,7 @@ use Rattle.proto.specs.Counts.{times}
 use Rattle.exchange.specs.Ends.{StorageView}
 use Rattle.engine.specs.Reaching.{moments, moment_after, moments_after, last_or, Reaches}
 use Rattle.engine.proofs.ReachingLemmas.{moments_more, times_more}
-use Rattle.storage_thread.specs.Serving.{AddsAnswers, AsksClock, IsTimed, taken_as, SaidBye, IsUnused, GetsNone, GetsMessage, AnswersOpenRequest}
+use Rattle.storage_thread.specs.Serving.{AsksClock, IsTimed, taken_as, SaidBye, IsUnused, GetsNone, GetsMessage, AnswersOpenRequest}
 use Rattle.storage_thread.specs.Serving.{IsStorageServing}
 use Rattle.proto.proofs.CountLemmas.{one_more_time, no_more_time}
 
@@ -46,13 +46,15 @@ serving_first v c m u c_is m_is = record {
 }
 
 -- no answer, and one more answer
-no_answers : (told : Option (List ℕ)) → AddsAnswers told [] told
+no_answers : (told : Option (List ℕ)) → told ≡ option_map (λ (told : List ℕ). told ++ []) told
 no_answers None = refl
 no_answers (Some told) = ap Some (sym (append-nil told))
 
 -- some answers were given, and one more
-one_answer_more : (before mid after : Option (List ℕ)) (answers : List ℕ) (n : ℕ) → AddsAnswers before answers mid
-    → AddsAnswers mid (n ∷ []) after → AddsAnswers before (answers ++ n ∷ []) after
+one_answer_more : (before mid after : Option (List ℕ)) (answers : List ℕ) (n : ℕ)
+    → mid ≡ option_map (λ (told : List ℕ). told ++ answers) before
+    → after ≡ option_map (λ (told : List ℕ). told ++ n ∷ []) mid
+    → after ≡ option_map (λ (told : List ℕ). told ++ (answers ++ n ∷ [])) before
 one_answer_more None mid after answers n first then = then ∙ ap (option_map (λ (told : List ℕ). told ++ n ∷ [])) first
 one_answer_more (Some told) mid after answers n first then =
     then ∙ (ap (option_map (λ (told : List ℕ). told ++ n ∷ [])) first ∙ ap Some (append_assoc told answers (n ∷ [])))

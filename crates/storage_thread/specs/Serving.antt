@@ -9,17 +9,15 @@ use Rattle.exchange.specs.Beginnings.{posted_of}
 use Rattle.exchange.specs.declared.messages.Taken.{Taken}
 use Rattle.exchange.specs.Ends.{StorageView, IsNextMessage, with_taken}
 
--- these answers were given, where the clock tells its answers
-abbrev pub AddsAnswers : Option (List ℕ) → List ℕ → Option (List ℕ) → Type 0
-AddsAnswers old answers new = new ≡ option_map (λ (told : List ℕ). told ++ answers) old
-
 -- The clock was asked once, and the new moment is that of its answer.
 abbrev pub AsksClock : Option (List ℕ) → ℕ → Option (List ℕ) → ℕ → Type 0
-AsksClock old last new moment = (answer : ℕ) × AddsAnswers old (answer ∷ []) new × (moment ≡ moment_after last answer)
+AsksClock old last new moment =
+    (answer : ℕ) × (new ≡ option_map (λ (told : List ℕ). told ++ answer ∷ []) old) × (moment ≡ moment_after last answer)
 
--- The clock was asked once for each request, and the moments are those of its answers.
+-- The clock was asked once for each request, which is told where it tells its answers, and the moments are those of these.
 abbrev pub IsTimed : Option (List ℕ) → Option (List ℕ) → List Answered → Type 0
-IsTimed old new history = (answers : List ℕ) × AddsAnswers old answers new × (moments history ≡ moments_after 0 answers)
+IsTimed old new history =
+    (answers : List ℕ) × (new ≡ option_map (λ (told : List ℕ). told ++ answers) old) × (moments history ≡ moments_after 0 answers)
 
 -- a request of the history, as it was taken
 abbrev pub taken_as : Answered → ℕ × Posted

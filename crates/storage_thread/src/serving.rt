@@ -131,7 +131,7 @@ fn pass_turn<R: Wait>(rt: &R, _end: &StorageBatch, idle: &mut IdleTurns, signals
 /// Executes requests until each worker has said bye. The store is empty, for the geometry that the exchange was
 /// made for, and nothing was taken from the end. The clock is asked once for each request. The messages that a look named
 /// are served before it looks again; the workers are told of each eighth answer, and of all before it looks. While
-/// nothing comes, the thread parks on the signals's word: who has posted or said bye unparks it. By the hints on the signals it
+/// nothing comes, the thread parks on a word of the signals: who has posted or said bye unparks it. By the hints there it
 /// reads ahead.
 pub fn run_storage<R: Wait, S: StorageEngine + Drop, C: Clock>(
     rt: &R,

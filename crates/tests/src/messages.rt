@@ -175,19 +175,19 @@ enum Given {
 }
 
 /// The one hit that a `get` of `a` shows.
-fn hit(alloc: Global) -> Result<Hits, NoMemory> {
-    let mut hits = HitWriter::in_buffer(SpareBuffer::new(alloc));
+fn hit(alloc: Global, with_cas: bool) -> Result<Hits, NoMemory> {
+    let mut hits = HitWriter::in_buffer(SpareBuffer::new(alloc), with_cas);
     push_hit(&mut hits, "x", u64::MAX)?;
     Ok(hits.finish())
 }
 
-fn reply_of(alloc: Global, given: Given) -> Result<Reply, NoMemory> {
+fn reply_of(alloc: Global, with_cas: bool, given: Given) -> Result<Reply, NoMemory> {
     Ok(match given {
         Given::Stored => Reply::Stored,
         Given::NotStored => Reply::NotStored,
         Given::Exists => Reply::Exists,
         Given::NotFound => Reply::NotFound,
-        Given::Hit => Reply::Values(hit(alloc)?),
+        Given::Hit => Reply::Values(hit(alloc, with_cas)?),
         Given::Miss => Reply::Values(Hits::new(alloc)),
         Given::Deleted => Reply::Deleted,
         Given::Zero => Reply::Number(0),
@@ -234,7 +234,11 @@ fn request_answer(alloc: Global, message: &Message, reply: &Reply) -> Result<Vec
 
 /// The answer to a request that is given such a reply.
 fn answer_to(alloc: Global, message: &Message, given: Given) -> Result<Vec<u8>, Fail> {
-    let reply = reply_of(alloc, given)?;
+    let with_cas = matches!(
+        message,
+        Message::Ask(Request::Get { with_cas: true, .. }, _)
+    );
+    let reply = reply_of(alloc, with_cas, given)?;
     let out = request_answer(alloc, message, &reply);
     drop(reply);
     out

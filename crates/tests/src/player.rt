@@ -57,8 +57,8 @@ impl Player {
             return Ok(None);
         }
         let reply = reply_to(self.alloc, &self.asked[place].request, self.found)?;
-        let answered = answered(self.asked.remove(place), reply);
-        let settled = self.book.settle(&answered);
+        let mut answered = answered(self.asked.remove(place), reply);
+        let settled = self.book.settle(&mut answered);
         drop(answered);
         Ok(Some(settled))
     }
@@ -115,10 +115,10 @@ pub fn push_hit(hits: &mut HitWriter, value: &str, cas: u64) -> Result<(), NoMem
 
 /// What a store replies in which `a` has this value: Stored to a write.
 fn reply_to(alloc: Global, request: &Request, found: Option<&str>) -> Result<Reply, NoMemory> {
-    if !matches!(request, Request::Get { .. }) {
+    let Request::Get { with_cas, .. } = request else {
         return Ok(Reply::Stored);
-    }
-    let mut hits = HitWriter::in_buffer(SpareBuffer::new(alloc));
+    };
+    let mut hits = HitWriter::in_buffer(SpareBuffer::new(alloc), *with_cas);
     if let Some(value) = found {
         push_hit(&mut hits, value, 1)?;
     }

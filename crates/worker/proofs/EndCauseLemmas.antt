@@ -4,7 +4,7 @@ use Rattle.std.proofs.Common.{List, [], ◌∷◌, ◌++◌, length, get_or, sli
 use Rattle.std.proofs.Common.{ap, subst, ◌∙◌, arith, Some, None}
 use Rattle.session_book.specs.declared.causes.EndCause.{EndCause}
 use Rattle.worker.specs.Sessions.{cause_of}
-use Rattle.worker.specs.EndCauses.{ReportRisesFrom, Rises, with_cause, IsFirstFrom}
+use Rattle.worker.specs.EndCauses.{RisesFrom, with_cause, IsFirstFrom}
 use Rattle.proto.proofs.CountLemmas.{either_way}
 
 -- the report: the numbers of sessions, each with its cause
@@ -14,13 +14,13 @@ Report = List (ℕ × EndCause)
 -- ---- rising numbers
 
 -- where the numbers rise from one above n, each is above n
-above : (n : ℕ) (xs : Report) (j : ℕ) (d : ℕ × EndCause) → ReportRisesFrom n xs → j < length xs → n < (get_or xs j d).0
+above : (n : ℕ) (xs : Report) (j : ℕ) (d : ℕ × EndCause) → RisesFrom n xs → j < length xs → n < (get_or xs j d).0
 above n [] j d h lt = absurd (omega arith)
 above n (x ∷ xs) zero d h lt = h.0
 above n (x ∷ xs) (suc j) d h lt = let k = above x.0 xs j d h.1 (omega arith) in omega (arith, h.0, k)
 
 -- where the numbers rise, the one at a later position is no smaller
-pub rises_on : (n : ℕ) (xs : Report) (i j : ℕ) (d : ℕ × EndCause) → ReportRisesFrom n xs → i ≤ j → j < length xs
+pub rises_on : (n : ℕ) (xs : Report) (i j : ℕ) (d : ℕ × EndCause) → RisesFrom n xs → i ≤ j → j < length xs
     → (get_or xs i d).0 ≤ (get_or xs j d).0
 rises_on n [] i j d h le lt = absurd (omega arith)
 rises_on n (x ∷ xs) zero zero d h le lt = omega arith
@@ -39,14 +39,14 @@ written : (e : ℕ × EndCause) (s : ℕ) (c : EndCause) → e.0 ≡ s → cond 
 written e s c e_is = ap (λ b. cond b (s, c) e) (eq-eqb e.0 s e_is)
 
 -- where all numbers are above n, writing the cause of a session up to n changes nothing
-absent_above : (n : ℕ) (xs : Report) (s : ℕ) (c : EndCause) → ReportRisesFrom n xs → s ≤ n → with_cause xs s c ≡ xs
+absent_above : (n : ℕ) (xs : Report) (s : ℕ) (c : EndCause) → RisesFrom n xs → s ≤ n → with_cause xs s c ≡ xs
 absent_above n [] s c h le = refl
 absent_above n (x ∷ xs) s c h le =
     let ne : x.0 ≢ s = λ e. omega (arith, e, h.0) in
     let rest = absent_above x.0 xs s c h.1 (omega (arith, h.0)) in λ i. kept_apart x s c ne i ∷ rest i
 
 -- where the numbers rise from one above n, to set the entry at which the session's number stands is to write its cause
-set_from : (n : ℕ) (xs : Report) (i s : ℕ) (c : EndCause) → ReportRisesFrom n xs → i < length xs
+set_from : (n : ℕ) (xs : Report) (i s : ℕ) (c : EndCause) → RisesFrom n xs → i < length xs
     → ((d : ℕ × EndCause) → (get_or xs i d).0 ≡ s)
     → slice_set xs i (s, c) ≡ with_cause xs s c
 set_from n [] i s c h lt at = absurd (omega arith)
@@ -59,7 +59,7 @@ set_from n (x ∷ xs) (suc i) s c h lt at =
     let rest = set_from x.0 xs i s c h.1 (omega arith) (λ d. at d) in λ j. sym (kept_apart x s c ne) j ∷ rest j
 
 -- in a report whose numbers rise, to set the entry at which the session's number stands is to write its cause
-pub set_found : (xs : Report) (i s : ℕ) (c : EndCause) → Rises xs → i < length xs
+pub set_found : (xs : Report) (i s : ℕ) (c : EndCause) → RisesFrom 0 xs → i < length xs
     → ((d : ℕ × EndCause) → (get_or xs i d).0 ≡ s)
     → slice_set xs i (s, c) ≡ with_cause xs s c
 set_found xs i s c h lt at = set_from 0 xs i s c h lt at
@@ -72,7 +72,7 @@ absent (x ∷ xs) s c h = let rest = absent xs s c (λ j d lt. h (suc j) d (omeg
     λ i. kept_apart x s c (h 0 x (omega arith)) i ∷ rest i
 
 -- where no number, or another one, is the first that isn't below the session's, writing the session's cause changes nothing
-pub set_absent : (xs : Report) (i s : ℕ) (c : EndCause) → Rises xs → IsFirstFrom xs s i
+pub set_absent : (xs : Report) (i s : ℕ) (c : EndCause) → RisesFrom 0 xs → IsFirstFrom xs s i
     → (i < length xs → (d : ℕ × EndCause) → (get_or xs i d).0 ≢ s) → with_cause xs s c ≡ xs
 set_absent xs i s c h first other =
     absent xs s c (λ j d lt e.
@@ -120,34 +120,34 @@ number_stays e s c =
     (λ (ne : e.0 ≢ s). ap (λ (y : ℕ × EndCause). y.0) (kept_apart e s c ne))
 
 -- numbers that rise from one above n do so after a cause is written
-with_rises : (n : ℕ) (xs : Report) (s : ℕ) (c : EndCause) → ReportRisesFrom n xs → ReportRisesFrom n (with_cause xs s c)
+with_rises : (n : ℕ) (xs : Report) (s : ℕ) (c : EndCause) → RisesFrom n xs → RisesFrom n (with_cause xs s c)
 with_rises n [] s c h = tt
 with_rises n (x ∷ xs) s c h = let same = number_stays x s c in (
   subst (λ k. n < k) (sym same) h.0,
-  subst (λ k. ReportRisesFrom k (with_cause xs s c)) (sym same) (with_rises x.0 xs s c h.1),
+  subst (λ k. RisesFrom k (with_cause xs s c)) (sym same) (with_rises x.0 xs s c h.1),
 )
 
 -- and they did before, where they do afterwards
-rose_from : (n : ℕ) (xs : Report) (s : ℕ) (c : EndCause) → ReportRisesFrom n (with_cause xs s c) → ReportRisesFrom n xs
+rose_from : (n : ℕ) (xs : Report) (s : ℕ) (c : EndCause) → RisesFrom n (with_cause xs s c) → RisesFrom n xs
 rose_from n [] s c h = tt
 rose_from n (x ∷ xs) s c h = let same = number_stays x s c in (
   subst (λ k. n < k) same h.0,
-  rose_from x.0 xs s c (subst (λ k. ReportRisesFrom k (with_cause xs s c)) same h.1),
+  rose_from x.0 xs s c (subst (λ k. RisesFrom k (with_cause xs s c)) same h.1),
 )
 
-pub rose : (xs : Report) (s : ℕ) (c : EndCause) → Rises (with_cause xs s c) → Rises xs
+pub rose : (xs : Report) (s : ℕ) (c : EndCause) → RisesFrom 0 (with_cause xs s c) → RisesFrom 0 xs
 rose xs s c h = rose_from 0 xs s c h
 
 -- numbers rise where they do with one more behind them
-before_from : (n : ℕ) (xs : Report) (e : ℕ × EndCause) → ReportRisesFrom n (xs ++ e ∷ []) → ReportRisesFrom n xs
+before_from : (n : ℕ) (xs : Report) (e : ℕ × EndCause) → RisesFrom n (xs ++ e ∷ []) → RisesFrom n xs
 before_from n [] e h = tt
 before_from n (x ∷ xs) e h = (h.0, before_from x.0 xs e h.1)
 
-pub rose_before : (xs : Report) (e : ℕ × EndCause) → Rises (xs ++ e ∷ []) → Rises xs
+pub rose_before : (xs : Report) (e : ℕ × EndCause) → RisesFrom 0 (xs ++ e ∷ []) → RisesFrom 0 xs
 rose_before xs e h = before_from 0 xs e h
 
 -- the numbers of a report rise after a cause is written, if they rose before
-pub rises_with : (xs : Report) (s : ℕ) (c : EndCause) → Rises xs → Rises (with_cause xs s c)
+pub rises_with : (xs : Report) (s : ℕ) (c : EndCause) → RisesFrom 0 xs → RisesFrom 0 (with_cause xs s c)
 rises_with xs s c h = with_rises 0 xs s c h
 
 -- writing a cause leaves the number of entries
@@ -172,9 +172,9 @@ cause_new (x ∷ xs) s c e =
     ∙ cause_new xs s c (sym (ap (λ b. cond b (Some x.1) (cause_of xs s)) (ne_eqb x.0 s ne)) ∙ e))
 
 -- numbers that rise from one above n do so with one more at the end that is above n and above them all
-more_from : (n : ℕ) (xs : Report) (t : ℕ) (c : EndCause) → ReportRisesFrom n xs → n < t
+more_from : (n : ℕ) (xs : Report) (t : ℕ) (c : EndCause) → RisesFrom n xs → n < t
     → ((s : ℕ) (d : EndCause) → cause_of xs s ≡ Some d → s < t)
-    → ReportRisesFrom n (xs ++ (t, c) ∷ [])
+    → RisesFrom n (xs ++ (t, c) ∷ [])
 more_from n [] t c h lt below = (lt, tt)
 more_from n (x ∷ xs) t c h lt below = (
   h.0,
@@ -186,6 +186,6 @@ more_from n (x ∷ xs) t c h lt below = (
 )
 
 -- the numbers of a report rise with one more at the end that is above 0 and above them all
-pub rises_more : (xs : Report) (t : ℕ) (c : EndCause) → Rises xs → 0 < t
-    → ((s : ℕ) (d : EndCause) → cause_of xs s ≡ Some d → s < t) → Rises (xs ++ (t, c) ∷ [])
+pub rises_more : (xs : Report) (t : ℕ) (c : EndCause) → RisesFrom 0 xs → 0 < t
+    → ((s : ℕ) (d : EndCause) → cause_of xs s ≡ Some d → s < t) → RisesFrom 0 (xs ++ (t, c) ∷ [])
 rises_more xs t c h lt below = more_from 0 xs t c h lt below

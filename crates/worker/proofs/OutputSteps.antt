@@ -20,7 +20,7 @@ use Rattle.worker.specs.declared.state.WorkerState.{WorkerState}
 use Rattle.worker_port.specs.Ports.{PortStory, then_gave, with_pause, is_open, give_records, has_ended, opened_count, AcceptsOnlyOpen}
 use Rattle.worker.specs.Sessions.{RunView, facts, AreFactsConsistent, IsSessionServed}
 use Rattle.worker_port.specs.PortFacts.{port_facts}
-use Rattle.worker.specs.EndCauses.{Rises, piece_of}
+use Rattle.worker.specs.EndCauses.{RisesFrom, piece_of}
 use Rattle.worker.specs.Workers.{end_of, posted_by, IsSteady, AreSessionsCounted, IsStoryKnown, run_view, IsWorkerServing, IsStoryBy, Closes, LeavesWorker}
 use Rattle.worker_port.proofs.Facts.{elsewhere, accepted_here}
 use Rattle.worker.proofs.SessionSteps.{runs, served_fed, served_holding, served_gave}
@@ -40,7 +40,7 @@ pub told_within : (v v' : RunView) (unopened : ℕ) (ended : Bool) → IsStoryKn
     → ((s : ℕ) → AreFactsConsistent (facts v' s)) → IsStoryKnown v' unopened ended
 told_within v v' unopened ended h e r each = record {
   each = each;
-  rising = subst Rises (sym r) h.rising;
+  rising = subst (RisesFrom 0) (sym r) h.rising;
   counted = subst (λ (y : List PortRecord × List (ℕ × EndCause)). AreSessionsCounted y.0 y.1 unopened)
       (λ i. (sym e i, sym r i)) h.counted;
   at_end = ap has_ended e ∙ h.at_end;
@@ -178,7 +178,7 @@ told_gave v v' unopened ended t n s h open_is d e p b r book piece =
     (option_map (λ (x : SessionState). gave x n) (session_of v.book t)) (session_of v.book k) ne) (λ i. piece i k) in
     record {
       each = change_at t v v' others (subst AreFactsConsistent (sym here) now) (λ k ne. h.each k);
-      rising = subst Rises (sym r) h.rising;
+      rising = subst (RisesFrom 0) (sym r) h.rising;
       counted = subst (λ (y : List PortRecord × List (ℕ × EndCause)). AreSessionsCounted y.0 y.1 unopened)
           (λ i. (sym e i, sym r i))
           (subst (λ (y : ℕ). (length v.sessions ≤ y) × (unopened ≡ min (y - length v.sessions) (2 ^ 64 - 1)))

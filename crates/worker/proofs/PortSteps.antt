@@ -18,7 +18,7 @@ use Rattle.worker.specs.declared.state.WorkerState.{WorkerState}
 use Rattle.worker_port.specs.Ports.{PortStory, then_told, with_pause, IsOpenIn, is_open, was_opened, has_ended, AcceptsOnlyOpen}
 use Rattle.worker.specs.Sessions.{RunView, facts, cause_of, AreFactsConsistent}
 use Rattle.worker_port.specs.PortFacts.{PortFacts, port_facts}
-use Rattle.worker.specs.EndCauses.{Rises, piece_of}
+use Rattle.worker.specs.EndCauses.{RisesFrom, piece_of}
 use Rattle.worker.specs.Workers.{end_of, posted_by, IsSteady, AreSessionsCounted, IsStoryKnown, run_view, IsWorkerServing, Closes, Shuts, LeavesWorker}
 use Rattle.worker.specs.Workers.{HandlesData, feeds, holds, shuts, drops, Admits, Refuses, SameRest}
 use Rattle.worker.proofs.EndCauseLemmas.{rises_more, rises_with, length-with, cause_more, cause_new}
@@ -135,7 +135,7 @@ told_admitted v v' unopened ended t h may d e p k r book piece =
     λ s d q. may.1 s (opened_if_placed (facts v s) d (h.each s) q) in
     let len = length-append v.sessions ((t, causes.Drained) ∷ []) in let more = count_more l t in record {
       each = change_at t v v' others (subst AreFactsConsistent (sym here) now) (λ s ne. h.each s);
-      rising = subst Rises (sym r) (rises_more v.sessions t causes.Drained h.rising may.0 below);
+      rising = subst (RisesFrom 0) (sym r) (rises_more v.sessions t causes.Drained h.rising may.0 below);
       counted = subst (λ (y : List PortRecord × List (ℕ × EndCause)). AreSessionsCounted y.0 y.1 unopened)
           (λ i. (sym e i, sym r i))
           (omega (arith, len, more, h.counted.0), omega (arith, len, more, h.counted.0, h.counted.1));
@@ -175,7 +175,7 @@ told_refused v v' unopened ended t h may d e p k r book piece =
     (ap (λ z. session_of z s) book) (λ i. piece i s) in
     let more = count_more l t in let same = count_same m y refl in record {
       each = change_at t v v' others (subst AreFactsConsistent (sym here) now) (λ s ne. h.each s);
-      rising = subst Rises (sym r) h.rising;
+      rising = subst (RisesFrom 0) (sym r) h.rising;
       counted = subst (λ (z : List PortRecord × List (ℕ × EndCause)). AreSessionsCounted z.0 z.1
           (min (unopened + 1) (2 ^ 64 - 1))) (λ i. (sym e i, sym r i))
           (omega (arith, same, more, h.counted.0), omega (arith, same, more, h.counted.0, h.counted.1));
@@ -348,7 +348,7 @@ told_data_shut v v' unopened ended t b h opened k =
       each = close_all u v' t causes.NoMemory (was.Shut t) (record (port_facts m t) { shut = true }) k
           (apart_shut t) here
           (ap (λ (p : PortFacts). p.opened) came ∙ run.opened) closed before;
-      rising = subst Rises (sym k.sessions) (rises_with v.sessions t causes.NoMemory h.rising);
+      rising = subst (RisesFrom 0) (sym k.sessions) (rises_with v.sessions t causes.NoMemory h.rising);
       counted = subst (λ (y : List PortRecord × List (ℕ × EndCause)). AreSessionsCounted y.0 y.1 unopened)
           (λ i. (sym k.events i, sym k.sessions i))
           (subst (λ (y : ℕ × ℕ). (y.1 ≤ y.0) × (unopened ≡ min (y.0 - y.1) (2 ^ 64 - 1)))

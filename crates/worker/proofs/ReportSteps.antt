@@ -1,8 +1,8 @@
 -- What a worker that has drained reports.
-use Rattle.std.proofs.Common.{◌≡◌, ℕ, ◌==◌, ◌&&◌, Bool, true, false}
+use Rattle.std.proofs.Common.{◌≡◌, ℕ, zero, suc, ◌<◌, ◌==◌, ◌&&◌, Bool, true, false}
 use Rattle.std.proofs.Common.{true≢false, cond, eq-eqb, List, [], ◌∷◌, ◌++◌, length, map, refl}
 use Rattle.std.proofs.Common.{sym, ap, subst, ◌∙◌, append-nil, arith, Option, Some, None, is_some}
-use Rattle.std.specs.Prelude.{IsSome}
+use Rattle.std.specs.Prelude.{IsSome, slice_index_or}
 use Rattle.std.specs.List.{filter, concat}
 use Rattle.proto.specs.declared.message.Request.{Request}
 use Rattle.proto.specs.declared.message.Reply.{Reply}
@@ -272,6 +272,13 @@ is_there (Some c) h = refl
 
 -- ---- the report
 
+-- a list at one of its elements
+split_at : {A : Type 0} (xs : List A) (k : ℕ) (d : A) → k < length xs
+    → (before : List A) × (after : List A) × (xs ≡ before ++ slice_index_or xs k d ∷ after)
+split_at [] k d low = absurd (omega arith)
+split_at (y ∷ xs) zero d low = ([], xs, refl)
+split_at (y ∷ xs) (suc k) d low = let t = split_at xs k d (omega arith) in (y ∷ t.0, t.1, λ i. y ∷ t.2 i)
+
 -- the report is right where the port has ended and all is known, each request came back, and each session that is still
 -- open is emptied
 pub reported : (v : RunView) (end : WorkerView) (unopened : ℕ) → IsStoryKnown v unopened true → v.posted ≡ end.sent
@@ -281,19 +288,22 @@ pub reported : (v : RunView) (end : WorkerView) (unopened : ℕ) → IsStoryKnow
     → IsEmptied st)
     → IsReported v.dialect v.events end v.sessions unopened
 reported v end unopened h posted back all none emptied = record {
-  ended = h.at_end;
-  once = h.rising;
-  opened = λ s e. let c = there_is (cause_of v.sessions s) e in opened_if_placed (facts v s) c.0 (h.each s) c.1;
-  refused = λ s o e. unplaced_shut (facts v s) (facts v s).port.opened (facts v s).cause (h.each s).known o e;
-  counted = h.counted;
-  accepts = h.accepts;
-  no_stranger = λ s e. (unplaced_given (facts v s) (facts v s).port.opened (facts v s).cause (h.each s).known e).0;
-  placed = λ p before after split.
-      is_there (cause_of v.sessions p.session)
-      (λ e. asked_some before after p (ap (λ (l : List Posted). asked_by l p.session) (sym split ∙ sym posted)
-      ∙ (unplaced_given (facts v p.session) (facts v p.session).port.opened (facts v p.session).cause
-      (h.each p.session).known e).1));
-  answered = λ s c e history share asks_all messages rest reads.
+  listed = record {
+    ended = h.at_end;
+    once = h.rising;
+    opened = λ s e. let c = there_is (cause_of v.sessions s) e in opened_if_placed (facts v s) c.0 (h.each s) c.1;
+    refused = λ s o e. unplaced_shut (facts v s) (facts v s).port.opened (facts v s).cause (h.each s).known o e;
+    counted = h.counted;
+    accepts = h.accepts;
+    no_stranger = λ s e. (unplaced_given (facts v s) (facts v s).port.opened (facts v s).cause (h.each s).known e).0;
+    placed = λ k d low.
+        let p = slice_index_or end.sent k d in let t = split_at end.sent k d low in
+        is_there (cause_of v.sessions p.session)
+        (λ e. asked_some t.0 t.1 p (ap (λ (l : List Posted). asked_by l p.session) (sym t.2 ∙ sym posted)
+        ∙ (unplaced_given (facts v p.session) (facts v p.session).port.opened (facts v p.session).cause
+        (h.each p.session).known e).1));
+  };
+  answered = λ history share asks_all s c messages rest e reads.
       let many : length (asked_by v.posted s) ≡ length (had_by v.back s) =
       as_many v.back v.posted s (ap asked_posted back ∙ all ∙ sym posted) in
       let placed = placed_as (facts v s) c (facts v s).port.opened (facts v s).cause (h.each s).known e in
@@ -304,8 +314,10 @@ reported v end unopened h posted back all none emptied = record {
       ∙ ap (λ (l : List Posted). asked_by l s) (asks_all ∙ sym posted) in
       let qh : had (session_share history end.worker s) ≡ had_by v.back s = ap had (share_of history end.worker s)
       ∙ ap (λ (l : List Answered). had_by l s) (share ∙ sym back) in record {
-        first = subst (λ x. StartsWith (asks messages) x) (sym qa) k.first;
-        beginning = subst (λ x. StartsWith (said messages x) (given s v.events)) (sym qh) k.beginning;
+        answers = record {
+          first = subst (λ x. StartsWith (asks messages) x) (sym qa) k.first;
+          begins = subst (λ x. StartsWith (said messages x) (given s v.events)) (sym qh) k.beginning;
+        };
         complete = λ d. let w = k.complete d in (qa ∙ w.0, w.1 ∙ ap (said messages) (sym qh));
         caused = k.caused;
       };

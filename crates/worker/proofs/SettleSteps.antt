@@ -26,7 +26,7 @@ use Rattle.worker.specs.declared.state.WorkerState.{WorkerState}
 use Rattle.worker.specs.Sessions.{RunView, facts, asked_by, had_by, cause_of, AreFactsConsistent, IsSessionServed}
 use Rattle.worker_port.specs.PortFacts.{PortFacts, port_facts}
 use Rattle.worker_port.specs.Ports.{PortStory, then_told, has_ended, AcceptsOnlyOpen}
-use Rattle.worker.specs.EndCauses.{Rises, piece_of}
+use Rattle.worker.specs.EndCauses.{RisesFrom, piece_of}
 use Rattle.worker.specs.Workers.{once_flushed, end_of, posted_by, unsettled_post, IsNumbered}
 use Rattle.worker.specs.Workers.{IsSteady, AreSessionsCounted, IsStoryKnown, run_view, IsWorkerServing}
 use Rattle.worker.specs.Workers.{TakesNone, TakesBack, Shuts, WasToldOfHistory}
@@ -376,8 +376,8 @@ told_starved v u v' unopened ended a s h open_is k c =
       each = close_all u v' t causes.NoMemory (was.Shut t) (record (port_facts l t) { shut = true }) c
           (apart_shut t) here
           (ap (λ (p : PortFacts). p.opened) port_same ∙ run.opened) closed before;
-      rising = subst Rises (sym c.sessions)
-          (rises_with u.sessions t causes.NoMemory (subst Rises (sym k.sessions) h.rising));
+      rising = subst (RisesFrom 0) (sym c.sessions)
+          (rises_with u.sessions t causes.NoMemory (subst (RisesFrom 0) (sym k.sessions) h.rising));
       counted = subst (λ (y : List PortRecord × List (ℕ × EndCause)). AreSessionsCounted y.0 y.1 unopened)
           (λ i. (sym c.events i, sym c.sessions i))
           (subst (λ (y : ℕ × ℕ). (y.1 ≤ y.0) × (unopened ≡ min (y.0 - y.1) (2 ^ 64 - 1))) (λ i. (sym one i, sym len i))
@@ -410,7 +410,7 @@ starved_goes_on {P} told old mid new a s k b h open_is r c =
       ended = c.closes.ended ∙ k.ended;
     }) h
     (λ story e was_so.
-    let rising : Rises mid.sessions.items = subst Rises (λ i. (sym k.sessions i).items) was_so.0.rising in
+    let rising : RisesFrom 0 mid.sessions.items = subst (RisesFrom 0) (λ i. (sym k.sessions i).items) was_so.0.rising in
     let closes = closes_in story mid new a.session causes.NoMemory (was.Shut a.session) c.closes rising in
     let pieces = pieces_gone old.book mid.book new.book a.session r.only_at c.closes.book.only_at in (
       told_starved (run_view story old)

@@ -6,7 +6,7 @@ use Rattle.std.specs.Option.{option_map}
 use Rattle.proto.proofs.Options.{some_is}
 use Rattle.worker_port.specs.declared.events.PortRecord.{PortRecord}
 use Rattle.worker_port.specs.declared.events.PortRecord.TheVariants as was
-use Rattle.worker_port.specs.Ports.{PortStory, are_end_of, then_told, give_records}
+use Rattle.worker_port.specs.Ports.{PortStory, has_gone, was_shut, then_told, give_records}
 use Rattle.worker.specs.Workers.{ArePaused}
 use Rattle.worker_port.proofs.Facts.{about}
 use Rattle.worker.proofs.RunViews.{at_other}
@@ -43,7 +43,8 @@ tells_none (Some story) h = absurd (h story refl)
 -- ---- which sessions an entry ends
 
 -- an entry about another session doesn't end this one
-pub ends_elsewhere : (x : PortRecord) (s : ℕ) → about s x ≡ false → are_end_of s (x ∷ []) ≡ false
+pub ends_elsewhere : (x : PortRecord) (s : ℕ) → about s x ≡ false
+    → (has_gone s (x ∷ []) || was_shut s (x ∷ [])) ≡ false
 ends_elsewhere (was.Opened t) s e = refl
 ends_elsewhere (was.Data t b) s e = refl
 ends_elsewhere (was.Gone t) s e = ap (λ b. (b || false) || false) e
@@ -58,7 +59,7 @@ paused_elsewhere story x s e = ap (λ b. cond b false (story.paused s)) (ends_el
 
 -- accepted bytes, whether there are any or not, end no session, and leave each one paused, or not
 accepted_if : (story : PortStory) (b : Bool) (t s : ℕ) (bytes : List ℕ)
-    → cond (are_end_of s (cond b [] (was.Accepted t bytes ∷ []))) false (story.paused s) ≡ story.paused s
+    → (then_told (cond b [] (was.Accepted t bytes ∷ [])) story).paused s ≡ story.paused s
 accepted_if story true t s bytes = refl
 accepted_if story false t s bytes = refl
 

@@ -12,11 +12,11 @@ use Rattle.session_book.specs.Book.{BookState, session_of}
 use Rattle.worker_port.specs.declared.events.PortRecord.{PortRecord}
 use Rattle.worker_port.specs.declared.events.PortRecord.TheVariants as was
 use Rattle.worker.specs.declared.state.WorkerState.{WorkerState}
-use Rattle.worker_port.specs.Ports.{PortStory, then_told, IsOpenIn, is_open, was_opened, has_gone, was_shut, has_ended, opened_count, IsProper, AcceptsOnlyOpen}
+use Rattle.worker_port.specs.Ports.{PortStory, then_told, IsOpenIn, is_open, was_opened, has_gone, was_shut, has_ended, opened_count, AcceptsOnlyOpen}
 use Rattle.worker.specs.Sessions.{SessionFacts, RunView, facts, asked_by, had_by, cause_of, AreFactsConsistent, IsSessionServed}
 use Rattle.worker_port.specs.PortFacts.{PortFacts, port_facts}
 use Rattle.worker.specs.Sessions.{IsClosed}
-use Rattle.worker.specs.EndCauses.{Rises, piece_of}
+use Rattle.worker.specs.EndCauses.{RisesFrom, piece_of}
 use Rattle.worker.specs.Workers.{end_of, posted_by, IsSteady, AreSessionsCounted, IsStoryKnown, run_view, ArePaused, IsWorkerServing, IsSameEnd, IsLaterEnd}
 use Rattle.worker_port.specs.Giving.{IsStoryOf}
 use Rattle.exchange.proofs.Lists.{starts_trans}
@@ -28,7 +28,7 @@ use Rattle.worker.proofs.SessionSteps.{served_holding}
 use Rattle.worker.proofs.StoryLaws.{told_before, tells_as, paused_but, paused_elsewhere}
 use Rattle.worker.proofs.PieceLaws.{pieces_at}
 use Rattle.worker.proofs.RunViews.{facts_equal, change_at, at_other, at_same, ClosesIn, shuts_here, goes_here, stays}
-use Rattle.worker_port.proofs.Lists.{ended_same, count_same, accepts_more}
+use Rattle.worker_port.proofs.Lists.{IsProper, ended_same, count_same, accepts_more}
 use Rattle.worker.proofs.RunViews.{close_all, apart_shut, apart_gone}
 
 -- a worker went on, and still serves
@@ -99,7 +99,7 @@ told_closed : (v v' : RunView) (unopened : ℕ) (ended : Bool) (t : ℕ) (c : En
     → ((s : ℕ) → AreFactsConsistent (facts v' s)) → IsStoryKnown v' unopened ended
 told_closed v v' unopened ended t c x h k same count proper each = record {
   each = each;
-  rising = subst Rises (sym k.sessions) (rises_with v.sessions t c h.rising);
+  rising = subst (RisesFrom 0) (sym k.sessions) (rises_with v.sessions t c h.rising);
   counted = subst (λ (y : List PortRecord × List (ℕ × EndCause)). AreSessionsCounted y.0 y.1 unopened)
       (λ i. (sym k.events i, sym k.sessions i))
       (let len = length-with v.sessions t c in
@@ -159,7 +159,7 @@ told_finished v v' unopened ended t c h k r queue out ends =
 -- what a closing of the worker makes of its view
 pub closes_in : {P : Type 0} (story : PortStory) (old new : WorkerState P) (t : ℕ) (c : EndCause) (x : PortRecord)
     → Closes old new t c
-    → Rises old.sessions.items → ClosesIn (run_view story old) (run_view (then_told (x ∷ []) story) new) t c x
+    → RisesFrom 0 old.sessions.items → ClosesIn (run_view story old) (run_view (then_told (x ∷ []) story) new) t c x
 closes_in story old new t c x k rises = record {
   dialect = refl;
   events = refl;
@@ -348,7 +348,7 @@ pub told_same : (v v' : RunView) (unopened : ℕ) (ended : Bool) (x : PortRecord
     → IsProper v.events x → ((s : ℕ) → AreFactsConsistent (facts v' s)) → IsStoryKnown v' unopened ended
 told_same v v' unopened ended x h e r same count proper each = record {
   each = each;
-  rising = subst Rises (sym r) h.rising;
+  rising = subst (RisesFrom 0) (sym r) h.rising;
   counted = subst (λ (y : List PortRecord × List (ℕ × EndCause)). AreSessionsCounted y.0 y.1 unopened)
       (λ i. (sym e i, sym r i))
       (subst (λ (y : ℕ). (length v.sessions ≤ y) × (unopened ≡ min (y - length v.sessions) (2 ^ 64 - 1)))

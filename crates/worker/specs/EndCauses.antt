@@ -3,14 +3,10 @@ use Rattle.std.specs.Prelude.{ℕ, ◌<◌, ◌≤◌, ⊤, length, slice_index_
 use Rattle.session_book.specs.declared.causes.EndCause.{EndCause}
 use Rattle.session_book.specs.Book.{BookState, session_of, held_of}
 
--- the numbers rise from one above this one
-abbrev pub ReportRisesFrom : ℕ → List (ℕ × EndCause) → Type 0
-ReportRisesFrom n [] = ⊤
-ReportRisesFrom n (e ∷ sessions) = (n < e.0) × ReportRisesFrom e.0 sessions
-
--- the numbers rise, so that no session has two entries
-abbrev pub Rises : List (ℕ × EndCause) → Type 0
-Rises sessions = ReportRisesFrom 0 sessions
+-- the numbers rise from one above this one, so that no session has two entries
+abbrev pub RisesFrom : ℕ → List (ℕ × EndCause) → Type 0
+RisesFrom n [] = ⊤
+RisesFrom n (e ∷ sessions) = (n < e.0) × RisesFrom e.0 sessions
 
 -- the report with this cause at the session's entry
 abbrev pub with_cause : List (ℕ × EndCause) → ℕ → EndCause → List (ℕ × EndCause)

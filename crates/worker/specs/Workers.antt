@@ -21,7 +21,7 @@ use Rattle.worker.specs.declared.state.WorkerState.{WorkerState}
 use Rattle.worker_port.specs.Ports.{PortStory, then_told, with_pause, has_ended, opened_count, AcceptsOnlyOpen}
 use Rattle.worker_port.specs.Giving.{IsStoryOf}
 use Rattle.worker.specs.Sessions.{RunView, facts, AreFactsConsistent}
-use Rattle.worker.specs.EndCauses.{Rises, with_cause, piece_of}
+use Rattle.worker.specs.EndCauses.{RisesFrom, with_cause, piece_of}
 
 -- a worker's end as it is once all that was put is flushed: so what was put counts as sent
 abbrev pub once_flushed : WorkerBatchView → WorkerView
@@ -67,7 +67,7 @@ AreSessionsCounted events sessions unopened =
 -- All that is known where the port tells its list.
 pub record IsStoryKnown (v : RunView) (unopened : ℕ) (ended : Bool) : Type 0 where
   pub each : (s : ℕ) → AreFactsConsistent (facts v s)
-  pub rising : Rises v.sessions
+  pub rising : RisesFrom 0 v.sessions
   pub counted : AreSessionsCounted v.events v.sessions unopened
   pub at_end : has_ended v.events ≡ ended
   pub accepts : AcceptsOnlyOpen v.events
@@ -144,7 +144,7 @@ pub record Closes {P : Type 0} (old new : WorkerState P) (session : ℕ) (cause 
   pub end : end_of new ≡ end_of old
   pub request : new.request ≡ old.request
   pub book : ChangesSession old.book new.book session None
-  pub sessions : Rises old.sessions.items → new.sessions.items ≡ with_cause old.sessions.items session cause
+  pub sessions : RisesFrom 0 old.sessions.items → new.sessions.items ≡ with_cause old.sessions.items session cause
   pub unopened : new.unopened ≡ old.unopened
   pub strangers : new.strangers ≡ old.strangers
   pub ended : new.ended ≡ old.ended

@@ -5,13 +5,13 @@ mod end_causes;
 mod gate;
 mod hold_gate;
 mod open_gate;
+mod pauses;
 mod reply_buffers;
 mod report;
 mod run;
 mod sending;
 mod session_list;
 mod state;
-mod waiting;
 mod worker;
 
 pub use gate::Gate;

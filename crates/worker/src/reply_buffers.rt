@@ -6,9 +6,10 @@ use proto::{Answered, Request, SpareBuffer};
 use std::alloc::Global;
 use std::marker::Model;
 
-/// So many spare buffers are kept at most, and so many bytes of them in all.
+/// The most spare buffers that are kept.
 const MAX_BUFFERS: usize = 128;
 
+/// The most bytes that they have in all.
 const MAX_BYTES: usize = 8_388_608;
 
 /// Spare buffers for the hits of a `get`: the one that was kept last is lent first. Contracts see the bytes that each has.
@@ -37,7 +38,7 @@ impl ReplyBuffers {
         }
     }
 
-    // Lends a `get` a spare buffer, if there is one.
+    /// Lends a `get` a spare buffer, if there is one.
     pub(crate) fn lend(&mut self, request: &mut Request)
         ensures { request.new ≡ request.old }
     {
@@ -50,14 +51,14 @@ impl ReplyBuffers {
         }
     }
 
-    // Keeps the buffer of an answer that is settled.
+    /// Keeps the buffer of an answer that is settled.
     pub(crate) fn keep(&mut self, settled: Answered) {
         let Answered { request, reply, .. } = settled;
         drop(request);
         self.keep_spare(reply.into_buffer());
     }
 
-    // Keeps a spare buffer of moderate size, if there is one and room for it.
+    /// Keeps a spare buffer of moderate size, if there is one and room for it.
     fn keep_spare(&mut self, spare: Option<SpareBuffer>) {
         let Some(spare) = spare else {
             return;

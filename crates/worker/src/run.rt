@@ -1,21 +1,21 @@
 //! The loop of a worker.
 
-ghost use Rattle.std.specs.Prelude.{◌≡◌, ◌<◌, [], true, false, is_some};
+ghost use Rattle.std.specs.Prelude.{◌≡◌, ◌<◌, [], true, false, None, is_some};
 ghost use Rattle.worker.specs.Workers.{end_of, Continues, IsDrained};
 ghost use Rattle.worker_port.specs.Ports.{PortStory};
 ghost use Rattle.worker_port.specs.Giving.{IsStoryOf};
 ghost use Rattle.worker.specs.Reports.{IsReported, IsOver};
 
 use crate::gate::Gate;
+use crate::pauses::Pauses;
 use crate::report::WorkerReport;
 use crate::sending;
 use crate::session_list::SessionList;
 use crate::state::WorkerState;
-use crate::waiting::Waiting;
 use crate::worker::Worker;
 use exchange::{StorageSignals, WorkerEnd};
-use proto::Dialect;
-use session_book::MAX_UNSETTLED;
+use proto::{Dialect, WINDOW};
+use session_book::Task;
 use std::alloc::Global;
 use std::sync::Wait;
 use worker_port::Port;
@@ -23,11 +23,11 @@ use worker_port::Port;
 /// The most events that are taken in a turn. Storage is told of their requests together, so it is woken once for them.
 const EVENTS_A_TURN: usize = 32;
 
-/// So many sessions whose peer accepted nothing are offered their output again in a turn.
+/// The most sessions whose peer accepted nothing that are offered their output again in a turn.
 const SLOW_A_TURN: usize = 2;
 
-// Takes what has come, in a few events, and asks at once what they bring: what a session has sent is asked before it is
-// taken that its peer has gone. They end where a session can't be asked further.
+/// Takes what has come, in a few events, and asks at once what they bring: what a session has sent is asked before it is
+/// taken that its peer has gone. They end where a session can't be asked further.
 fn take_events<P: Port, G: Gate>(worker: &mut Worker<P>, gate: &G, storage: &StorageSignals) -> bool
     ensures { Continues P.told P.leads_to worker.old worker.new }
 {
@@ -38,48 +38,49 @@ fn take_events<P: Port, G: Gate>(worker: &mut Worker<P>, gate: &G, storage: &Sto
         }
         moved = true;
         ask_sessions(worker, gate, storage);
-        if worker.state.book.to_ask() > 0 {
+        if worker.state.book.ready(Task::Ask) > 0 {
             break;
         }
     }
     moved
 }
 
-// Feeds each held piece that may fit by now.
+/// Feeds each held piece that may fit by now.
 fn feed_pieces<P: Port>(worker: &mut Worker<P>) -> bool
     ensures { Continues P.told P.leads_to worker.old worker.new }
 {
     let mut moved = false;
-    for _ in 0..worker.state.book.to_feed() {
+    for _ in 0..worker.state.book.ready(Task::Feed) {
         moved |= worker.feed_next();
     }
     moved
 }
 
-// Asks the session for requests until it has none left or the window is full.
+/// Asks the session for requests until it has none left or none can be asked now.
 fn ask_session<P: Port, G: Gate>(
     worker: &mut Worker<P>,
     session: u64,
     gate: &G,
     storage: &StorageSignals,
 )
+    requires { worker.old.request ≡ None }
     ensures { Continues P.told P.leads_to worker.old worker.new }
 {
-    for _ in 0..=MAX_UNSETTLED {
+    for _ in 0..=WINDOW {
         if !worker.ask_and_post(session, gate, storage) {
             break;
         }
     }
 }
 
-// Asks the next session that has input, unless no request can be asked now.
+/// Asks the next session that has input, unless no request can be asked now.
 fn ask_next<P: Port, G: Gate>(worker: &mut Worker<P>, gate: &G, storage: &StorageSignals) -> bool
     ensures { Continues P.told P.leads_to worker.old worker.new }
 {
     if worker.is_busy() {
         return false;
     }
-    match worker.state.book.next_to_ask() {
+    match worker.state.book.next_ready(Task::Ask) {
         Some(session) => {
             ask_session(worker, session, gate, storage);
             true
@@ -88,18 +89,18 @@ fn ask_next<P: Port, G: Gate>(worker: &mut Worker<P>, gate: &G, storage: &Storag
     }
 }
 
-// Asks the sessions in turn while the window has room.
+/// Asks the sessions in turn while the window has room.
 fn ask_sessions<P: Port, G: Gate>(worker: &mut Worker<P>, gate: &G, storage: &StorageSignals)
     ensures { Continues P.told P.leads_to worker.old worker.new }
 {
-    for _ in 0..worker.state.book.to_ask() {
+    for _ in 0..worker.state.book.ready(Task::Ask) {
         if !ask_next(worker, gate, storage) {
             break;
         }
     }
 }
 
-// Posts the held request, then what has come and what fits by now, and tells storage of all of it.
+/// Posts the held request, then what has come and what fits by now, and tells storage of all of it.
 fn post_requests<P: Port, G: Gate>(
     worker: &mut Worker<P>,
     gate: &G,
@@ -117,7 +118,7 @@ fn post_requests<P: Port, G: Gate>(
     held || came || fed || asked
 }
 
-// Takes and settles all answers that are there.
+/// Takes and settles all answers that are there.
 fn settle_answers<P: Port, G: Gate>(worker: &mut Worker<P>, gate: &G) -> bool
     ensures { Continues P.told P.leads_to worker.old worker.new }
 {
@@ -131,42 +132,31 @@ fn settle_answers<P: Port, G: Gate>(worker: &mut Worker<P>, gate: &G) -> bool
     moved
 }
 
-// Gives the output of each session that has some, and shuts those that have finished.
-fn give_output<P: Port>(worker: &mut Worker<P>) -> bool
+/// Gives the output of the sessions that are to be taken up for the task, of `most` at most, and shuts those that have finished.
+fn give_output<P: Port>(worker: &mut Worker<P>, task: Task, most: usize) -> bool
     ensures { Continues P.told P.leads_to worker.old worker.new }
 {
     let mut moved = false;
-    for _ in 0..worker.state.book.to_give() {
-        moved |= worker.give_next();
+    for _ in 0..worker.state.book.ready(task).min(most) {
+        moved |= worker.give_next(task);
     }
     moved
 }
 
-// The same of a few of the sessions whose peer accepted nothing.
-fn give_slowly<P: Port>(worker: &mut Worker<P>) -> bool
-    ensures { Continues P.told P.leads_to worker.old worker.new }
-{
-    let mut moved = false;
-    for _ in 0..worker.state.book.to_give_slowly().min(SLOW_A_TURN) {
-        moved |= worker.give_next_slow();
-    }
-    moved
-}
-
-// One turn. False where there was nothing to do. Storage knows of all that was posted before the answers are looked for, so
-// nothing is kept back while the worker waits.
+/// One turn. False where there was nothing to do. Storage knows of all that was posted before the answers are looked for, so
+/// nothing is kept back while the worker waits.
 fn take_turn<P: Port, G: Gate>(worker: &mut Worker<P>, gate: &G, storage: &StorageSignals) -> bool
     ensures { Continues P.told P.leads_to worker.old worker.new }
 {
     let posted = post_requests(worker, gate, storage);
     let settled = settle_answers(worker, gate);
-    let given = give_output(worker);
-    let given_slowly = give_slowly(worker);
+    let given = give_output(worker, Task::Give, usize::MAX);
+    let given_slowly = give_output(worker, Task::GiveSlowly, SLOW_A_TURN);
     posted || settled || given || given_slowly
 }
 
-// Whether all is done: the port has ended, nothing is held or outstanding, and no open session has input or output left. One
-// that has some is asked again.
+/// Whether all is done: the port has ended, nothing is held or outstanding, and no open session has input or output left. One
+/// that has some is asked again.
 fn has_drained<P: Port>(worker: &mut Worker<P>) -> bool
     ensures goes_on { Continues P.told P.leads_to worker.old worker.new }
     ensures drained { result ≡ true → IsDrained worker.new }
@@ -187,7 +177,7 @@ fn has_drained<P: Port>(worker: &mut Worker<P>) -> bool
 /// Serves a port until it has ended and all was answered and given, and then says bye.
 ///
 /// The end has sent nothing yet, and the list of a port that tells it is empty, as is that of the sessions. It may wait: for events, for answers
-/// and for a port that accepts no bytes. It unparks the storage thread, which parks on the signals's word, where it has posted.
+/// and for a port that accepts no bytes. Where it has posted, it unparks the storage thread, which parks on a word of the signals.
 pub fn run_worker<P: Port, G: Gate, R: Wait>(
     rt: &R,
     alloc: Global,
@@ -215,20 +205,20 @@ pub fn run_worker<P: Port, G: Gate, R: Wait>(
 {
     let parking = storage.worker_parking(worker_end.worker());
     let mut worker = Worker::new(alloc, port, worker_end, sessions, dialect);
-    let mut waiting = Waiting::new();
+    let mut pauses = Pauses::new();
     for _ in rt.forever() {
         if take_turn(&mut worker, gate, storage) {
-            waiting.reset(parking);
+            pauses.reset(parking);
         } else if has_drained(&mut worker) {
             return leave(worker, storage);
         } else {
-            waiting.turn(rt, worker.state.outstanding() > 0, parking);
+            pauses.turn(rt, worker.state.outstanding() > 0, parking);
         }
     }
     unreachable!()
 }
 
-// Says bye, and leaves the report.
+/// Says bye, and leaves the report.
 fn leave<P: Port>(worker: Worker<P>, storage: &StorageSignals) -> WorkerReport<P>
     requires { IsDrained worker }
     ensures port { result.port ≡ worker.port }

@@ -2,38 +2,20 @@
 //!
 //! Contracts speak of the worker's end as it is once all that was put is flushed, so what was put counts as sent.
 
-ghost use Rattle.std.specs.Prelude.{◌≡◌, ◌+◌, ◌++◌, ◌∷◌, [], length, true, false, Some, None, MatchOption, MatchResult};
-ghost use Rattle.exchange.specs.Ends.{CanPost};
+ghost use Rattle.std.specs.Prelude.{◌≡◌, length, true, false, Some, None, MatchOption};
 ghost use Rattle.worker.specs.Workers.{once_flushed, posted_by, IsNumbered, TakesNone, TakesBack};
 
 use exchange::{Answered, Posted, StorageSignals, WorkerBatch, WorkerEnd};
 
-// Puts a request, or hands it back unchanged. Storage is told of it at the next flush. A hint of the key is left for it.
-pub(crate) fn post(
-    batch: &mut WorkerBatch,
-    posted: Posted,
-    storage: &StorageSignals,
-) -> Result<(), Posted>
-    requires { posted.number ≡ length (once_flushed batch.old).sent + 1 }
-    ensures { MatchResult result
-        (λ _. CanPost (once_flushed batch.old)
-        × (once_flushed batch.new ≡ record (once_flushed batch.old) { sent = (once_flushed batch.old).sent ++ posted ∷ [] }))
-        (λ p. (¬ (CanPost (once_flushed batch.old))) × (p ≡ posted) × (once_flushed batch.new ≡ once_flushed batch.old)) }
-{
-    if let Some(key) = posted.request.first_key() {
-        storage.leave_hint(batch.worker(), posted.number - 1, key);
-    }
-    batch.put(posted)
-}
-
-// Holds a request until it is posted.
+/// Holds a request until it is posted.
 pub(crate) fn hold(held: &mut Option<Posted>, posted: Posted)
     ensures { held.new ≡ Some posted }
 {
     drop(held.replace(posted));
 }
 
-// Puts the request that is held, which stays held where there is no room for it.
+/// Puts the request that is held, which stays held where there is no room for it. Storage is told of it at the next flush. A
+/// hint of the key is left for it.
 pub(crate) fn post_held(
     batch: &mut WorkerBatch,
     held: &mut Option<Posted>,
@@ -47,7 +29,10 @@ pub(crate) fn post_held(
     let Some(posted) = held.take() else {
         return false;
     };
-    match post(batch, posted, storage) {
+    if let Some(key) = posted.request.first_key() {
+        storage.leave_hint(batch.worker(), posted.number - 1, key);
+    }
+    match batch.put(posted) {
         Ok(()) => true,
         Err(posted) => {
             hold(held, posted);
@@ -56,7 +41,7 @@ pub(crate) fn post_held(
     }
 }
 
-// Tells storage of all that was put, and unparks it.
+/// Tells storage of all that was put, and unparks it.
 pub(crate) fn flush(batch: &mut WorkerBatch, storage: &StorageSignals)
     ensures { once_flushed batch.new ≡ once_flushed batch.old }
 {
@@ -66,7 +51,7 @@ pub(crate) fn flush(batch: &mut WorkerBatch, storage: &StorageSignals)
     }
 }
 
-// The next answer: one that was seen before, or else one that is found by a look.
+/// The next answer: one that was seen before, or else one that is found by a look.
 pub(crate) fn take_answer(batch: &mut WorkerBatch) -> Option<Answered>
     ensures { MatchOption result (TakesNone (once_flushed batch.old) (once_flushed batch.new))
         (λ a. TakesBack (once_flushed batch.old) (once_flushed batch.new) a) }
@@ -77,7 +62,7 @@ pub(crate) fn take_answer(batch: &mut WorkerBatch) -> Option<Answered>
     }
 }
 
-// The end, with all that was put flushed.
+/// The end, with all that was put flushed.
 pub(crate) fn into_end(mut end: WorkerBatch) -> WorkerEnd
     ensures { result ≡ once_flushed end }
 {
@@ -85,7 +70,7 @@ pub(crate) fn into_end(mut end: WorkerBatch) -> WorkerEnd
     end.into_end()
 }
 
-// The end, with all that was put flushed, once it has said bye. Storage is unparked for it.
+/// The end, with all that was put flushed, once it has said bye. Storage is unparked for it.
 pub(crate) fn say_bye(batch: WorkerBatch, storage: &StorageSignals) -> WorkerEnd
     requires running { (once_flushed batch).said_bye ≡ false }
     requires quiet { length (once_flushed batch).back ≡ length (once_flushed batch).sent }

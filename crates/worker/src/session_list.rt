@@ -2,7 +2,7 @@
 
 ghost use Rattle.std.specs.Prelude.{◌≡◌, true, [], ◌∷◌, ◌++◌, OnOk, IfSome};
 ghost use Rattle.session_book.specs.declared.causes.EndCause.TheVariants.{Drained};
-ghost use Rattle.worker.specs.EndCauses.{Rises, with_cause};
+ghost use Rattle.worker.specs.EndCauses.{RisesFrom, with_cause};
 
 use crate::end_causes::set_cause;
 use session_book::EndCause;
@@ -32,7 +32,7 @@ impl Model for SessionList {
     ghost use Rattle.std.specs.Prelude.{◌≡◌, true, nat_lt, vec_len, vec_capacity, IfSome};
     ghost use Rattle.std.specs.Option.{option_map_or};
     ghost use Rattle.worker.specs.SessionLists.{SessionEntries, listed};
-    ghost use Rattle.worker.specs.EndCauses.{Rises};
+    ghost use Rattle.worker.specs.EndCauses.{RisesFrom};
 
     ghost Value = { SessionEntries };
 
@@ -41,7 +41,7 @@ impl Model for SessionList {
       has_place = option_map_or (λ entries. nat_lt (vec_len entries) (vec_capacity entries)) l.stored true;
     } };
 
-    ghost invariant = { λ l. Rises (listed l.notes.items) → IfSome l.stored (λ entries. entries.items ≡ listed l.notes.items) };
+    ghost invariant = { λ l. RisesFrom 0 (listed l.notes.items) → IfSome l.stored (λ entries. entries.items ≡ listed l.notes.items) };
 }
 
 impl SessionList {
@@ -66,7 +66,7 @@ impl SessionList {
 
     /// The entries, where they are stored.
     pub fn entries(&self) -> Option<&[(u64, EndCause)]>
-        ensures { Rises self.now.items → IfSome result (λ entries. entries.now ≡ self.now.items) }
+        ensures { RisesFrom 0 self.now.items → IfSome result (λ entries. entries.now ≡ self.now.items) }
     {
         match &self.stored {
             Some(entries) => Some(entries.as_slice()),
@@ -74,7 +74,7 @@ impl SessionList {
         }
     }
 
-    // Takes the memory for one more session.
+    /// Takes the memory for one more session.
     pub(crate) fn reserve(&mut self) -> Result<(), AllocError>
         ensures same { self.new.items ≡ self.old.items }
         ensures place { OnOk result (self.new.has_place ≡ true) }
@@ -85,7 +85,7 @@ impl SessionList {
         }
     }
 
-    // One more session is open.
+    /// One more session is open.
     pub(crate) fn open(&mut self, session: u64)
         requires { self.old.has_place ≡ true }
         ensures { self.new.items ≡ self.old.items ++ (session, Drained) ∷ [] }
@@ -97,7 +97,7 @@ impl SessionList {
         }
     }
 
-    // The session has ended so.
+    /// The session has ended so.
     pub(crate) fn close(&mut self, session: u64, cause: EndCause)
         ensures { self.new.items ≡ with_cause self.old.items session cause }
     {

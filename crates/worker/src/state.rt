@@ -32,14 +32,14 @@ pub(crate) struct WorkerState<P> {
 }
 
 impl<P: Port> WorkerState<P> {
-    // How many requests were posted.
+    /// How many requests were posted.
     pub(crate) fn posted(&self) -> u64
         ensures { result ≡ length (end_of self.now).sent }
     {
         self.batch.sent() + self.batch.waiting()
     }
 
-    // How many requests were posted and not taken back.
+    /// How many requests were posted and not taken back.
     pub(crate) fn outstanding(&self) -> u64
         ensures value { result + length (end_of self.now).back ≡ length (end_of self.now).sent }
         ensures range { result ≤ 64 }
@@ -47,7 +47,7 @@ impl<P: Port> WorkerState<P> {
         self.batch.outstanding()
     }
 
-    // Takes a session out of the book, and writes why it ended.
+    /// Takes a session out of the book, and writes why it ended.
     pub(crate) fn close(&mut self, session: u64, cause: EndCause)
         ensures port { self.new.port ≡ self.old.port }
         ensures leads { P.leads_to self.old.port self.new.port }
@@ -66,7 +66,7 @@ impl<P: Port> WorkerState<P> {
         self.close(session, cause);
     }
 
-    // Shuts a session that was just opened, as there is no room for it.
+    /// Shuts a session that was just opened, as there is no room for it.
     fn refuse(&mut self, newcomer: u64)
         requires { IsOpenIn newcomer (P.told self.old.port) }
         ensures leads { P.leads_to self.old.port self.new.port }
@@ -77,7 +77,7 @@ impl<P: Port> WorkerState<P> {
         self.unopened = self.unopened.saturating_add(1);
     }
 
-    // Opens a session in the book, and writes its entry in the report.
+    /// Opens a session in the book, and writes its entry in the report.
     pub(crate) fn admit(&mut self, session: u64)
         requires { IsOpenIn session (P.told self.old.port) }
         ensures leads { P.leads_to self.old.port self.new.port }
@@ -91,8 +91,8 @@ impl<P: Port> WorkerState<P> {
         self.sessions.open(session);
     }
 
-    // Feeds a piece of input that came, or holds it until it fits, and then pauses its session. Input of a session that
-    // isn't open is dropped. At a port that tells, a session of which bytes are held is paused and has no data.
+    /// Feeds a piece of input that came, or holds it until it fits, and then pauses its session. Input of a session that
+    /// isn't open is dropped. At a port that tells, a session of which bytes are held is paused and has no data.
     pub(crate) fn receive(&mut self, session: u64, bytes: Bytes)
         requires open { IsOpenIn session (P.told self.old.port) }
         requires resumed { (story : PortStory) → P.told self.old.port ≡ Some story → piece_of self.old.book session ≡ [] }
@@ -107,7 +107,7 @@ impl<P: Port> WorkerState<P> {
         }
     }
 
-    // The session's peer has gone. A session that isn't open keeps the cause that it has.
+    /// The session's peer has gone. A session that isn't open keeps the cause that it has.
     pub(crate) fn lose(&mut self, session: u64)
         ensures port { self.new.port ≡ self.old.port }
         ensures leads { P.leads_to self.old.port self.new.port }

@@ -15,7 +15,7 @@ use crate::session_list::SessionList;
 use crate::state::WorkerState;
 use exchange::{StorageSignals, WorkerEnd};
 use proto::{Dialect, Posted};
-use session_book::{Book, EndCause, MAX_UNSETTLED, Settled};
+use session_book::{Book, EndCause, Settled, Task};
 use std::alloc::Global;
 use std::marker::Model;
 use worker_port::{Gone, Port, PortEvent, ToldHistory};
@@ -39,7 +39,7 @@ impl<P: Port> Model for Worker<P> {
 }
 
 impl<P: Port> Worker<P> {
-    // A worker whose end has sent nothing yet, over a port that has told nothing.
+    /// A worker whose end has sent nothing yet, over a port that has told nothing.
     pub(crate) fn new(
         alloc: Global,
         port: P,
@@ -73,12 +73,12 @@ impl<P: Port> Worker<P> {
         }
     }
 
-    // Whether the port may wait: nothing is outstanding or held back, and no session has anything to do.
+    /// Whether the port may wait: nothing is outstanding or held back, and no session has anything to do.
     fn may_wait(&self) -> bool {
         self.state.request.is_none() && self.state.outstanding() == 0 && self.state.book.is_idle()
     }
 
-    // One event of the port, unless it has ended. False where there was none.
+    /// One event of the port, unless it has ended. False where there was none.
     pub(crate) fn take_event(&mut self) -> bool
         ensures { Continues P.told P.leads_to self.old self.new }
     {
@@ -96,7 +96,7 @@ impl<P: Port> Worker<P> {
         true
     }
 
-    // Feeds the session's held piece, if it fits by now.
+    /// Feeds the session's held piece, if it fits by now.
     pub(crate) fn feed_again(&mut self, session: u64) -> bool
         ensures { Continues P.told P.leads_to self.old self.new }
     {
@@ -113,7 +113,7 @@ impl<P: Port> Worker<P> {
         }
     }
 
-    // Reads up to the session's next request, which is held until it is posted. True where none is left for now.
+    /// Reads up to the session's next request, which is held until it is posted. True where none is left for now.
     pub(crate) fn ask(&mut self, session: u64) -> bool
         requires { self.old.request ≡ None }
         ensures { Continues P.told P.leads_to self.old self.new }
@@ -137,39 +137,43 @@ impl<P: Port> Worker<P> {
         }
     }
 
-    // Whether no further request can be asked now: one is held, the window is full, or so much is unfinished that one
-    // request at a time goes on.
+    /// Whether no further request can be asked now: one is held, the window is full, or so much is unfinished that one
+    /// request at a time goes on.
     pub(crate) fn is_busy(&self) -> bool
         ensures { result ≡ false → self.now.request ≡ None }
     {
-        let outstanding = self.state.outstanding();
         self.state.request.is_some()
-            || outstanding >= MAX_UNSETTLED as u64
-            || (outstanding > 0 && self.state.book.is_crowded())
+            || self.state.book.is_full()
+            || (self.state.outstanding() > 0 && self.state.book.is_crowded())
     }
 
-    // Reads the session's next request and posts it. True where there may be another one. Where none can be asked the
-    // session is asked again later.
+    /// Reads the session's next request and posts it. True where another one may be asked now. Where there may be one that
+    /// can't be asked now, the session is asked again later.
     pub(crate) fn ask_and_post<G: Gate>(
         &mut self,
         session: u64,
         gate: &G,
         storage: &StorageSignals,
     ) -> bool
-        ensures { Continues P.told P.leads_to self.old self.new }
+        requires { self.old.request ≡ None }
+        ensures goes_on { Continues P.told P.leads_to self.old self.new }
+        ensures goes_further { result ≡ true → self.new.request ≡ None }
     {
-        if self.is_busy() {
-            self.state.book.ask_later(session);
-            return false;
-        }
         if self.ask(session) {
             return false;
         }
         self.post(gate, storage);
-        self.state.book.reads_on()
+        if !self.state.book.reads_on() {
+            return false;
+        }
+        if self.is_busy() {
+            self.state.book.ask_later(session);
+            return false;
+        }
+        true
     }
 
-    // Posts the held request, if the gate lets it and there is room. Storage is told of it at the next flush.
+    /// Posts the held request, if the gate lets it and there is room. Storage is told of it at the next flush.
     pub(crate) fn post<G: Gate>(&mut self, gate: &G, storage: &StorageSignals) -> bool
         ensures goes_on { Continues P.told P.leads_to self.old self.new }
         ensures posted { result ≡ true → self.new.request ≡ None }
@@ -183,23 +187,23 @@ impl<P: Port> Worker<P> {
         sending::post_held(&mut self.state.batch, &mut self.state.request, storage)
     }
 
-    // Tells storage of all that was posted.
+    /// Tells storage of all that was posted.
     pub(crate) fn flush(&mut self, storage: &StorageSignals)
         ensures { Continues P.told P.leads_to self.old self.new }
     {
         sending::flush(&mut self.state.batch, storage);
     }
 
-    // Takes the next answer and settles it. False where there is none.
+    /// Takes the next answer and settles it. False where there is none.
     pub(crate) fn settle_next<G: Gate>(&mut self, gate: &G) -> bool
         ensures { Continues P.told P.leads_to self.old self.new }
     {
-        let Some(answered) = sending::take_answer(&mut self.state.batch) else {
+        let Some(mut answered) = sending::take_answer(&mut self.state.batch) else {
             return false;
         };
         let session = answered.session;
         gate.answered(self.state.batch.worker(), answered.number);
-        let settled = self.state.book.settle(&answered);
+        let settled = self.state.book.settle(&mut answered);
         self.state.reply_buffers.keep(answered);
         match settled {
             Settled::Kept => {}
@@ -210,8 +214,8 @@ impl<P: Port> Worker<P> {
         true
     }
 
-    // Offers the session's output in one call, where it is worth it. It answers whether that changed anything, and whether
-    // the session has finished.
+    /// Offers the session's output in one call, where it is worth it. It answers whether that changed anything, and whether
+    /// the session has finished.
     pub(crate) fn offer(&mut self, session: u64) -> (bool, Option<EndCause>)
         ensures goes_on { Continues P.told P.leads_to self.old self.new }
         ensures finished { result.1 ≡ option_and_then finished_by (session_of self.new.book session) }
@@ -230,37 +234,27 @@ impl<P: Port> Worker<P> {
         }
     }
 
-    // Feeds the next held piece that may fit by now.
+    /// Feeds the next held piece that may fit by now.
     pub(crate) fn feed_next(&mut self) -> bool
         ensures { Continues P.told P.leads_to self.old self.new }
     {
-        match self.state.book.next_to_feed() {
+        match self.state.book.next_ready(Task::Feed) {
             Some(session) => self.feed_again(session),
             None => false,
         }
     }
 
-    // Offers the output of the next session that has some, and shuts it where it has finished.
-    pub(crate) fn give_next(&mut self) -> bool
+    /// Offers the output of the next session that is to be taken up for the task, and shuts it where it has finished.
+    pub(crate) fn give_next(&mut self, task: Task) -> bool
         ensures { Continues P.told P.leads_to self.old self.new }
     {
-        match self.state.book.next_to_give() {
+        match self.state.book.next_ready(task) {
             Some(session) => self.give(session),
             None => false,
         }
     }
 
-    // The same of the next session whose peer accepted nothing when it was last offered some.
-    pub(crate) fn give_next_slow(&mut self) -> bool
-        ensures { Continues P.told P.leads_to self.old self.new }
-    {
-        match self.state.book.next_to_give_slowly() {
-            Some(session) => self.give(session),
-            None => false,
-        }
-    }
-
-    // Offers the session's output, and shuts it where it has finished.
+    /// Offers the session's output, and shuts it where it has finished.
     fn give(&mut self, session: u64) -> bool
         ensures { Continues P.told P.leads_to self.old self.new }
     {
@@ -269,7 +263,7 @@ impl<P: Port> Worker<P> {
         moved || finished
     }
 
-    // Shuts a session that has ended itself, once all was answered and given.
+    /// Shuts a session that has ended itself, once all was answered and given.
     pub(crate) fn finish(&mut self, session: u64, finished: Option<EndCause>) -> bool
         requires { finished ≡ option_and_then finished_by (session_of self.old.book session) }
         ensures { Continues P.told P.leads_to self.old self.new }

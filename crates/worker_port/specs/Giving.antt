@@ -1,7 +1,6 @@
 -- What may be offered to a session, at any moment of a run.
-use Rattle.std.specs.Prelude.{◌≡◌, ℕ, List, ◌++◌, Option, Some}
+use Rattle.std.specs.Prelude.{◌≡◌, ℕ, List, ◌++◌}
 use Rattle.proto.specs.declared.dialect.Dialect.{Dialect}
-use Rattle.proto.specs.declared.message.Request.{Request}
 use Rattle.proto.specs.declared.message.Message.{Message}
 use Rattle.proto.specs.declared.history.Answered.{Answered}
 use Rattle.proto.specs.Sizes.{Sizes}
@@ -12,27 +11,24 @@ use Rattle.exchange.specs.Beginnings.{StartsWith}
 use Rattle.exchange.specs.Ends.{WorkerView}
 use Rattle.worker_port.specs.Ports.{PortStory, fed, given}
 
--- The session's requests in the history are the first of those that the messages ask, and the bytes that it took, with these
--- behind, begin what is said to the messages there.
-pub record BeginsAnswers (history : List Answered) (worker s : ℕ) (took bytes : List ℕ) (messages : List Message) : Type 0 where
-  pub first : (behind : List Request) × (asks messages ≡ asked (session_share history worker s) ++ behind)
-  pub begins : (behind : List ℕ) × (said messages (had (session_share history worker s)) ≡ (took ++ bytes) ++ behind)
+-- The session's requests in the history are the first of those that the messages ask, and the bytes begin what is said to
+-- the messages there.
+pub record BeginsAnswers (history : List Answered) (worker s : ℕ) (bytes : List ℕ) (messages : List Message) : Type 0 where
+  pub first : StartsWith (asks messages) (asked (session_share history worker s))
+  pub begins : StartsWith (said messages (had (session_share history worker s))) bytes
 
--- The history is legal, and so it is in it for the messages that the bytes which came of the session spell in this dialect.
+-- The history is legal, and in it the bytes that the session took, with these behind, begin the answers to the messages that
+-- the bytes which came of it spell in this dialect.
 pub record MayBeSent (sizes : Sizes) (d : Dialect) (worker : ℕ) (history : List Answered) (s : ℕ) (came took bytes : List ℕ)
     : Type 0 where
   pub legal : Legal sizes history
   pub said_there : (messages : List Message) (rest : List ℕ) → Reads d came messages rest
-      → BeginsAnswers history worker s took bytes messages
+      → BeginsAnswers history worker s (took ++ bytes) messages
 
 -- By the list of a port, and its sizes, its dialect and its worker's number. The history begins with the one of the last bytes.
 pub record MayBeGiven (story : PortStory) (history : List Answered) (s : ℕ) (bytes : List ℕ) : Type 0 where
   pub later : StartsWith history story.history
   pub may : MayBeSent story.sizes story.dialect story.worker history s (fed s story.events) (given s story.events) bytes
-
--- where the port tells its list
-abbrev pub MayBeOffered : ℕ → List ℕ → List Answered → Option PortStory → Type 0
-MayBeOffered s bytes history told = (story : PortStory) → told ≡ Some story → MayBeGiven story history s bytes
 
 -- The sizes and the number are those of the worker's end, and its history begins with the one by which bytes were given last.
 pub record IsOf (worker : ℕ) (sizes : Sizes) (history : List Answered) (end : WorkerView) : Type 0 where

@@ -3,7 +3,8 @@ use Rattle.std.proofs.Common.{arith, refl, sym, ap, subst, ◌∙◌}
 use Rattle.std.specs.FinMap as map
 use Rattle.std.proofs.lemmas.List.Sums.{sum_by-cons}
 use Rattle.proto.specs.Commands.{hit_of, hits_of}
-use Rattle.proto.specs.Hits.{Hit, packed_size}
+use Rattle.proto.specs.Hits.{hit_room}
+use Rattle.proto.specs.declared.hits.Hit.{Hit}
 use Rattle.engine.specs.Shown.{entry_of}
 use Rattle.engine.specs.Finding.{AreFound, keys_found}
 use Rattle.engine.proofs.HitLemmas.{hits_there, found_more, hits_found_more}
@@ -32,15 +33,15 @@ loop-key-preserved-in-Continue-branch-3 g c =
     c.in-Some.ensures ∙ ap (λ (k : List ℕ). k ∷ rest) (sym same) in
     let hits : hits_of entries c.loop-key.words ≡ hit ∷ hits_of entries rest =
     hits_there entries c.loop-key.words rest key e c.in-Some.ensures there in
-    let more : c.in_ok-room.room ≡ c.loop-key.room + packed_size hit =
+    let more : c.in_ok-room.room ≡ c.loop-key.room + hit_room hit =
     (rw c.in_ok-room.ensures.ok_part at c.room_with.ensures)
-    ∙ ap (λ h. c.loop-key.room + packed_size h) c.hit_of.ensures in
-    let sum = sum_by-cons packed_size hit (hits_of entries rest) in
+    ∙ ap (λ h. c.loop-key.room + hit_room h) c.hit_of.ensures in
+    let sum = sum_by-cons hit_room hit (hits_of entries rest) in
     record {
       are_found = subst (AreFound m c.args.map.now) (sym pushed)
           (found_more m c.args.map.now c.loop-key.found.items f e inv.are_found at_key stands);
       hits = ap (λ fs. hits_of entries (keys_found fs) ++ hits_of entries rest) pushed
           ∙ hits_found_more entries c.loop-key.found.items f c.loop-key.words rest e words at_key ∙ inv.hits;
       within = omega (arith, inv.within, ap length hits);
-      counted = omega (arith, more, sum, ap (sum_by packed_size) hits, inv.counted);
+      counted = omega (arith, more, sum, ap (sum_by hit_room) hits, inv.counted);
     }

@@ -1,6 +1,6 @@
 use Rattle.std.proofs.Common.{◌≡◌, ◌+◌, ◌≤◌, ◌++◌, length, sum_by}
 use Rattle.proto.specs.Commands.{hits_of}
-use Rattle.proto.specs.Hits.{packed_size}
+use Rattle.proto.specs.Hits.{hit_room}
 use Rattle.engine.specs.Finding.{AreFound, keys_found}
 use Rattle.engine.proofs.hits.find_keys.Given as goal
 
@@ -13,7 +13,7 @@ invariant-loop-key g l = record {
       ≡ hits_of (g.M.LiveMap.entries l.map) l.initial.words;
   within : length (hits_of (g.M.LiveMap.entries l.map) l.words)
       ≤ length (hits_of (g.M.LiveMap.entries l.map) l.initial.words);
-  counted : l.room + sum_by packed_size (hits_of (g.M.LiveMap.entries l.map) l.words) ≡ sum_by packed_size
+  counted : l.room + sum_by hit_room (hits_of (g.M.LiveMap.entries l.map) l.words) ≡ sum_by hit_room
       (hits_of (g.M.LiveMap.entries l.map) l.initial.words);
 }
 

@@ -4,7 +4,8 @@ use Rattle.std.specs.FinMap as map
 use Rattle.std.proofs.lemmas.List.{get_or_default}
 use Rattle.proto.specs.Cache.{Entries}
 use Rattle.proto.specs.Commands.{hit_of, hits_of}
-use Rattle.proto.specs.Hits.{Hit, Writing, packed_size}
+use Rattle.proto.specs.Hits.{Writing, hit_room}
+use Rattle.proto.specs.declared.hits.Hit.{Hit}
 use Rattle.engine.specs.Shown.{entry_of}
 use Rattle.engine.specs.Counting.{CountsEach, keys_of}
 use Rattle.engine.specs.Finding.{keys_found}
@@ -35,8 +36,8 @@ push-requires g c =
     c.entry_at.ensures ∙ ap (λ (es : Entries). map.get es f.key.now) c.loop-i.invariant.entries in
     let hits = found_there entries found i c.index-found-i.result e c.loop-i-test.true there in
     let rest = hits_of entries (keys_found (drop (i + 1) found)) in
-    let room = c.loop-i.invariant.room ∙ ap (sum_by packed_size) hits in
-    subst (λ (h : Hit). packed_size h ≤ c.loop-i.hits.room) (sym c.hit_of.ensures)
+    let room = c.loop-i.invariant.room ∙ ap (sum_by hit_room) hits in
+    subst (λ (h : Hit). hit_room h ≤ c.loop-i.hits.room) (sym c.hit_of.ensures)
     (room_first c.loop-i.hits.room (hit_of f.key.now e) rest room)
 
 pub count_read-requires : goal.count_read-requires
@@ -63,15 +64,15 @@ loop-i-preserved g c =
     let rest = hits_of entries (keys_found (drop (i + 1) found)) in
     let all = hits_of entries (keys_found found) in
     let whole = ap (λ (hs : List Hit). c.loop-i.hits.hits ++ hs) (sym hits) ∙ inv.found in
-    let room = inv.room ∙ ap (sum_by packed_size) hits in
+    let room = inv.room ∙ ap (sum_by hit_room) hits in
     let pushed : c.push.new.self ≡ record {
       hits = c.loop-i.hits.hits ++ hit ∷ [];
-      room = c.loop-i.hits.room - packed_size hit;
+      room = c.loop-i.hits.room - hit_room hit;
     } =
     c.push.ensures
     ∙ ap (λ (h : Hit). let w : Writing = record {
       hits = c.loop-i.hits.hits ++ h ∷ [];
-      room = c.loop-i.hits.room - packed_size h;
+      room = c.loop-i.hits.room - hit_room h;
     } in w) c.hit_of.ensures in
     let counted = counts_hit m.reads c.args.map.now c.loop-i.hits.hits c.loop-i.map hit c.count_read.new.self
     inv.counted c.count_read.ensures.counted in

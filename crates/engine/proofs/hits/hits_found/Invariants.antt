@@ -1,6 +1,6 @@
 use Rattle.std.proofs.Common.{◌≡◌, ◌++◌, drop, sum_by}
 use Rattle.proto.specs.Commands.{hits_of}
-use Rattle.proto.specs.Hits.{packed_size}
+use Rattle.proto.specs.Hits.{hit_room}
 use Rattle.engine.specs.Keeping.{StaysKept}
 use Rattle.engine.specs.Counting.{CountsEach, keys_of}
 use Rattle.engine.specs.Finding.{AreFound, keys_found}
@@ -13,7 +13,7 @@ invariant-loop-i g l = record {
   found : l.hits.hits ++ hits_of (g.M.LiveMap.entries l.initial.map) (keys_found (drop l.i l.found))
       ≡ hits_of (g.M.LiveMap.entries l.initial.map) (keys_found l.found);
   room : l.hits.room
-      ≡ sum_by packed_size (hits_of (g.M.LiveMap.entries l.initial.map) (keys_found (drop l.i l.found)));
+      ≡ sum_by hit_room (hits_of (g.M.LiveMap.entries l.initial.map) (keys_found (drop l.i l.found)));
   counted : CountsEach g.M.LiveMap.reads l.initial.map (keys_of l.hits.hits) l.map;
   entries : g.M.LiveMap.entries l.map ≡ g.M.LiveMap.entries l.initial.map;
   sizes : g.M.LiveMap.sizes l.map ≡ g.M.LiveMap.sizes l.initial.map;

@@ -8,10 +8,10 @@ pub start_workers-requires-clause-ends : goal.start_workers-requires-clause-ends
 start_workers-requires-clause-ends g c κs within =
     fresh_ends _ _ c.in_ok-ends.ends.items c.in_ok-ends.storage_end c.in_ok-ends.ensures.made
 
-pub start_workers-requires-clause-whose : goal.start_workers-requires-clause-whose
-start_workers-requires-clause-whose g c κs within =
+pub start_workers-requires-clause-ports : goal.start_workers-requires-clause-ports
+start_workers-requires-clause-ports g c κs within =
     ports_at g.P.Port.told _ c.args.config.geometry c.args.config.dialect c.args.ports.items c.in_ok-ends.ends.items c.in_ok-ends.storage_end
-    c.in_ok-ends.ensures.made (search rules) c.requires.whose
+    c.in_ok-ends.ensures.made (search rules) c.requires.ports
 
 pub join_workers-reports-requires-clause-began : goal.join_workers-reports-requires-clause-began
 join_workers-reports-requires-clause-began g c =

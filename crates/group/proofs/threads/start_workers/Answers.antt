@@ -1,19 +1,14 @@
 use Rattle.std.proofs.Common.{arith, ◌≡◌, [], ◌∷◌, ◌++◌, All, map, sym, ap, subst, ◌∙◌, append_assoc}
 use Rattle.std.proofs.lemmas.List.{map-append}
-use Rattle.group.specs.Threads.{HasSentNothing, IsSilent, IsPortAt}
+use Rattle.group.specs.Threads.{HasSentNothing, IsPortAt}
 use Rattle.group.proofs.Places.{first_of_all, first_of_each, all_more}
 use Rattle.group.proofs.threads.start_workers.Goals as goal
 
 pub start_worker-requires-clause-port : goal.start_worker-requires-clause-port
-start_worker-requires-clause-port g c κs within = (first_of_all
-    (IsSilent g.P.Port.told) c.loop-end.ports.rest.items c.in-Some-next.port c.next-in-loop-end.new.self.rest.items
-    c.in-Some-next.ensures.items c.loop-end.invariant.silent).0
-
-pub start_worker-requires-clause-whose : goal.start_worker-requires-clause-whose
-start_worker-requires-clause-whose g c κs within = (first_of_each
+start_worker-requires-clause-port g c κs within = (first_of_each
     (IsPortAt g.P.Port.told c.args.dialect) c.loop-end.ports.rest.items c.loop-end.end-iterator.rest.items c.in-Some-next.port
     c.in-Some.end c.next-in-loop-end.new.self.rest.items c.next.new.self.rest.items
-    c.in-Some-next.ensures.items c.in-Some.ensures.steps.0 c.loop-end.invariant.whose).0
+    c.in-Some-next.ensures.items c.in-Some.ensures.steps.0 c.loop-end.invariant.placed).0
 
 pub loop-end-preserved : goal.loop-end-preserved
 loop-end-preserved g c =
@@ -33,14 +28,10 @@ loop-end-preserved g c =
           ∙ ap (λ l. map (λ h. h.promise.port.value) c.loop-end.handles.items ++ l) (sym c.in-Some-next.ensures.items)
           ∙ i.ported;
       lengths = omega (arith, c.in-Some.ensures.steps.1, c.in-Some-next.ensures.len, i.lengths);
-      silent = (first_of_all
-          (IsSilent g.P.Port.told) c.loop-end.ports.rest.items c.in-Some-next.port
-          c.next-in-loop-end.new.self.rest.items
-          c.in-Some-next.ensures.items i.silent).1;
-      whose = (first_of_each
+      placed = (first_of_each
           (IsPortAt g.P.Port.told c.args.dialect) c.loop-end.ports.rest.items c.loop-end.end-iterator.rest.items c.in-Some-next.port
           c.in-Some.end c.next-in-loop-end.new.self.rest.items c.next.new.self.rest.items
-          c.in-Some-next.ensures.items c.in-Some.ensures.steps.0 i.whose).1;
+          c.in-Some-next.ensures.items c.in-Some.ensures.steps.0 i.placed).1;
       fresh = (first_of_all HasSentNothing c.loop-end.end-iterator.rest.items c.in-Some.end c.next.new.self.rest.items
           c.in-Some.ensures.steps.0 i.fresh).1;
       started = subst (All (λ h. h.promise.start.now.id ≡ c.args.start.now.id)) (sym pushed)

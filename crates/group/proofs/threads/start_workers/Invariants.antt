@@ -1,5 +1,5 @@
 use Rattle.std.proofs.Common.{◌≡◌, ◌++◌, All, map, ◌+◌, ◌≤◌, vec_len, vec_capacity}
-use Rattle.group.specs.Threads.{AreEach, HasSentNothing, IsSilent, IsPortAt}
+use Rattle.group.specs.Threads.{AreEach, HasSentNothing, IsPortAt}
 use Rattle.group.proofs.threads.start_workers.Given as goal
 
 abbrev pub invariant-loop-end : goal.invariant-loop-end
@@ -7,8 +7,7 @@ invariant-loop-end g l = record {
   ended : l.yielded ++ l.end-iterator.rest.items ≡ l.fn.ends.items;
   ported : map (λ h. h.promise.port.value) l.handles.items ++ l.ports.rest.items ≡ l.fn.ports.items;
   lengths : l.ports.rest.len ≡ l.end-iterator.rest.len;
-  silent : All (IsSilent g.P.Port.told) l.ports.rest.items;
-  whose : AreEach (IsPortAt g.P.Port.told l.dialect) l.ports.rest.items l.end-iterator.rest.items;
+  placed : AreEach (IsPortAt g.P.Port.told l.dialect) l.ports.rest.items l.end-iterator.rest.items;
   fresh : All HasSentNothing l.end-iterator.rest.items;
   started : All (λ h. h.promise.start.now.id ≡ l.fn.start.id) l.handles.items;
   ends : map (λ h. h.promise.end.value) l.handles.items ≡ l.yielded;

@@ -1,7 +1,7 @@
 use Rattle.std.proofs.Common.{ℕ, ◌<◌, length, List, subst, sym, ap, ◌∙◌, arith}
 use Rattle.std.proofs.lemmas.List.{get_or_default}
 use Rattle.session_book.specs.declared.causes.EndCause.{EndCause}
-use Rattle.worker.specs.EndCauses.{Rises, IsFirstFrom}
+use Rattle.worker.specs.EndCauses.{RisesFrom, IsFirstFrom}
 use Rattle.worker.proofs.EndCauseLemmas.{set_found, set_absent}
 use Rattle.worker.proofs.end_causes.set_cause.Goals as goal
 use Rattle.worker.proofs.end_causes.set_cause.Goals.{else-position-len-via-then-position-len+else-index-session, else-position-len-via-else-position-len}
@@ -19,7 +19,7 @@ pub returns-else-position-len : goal.returns-else-position-len
 returns-else-position-len c =
     let xs = c.args.sessions.now.items in let position = c.first_from-position.result in
     λ rises.
-    let first = subst (λ (x : List (ℕ × EndCause)). Rises x
+    let first = subst (λ (x : List (ℕ × EndCause)). RisesFrom 0 x
     → IsFirstFrom x c.args.session position) c.as_slice.ensures.value c.first_from-position.ensures.first rises in
     elim c.else-position-len.branch [
       | else-position-len-via-then-position-len+else-index-session w ↦

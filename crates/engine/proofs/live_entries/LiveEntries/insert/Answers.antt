@@ -1,5 +1,5 @@
 use Rattle.std.proofs.Common.{◌≡◌, true, refl}
-use Rattle.proto.specs.Cache.{is_live}
+use Rattle.proto.proofs.CacheLemmas.{is_live}
 use Rattle.engine.proofs.PlainLemmas.{live-insert}
 use Rattle.engine.proofs.live_entries.LiveEntries.insert.Goals as goal
 

@@ -2,7 +2,7 @@ use Rattle.std.proofs.Common.{◌≡◌, ◌≢◌, ℕ, false, [], ◌∷◌, �
 use Rattle.std.proofs.Common.{⊎_elim}
 use Rattle.worker_port.specs.declared.events.PortRecord.{PortRecord}
 use Rattle.worker_port.specs.declared.events.PortRecord.TheVariants as was
-use Rattle.worker_port.specs.Ports.{has_ended, is_end, fed_by, is_leaving}
+use Rattle.worker_port.specs.Ports.{has_ended, fed, is_entry}
 use Rattle.worker_port.specs.PortFacts.{port_facts}
 use Rattle.worker_port.proofs.Facts.{about}
 use Rattle.worker_port.proofs.Lists.{ended_same}
@@ -44,7 +44,8 @@ returns-then-change-clause-consistent c =
     c.requires.ends in
     let none = ⊎_elim (λ (q : e ≡ was.Gone s). ap opened_by q)
     (λ (q : e ≡ was.Shut s). ap opened_by q) c.requires.ends in
-    let no_end = ⊎_elim (λ (q : e ≡ was.Gone s). ap is_end q) (λ (q : e ≡ was.Shut s). ap is_end q) c.requires.ends in
+    let no_end = ⊎_elim (λ (q : e ≡ was.Gone s). ap (is_entry was.Ended) q)
+    (λ (q : e ≡ was.Shut s). ap (is_entry was.Ended) q) c.requires.ends in
     let left = left_without ss ss' s (in_order p.events)
     (test_here (λ (y : ScriptSessionState). is_closed y.stage) ss ss' s (with_stage Closed) x.0 a x.1)
     (test_other (λ (y : ScriptSessionState). is_closed y.stage) ss ss' s (with_stage Closed) a) in record {
@@ -59,8 +60,8 @@ returns-then-change-clause-consistent c =
           (k.plays tells);
       follows = λ tells.
           let nothing : (t : ℕ)
-          → fed_by t e ≡ [] = λ t. ⊎_elim (λ (q : e ≡ was.Gone s). ap (fed_by t) q)
-          (λ (q : e ≡ was.Shut s). ap (fed_by t) q) c.requires.ends in
+          → fed t (e ∷ []) ≡ [] = λ t. ⊎_elim (λ (q : e ≡ was.Gone s). ap (λ (x : PortRecord). fed t (x ∷ [])) q)
+          (λ (q : e ≡ was.Shut s). ap (λ (x : PortRecord). fed t (x ∷ [])) q) c.requires.ends in
           follows_close p.script.value.items (events_left ss (in_order p.events))
           (events_left ss' (in_order p.events)) l l' e s
           (was_closed ss) (was_closed ss') p.can_fail left l_is none nothing
@@ -68,8 +69,8 @@ returns-then-change-clause-consistent c =
           (λ (q : e ≡ was.Gone s).
           either_way s t
           (λ eq. subst (MayGo p.script.value.items p.can_fail) eq (c.requires.caused tells q))
-          (λ ne. absurd (true≢false (sym leaves ∙ ap (is_leaving t) q ∙ ne_eqb s t ne))))
-          (λ (q : e ≡ was.Shut s). absurd (true≢false (sym leaves ∙ ap (is_leaving t) q)))
+          (λ ne. absurd (true≢false (sym leaves ∙ ap (is_entry (was.Gone t)) q ∙ ne_eqb s t ne))))
+          (λ (q : e ≡ was.Shut s). absurd (true≢false (sym leaves ∙ ap (is_entry (was.Gone t)) q)))
           c.requires.ends)
           (opens_without (newest ss) (is_session_open ss) s (events_left ss (in_order p.events)) (k.rising s x.0 x.1)
           (k.plays tells))

@@ -1,27 +1,28 @@
-use Rattle.std.proofs.Common.{◌≡◌, ◌+◌, ◌++◌, ◌∷◌, [], List, Ok, None, Option, refl, ap, subst, ◌∙◌, arith}
+use Rattle.std.proofs.Common.{◌≡◌, ◌+◌, ◌<◌, ◌++◌, ◌∷◌, [], List, length, Ok, None, Option, refl, ap, sym, subst, ◌∙◌, arith}
+use Rattle.std.proofs.lemmas.Bool.{OnTrue_at, OnFalse_at}
 use Rattle.std.proofs.lemmas.Result.{err_from_is_err_and}
+use Rattle.proto.specs.declared.limits.TheConstants.{WINDOW}
 use Rattle.proto.specs.declared.message.Request.{Request}
 use Rattle.session_book.specs.declared.causes.Unsettled.{Unsettled}
 use Rattle.session_book.specs.Session.{given_request}
 use Rattle.session_book.specs.Book.{BookState, IsBook, GivesNone, given_in, full, spent}
 use Rattle.session_book.proofs.Books.{idle_ask}
 use Rattle.session_book.proofs.Entries.{unasked_book, asked_book, asks_none, asks_given}
-use Rattle.session_book.proofs.book.Book.next_ask.Goals.{then-len-ge-MAX_UNSETTLED-via-then-len-ge-MAX_UNSETTLED}
-use Rattle.session_book.proofs.book.Book.next_ask.Goals.{then-len-ge-MAX_UNSETTLED-via-else-len-ge-MAX_UNSETTLED+then-self-ge-MAX_POSTS}
+use Rattle.session_book.proofs.book.Book.next_ask.Goals.{then-is_full-via-then-is_full}
+use Rattle.session_book.proofs.book.Book.next_ask.Goals.{then-is_full-via-else-is_full+then-self-ge-MAX_POSTS}
 use Rattle.session_book.proofs.book.Book.next_ask.Goals as goal
 
-pub returns-then-len-ge-MAX_UNSETTLED-clause-open : goal.returns-then-len-ge-MAX_UNSETTLED-clause-open
-returns-then-len-ge-MAX_UNSETTLED-clause-open c =
+pub returns-then-is_full-clause-open : goal.returns-then-is_full-clause-open
+returns-then-is_full-clause-open c =
     λ s open_now.
     idle_ask c.args.self.now c.args.session s
     (Ok None) c.args.self.now refl refl (subst (λ (b : BookState). IsBook b) c.self.view_is c.self.invariant) open_now
-    (λ e. subst (λ (b : BookState). GivesNone b s) c.self.view_is
-    (elim c.then-len-ge-MAX_UNSETTLED.branch [
-      | then-len-ge-MAX_UNSETTLED-via-then-len-ge-MAX_UNSETTLED w ↦ full
-          (omega (arith, c.len.ensures, w.if-len-ge-MAX_UNSETTLED.true))
-      | then-len-ge-MAX_UNSETTLED-via-else-len-ge-MAX_UNSETTLED+then-self-ge-MAX_POSTS w ↦ spent
-          (omega (arith, w.if-self-ge-MAX_POSTS.true))
-    ]))
+    (λ e. elim c.then-is_full.branch [
+      | then-is_full-via-then-is_full w ↦ full (OnTrue_at w.if-is_full.true c.is_full.ensures.full)
+      | then-is_full-via-else-is_full+then-self-ge-MAX_POSTS w ↦
+          subst (λ (b : BookState). GivesNone b s) c.self.view_is
+          (spent (omega (arith, w.if-self-ge-MAX_POSTS.true)))
+    ])
 
 pub invariant_of-self : goal.invariant_of-self
 invariant_of-self c =
@@ -69,5 +70,6 @@ returns-clause-open c =
     λ s open_now.
     asks_given _ _ c.args.self.now c.args.session s c.in-Some.request c.ask_session-read.result c.self.view_is
     c.ask_session-read.ensures.open (c.in_ok-request.was ∙ ap (λ (o : Option Request). Ok o) c.in-Some.is)
-    (omega (arith, c.len.ensures, c.if-len-ge-MAX_UNSETTLED.false)) (omega (arith, c.if-self-ge-MAX_POSTS.false))
+    (subst (λ (b : BookState). length b.unsettled < WINDOW) (sym c.self.view_is)
+    (OnFalse_at c.if-is_full.false c.is_full.ensures.room)) (omega (arith, c.if-self-ge-MAX_POSTS.false))
     (rw unsettled refl) open_now

@@ -1,7 +1,7 @@
 use Rattle.std.proofs.Common.{◌≡◌, ◌++◌, ap, sym, subst, ◌∙◌}
 use Rattle.std.specs.Prelude.{IfSome}
 use Rattle.worker.specs.declared.session_list.SessionNote.TheVariants.{Closed}
-use Rattle.worker.specs.EndCauses.{Rises, with_cause}
+use Rattle.worker.specs.EndCauses.{RisesFrom, with_cause}
 use Rattle.worker.specs.SessionLists.{listed}
 use Rattle.worker.proofs.EndCauseLemmas.{rose}
 use Rattle.worker.proofs.Listing.{IsStored, listed_more}
@@ -16,9 +16,9 @@ invariant_of-self c =
     ∙ listed_more c.self.inside.notes.items (Closed s cause) in
     elim c.match-self.branch [
       | in-Some w ↦ subst IsStored (sym w.self-inside-is) (λ rises.
-          let rose_old : Rises old = rose old s cause (subst Rises noted rises) in
+          let rose_old : RisesFrom 0 old = rose old s cause (subst (RisesFrom 0) noted rises) in
           let same = subst (λ o. IfSome o (λ entries. entries.items ≡ old)) w.in-Some.is (c.self.invariant rose_old) in
-          w.set_cause.ensures (subst Rises (sym same) rose_old) ∙ ap (λ l. with_cause l s cause) same ∙ sym noted)
+          w.set_cause.ensures (subst (RisesFrom 0) (sym same) rose_old) ∙ ap (λ l. with_cause l s cause) same ∙ sym noted)
       | in_default w ↦ subst IsStored (sym w.self-inside-is) (λ rises.
           subst (λ o. IfSome o (λ entries. entries.items ≡ listed c.note.new.self.items)) (sym w.in_default.is) tt)
     ]

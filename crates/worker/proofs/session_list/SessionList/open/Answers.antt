@@ -2,7 +2,7 @@ use Rattle.std.proofs.Common.{◌≡◌, [], ◌∷◌, ◌++◌, ap, sym, subst
 use Rattle.std.specs.Prelude.{IfSome}
 use Rattle.session_book.specs.declared.causes.EndCause.TheVariants.{Drained}
 use Rattle.worker.specs.declared.session_list.SessionNote.TheVariants.{Opened}
-use Rattle.worker.specs.EndCauses.{Rises}
+use Rattle.worker.specs.EndCauses.{RisesFrom}
 use Rattle.worker.specs.SessionLists.{listed}
 use Rattle.worker.proofs.EndCauseLemmas.{rose_before}
 use Rattle.worker.proofs.Listing.{IsStored, listed_more}
@@ -18,7 +18,7 @@ invariant_of-self c =
     elim c.match-self.branch [
       | in-Some w ↦ subst IsStored (sym w.self-inside-is) (λ rises.
           let same = subst (λ o. IfSome o (λ entries. entries.items ≡ old)) w.in-Some.is
-          (c.self.invariant (rose_before old (s, Drained) (subst Rises noted rises))) in
+          (c.self.invariant (rose_before old (s, Drained) (subst (RisesFrom 0) noted rises))) in
           w.push_reserved.ensures.items ∙ ap (λ l. l ++ (s, Drained) ∷ []) same ∙ sym noted)
       | in_default w ↦ subst IsStored (sym w.self-inside-is) (λ rises.
           subst (λ o. IfSome o (λ entries. entries.items ≡ listed c.note.new.self.items)) (sym w.in_default.is) tt)

@@ -1,4 +1,0 @@
-pub mod Faults
-pub mod Printed
-pub mod Reading
-pub mod Replayed

@@ -1,4 +1,0 @@
-pub mod Faults
-pub mod Listening
-pub mod NewStores
-pub mod Runs

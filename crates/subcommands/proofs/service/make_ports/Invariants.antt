@@ -1,0 +1,10 @@
+use Rattle.std.proofs.Common.{◌≡◌, length}
+use Rattle.subcommands.specs.Runs.{AreNewPorts}
+use Rattle.subcommands.proofs.service.make_ports.Given as goal
+
+-- the ports so far are those of the first workers, and have told nothing
+abbrev pub invariant-loop-worker : goal.invariant-loop-worker
+invariant-loop-worker g l = record {
+  new : AreNewPorts l.fn.geometry l.fn.dialect l.ports.items;
+  count : length l.ports.items ≡ l.worker;
+}

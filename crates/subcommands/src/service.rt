@@ -1,0 +1,270 @@
+//! `segcached serve`.
+
+ghost use Rattle.std.specs.Prelude.{◌≡◌, ℕ, List, vec_len, IfOk, OnOk};
+ghost use Rattle.std.specs.String.{string_bytes};
+ghost use Rattle.std.specs.Io.KnownBytes.{Appends};
+ghost use Rattle.subcommands.specs.Listening.{IsListeningLine};
+ghost use Rattle.subcommands.specs.NewStores.{IsNewStore};
+ghost use Rattle.net.specs.Stories.{story_of, IsNew};
+ghost use Rattle.subcommands.specs.Runs.{AreNewPorts, IsServed};
+
+use crate::fault::Fault;
+use crate::operator::Operator;
+use command_line::{ServeOptions, on_one_line};
+use group::{Config, GroupReport, run_group};
+use net::{Hand, ListenReport, Listener, MioPort, NetFault, Owner};
+use proto::{Dialect, Geometry, MAX_SESSIONS};
+use segcache::Store;
+use std::alloc::Global;
+use std::io::{Eprint, Write};
+use std::net::Net;
+use std::sync::Wait;
+use std::thread::{self, JoinHandle, Threads};
+use std::time;
+use storage_thread::UnixClock;
+use worker::OpenGate;
+
+/// What a served group leaves.
+pub type Report<H> = GroupReport<MioPort<H>, UnixClock<H>>;
+
+/// That it can't listen, for this reason.
+fn cannot_listen(alloc: Global, options: &ServeOptions, fault: NetFault) -> Fault {
+    match fault {
+        NetFault::NoMemory => Fault::NoMemory,
+        NetFault::BadAddress | NetFault::Bind | NetFault::Poll => {
+            match on_one_line(alloc, options.listen.as_str()) {
+                Ok(addr) => Fault::CannotListen(addr),
+                Err(_) => Fault::NoMemory,
+            }
+        }
+    }
+}
+
+/// A port that ends the sessions which are silent for so long, if they are to be ended.
+fn new_port<H>(
+    rt: H,
+    alloc: Global,
+    hand: Hand,
+    owner: Owner,
+    idle: Option<u64>,
+) -> Result<MioPort<H>, NetFault>
+where
+    H: Wait + Net + time::Clock + Copy + Drop,
+    ensures { IfOk result (λ port. IsNew owner.geometry owner.dialect owner.worker (story_of port.served)) }
+{
+    let mut port = MioPort::new(rt, alloc, hand, owner)?;
+    if let Some(seconds) = idle {
+        port.set_idle_limit(seconds);
+    }
+    Ok(port)
+}
+
+/// A port for each worker, and the listener's ends of their hands, which take as many streams as a worker opens
+/// sessions in a run.
+fn make_ports<H>(
+    rt: H,
+    alloc: Global,
+    geometry: Geometry,
+    dialect: Dialect,
+    workers: usize,
+    idle: Option<u64>,
+) -> Result<(Vec<Hand>, Vec<MioPort<H>>), NetFault>
+where
+    H: Wait + Net + time::Clock + Copy + Drop,
+    ensures new { IfOk result (λ made. AreNewPorts geometry dialect made.1.items) }
+    ensures count { IfOk result (λ made. vec_len made.1 ≡ workers) }
+{
+    let mut hands = Vec::with_capacity(alloc, workers)?;
+    let mut ports = Vec::with_capacity(alloc, workers)?;
+    for worker in 0..workers {
+        let (of_listener, of_port) = Hand::pair(&rt, alloc, MAX_SESSIONS)?;
+        hands.push(of_listener)?;
+        let owner = Owner {
+            geometry,
+            dialect,
+            worker,
+        };
+        ports.push(new_port(rt, alloc, of_port, owner, idle)?)?;
+    }
+    Ok((hands, ports))
+}
+
+/// The line of the options' address, with the real port behind its last colon.
+fn listening_line(alloc: Global, options: &ServeOptions, port: u16) -> Result<String, Fault>
+    ensures { IfOk result (λ line. IsListeningLine (string_bytes options.entry.now.listen) port (string_bytes line)) }
+{
+    let Some((host, _)) = options.listen.rsplit_once(':') else {
+        return Err(cannot_listen(alloc, options, NetFault::BadAddress));
+    };
+    let mut line = String::from_str(alloc, "listening on ")?;
+    line.push_str(host)?;
+    line.push_str(":")?;
+    line.push_str(port.to_string(alloc)?.as_str())?;
+    line.push_str("\n")?;
+    Ok(line)
+}
+
+/// Prints that it listens, with the real port.
+fn announce<W: Write>(
+    alloc: Global,
+    options: &ServeOptions,
+    port: u16,
+    out: &mut W,
+) -> Result<(), Fault>
+    ensures { OnOk result ((line : List ℕ) × IsListeningLine (string_bytes options.entry.now.listen) port line
+        × Appends (W.contents out.old) (W.contents out.new) line) }
+{
+    let line = listening_line(alloc, options, port)?;
+    if out.write_all(line.as_bytes()).is_err() || out.flush().is_err() {
+        return Err(Fault::CannotWrite);
+    }
+    Ok(())
+}
+
+/// What is made before the line is printed: the listener with its ends of the hands, the workers' ports and the store.
+#[derive(Drop)]
+struct Opened<H: Drop> {
+    listener: Listener,
+    hands: Vec<Hand>,
+    ports: Vec<MioPort<H>>,
+    store: Store,
+}
+
+/// Listens on the options' address, and makes the rest.
+fn open<H>(
+    rt: H,
+    alloc: Global,
+    options: &ServeOptions,
+    geometry: Geometry,
+    seed: u64,
+) -> Result<Opened<H>, Fault>
+where
+    H: Wait + Net + time::Clock + Copy + Drop,
+    ensures store { IfOk result (λ opened. IsNewStore geometry opened.store) }
+    ensures ports { IfOk result (λ opened. AreNewPorts geometry options.entry.now.dialect opened.ports.items) }
+    ensures count { IfOk result (λ opened. vec_len opened.ports ≡ options.entry.now.workers) }
+{
+    let listener = match Listener::bind(&rt, alloc, options.listen.as_str()) {
+        Ok(listener) => listener,
+        Err(fault) => return Err(cannot_listen(alloc, options, fault)),
+    };
+    let (hands, ports) = match make_ports(
+        rt,
+        alloc,
+        geometry,
+        options.dialect,
+        options.workers as usize,
+        options.idle,
+    ) {
+        Ok(made) => made,
+        Err(fault) => return Err(cannot_listen(alloc, options, fault)),
+    };
+    Ok(Opened {
+        listener,
+        hands,
+        ports,
+        store: Store::seeded(alloc, geometry, 0, seed)?,
+    })
+}
+
+/// Accepts streams in a thread of its own, up to the limit. The address is free again once it has ended.
+fn start_listening<H>(
+    rt: H,
+    mut listener: Listener,
+    mut hands: Vec<Hand>,
+    limit: Option<u64>,
+) -> Result<JoinHandle<ListenReport>, Fault>
+where
+    H: Threads + Wait + time::Clock + Eprint + Copy + Drop + Send + 'static,
+{
+    match thread::spawn(&rt, move || {
+        listener.run_heard(&rt, hands.as_mut_slice(), limit, &mut Operator { rt })
+    }) {
+        Ok(listening) => Ok(listening),
+        Err(_) => Err(Fault::NoThread),
+    }
+}
+
+/// Runs a worker for each port over the store, until all have ended.
+fn run_workers<H>(
+    rt: H,
+    alloc: Global,
+    ports: Vec<MioPort<H>>,
+    store: Store,
+    geometry: Geometry,
+    dialect: Dialect,
+) -> Result<Report<H>, Fault>
+where
+    H: Threads + Wait + time::Clock + Copy + Drop + Send + Sync + 'static,
+    requires store { IsNewStore geometry store }
+    requires ports { AreNewPorts geometry dialect ports.items }
+    ensures { IfOk result (λ report. IsServed geometry dialect (vec_len ports) report) }
+{
+    let config = Config {
+        geometry,
+        dialect,
+        stores_sessions: false,
+    };
+    let clock = UnixClock::new(rt);
+    let report = run_group(&rt, alloc, ports, config, store, clock, &OpenGate)?;
+    report.clock.agrees();
+    Ok(report)
+}
+
+/// Accepts streams up to the limit, and runs the workers until they have ended.
+fn run<H>(
+    rt: H,
+    alloc: Global,
+    opened: Opened<H>,
+    geometry: Geometry,
+    dialect: Dialect,
+    limit: Option<u64>,
+) -> Result<Report<H>, Fault>
+where
+    H: Threads + Wait + time::Clock + Eprint + Copy + Drop + Send + Sync + 'static,
+    requires store { IsNewStore geometry opened.store }
+    requires ports { AreNewPorts geometry dialect opened.ports.items }
+    ensures { IfOk result (λ report. IsServed geometry dialect (vec_len opened.ports) report) }
+{
+    let Opened {
+        listener,
+        hands,
+        ports,
+        store,
+    } = opened;
+    let listening = start_listening(rt, listener, hands, limit)?;
+    let report = run_workers(rt, alloc, ports, store, geometry, dialect)?;
+    listening.join(&rt);
+    let _ = eprintln!(rt; "serving has ended");
+    Ok(report)
+}
+
+/// Listens on the options' address, prints it, and serves: a thread accepts streams, a group of workers serves them,
+/// and moments are Unix seconds. Keys are hashed with the seed. With a number of sessions it accepts so many streams,
+/// and ends when their sessions have ended; else it goes on until each worker was given as many streams as it opens in
+/// a run, and ends in the same way. It leaves what the group left.
+pub fn serve<H, W: Write>(
+    rt: H,
+    alloc: Global,
+    options: &ServeOptions,
+    geometry: Geometry,
+    seed: u64,
+    out: &mut W,
+) -> Result<Report<H>, Fault>
+where
+    H: Threads + Wait + Net + time::Clock + Eprint + Copy + Drop + Send + Sync + 'static,
+    ensures announced { OnOk result ((port : ℕ) × (line : List ℕ) × IsListeningLine (string_bytes options.entry.now.listen) port line
+        × Appends (W.contents out.old) (W.contents out.new) line) }
+    ensures served { IfOk result (λ report. IsServed geometry options.entry.now.dialect options.entry.now.workers report) }
+{
+    let opened = open(rt, alloc, options, geometry, seed)?;
+    announce(alloc, options, opened.listener.port(), out)?;
+    run(
+        rt,
+        alloc,
+        opened,
+        geometry,
+        options.dialect,
+        options.sessions,
+    )
+}

@@ -1,5 +1,0 @@
-use Rattle.worker.specs.Workers.{Continues}
-use Rattle.worker.proofs.run.give_slowly.Given as goal
-
-abbrev pub invariant-loop : goal.invariant-loop
-invariant-loop g l = Continues g.P.Port.told g.P.Port.leads_to l.fn.worker l.worker

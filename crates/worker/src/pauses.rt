@@ -1,0 +1,47 @@
+//! What a worker does in a turn in which nothing came.
+
+use crossbeam_utils::Backoff;
+use exchange::{IdleTurns, ParkingWord};
+use std::sync::Wait;
+
+/// Idle turns in a row that spin for an answer before the worker parks: some ten microseconds, in which storage mostly
+/// answers.
+const IDLE_TURNS: u32 = 40;
+
+/// Idle turns in a row. A worker that waits for an answer parks until storage has given it; else it yields, as it waits for
+/// a peer that accepts no bytes.
+#[derive(Drop)]
+pub(crate) struct Pauses {
+    idle: IdleTurns,
+    backoff: Backoff,
+}
+
+impl Pauses {
+    pub(crate) fn new() -> Pauses {
+        Pauses {
+            idle: IdleTurns::new(IDLE_TURNS),
+            backoff: Backoff::new(),
+        }
+    }
+
+    /// Something came: the next idle turn is the first of a row.
+    pub(crate) fn reset(&mut self, parking: Option<&ParkingWord>) {
+        if let Some(parking) = parking {
+            self.idle.reset(parking);
+        }
+        self.backoff.reset();
+    }
+
+    /// One idle turn, in which answers are waited for or not.
+    pub(crate) fn turn<R: Wait>(
+        &mut self,
+        rt: &R,
+        for_answers: bool,
+        parking: Option<&ParkingWord>,
+    ) {
+        match parking {
+            Some(parking) if for_answers => self.idle.turn(rt, parking),
+            _ => self.backoff.snooze(),
+        }
+    }
+}

@@ -1,6 +1,6 @@
 -- What an engine makes of a request is a step, and only want of memory is answered by `NoMemory`.
-use Rattle.std.proofs.Common.{◌≡◌, ◌≢◌, ℕ, Bool, true, false, List, [], Option, Some, None, refl, sym, ap, subst, ◌∙◌, inl, inr}
-use Rattle.std.specs.Prelude.{◌||◌, ◌&&◌, is_some}
+use Rattle.std.proofs.Common.{◌≡◌, ◌≢◌, ℕ, Bool, true, false, List, [], Option, Some, None, refl, sym, subst, ◌∙◌, inl, inr}
+use Rattle.std.specs.Prelude.{◌⊎◌, ◌||◌, ◌&&◌, is_some}
 use Rattle.std.specs.FinMap as map
 use Rattle.proto.specs.declared.message.Request.{Request}
 use Rattle.proto.specs.declared.message.Reply.{Reply}
@@ -8,9 +8,9 @@ use Rattle.proto.specs.declared.message.Reply.TheVariants.{NoMemory}
 use Rattle.proto.specs.Sizes.{Sizes, item_limit}
 use Rattle.proto.specs.Cache.{Entry, Entries, Cache, found_at}
 use Rattle.proto.specs.Commands.{Outcome, act}
-use Rattle.proto.specs.Steps.{Step, MayForget, IsDated, IsRefused, has_hits, without}
-use Rattle.proto.proofs.CacheLemmas.{without-nil}
-use Rattle.proto.proofs.StepLemmas.{dated-insert, forgets_nothing}
+use Rattle.proto.specs.Steps.{Step, MayEvict, IsDated, IsRefused, has_hits, without}
+use Rattle.proto.proofs.CacheLemmas.{without-nil, remove-insert}
+use Rattle.proto.proofs.StepLemmas.{dated-insert}
 use Rattle.proto.proofs.DeadlineLemmas.{may_be_exact}
 use Rattle.proto.specs.Cache.{has_arrived}
 use Rattle.engine.specs.declared.commands.Engine.{Engine}
@@ -31,7 +31,7 @@ written_exactly sizes t old key e new waits is =
       deadline = e.deadline;
       may_live = may_be_exact t e.deadline waits;
       forgotten = [];
-      may_forget = forgets_nothing sizes old (map.insert old key e) (Some key);
+      may_forget = inl refl;
       entries = is ∙ sym (without-nil (map.insert old key e));
     }
 
@@ -63,28 +63,37 @@ handled_by m old found t q reply new cache same at alike kept leaves =
 -- ---- what a step asks of the entries
 
 -- the entries are those asked for, but that the stored one has a deadline that it may get, and some may have been forgotten
-record IsReached (sizes : Sizes) (t : ℕ) (old asked : Entries) (stored : Option (List ℕ)) (new : Entries) : Type 0 where
+record IsReached (sizes : Sizes) (t : ℕ) (asked : Entries) (stored : Option (List ℕ)) (new : Entries) : Type 0 where
   dated : Entries
   is_dated : IsDated t asked stored dated
   forgotten : List (List ℕ)
-  may_forget : MayForget sizes old dated stored forgotten
+  may_forget : (forgotten ≡ []) ⊎ ((key : List ℕ) × (stored ≡ Some key) × MayEvict sizes (map.remove dated key) forgotten)
   entries : new ≡ without dated forgotten
+
+-- what a write forgets is forgotten beside the entry that it leaves
+forgets_beside : (sizes : Sizes) (old : Entries) (key : List ℕ) (e : Entry) (forgotten : List (List ℕ))
+    → (forgotten ≡ []) ⊎ MayEvict sizes (map.remove old key) forgotten
+    → (forgotten ≡ [])
+    ⊎ ((k : List ℕ) × (Some key ≡ Some k) × MayEvict sizes (map.remove (map.insert old key e) k) forgotten)
+forgets_beside sizes old key e forgotten (inl none) = inl none
+forgets_beside sizes old key e forgotten (inr h) =
+    inr (key, refl, subst (λ (others : Entries). MayEvict sizes others forgotten) (sym (remove-insert old key e)) h)
 
 -- what an engine's map becomes is what a step may leave
 reached : {M P : Type 0} (m : MapOf M P) (old : M) (done : Outcome) (stored : Option (List ℕ)) (new : M)
-    → Changes m old done stored new → IsReached (m.sizes old) (m.moment old) (m.entries old) done.entries stored
-    (m.entries new)
+    → Changes m old done stored new → IsReached (m.sizes old) (m.moment old) done.entries stored (m.entries new)
 reached m old done None new is =
     record {
       dated = done.entries;
       is_dated = refl;
       forgotten = [];
-      may_forget = refl;
+      may_forget = inl refl;
       entries = is.entries ∙ sym (without-nil done.entries);
     }
 reached m old done (Some key) new s =
     let w = s.written in
-    let dated : Entries = map.insert (m.entries old) key (record s.entry { deadline = w.deadline }) in
+    let left : Entry = record s.entry { deadline = w.deadline } in
+    let dated : Entries = map.insert (m.entries old) key left in
     let is_dated : IsDated (m.moment old) (map.insert (m.entries old) key s.entry) (Some key) dated =
     dated-insert (m.moment old)
     (m.entries old) key s.entry w.deadline w.may_live in
@@ -92,23 +101,31 @@ reached m old done (Some key) new s =
       dated = dated;
       is_dated = subst (λ (asks : Entries). IsDated (m.moment old) asks (Some key) dated) (sym s.asked_is) is_dated;
       forgotten = w.forgotten;
-      may_forget = w.may_forget;
+      may_forget = forgets_beside (m.sizes old) (m.entries old) key left w.forgotten w.may_forget;
       entries = w.entries;
     }
 
--- the same for equal sizes, moments and entries
-moved : (s u : Sizes) (t v : ℕ) (m n asked : Entries) (stored : Option (List ℕ)) (new : Entries) → s ≡ u → t ≡ v → m ≡ n
-    → IsReached s t m asked stored new → IsReached u v n asked stored new
-moved s u t v m n asked stored new su tv mn h =
-    subst (λ (x : Sizes). IsReached x v n asked stored new) su
-    (subst (λ (x : ℕ). IsReached s x n asked stored new) tv
-    (subst (λ (x : Entries). IsReached s t x asked stored new) mn h))
+-- the same for equal sizes and moments
+moved : (s u : Sizes) (t v : ℕ) (asked : Entries) (stored : Option (List ℕ)) (new : Entries) → s ≡ u → t ≡ v
+    → IsReached s t asked stored new → IsReached u v asked stored new
+moved s u t v asked stored new su tv h =
+    subst (λ (x : Sizes). IsReached x v asked stored new) su
+    (subst (λ (x : ℕ). IsReached s x asked stored new) tv h)
 
 -- a request that may be refused stores an item or has hits
 asks_memory : (b stored hits : Bool) → ((b && stored) || hits) ≡ true → (stored || hits) ≡ true
 asks_memory true stored hits e = e
 asks_memory false true hits e = refl
 asks_memory false false hits e = e
+
+-- where memory was refused, the cache stays
+denied_same : {M P : Type 0} (m : MapOf M P) (old new : Engine M) (done : Outcome) (reply : Reply)
+    → IsDenied m old new done reply → cache_in m.entries new ≡ cache_in m.entries old
+denied_same m old new done reply d = λ i. record {
+  entries = d.entries_same i;
+  last_cas = d.last_cas i;
+  pending = d.pending i;
+}
 
 -- what was found stays, seen as a refusal of the cache
 pub denied : {M P : Type 0} (m : MapOf M P) (old new : Engine M) (found : Cache) (done : Outcome) (reply : Reply)
@@ -117,9 +134,7 @@ pub denied : {M P : Type 0} (m : MapOf M P) (old new : Engine M) (found : Cache)
 denied m old new found done reply is d =
     record {
       reply_is = d.reply_is;
-      entries = d.entries_same ∙ ap (λ (c : Cache). c.entries) is;
-      last_cas = d.last_cas ∙ ap (λ (c : Cache). c.last_cas) is;
-      pending = d.pending ∙ ap (λ (c : Cache). c.pending) is;
+      stays = denied_same m old new done reply d ∙ is;
       cause = asks_memory m.may_refuse (is_some done.stored) (has_hits done.reply) d.cause;
     }
 
@@ -132,9 +147,8 @@ step_from_handled m old t q reply new h =
     let done = outcome_at (m.sizes old.map) (cache_in m.entries old) t q in
     elim h.leaves.gives [
       | inl d ↦
-          let r = moved (m.sizes h.found.map) (m.sizes old.map) (m.moment h.found.map) t (m.entries h.found.map)
-          (found_at (cache_in m.entries old) t).entries done.entries done.stored (m.entries new.map)
-          h.sizes_same h.moment_is (ap (λ (c : Cache). c.entries) h.found_is)
+          let r = moved (m.sizes h.found.map) (m.sizes old.map) (m.moment h.found.map) t done.entries done.stored
+          (m.entries new.map) h.sizes_same h.moment_is
           (reached m h.found.map done done.stored new.map d.changes) in
           inl (record {
             reply_is = d.reply_is;
@@ -149,7 +163,7 @@ step_from_handled m old t q reply new h =
       | inr d ↦ inr (denied m h.found new (found_at (cache_in m.entries old) t) done reply h.found_is d)
     ]
 
--- where memory was refused, the cache that was found stays
+-- where `NoMemory` is answered, the cache that was found stays
 pub refused_stays : {M P : Type 0} (m : MapOf M P) (old : Engine M) (t : ℕ) (q : Request) (reply : Reply)
     (new : Engine M)
     → IsHandled m old t q reply new
@@ -159,12 +173,8 @@ refused_stays m old t q reply new h is =
       | inl d ↦ absurd (answers_act (item_limit (m.sizes old.map)) (found_at (cache_in m.entries old) t) t q
           (sym d.reply_is ∙ is))
       | inr d ↦
-          let same : cache_in m.entries new ≡ cache_in m.entries h.found = λ i. record {
-            entries = d.entries_same i;
-            last_cas = d.last_cas i;
-            pending = d.pending i;
-          } in
-          same ∙ h.found_is
+          let done = outcome_at (m.sizes old.map) (cache_in m.entries old) t q in
+          denied_same m h.found new done reply d ∙ h.found_is
     ]
 
 -- what needs no memory isn't refused any

@@ -10,10 +10,14 @@ use Rattle.std.proofs.lemmas.List.Sums.{sum_by-append, sum_by-cons}
 use Rattle.proto.specs.Hits.{hit_room}
 use Rattle.proto.specs.declared.hits.Hit.{Hit}
 use Rattle.proto.specs.Cache.{Entry, Entries}
-use Rattle.proto.specs.Commands.{hit_of, hits_of}
+use Rattle.proto.specs.Commands.{hits_of}
 use Rattle.engine.specs.declared.hits.Found.{Found}
 use Rattle.engine.specs.Finding.{IsFound, AreFound, keys_found}
 use Rattle.engine.specs.Members.{MapOf}
+
+-- the hit of an entry at a key
+abbrev pub hit_of : List ℕ → Entry → Hit
+hit_of key e = record { key = key; flags = e.flags; value = e.value; cas = e.cas }
 
 -- the first key is there
 pub hits_there : (m : Entries) (keys rest : List (List ℕ)) (key : List ℕ) (e : Entry) → keys ≡ key ∷ rest

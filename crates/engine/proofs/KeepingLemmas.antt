@@ -46,7 +46,7 @@ record IsKept {M P : Type 0} (m : MapOf M P) (t : ℕ) (asked : Entries) (stored
 -- a stored entry is kept with the others
 kept_entry : {M P : Type 0} (m : MapOf M P) (old : M) (key : List ℕ) (done : Outcome) (new : M)
     (items : List StoredItem)
-    → IsStored m old key done.entries new → m.keeps old items → AddsNone (m.entries old) done.entries (Some key)
+    → IsStored m old key done.entries new → m.keeps old items → AddsNone (m.entries old) done.entries
     → IsWithinBound (m.sizes old) (items ++ item_stored (m.moment old) done (Some key))
     → IsKept m (m.moment old) done.entries (Some key) (items ++ item_stored (m.moment old) done (Some key)) new
 kept_entry m old key done new items s keeps none within =
@@ -61,7 +61,7 @@ kept_entry m old key done new items s keeps none within =
     let deadline : deadline_at done.entries key ≡ e.deadline =
     ap (λ (asked : Entries). deadline_at asked key) s.asked_is
     ∙ deadline_at-insert (m.entries old) key e in
-    let adds : AddsNoDeadline (m.entries old) key e = elim none [
+    let adds : AddsNoDeadline (m.entries old) key e = elim (none key) [
       | inl undated ↦ inl (sym deadline ∙ undated)
       | inr same ↦ inr (sym deadline ∙ same)
     ] in
@@ -79,7 +79,7 @@ kept_entry m old key done new items s keeps none within =
 -- what was asked for is kept, whether an item was stored or not
 kept_change : {M P : Type 0} (m : MapOf M P) (old : M) (stored : Option (List ℕ)) (done : Outcome) (new : M)
     (items : List StoredItem)
-    → Changes m old done stored new → m.keeps old items → AddsNone (m.entries old) done.entries stored
+    → Changes m old done stored new → m.keeps old items → AddsNone (m.entries old) done.entries
     → IsWithinBound (m.sizes old) (items ++ item_stored (m.moment old) done stored)
     → IsKept m (m.moment old) done.entries stored (items ++ item_stored (m.moment old) done stored) new
 kept_change m old None done new items is keeps none within =
@@ -107,8 +107,8 @@ kept_from_handled m old t q reply new h items keeps sets within =
           let all : items ++ stored_in sizes (cache_in m.entries old) t q reply
           ≡ items ++ item_stored t done done.stored = ap
           (λ (more : List StoredItem). items ++ more) item in
-          let none : AddsNone (m.entries h.found.map) done.entries done.stored =
-          subst (λ (c : Cache). AddsNone c.entries done.entries done.stored) (sym h.found_is)
+          let none : AddsNone (m.entries h.found.map) done.entries =
+          subst (λ (c : Cache). AddsNone c.entries done.entries) (sym h.found_is)
           (none_act (item_limit sizes) before t q sets) in
           let bound : IsWithinBound (m.sizes h.found.map)
           (items ++ item_stored (m.moment h.found.map) done done.stored) =

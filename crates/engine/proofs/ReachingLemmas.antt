@@ -1,5 +1,5 @@
 -- A history that goes on.
-use Rattle.std.proofs.Common.{◌≡◌, ℕ, ◌+◌, ◌≤◌, List, [], ◌∷◌, ◌++◌, length, refl, sym, ap, ◌∙◌, subst, arith}
+use Rattle.std.proofs.Common.{◌≡◌, ℕ, ◌+◌, ◌≤◌, max, min, map, List, [], ◌∷◌, ◌++◌, length, refl, sym, ap, ◌∙◌, subst, arith}
 use mathlib.Core.Logic.{dite}
 use mathlib.Core.List.{map-append}
 use native.Mathlib.Decide.{ℕ_discrete}
@@ -8,7 +8,7 @@ use Rattle.proto.specs.Sizes.{Sizes}
 use Rattle.proto.specs.Cache.{Cache, empty_cache}
 use Rattle.proto.specs.Steps.{Step}
 use Rattle.proto.specs.History.{max_moment, MomentsFrom, Chain, NumbersFrom, worker_share, Legal}
-use Rattle.engine.specs.Reaching.{moments, moment_after, moments_after, last_or, last_cache, Reaches}
+use Rattle.engine.specs.Reaching.{moments_after, last_or, last_cache, Reaches}
 use Rattle.proto.proofs.CountLemmas.{share_mine, share_other}
 
 -- a chain with one step more
@@ -31,6 +31,14 @@ last_more before (x ∷ caches) after = last_more x caches after
 last_number : (n : ℕ) (xs : List ℕ) (m : ℕ) → last_or n (xs ++ m ∷ []) ≡ m
 last_number n [] m = refl
 last_number n (x ∷ xs) m = last_number x xs m
+
+-- the moments of a history
+abbrev pub moments : List Answered → List ℕ
+moments history = map (λ e. e.moment) history
+
+-- the moment of a request, by the last one and the clock's answer
+abbrev pub moment_after : ℕ → ℕ → ℕ
+moment_after last answer = max last (min answer max_moment)
 
 -- the moment of the last request comes last
 pub moments_more : (h : List Answered) (e : Answered) → moments (h ++ e ∷ []) ≡ moments h ++ e.moment ∷ []

@@ -6,7 +6,6 @@ use Rattle.proto.specs.Cache.{Cache, found_at}
 use Rattle.proto.specs.Commands.{Outcome, act}
 use Rattle.proto.specs.Steps.{has_hits}
 
--- what the request does at the moment to the cache that it finds
 abbrev pub outcome_at : Sizes → Cache → ℕ → Request → Outcome
 outcome_at sizes before t q = act (item_limit sizes) (found_at before t) t q
 

@@ -3,7 +3,7 @@
 ghost use Rattle.std.specs.Prelude.{◌≡◌, ◌≤◌, false};
 ghost use Rattle.std.specs.FinMap as map;
 ghost use Rattle.proto.specs.Cache.{found_at, has_arrived};
-ghost use Rattle.proto.specs.Commands.{write, put, take_out, change, flush, is_too_large, leaving, hits_of, act};
+ghost use Rattle.proto.specs.Commands.{write, put, change, is_too_large, leaving, hits_of, act};
 ghost use Rattle.proto.specs.Sizes.{item_limit};
 ghost use Rattle.proto.specs.History.{max_moment};
 ghost use Rattle.engine.specs.Written.{MayBeWritten};
@@ -83,7 +83,7 @@ impl<M: LiveMap> Engine<M> {
     }
 
     fn delete(&mut self, key: &[u8]) -> Reply
-        ensures { Leaves M.LiveMap self.old self.new (take_out (cache_in M.entries self.old) key.now) result }
+        ensures { Leaves M.LiveMap self.old self.new (act (item_limit (M.sizes self.old.map)) (cache_in M.entries self.old) (M.moment self.old.map) (Request.Delete key.now)) result }
     {
         if !self.map.contains_key(key) {
             return Reply::NotFound;
@@ -94,7 +94,8 @@ impl<M: LiveMap> Engine<M> {
 
     /// Changes the number at the key.
     fn change(&mut self, key: &[u8], by: Change) -> Reply
-        ensures { Leaves M.LiveMap self.old self.new (change (changed_by by) (map.get (M.entries self.old.map) key.now) (cache_in M.entries self.old) key.now) result }
+        ensures { Leaves M.LiveMap self.old self.new
+            (change (changed_by by) (map.get (M.entries self.old.map) key.now) (cache_in M.entries self.old) key.now) result }
     {
         let Some((entry, _)) = self.map.get(key) else {
             return Reply::NotFound;
@@ -117,7 +118,7 @@ impl<M: LiveMap> Engine<M> {
 
     fn flush(&mut self, delay: u64) -> Reply
         requires { M.moment self.old.map ≤ max_moment }
-        ensures { Leaves M.LiveMap self.old self.new (flush (cache_in M.entries self.old) (M.moment self.old.map) delay) result }
+        ensures { Leaves M.LiveMap self.old self.new (act (item_limit (M.sizes self.old.map)) (cache_in M.entries self.old) (M.moment self.old.map) (Request.FlushAll delay)) result }
     {
         if delay == 0 {
             self.map.clear();
@@ -152,7 +153,8 @@ impl<M: LiveMap> Engine<M> {
     }
 
     fn get(&mut self, keys: &mut Keys, with_cas: bool) -> Reply
-        ensures leaves { Leaves M.LiveMap self.old self.new (leaving (cache_in M.entries self.old) (Reply.Values (hits_of (M.entries self.old.map) keys.old))) result }
+        ensures leaves { Leaves M.LiveMap self.old self.new
+            (leaving (cache_in M.entries self.old) (Reply.Values (hits_of (M.entries self.old.map) keys.old))) result }
         ensures same { keys.new ≡ keys.old }
     {
         match hits_of(&mut self.map, keys, with_cas) {
@@ -163,7 +165,8 @@ impl<M: LiveMap> Engine<M> {
 
     fn set(&mut self, item: &Put) -> Reply
         requires { M.moment self.old.map ≤ max_moment }
-        ensures { Leaves M.LiveMap self.old self.new (act (item_limit (M.sizes self.old.map)) (cache_in M.entries self.old) (M.moment self.old.map) (Request.Set item.now)) result }
+        ensures { Leaves M.LiveMap self.old self.new
+            (act (item_limit (M.sizes self.old.map)) (cache_in M.entries self.old) (M.moment self.old.map) (Request.Set item.now)) result }
     {
         if self.is_too_large(item) {
             return Reply::TooLarge;
@@ -173,7 +176,8 @@ impl<M: LiveMap> Engine<M> {
 
     fn add(&mut self, item: &Put) -> Reply
         requires { M.moment self.old.map ≤ max_moment }
-        ensures { Leaves M.LiveMap self.old self.new (act (item_limit (M.sizes self.old.map)) (cache_in M.entries self.old) (M.moment self.old.map) (Request.Add item.now)) result }
+        ensures { Leaves M.LiveMap self.old self.new
+            (act (item_limit (M.sizes self.old.map)) (cache_in M.entries self.old) (M.moment self.old.map) (Request.Add item.now)) result }
     {
         if self.is_too_large(item) {
             return Reply::TooLarge;
@@ -186,7 +190,8 @@ impl<M: LiveMap> Engine<M> {
 
     fn replace(&mut self, item: &Put) -> Reply
         requires { M.moment self.old.map ≤ max_moment }
-        ensures { Leaves M.LiveMap self.old self.new (act (item_limit (M.sizes self.old.map)) (cache_in M.entries self.old) (M.moment self.old.map) (Request.Replace item.now)) result }
+        ensures { Leaves M.LiveMap self.old self.new
+            (act (item_limit (M.sizes self.old.map)) (cache_in M.entries self.old) (M.moment self.old.map) (Request.Replace item.now)) result }
     {
         if self.is_too_large(item) {
             return Reply::TooLarge;
@@ -199,7 +204,8 @@ impl<M: LiveMap> Engine<M> {
 
     fn cas(&mut self, item: &Put, unique: u64) -> Reply
         requires { M.moment self.old.map ≤ max_moment }
-        ensures { Leaves M.LiveMap self.old self.new (act (item_limit (M.sizes self.old.map)) (cache_in M.entries self.old) (M.moment self.old.map) (Request.Cas item.now unique)) result }
+        ensures { Leaves M.LiveMap self.old self.new
+            (act (item_limit (M.sizes self.old.map)) (cache_in M.entries self.old) (M.moment self.old.map) (Request.Cas item.now unique)) result }
     {
         if self.is_too_large(item) {
             return Reply::TooLarge;
@@ -216,7 +222,8 @@ impl<M: LiveMap> Engine<M> {
     /// Executes the request at the last moment.
     pub(crate) fn execute(&mut self, request: &mut Request) -> Reply
         requires { M.moment self.old.map ≤ max_moment }
-        ensures leaves { Leaves M.LiveMap self.old self.new (act (item_limit (M.sizes self.old.map)) (cache_in M.entries self.old) (M.moment self.old.map) request.old) result }
+        ensures leaves { Leaves M.LiveMap self.old self.new
+            (act (item_limit (M.sizes self.old.map)) (cache_in M.entries self.old) (M.moment self.old.map) request.old) result }
         ensures same { request.new ≡ request.old }
     {
         match request {

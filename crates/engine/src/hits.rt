@@ -1,7 +1,7 @@
 //! What a `get` shows.
 
 ghost use Rattle.std.specs.Prelude.{◌≡◌, ◌+◌, ◌<◌, ◌∷◌, [], length, sum_by, IfOk, IfSome, OnErr};
-ghost use Rattle.proto.specs.Commands.{hit_of, hits_of};
+ghost use Rattle.proto.specs.Commands.{hits_of};
 ghost use Rattle.proto.specs.Hits.{hit_room};
 ghost use Rattle.proto.specs.SeenHits.{seen_hit};
 ghost use Rattle.engine.specs.Shown.{entry_of};
@@ -15,7 +15,7 @@ use std::hash::Hasher;
 
 /// The entry at the key, lent.
 fn hit_of<'a>(key: &'a [u8], entry: EntryRef<'a>) -> HitRef<'a>
-    ensures { seen_hit result ≡ hit_of key.now (entry_of entry.entry) }
+    ensures { let e = entry_of entry.entry in seen_hit result ≡ record { key = key.now; flags = e.flags; value = e.value; cas = e.cas } }
 {
     HitRef {
         key,

@@ -111,10 +111,12 @@ impl<M: StoreMap> StorageEngine for Engine<M> {
 
         // where memory was refused, what was found stays; and only what shows something needs any, or stores, where the map may refuse
         ensures refused { result ≡ Reply.NoMemory → cache_in M.entries self.new ≡ found_at (cache_in M.entries self.old) now }
-        ensures succeeds { needs_memory M.may_refuse (outcome_at (M.sizes self.old.map) (cache_in M.entries self.old) now request.old) ≡ false → result ≢ Reply.NoMemory }
+        ensures succeeds { needs_memory M.may_refuse (outcome_at (M.sizes self.old.map) (cache_in M.entries self.old) now request.old) ≡ false
+            → result ≢ Reply.NoMemory }
 
         // nothing is forgotten while little is stored, and nothing with a deadline
-        ensures kept { KeepsAll (λ (engine : Engine M). M.sizes engine.map) (cache_in M.entries) (λ (engine : Engine M) items. M.keeps engine.map items) self.old now request.old result self.new }
+        ensures kept { KeepsAll (λ (engine : Engine M). M.sizes engine.map) (cache_in M.entries)
+            (λ (engine : Engine M) items. M.keeps engine.map items) self.old now request.old result self.new }
     {
         // the law by which what was handled is `promised`
         M::keep_promises();

@@ -95,7 +95,6 @@ abbrev pub AreMade : ℕ → Sizes → List WorkerView → StorageView → Type 
 AreMade workers geometry ends storage = (length ends ≡ workers) × AreNew storage.exchange geometry ends
     × (storage ≡ new_storage_view storage.exchange geometry workers)
 
--- an exchange has 1 to 8 workers
 abbrev pub IsCount : ℕ → Type 0
 IsCount workers = (1 ≤ workers) × (workers ≤ 8)
 

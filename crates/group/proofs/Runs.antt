@@ -15,9 +15,10 @@ use Rattle.exchange.proofs.Lists.{at_below, at_some, starts_trans}
 use Rattle.storage_thread.specs.declared.serving.StorageReport.{StorageReport}
 use Rattle.worker_port.specs.Ports.{PortStory}
 use Rattle.worker.specs.declared.report.WorkerReport.{WorkerReport}
-use Rattle.worker.specs.Reports.{AreAnsweredIn}
+use Rattle.worker.specs.Reports.{IsSessionAnswered}
 use Rattle.group.specs.declared.report.GroupReport.{GroupReport}
-use Rattle.group.specs.Threads.{AreJoined, AreEach, HasSentNothing, ArePortsOf, IsPortAt, IsLeftByStorage, KeepsWorker, KeepsStorage, ends_of, worker_of, workers_of}
+use Rattle.group.specs.Threads.{AreJoined, AreEach, HasSentNothing, ArePortsOf, IsPortAt, IsLeftByStorage, KeepsWorker, KeepsStorage}
+use Rattle.group.specs.Threads.{ends_of, worker_of, workers_of}
 use Rattle.group.specs.Headline.{IsHistoryOf, IsWorkerOf, IsRun}
 use Rattle.group.proofs.Places.{at_map, at_mapped}
 use Rattle.storage_thread.proofs.Callers.{or_at}
@@ -83,9 +84,9 @@ module _ {P : Type 0} (told : P → Option PortStory) (leads_to : P → P → Ty
             ∙ ap length kept.over.all_back);
         strangers = kept.strangers;
         listed = λ story tells. (kept.reported story tells).listed;
-        answered = λ story tells.
-            subst (λ n. AreAnsweredIn s.history story.dialect story.events n r.sessions.items) is
-            ((kept.reported story tells).answered s.history (sym all.0) sent);
+        answered = λ story tells t cause messages rest listed reads.
+            subst (λ n. IsSessionAnswered story.events s.history n t cause messages) is
+            ((kept.reported story tells).answered s.history (sym all.0) sent t cause messages rest listed reads);
         given_by = λ story tells. starts_trans s.history r.worker_end.seen story.history counted.compared.seen
             (kept.whose story tells).later;
         spelled = kept.spelled;
@@ -123,15 +124,13 @@ module _ {P : Type 0} (told : P → Option PortStory) (leads_to : P → P → Ty
         history = storage.storage_end.history;
         made = subst (λ (y : C × ℕ). IsHistoryOf clock_told clock_leads sizes (length ports) clock y.0 y.1
             storage.storage_end.history) (λ i. (sym clock_is i, sym executed_is i)) stored.made;
-        answered = record {
-          one_each = ap length workers_are ∙ length-map reports worker_of ∙ joined.one_each;
-          each = λ w port worker there at.
-              let q = at_mapped worker_of reports w worker (subst (λ l. get_elem? l w ≡ some worker) workers_are at) in
-              subst (IsWorkerOf told leads_to storage.storage_end.history report.gathered port w) q.2
-              (worker_holds sizes storage.storage_end report.gathered port w q.0 (joined.each w port q.0 there q.1)
-              (counted w q.0.worker_end (at_map (λ (r : WorkerReport P). r.worker_end) reports w q.0 q.1)));
-          none_beyond = λ w le. beyond w (subst (λ n. n ≤ w) (sym stored.same.1) le);
-        };
+        one_each = ap length workers_are ∙ length-map reports worker_of ∙ joined.one_each;
+        each = λ w port worker there at.
+            let q = at_mapped worker_of reports w worker (subst (λ l. get_elem? l w ≡ some worker) workers_are at) in
+            subst (IsWorkerOf told leads_to storage.storage_end.history report.gathered port w) q.2
+            (worker_holds sizes storage.storage_end report.gathered port w q.0 (joined.each w port q.0 there q.1)
+            (counted w q.0.worker_end (at_map (λ (r : WorkerReport P). r.worker_end) reports w q.0 q.1)));
+        none_beyond = λ w le. beyond w (subst (λ n. n ≤ w) (sym stored.same.1) le);
         bounded = stored.bounded;
       }
 

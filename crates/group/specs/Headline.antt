@@ -2,20 +2,23 @@
 use Rattle.std.specs.Prelude.{◌≡◌, ℕ, ◌^◌, ◌-◌, ◌<◌, ◌≤◌, List, length, min, All, Option, Some, is_some, slice_index}
 use mathlib.Core.Option.{some}
 use lib.ListN.{get_elem?}
+use Rattle.proto.specs.declared.message.Message.{Message}
 use Rattle.proto.specs.declared.history.Answered.{Answered}
 use Rattle.proto.specs.Sizes.{Sizes}
 use Rattle.proto.specs.History.{Legal, worker_share, asked_posted}
+use Rattle.proto.specs.Reading.{Reads}
 use Rattle.exchange.specs.declared.gathering.Gathered.{Gathered}
 use Rattle.exchange.specs.Beginnings.{StartsWith}
 use Rattle.storage_thread.specs.Keeping.{MayForgetNothing}
 use Rattle.storage_thread.specs.Serving.{IsTimed}
-use Rattle.worker_port.specs.Ports.{PortStory}
-use Rattle.worker.specs.Reports.{AreListed, AreAnsweredIn}
+use Rattle.session_book.specs.declared.causes.EndCause.{EndCause}
+use Rattle.worker_port.specs.Ports.{PortStory, fed}
+use Rattle.worker.specs.Sessions.{cause_of}
+use Rattle.worker.specs.Reports.{AreListed, IsSessionAnswered}
 use Rattle.group.specs.declared.report.GroupWorker.{GroupWorker}
 use Rattle.group.specs.declared.report.GroupReport.{GroupReport}
 
--- The history of so many workers' requests is legal, and has no other's; so many were executed, though the count stays at the
--- greatest number; its moments are those of the clock's answers; and the clock is what the one handed in became.
+-- so many workers made this legal history, at the moments of this clock; the count stays at the greatest number
 pub record IsHistoryOf {C : Type 0} (told : C → Option (List ℕ)) (leads_to : C → C → Type 0) (sizes : Sizes) (workers : ℕ)
     (clock after : C) (executed : ℕ) (history : List Answered) : Type 0 where
   pub legal : Legal sizes history
@@ -24,10 +27,7 @@ pub record IsHistoryOf {C : Type 0} (told : C → Option (List ℕ)) (leads_to :
   pub moments : IsTimed (told clock) (told after) history
   pub leads : leads_to clock after
 
--- What a group says of worker w, whose port this was: the history holds exactly the requests that it sent, once each
--- and in its order, and as many came back; the port is what the one handed in became; and, where the port tells, its list and
--- the report agree, its sessions were answered in the dialect that it had at first, and the history begins with the one by
--- which the port was given bytes last.
+-- what holds of worker w, whose port this was: the history has what it sent, once and in order, and its sessions were answered
 pub record IsWorkerOf {P : Type 0} (told : P → Option PortStory) (leads_to : P → P → Type 0) (history : List Answered)
     (gathered : Gathered) (port : P) (w : ℕ) (worker : GroupWorker P) : Type 0 where
   pub exactly : asked_posted (worker_share history w) ≡ worker.sent
@@ -39,28 +39,21 @@ pub record IsWorkerOf {P : Type 0} (told : P → Option PortStory) (leads_to : P
   pub listed : (story : PortStory) → told worker.port ≡ Some story
       → AreListed story.events worker.sent worker.sessions.items worker.unopened
   pub answered : (story : PortStory) → told worker.port ≡ Some story
-      → AreAnsweredIn history story.dialect story.events w worker.sessions.items
+      → (s : ℕ) (cause : EndCause) (messages : List Message) (rest : List ℕ) → cause_of worker.sessions.items s ≡ Some cause
+      → Reads story.dialect (fed s story.events) messages rest → IsSessionAnswered story.events history w s cause messages
   pub spelled : (first story : PortStory) → told port ≡ Some first → told worker.port ≡ Some story
       → story.dialect ≡ first.dialect
   pub given_by : (story : PortStory) → told worker.port ≡ Some story → StartsWith history story.history
 
--- Each port has its worker in the report, and no other worker sent anything.
-pub record AreWorkersOf {P C : Type 0} (told : P → Option PortStory) (leads_to : P → P → Type 0) (history : List Answered)
-    (ports : List P) (report : GroupReport P C) : Type 0 where
-  pub one_each : length report.workers.items ≡ length ports
-  pub each : (w : ℕ) (port : P) (worker : GroupWorker P) → get_elem? ports w ≡ some port
-      → get_elem? report.workers.items w ≡ some worker
-      → IsWorkerOf told leads_to history report.gathered port w worker
-  pub none_beyond : (w : ℕ) → length ports ≤ w
-      → (slice_index report.gathered.sent w ≡ 0) × (slice_index report.gathered.back w ≡ 0)
-
--- The headline. There is a legal history at the clock's moments; it holds exactly the requests sent, each worker's once and in
--- its order, and each worker's sessions were answered in it; and over a store that keeps what it stores, it may be read as
--- one that forgets nothing, where no request sets a deadline and little is stored.
+-- the headline: some history was made, each port's worker was answered in it and no other, and a store that keeps forgot nothing
 pub record IsRun {P C : Type 0} (told : P → Option PortStory) (leads_to : P → P → Type 0)
     (clock_told : C → Option (List ℕ)) (clock_leads : C → C → Type 0) (keeps : Type 0) (sizes : Sizes) (ports : List P)
     (clock : C) (report : GroupReport P C) : Type 0 where
   pub history : List Answered
   pub made : IsHistoryOf clock_told clock_leads sizes (length ports) clock report.clock report.executed history
-  pub answered : AreWorkersOf told leads_to history ports report
+  pub one_each : length report.workers.items ≡ length ports
+  pub each : (w : ℕ) (port : P) (worker : GroupWorker P) → get_elem? ports w ≡ some port
+      → get_elem? report.workers.items w ≡ some worker → IsWorkerOf told leads_to history report.gathered port w worker
+  pub none_beyond : (w : ℕ) → length ports ≤ w
+      → (slice_index report.gathered.sent w ≡ 0) × (slice_index report.gathered.back w ≡ 0)
   pub bounded : keeps → MayForgetNothing sizes history

@@ -50,8 +50,7 @@ pub record IsFinished {T : Type 0} (id : ℕ) (keeps : T → Type 0) (finished :
 abbrev pub HasSentNothing : WorkerView → Type 0
 HasSentNothing end = (end.sent ≡ []) × (end.back ≡ []) × (end.said_bye ≡ false) × (end.seen ≡ [])
 
--- The ports of workers 0, 1 and so on, over a store of these sizes and read in this dialect: where they tell, nothing has
--- happened at them yet.
+-- the ports of workers 0, 1 and so on, over a store of these sizes and in this dialect, at which nothing has happened yet
 abbrev pub ArePortsOf : {P : Type 0} → (P → Option PortStory) → Sizes → Dialect → List P → Type 0
 ArePortsOf {P} told sizes d ports =
     (w : ℕ) (port : P) → get_elem? ports w ≡ some port → (story : PortStory) → told port ≡ Some story

@@ -251,7 +251,8 @@ pub fn join_storage<'s, E: StorageEngine, C: Clock, R: Threads>(
     handle: StorageHandle<'s, E, C>,
 ) -> StorageReport<C>
     requires began { (told.now.of ≡ handle.promise.start.now.id) × (told.now.value ≡ true) }
-    ensures { KeepsStorage C.told C.leads_to (E.keeps handle.entry.promise.store.value []) handle.entry.promise.clock.value handle.entry.promise.end.value result }
+    ensures { KeepsStorage C.told C.leads_to (E.keeps handle.entry.promise.store.value [])
+        handle.entry.promise.clock.value handle.entry.promise.end.value result }
 {
     let finished = handle.join(rt);
     finished.told.agrees(told);

@@ -13,8 +13,8 @@ use Rattle.index.proofs.SplitHomes.{home_below}
 use Rattle.index.specs.Slots.{is_used, place_of, slot_at, used_in, empty_slot, distance, behind, AreUsedUpTo}
 use Rattle.index.specs.Table.{hashing, Hashing, AreIndexed, IsSlotFound}
 use Rattle.index.specs.BackwardShift.{IsWithout}
-use Rattle.index.proofs.RowDistances.{distance_once, distance_itself, distance_below, distance_behind, behind_below, distance_add, distance_sum, distance_within}
-use Rattle.index.proofs.RowDistances.{distance_apart}
+use Rattle.index.proofs.RowDistances.{distance_once, distance_itself, distance_below, distance_behind, behind_below, distance_add, distance_sum}
+use Rattle.index.proofs.RowDistances.{distance_within, distance_apart}
 use Rattle.index.proofs.SearchesUpToGap.{some_gap}
 use Rattle.index.proofs.SlotsAsMap.{Stands, removed_places, stands_once}
 

@@ -1,7 +1,7 @@
 //! What a port plays while its first session is paused.
 
-ghost use Rattle.std.specs.Prelude.{◌≡◌, []};
-ghost use Rattle.worker_port.specs.Ports.{IsOpenIn};
+ghost use Rattle.std.specs.Prelude.{◌≡◌, [], Some, true};
+ghost use Rattle.worker_port.specs.Ports.{PortStory, is_open};
 ghost use Rattle.script.specs.States.{story_told};
 
 use bytes::Bytes;
@@ -26,7 +26,7 @@ fn is_next(rt: &impl Abort, port: &mut ScriptPort, wanted: &str) {
 
 /// A port at which session 1 was opened, and nothing else has happened.
 fn with_session_1(rt: &impl Abort, alloc: Global, events: Vec<ScriptEvent>) -> ScriptPort
-    ensures { IsOpenIn 1 (story_told result) }
+    ensures { (story : PortStory) → story_told result ≡ Some story → is_open 1 story.events ≡ true }
 {
     let geometry = Geometry::new(65_536, 64).expect(rt, "a geometry");
     let mut port = ScriptPort::new(alloc, geometry, Dialect::Strict, 0, events);

@@ -8,7 +8,7 @@ use Rattle.std.proofs.lemmas.Bool.{both_ways, eqb-true, eq-eqb, ne_eqb, cases_lt
 use Rattle.worker_port.specs.declared.events.PortRecord.{PortRecord}
 use Rattle.worker_port.specs.declared.events.PortRecord.TheVariants.{Opened, Data, Gone, Accepted, Shut}
 use Rattle.worker_port.specs.declared.events.PortEvent.TheVariants as event
-use Rattle.worker_port.specs.Ports.{PortStory, then_told, with_pause, was_opened, has_gone, was_shut, is_open}
+use Rattle.worker_port.specs.Ports.{PortStory, then_told, with_pause, is_in, is_open}
 use Rattle.net.specs.Seen.{Seen, IsSet, fresh, then_received, then_sent, then_paused, is_paused}
 use Rattle.net.specs.Ties.{Ties}
 use Rattle.net.specs.Stories.{Whose, story, Tells}
@@ -22,7 +22,7 @@ pub told_none : (s : PortStory) → s ≡ then_told [] s
 told_none s = λ i. record s { events = sym (append-nil s.events) i }
 
 told_by : (o : Whose) (streams next : ℕ → Option Seen) (l xs : List PortRecord)
-    → ((o : ℕ) → is_paused (next o) ≡ cond (has_gone o xs || was_shut o xs) false (is_paused (streams o)))
+    → ((o : ℕ) → is_paused (next o) ≡ cond (is_in (Gone o) xs || is_in (Shut o) xs) false (is_paused (streams o)))
     → story o next (l ++ xs) ≡ then_told xs (story o streams l)
 told_by o streams next l xs h = λ i. record (story o streams l) { events = l ++ xs; paused = λ k. h k i }
 
@@ -65,12 +65,12 @@ module _ (w : Whose) (streams next : ℕ → Option Seen) (last : ℕ) (l : List
   pub tells_opened : s ≡ last + 1 → IsSet s (Some fresh) streams next → Tells (story w streams l) (event.Opened s) (story w next (l ++ Opened s ∷ []))
   tells_opened n set =
       let behind = t.2 s (omega arith) in
-      let closed : is_some (streams s) ≡ false = sym (t.0 s) ∙ and_left (was_opened s l) (not (has_gone s l || was_shut s l)) behind.0 in
+      let closed : is_some (streams s) ≡ false = sym (t.0 s) ∙ and_left (is_in (Opened s) l) (not (is_in (Gone s) l || is_in (Shut s) l)) behind.0 in
       record {
         told = told_by w streams next l (Opened s ∷ []) (kept w streams next s (Some fresh) set (sym (not_open (streams s) closed)));
         may = (
           omega arith,
-          (λ k was. ⊎_elim (λ (b : last < k). absurd (both_ways (was_opened k l) (t.2 k b).0 was)) (λ (b : k ≤ last). omega arith) (cases_lt last k)),
+          (λ k was. ⊎_elim (λ (b : last < k). absurd (both_ways (is_in (Opened k) l) (t.2 k b).0 was)) (λ (b : k ≤ last). omega arith) (cases_lt last k)),
           t.3,
         );
         orders = omega (arith, t.4);

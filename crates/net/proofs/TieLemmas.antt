@@ -7,7 +7,7 @@ use Rattle.std.specs.Bool.{nat_eq}
 use Rattle.std.proofs.lemmas.Bool.{both_ways, eqb-true, and_parts}
 use Rattle.worker_port.specs.declared.events.PortRecord.{PortRecord}
 use Rattle.worker_port.specs.declared.events.PortRecord.TheVariants.{Opened, Data, Gone, Ended, Accepted, Shut}
-use Rattle.worker_port.specs.Ports.{was_opened, has_gone, was_shut, is_open, has_ended, opened_count}
+use Rattle.worker_port.specs.Ports.{is_in, is_open, opened_count}
 use Rattle.worker_port.specs.PortFacts.{PortFacts, port_facts}
 use Rattle.worker_port.proofs.Facts.{about, elsewhere, facts_are, opened_here, fed_here, gone_here, shut_here, accepted_here}
 use Rattle.worker_port.proofs.Lists.{ended_same, ended_now, count_same, count_more}
@@ -33,7 +33,7 @@ behind_facts : (last : ℕ) (l : List PortRecord) → NoneBehind last l → (s :
 behind_facts last l n s h = let b = n s h in facts_are l s no_facts b.0 b.1 b.2 b.3 b.4
 
 ties_from : (streams : ℕ → Option Seen) (last : ℕ) (l : List PortRecord) (e : Bool) → ((s : ℕ) → At (streams s) (port_facts l s))
-    → ((s : ℕ) → last < s → port_facts l s ≡ no_facts) → has_ended l ≡ e → opened_count l ≡ last → Ties streams last l e
+    → ((s : ℕ) → last < s → port_facts l s ≡ no_facts) → is_in Ended l ≡ e → opened_count l ≡ last → Ties streams last l e
 ties_from streams last l e a n h count = (
   (λ s. (a s).opens),
   (λ s o. ((a s).fed o, (a s).given o)),
@@ -52,7 +52,7 @@ ties_from streams last l e a n h count = (
 not_behind : (streams : ℕ → Option Seen) (last : ℕ) (l : List PortRecord) (e : Bool) → Ties streams last l e → (s : ℕ)
     → is_open s l ≡ true → last < s → ⊥
 not_behind streams last l e t s o b =
-    both_ways (was_opened s l) (t.2 s b).0 (and_parts (was_opened s l) (not (has_gone s l || was_shut s l)) o).0
+    both_ways (is_in (Opened s) l) (t.2 s b).0 (and_parts (is_in (Opened s) l) (not (is_in (Gone s) l || is_in (Shut s) l)) o).0
 
 -- where nothing that clauses see changes, and nothing is told
 pub ties_same : (streams next : ℕ → Option Seen) (last after : ℕ) (l : List PortRecord) (e : Bool) → after ≡ last
@@ -78,7 +78,7 @@ module _ (streams next : ℕ → Option Seen) (last : ℕ) (l : List PortRecord)
   behind_case after o h n le ne apart false is = elsewhere l x o (apart is) ∙ n (omega arith)
 
   pub ties_more : (after : ℕ) → IsSet s now streams next → ((o : ℕ) → nat_eq s o ≡ false → about o x ≡ false)
-      → last ≤ after → (after < s → ⊥) → has_ended (l ++ x ∷ []) ≡ e → opened_count (l ++ x ∷ []) ≡ after → At now (port_facts (l ++ x ∷ []) s)
+      → last ≤ after → (after < s → ⊥) → is_in Ended (l ++ x ∷ []) ≡ e → opened_count (l ++ x ∷ []) ≡ after → At now (port_facts (l ++ x ∷ []) s)
       → (f : Bool) → Ties streams last l f → Ties next after (l ++ x ∷ []) e
   ties_more after set apart le in_range ends count here f t =
       ties_from next after (l ++ x ∷ []) e (λ o. at_case o (set o) (apart o) here (at_each streams last l f t o) (nat_eq s o) refl)

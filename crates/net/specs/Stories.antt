@@ -6,7 +6,8 @@ use Rattle.proto.specs.declared.history.Answered.{Answered}
 use Rattle.worker_port.specs.declared.events.PortRecord.{PortRecord}
 use Rattle.worker_port.specs.declared.events.PortEvent.{PortEvent}
 use Rattle.worker_port.specs.declared.events.PortEvent.TheVariants as event
-use Rattle.worker_port.specs.Ports.{PortStory, event_records, then_told, MayCome, is_open, has_ended, opened_count}
+use Rattle.worker_port.specs.declared.events.PortRecord.TheVariants as was
+use Rattle.worker_port.specs.Ports.{PortStory, event_records, then_told, MayCome, is_open, is_in, opened_count}
 use Rattle.net.specs.declared.streams.Reading.{Reading}
 use Rattle.net.specs.declared.streams.Reading.TheVariants as read
 use Rattle.net.specs.declared.served.Served.{Served}
@@ -58,7 +59,7 @@ PausesAgree streams story = (s : ℕ) → story.paused s ≡ is_paused (streams 
 
 -- the end was not told yet
 abbrev pub GoesOn : PortStory → Type 0
-GoesOn story = has_ended story.events ≡ false
+GoesOn story = is_in was.Ended story.events ≡ false
 
 -- the session is open
 abbrev pub HasOpen : ℕ → PortStory → Type 0

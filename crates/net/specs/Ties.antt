@@ -1,7 +1,8 @@
 -- How what a port told agrees with its open streams.
 use Rattle.std.specs.Prelude.{◌≡◌, ℕ, ◌<◌, Bool, true, false, List, [], is_some, Option}
 use Rattle.worker_port.specs.declared.events.PortRecord.{PortRecord}
-use Rattle.worker_port.specs.Ports.{fed, given, was_opened, has_gone, was_shut, is_open, has_ended, opened_count}
+use Rattle.worker_port.specs.declared.events.PortRecord.TheVariants as was
+use Rattle.worker_port.specs.Ports.{fed, given, is_in, is_open, opened_count}
 use Rattle.net.specs.Seen.{Seen, received_of, sent_of}
 
 -- a session is open in the list exactly where its stream is
@@ -18,10 +19,10 @@ BytesAgree streams events =
 abbrev pub NoneBehind : ℕ → List PortRecord → Type 0
 NoneBehind last events =
     (s : ℕ) → last < s
-    → (was_opened s events ≡ false) × (has_gone s events ≡ false) × (was_shut s events ≡ false) × (fed s events ≡ [])
+    → (is_in (was.Opened s) events ≡ false) × (is_in (was.Gone s) events ≡ false) × (is_in (was.Shut s) events ≡ false) × (fed s events ≡ [])
     × (given s events ≡ [])
 
 abbrev pub Ties : (ℕ → Option Seen) → ℕ → List PortRecord → Bool → Type 0
 Ties streams last events ended =
-    OpenAgrees streams events × BytesAgree streams events × NoneBehind last events × (has_ended events ≡ ended)
+    OpenAgrees streams events × BytesAgree streams events × NoneBehind last events × (is_in was.Ended events ≡ ended)
     × (opened_count events ≡ last)

@@ -6,8 +6,8 @@ ghost use Rattle.worker_port.specs.Giving.{MayBeSent};
 
 use crate::owner::Owner;
 use mio::net::TcpStream;
+use proto::Trace;
 use std::io::{self, Read, Write};
-use trace::Trace;
 use worker_port::ToldHistory;
 
 /// A stream.

@@ -4,7 +4,7 @@
 ghost use Rattle.std.specs.Prelude.{◌≡◌, ◌≤◌, [], ◌∷◌, true, false, length, IfOk, MatchOption, Some};
 ghost use Rattle.std.specs.Option.{option_map};
 ghost use Rattle.worker_port.specs.declared.events.PortRecord.TheVariants.{Shut};
-ghost use Rattle.worker_port.specs.Ports.{PortStory, then_told, with_pause, event_records, then_gave, IsOpenIn, MayCome, is_open};
+ghost use Rattle.worker_port.specs.Ports.{PortStory, then_told, with_pause, event_records, then_gave, is_open, MayCome};
 ghost use Rattle.net.specs.Stories.{story_of, IsNew, GoesOn, Tells, PausesAgree};
 ghost use Rattle.net.specs.Shown.{shown};
 ghost use Rattle.net.specs.Ties.{OpenAgrees, BytesAgree};

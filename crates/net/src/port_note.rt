@@ -2,8 +2,7 @@
 
 ghost use Rattle.std.specs.Prelude.{◌≡◌};
 
-use proto::Answered;
-use trace::{Noted, Trace};
+use proto::{Answered, Noted, Trace};
 use worker_port::{PortRecord, ToldHistory};
 
 /// What is told.

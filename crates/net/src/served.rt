@@ -13,10 +13,9 @@ use crate::port_note::{PortNote, given_by};
 use crate::streams::{Reading, Streams};
 use mio::net::TcpStream;
 use mio::{Events, Poll};
-use proto::Answered;
+use proto::{Answered, Trace};
 use std::alloc::{AllocError, Global};
 use std::time::Clock;
-use trace::Trace;
 use worker_port::{Gone, PortRecord, ToldHistory};
 
 /// The streams, and what was told.

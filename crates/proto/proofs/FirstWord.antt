@@ -6,15 +6,15 @@ use Rattle.std.specs.Borrow.{Bor}
 use Rattle.std.specs.Char.{is_ascii_digit, digit_value}
 use Rattle.std.specs.List.{prefix_len, take_while, list_all, list_any}
 use Rattle.std.specs.Str.Parse.{AllDigits, digits_value, digits_value_after}
-use Rattle.std.proofs.lemmas.Bool.{and_parts, or_parts, cases_Bool, le-leb, leb-true, eqb-true, eqb-false, ne_eqb, false≢true}
+use Rattle.std.proofs.lemmas.Bool.{and_parts, and_from, or_parts, cases_Bool, le-leb, leb-true, eqb-true, eqb-false, ne_eqb, false≢true}
 use Rattle.std.proofs.lemmas.List.Sums.{prefix_len-le-length}
 use Rattle.std.proofs.lemmas.List.{take_all, append-nil}
 use Rattle.std.proofs.lemmas.Fmt.{decimal_is_IsNumeral_wide, decimal-digits_value, first_decimal, decimal_digit}
 use Rattle.std.proofs.lemmas.Str.{digit_value_digit}
 use Rattle.std.proofs.lemmas.Str.Parse.{IsNumeralModel, digit_from_value}
-use Rattle.proto.specs.Lines.{is_key_byte, is_key, first_word}
+use Rattle.proto.specs.Lines.{is_key}
 use Rattle.proto.specs.PlainReader.{◌>>=◌, guarded, key_in, taken, number_in, negative_in, plain_in, signed_in, quiet_in}
-use Rattle.proto.specs.Words.{space, spaced, is_space, IsWord, words_of, words_behind}
+use Rattle.proto.specs.Words.{space, spaced, is_space, IsWord, words_of, first_word, is_key_byte, words_behind}
 use Rattle.proto.proofs.Numbers.{number_in_some, number_in_none, key_bytes_word, digits_word}
 use Rattle.proto.proofs.WordLists.{some_words, first_word-words_of, words_of_one, words_of_more, spaced-words_of}
 
@@ -174,12 +174,10 @@ pub is_key_front : (line : List ℕ) → 1 ≤ prefix_len is_key_byte line → p
 is_key_front line low high =
     let len : length (take_while is_key_byte line) ≡ prefix_len is_key_byte line =
     length-take-le (prefix_len is_key_byte line) line (prefix_len-le-length is_key_byte line) in
-    rw (
-      len,
-      le-leb 1 (prefix_len is_key_byte line) low,
-      le-leb (prefix_len is_key_byte line) 250 high,
-      all_prefix is_key_byte line,
-    ) refl
+    and_from (nat_le 1 (length (take_while is_key_byte line)) && nat_le (length (take_while is_key_byte line)) 250)
+    (list_all is_key_byte (take_while is_key_byte line))
+    (rw (len, le-leb 1 (prefix_len is_key_byte line) low, le-leb (prefix_len is_key_byte line) 250 high) refl)
+    (all_prefix is_key_byte line)
 
 -- bytes that a key may have are no spaces
 pub key_front_word : (line : List ℕ) → IsWord (take_while is_key_byte line)

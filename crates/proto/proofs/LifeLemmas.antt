@@ -1,7 +1,7 @@
 -- How long an entry is there that was set.
-use Rattle.std.proofs.Common.{◌≡◌, ℕ, ◌+◌, ◌-◌, ◌*◌, ◌^◌, ◌<◌, ◌≤◌, min, max, Bool, true, false, List, Option, Some, None, refl, sym, ap, subst, ◌∙◌, inl, inr}
+use Rattle.std.proofs.Common.{◌≡◌, ℕ, ◌+◌, ◌-◌, ◌*◌, ◌^◌, ◌<◌, ◌≤◌, min, Bool, true, false, List, [], Option, Some, None, refl, sym, ap, subst, ◌∙◌, inl, inr}
 use Rattle.std.proofs.Common.{arith, le-leb}
-use Rattle.std.specs.Prelude.{◌==◌, if◌then◌else◌}
+use Rattle.std.specs.Prelude.{◌⊎◌, ◌==◌, if◌then◌else◌}
 use Rattle.std.specs.FinMap as map
 use Rattle.std.proofs.lemmas.Bool.{lt-leb}
 use Rattle.proto.specs.declared.message.Put.{Put}
@@ -10,10 +10,11 @@ use Rattle.proto.specs.declared.message.Reply.TheVariants.{Stored, TooLarge, NoC
 use Rattle.proto.specs.Sizes.{Sizes, item_limit}
 use Rattle.proto.specs.Cache.{Entry, Entries, Cache, empty_cache, has_arrived, live, found_at, deadline_of}
 use Rattle.proto.specs.Commands.{Outcome, leaving, put, write, is_too_large, act}
-use Rattle.proto.specs.Steps.{Step, IsDated, MayForget, without}
-use Rattle.proto.specs.Buckets.{bucket_of, width_of, MayLive}
+use Rattle.proto.specs.Steps.{Step, IsDated, MayEvict, without}
+use Rattle.proto.specs.Buckets.{life_width, MayLive}
 use Rattle.proto.specs.Lives.{HasPut, LivesItsTime, LivesForGood}
-use Rattle.proto.proofs.CacheLemmas.{contains_bytes, get-live, get-without, if_live}
+use Rattle.proto.proofs.Options.{some_is}
+use Rattle.proto.proofs.CacheLemmas.{contains_bytes, get-live, get-without, if_live, not_forgotten}
 use Rattle.proto.proofs.StepLemmas.{get-stored, insert-dated}
 
 -- ---- what a set leaves
@@ -86,10 +87,15 @@ record SetLeaves (t : ℕ) (p : Put) (after : Cache) : Type 0 where
   may : MayLive t (deadline_of p.exptime t) entry.deadline
 
 -- a key that is stored isn't among those that are forgotten
-others_forgotten : (sizes : Sizes) (old new : Entries) (key : List ℕ) (forgotten : List (List ℕ))
-    → MayForget sizes old new (Some key) forgotten → contains_bytes forgotten key ≡ false
-others_forgotten sizes old new key forgotten (inl none) = ap (λ (keys : List (List ℕ)). contains_bytes keys key) none
-others_forgotten sizes old new key forgotten (inr h) = h.not_stored
+others_forgotten : (sizes : Sizes) (new : Entries) (stored : Option (List ℕ)) (key : List ℕ) (forgotten : List (List ℕ))
+    → stored ≡ Some key
+    → (forgotten ≡ []) ⊎ ((k : List ℕ) × (stored ≡ Some k) × MayEvict sizes (map.remove new k) forgotten)
+    → contains_bytes forgotten key ≡ false
+others_forgotten sizes new stored key forgotten is (inl none) = not_forgotten sizes new key forgotten (inl none)
+others_forgotten sizes new stored key forgotten is (inr h) =
+    let same : h.0 ≡ key = some_is h.0 key (sym h.1 ∙ is) in
+    not_forgotten sizes new key forgotten
+    (inr (subst (λ (k : List ℕ). MayEvict sizes (map.remove new k) forgotten) same h.2))
 
 -- a set whose deadline hasn't come, and that is answered as stored, leaves its entry at its key
 set_leaves : (sizes : Sizes) (before after : Cache) (t : ℕ) (p : Put)
@@ -104,8 +110,7 @@ set_leaves sizes before after t p waits (inl x) =
     let left = insert-dated t s.old p.key s.entry x.dated
     (subst (λ (m : Entries). IsDated t m (Some p.key) x.dated) s.entries d) in
     let e : Entry = record s.entry { deadline = left.0 } in
-    let other = others_forgotten sizes found.entries x.dated p.key x.forgotten
-    (subst (λ (o : Option (List ℕ)). MayForget sizes found.entries x.dated o x.forgotten) s.stored x.may_forget) in
+    let other = others_forgotten sizes x.dated done.stored p.key x.forgotten s.stored x.may_forget in
     let there : map.get (without x.dated x.forgotten) p.key ≡ Some e =
     get-without x.dated x.forgotten p.key
     ∙ rw other (ap (λ (m : Entries). map.get m p.key) left.2 ∙ get-stored s.old p.key e) in
@@ -152,20 +157,25 @@ record IsEnd (t life : ℕ) (given : Option ℕ) : Type 0 where
   given_is : given ≡ Some deadline
   later : t < deadline
   not_after : deadline ≤ t + life
-  long_enough : t + min life 8388608 < deadline + 2 * width_of (bucket_of (Some life))
+  long_enough : t + min life 8388608 < deadline + 2 * life_width life
+
+-- a deadline that is long enough, said of a life
+enough_for : (t life deadline width : ℕ) → min (t + life) (t + 8388608) < deadline + 2 * width
+    → t + min life 8388608 < deadline + 2 * width
+enough_for t life deadline width enough = omega arith
 
 -- what an entry may get that asks for a life of some seconds is a deadline that stands for the end of this life
 ends : (t life : ℕ) (given : Option ℕ) → 1 ≤ life → MayLive t (Some (t + life)) given → IsEnd t life given
 ends t life None some may = absurd may
 ends t life (Some d) some may =
-    let is : max 1 (t + life - t) ≡ life = omega arith in
+    let is : t + life - t ≡ life = omega arith in
     record {
       deadline = d;
       given_is = refl;
       later = may.0;
       not_after = may.1;
-      long_enough = subst (λ (x : ℕ). t + min x 8388608 < d + 2 * width_of (bucket_of (Some x))) is
-          may.2;
+      long_enough = enough_for t life d (life_width life)
+          (subst (λ (x : ℕ). min (t + life) (t + 8388608) < d + 2 * life_width x) is may.2);
     }
 
 -- a deadline hasn't come at a moment before it

@@ -1,8 +1,7 @@
 -- The words behind a storage line's command word, one after the other.
 use Rattle.std.proofs.Common.{◌≡◌, ℕ, ℤ, ◌^◌, Bool, List, [], ◌∷◌, Option, Some, refl, sym, ap, ◌∙◌}
 use Rattle.proto.specs.Lines.{is_key}
-use Rattle.proto.specs.Grammar.{StorageCommand}
-use Rattle.proto.specs.PlainReader.{key_in, taken, number_in, signed_in, TailReader, line_with, storage_in}
+use Rattle.proto.specs.PlainReader.{StorageCommand, key_in, taken, number_in, signed_in, TailReader, line_with, storage_in}
 use Rattle.proto.proofs.Options.{bind_some, guarded_some, some_is}
 
 -- a word that was taken, what it is read as, and the words behind it

@@ -23,7 +23,7 @@ use Rattle.proto.specs.Cache.{Entry, Entries, no_entries, Cache, empty_cache, li
 use Rattle.proto.specs.Commands.{Outcome, act}
 use Rattle.proto.specs.declared.history.Answered.{Answered}
 use Rattle.proto.specs.History.{Legal, session_share, had, asked}
-use Rattle.proto.specs.Buckets.{bucket_of, width_of, lower_end, shared_deadline, MayLive}
+use Rattle.proto.specs.Buckets.{bucket_of, width_of, life_width, lower_end, shared_deadline, MayLive}
 
 abbrev pub put_with : List ℕ → ℕ → ℤ → List ℕ → Put
 put_with key flags exptime value = record { key = key; flags = flags; exptime = exptime; value = value }
@@ -354,14 +354,15 @@ FlushIs = Legal (sizes_of 65536 64) flush_history
 
 -- ---- buckets
 
-abbrev pub HasBucket : ℕ × ℕ → Type 0
-HasBucket e = bucket_of (Some e.0) ≡ e.1
+abbrev pub HasBucket : ℕ × ℕ × ℕ → Type 0
+HasBucket e = (bucket_of (Some e.0) ≡ e.1) × (life_width e.0 ≡ e.2)
 
 -- the first and last time to live of each width
-abbrev pub bucket_bounds : List (ℕ × ℕ)
+abbrev pub bucket_bounds : List (ℕ × ℕ × ℕ)
 bucket_bounds =
-    (1, 0) ∷ (7, 0) ∷ (8, 1) ∷ (2047, 255) ∷ (2048, 272) ∷ (32767, 511) ∷ (32768, 528) ∷ (524287, 767)
-    ∷ (524288, 784) ∷ (8355839, 1022) ∷ (8355840, 1023) ∷ (8388607, 1023) ∷ (8388608, 1023) ∷ []
+    (1, 0, 8) ∷ (7, 0, 8) ∷ (8, 1, 8) ∷ (2047, 255, 8) ∷ (2048, 272, 128) ∷ (32767, 511, 128) ∷ (32768, 528, 2048)
+    ∷ (524287, 767, 2048) ∷ (524288, 784, 32768) ∷ (8355839, 1022, 32768) ∷ (8355840, 1023, 32768)
+    ∷ (8388607, 1023, 32768) ∷ (8388608, 1023, 32768) ∷ []
 
 abbrev pub HasEnds : ℕ × ℕ × ℕ → Type 0
 HasEnds e = (lower_end e.0 ≡ e.1) × (width_of e.0 ≡ e.2)

@@ -8,7 +8,6 @@ use Rattle.proto.specs.Sizes.{Sizes}
 use Rattle.proto.specs.Cache.{Cache, empty_cache}
 use Rattle.proto.specs.Steps.{Step}
 
--- the greatest moment
 abbrev pub max_moment : ℕ
 max_moment = 2 ^ 62
 
@@ -24,33 +23,25 @@ Chain sizes before (e ∷ history) (after ∷ caches) =
     Step sizes before e.moment e.request e.reply after × Chain sizes after history caches
 Chain _ _ _ _ = ⊥
 
--- the numbers are n, n + 1 and so on
 abbrev pub NumbersFrom : ℕ → List Answered → Type 0
 NumbersFrom n [] = ⊤
 NumbersFrom n (e ∷ history) = (e.number ≡ n) × NumbersFrom (n + 1) history
 
--- the entries of a worker, in their order
 abbrev pub worker_share : List Answered → ℕ → List Answered
 worker_share history worker = filter (λ e. e.worker == worker) history
 
--- the entries of a worker's session, in their order
 abbrev pub session_share : List Answered → ℕ → ℕ → List Answered
 session_share history worker session = filter (λ e. e.worker == worker && e.session == session) history
 
--- the replies
 abbrev pub had : List Answered → List Reply
 had history = map (λ e. e.reply) history
 
--- the requests as they were posted
 abbrev pub asked_posted : List Answered → List Posted
 asked_posted history = map (λ e. record { session = e.session; number = e.number; request = e.request }) history
 
--- the requests alone
 abbrev pub asked : List Answered → List Request
 asked history = map (λ e. e.request) history
 
--- The moments never fall, a chain of steps from the empty cache goes through all of the history, and each
--- worker's numbers are 1, 2, 3 and so on.
 pub record Legal (sizes : Sizes) (history : List Answered) : Type 0 where
   pub moments : MomentsFrom 0 history
   pub caches : List Cache

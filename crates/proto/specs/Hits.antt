@@ -3,7 +3,6 @@ use Rattle.std.specs.Prelude.{ℕ, ◌+◌, Bool, List, [], ◌++◌, length, co
 use Rattle.proto.specs.declared.hits.Hit.{Hit}
 use Rattle.proto.specs.Lines.{line_end}
 
--- the line of a hit, with the cas number where it is asked for, and its data
 abbrev pub hit_bytes : Bool → Hit → List ℕ
 hit_bytes with_cas h =
     ((codes "VALUE " ++ h.key ++ codes " " ++ decimal h.flags ++ codes " " ++ decimal (length h.value)

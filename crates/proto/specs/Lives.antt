@@ -6,7 +6,7 @@ use Rattle.proto.specs.declared.message.Request.TheVariants.{Set}
 use Rattle.proto.specs.declared.message.Reply.TheVariants.{Stored}
 use Rattle.proto.specs.Sizes.{Sizes}
 use Rattle.proto.specs.Cache.{Entry, Entries, Cache, found_at, has_arrived, deadline_of}
-use Rattle.proto.specs.Buckets.{bucket_of, width_of}
+use Rattle.proto.specs.Buckets.{life_width}
 use Rattle.proto.specs.Steps.{Step}
 
 -- what was put is there, with its value and flags
@@ -25,7 +25,7 @@ LivesItsTime =
     → 1 ≤ life → deadline_of p.exptime t ≡ Some (t + life) → Step sizes before t (Set p) Stored after
     → has_arrived after.pending u ≡ false
     → (u ≡ t → HasPut (found_at after u).entries p)
-    × (u + 2 * width_of (bucket_of (Some life)) ≤ t + min life 8388608 → HasPut (found_at after u).entries p)
+    × (u + 2 * life_width life ≤ t + min life 8388608 → HasPut (found_at after u).entries p)
     × (t + life ≤ u → map.get (found_at after u).entries p.key ≡ None)
 
 -- what was set with no deadline is there at each moment

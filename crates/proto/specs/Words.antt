@@ -1,7 +1,7 @@
 -- The words of a line with spaces between them, and keys with a space before each.
-use Rattle.std.specs.Prelude.{◌≡◌, ℕ, Bool, false, eqb, List, [], ◌∷◌, Option, Some, None}
+use Rattle.std.specs.Prelude.{◌≡◌, ℕ, Bool, false, eqb, nat_le, ◌==◌, ◌&&◌, ◌||◌, List, [], ◌∷◌, Option, Some, None}
 use Rattle.std.specs.Borrow.{Bor}
-use Rattle.std.specs.List.{list_any, slice_split, join_with_byte}
+use Rattle.std.specs.List.{list_any, slice_split, join_with_byte, before_first}
 
 abbrev pub space : ℕ
 space = 32
@@ -20,6 +20,14 @@ IsWord word = list_any is_space word ≡ false
 -- the words of a line
 abbrev pub words_of : List ℕ → List (List ℕ)
 words_of line = slice_split is_space line
+
+-- what stands before the first space, or the whole line
+abbrev pub first_word : List ℕ → List ℕ
+first_word line = before_first (λ b. b == 32) line
+
+-- a byte that a key may have
+abbrev pub is_key_byte : ℕ → Bool
+is_key_byte b = (nat_le 33 b && nat_le b 126) || (nat_le 128 b && nat_le b 255)
 
 -- the words of what is left of a line, if anything is
 abbrev pub words_behind : Option (Bor (List ℕ)) → List (List ℕ)

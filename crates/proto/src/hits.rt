@@ -11,10 +11,10 @@ use crate::byte_string::ByteString;
 use crate::no_memory::NoMemory;
 use crate::showing::push_hit;
 use crate::spare_buffer::SpareBuffer;
+use crate::trace::{Noted, Trace};
 use std::alloc::Global;
 use std::marker::Model;
 use std::mem;
-use trace::{Noted, Trace};
 
 /// The bytes of a hit beside its key and its data are fewer than this.
 const HIT_ROOM: usize = 80;
@@ -88,6 +88,11 @@ impl Hits {
         ensures { IsTrue result ↔ (self.now ≡ []) }
     {
         self.text.is_empty()
+    }
+
+    /// The bytes of the memory of their text.
+    pub(crate) fn capacity(&self) -> usize {
+        self.text.capacity()
     }
 
     /// Their text for `get` or for `gets`; None where it was written for the other one.

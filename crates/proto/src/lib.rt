@@ -20,16 +20,19 @@ mod message_view;
 mod next;
 mod no_memory;
 mod parse;
+mod pending_answer;
 mod showing;
 mod spare_buffer;
 mod storage;
+mod trace;
 mod view;
 mod words;
 
 pub use byte_string::ByteString;
 pub use dialect::Dialect;
 pub use geometry::{
-    BadSize, Geometry, MAX_SEGMENT_SIZE, MAX_SEGMENTS, MIN_SEGMENT_SIZE, MIN_SEGMENTS,
+    BadSize, Geometry, ITEM_HEADER, MAX_SEGMENT_SIZE, MAX_SEGMENTS, MIN_SEGMENT_SIZE, MIN_SEGMENTS,
+    item_size,
 };
 pub use head::{Command, Head};
 pub use history::{Answered, Posted};
@@ -44,7 +47,9 @@ pub use message_view::{MessageView, RequestView};
 pub use next::{next_message, next_message_in, to_message};
 pub use no_memory::NoMemory;
 pub use parse::number;
-pub use showing::{show, show_reply, shows_cas};
+pub use pending_answer::{PendingAnswer, show};
+pub use showing::show_reply;
 pub use spare_buffer::SpareBuffer;
+pub use trace::{Noted, Trace};
 pub use view::{NextView, next_view, next_view_behind, next_view_in};
 pub use words::Words;

@@ -1,9 +1,9 @@
 //! What a line is, found by its first word.
 
-ghost use Rattle.std.specs.Prelude.{◌≡◌, true, false, option_map};
-ghost use Rattle.proto.specs.Grammar.{storage};
+ghost use Rattle.std.specs.Prelude.{◌≡◌, option_map};
+ghost use Rattle.proto.specs.declared.message.Message.TheVariants.{Wrong, Fatal};
 ghost use Rattle.proto.specs.Heads.{line_of, storage_line_of, meaning_seen};
-ghost use Rattle.proto.specs.PlainReader.{meaning, meaning_of};
+ghost use Rattle.proto.specs.PlainReader.{storage, meaning, meaning_of};
 
 use crate::command_word::{CommandWord, command_of};
 use crate::head::Head;
@@ -23,7 +23,7 @@ pub enum Meaning<'a> {
 
 /// What a line with the command word of a storage line is.
 fn storage_meaning<'a>(head: Option<Head<'a>>) -> Meaning<'a>
-    ensures { meaning_seen result ≡ meaning_of (option_map (λ h. storage (storage_line_of h)) head.entry) true false }
+    ensures { meaning_seen result ≡ meaning_of (Fatal FatalKind.BadLine) (option_map (λ h. storage (storage_line_of h)) head.entry) }
 {
     match head {
         Some(head) => {
@@ -39,7 +39,7 @@ fn storage_meaning<'a>(head: Option<Head<'a>>) -> Meaning<'a>
 
 /// What a line with another command word is.
 fn other_meaning<'a>(line: Option<LineView<'a>>) -> Meaning<'a>
-    ensures { meaning_seen result ≡ meaning_of (option_map line_of line.entry) false true }
+    ensures { meaning_seen result ≡ meaning_of (Wrong WrongKind.BadLine) (option_map line_of line.entry) }
 {
     Meaning::Message(match line {
         Some(LineView::Request(request, quiet)) => MessageView::Request(request, quiet),

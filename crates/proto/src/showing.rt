@@ -1,16 +1,15 @@
-//! The bytes that answer a message. The room of the whole answer is reserved before its first byte is
+//! The bytes that show a reply. The room of the whole answer is reserved before its first byte is
 //! written.
 
-ghost use Rattle.std.specs.Prelude.{◌≡◌, ◌+◌, ◌≤◌, ◌++◌, [], if◌then◌else◌, codes, length, decimal, is_some};
-ghost use Rattle.std.specs.Prelude.{option_copied, flat_map, vec_len, vec_capacity, IsOk, IsTrue, OnOk};
-ghost use Rattle.std.specs.Prelude.{OnErr};
-ghost use Rattle.proto.specs.Answers.{reply_bytes, answer, is_ask, is_silent, shows_cas};
+ghost use Rattle.std.specs.Prelude.{◌≡◌, ◌+◌, ◌≤◌, ◌++◌, [], if◌then◌else◌, codes, length, decimal};
+ghost use Rattle.std.specs.Prelude.{flat_map, vec_len, vec_capacity, OnOk, OnErr};
+ghost use Rattle.proto.specs.Answers.{reply_bytes};
 ghost use Rattle.proto.specs.Lines.{line_end};
 ghost use Rattle.proto.specs.SeenHits.{seen_hit};
 ghost use Rattle.proto.specs.Hits.{hit_bytes, hit_room};
 
 use crate::hits::{HitRef, Hits};
-use crate::message::{FatalKind, Message, Reply, Request, WrongKind};
+use crate::message::Reply;
 use crate::no_memory::NoMemory;
 use itoa::Buffer;
 
@@ -96,7 +95,7 @@ pub(crate) fn push_hit(out: &mut Vec<u8>, with_cas: bool, hit: HitRef)
 }
 
 /// Appends a line, or changes nothing.
-fn show_line(out: &mut Vec<u8>, text: &[u8]) -> Result<(), NoMemory>
+pub(crate) fn show_line(out: &mut Vec<u8>, text: &[u8]) -> Result<(), NoMemory>
     ensures ok { OnOk result (out.new.items ≡ out.old.items ++ text.now ++ line_end) }
     ensures err { OnErr result (out.new.items ≡ out.old.items) }
 {
@@ -118,7 +117,7 @@ fn show_hits(out: &mut Vec<u8>, with_cas: bool, hits: &Hits) -> Result<(), NoMem
 }
 
 /// Appends the answer that shows a reply, or changes nothing.
-fn show_copied(out: &mut Vec<u8>, with_cas: bool, reply: &Reply) -> Result<(), NoMemory>
+pub(crate) fn show_copied(out: &mut Vec<u8>, with_cas: bool, reply: &Reply) -> Result<(), NoMemory>
     ensures ok { OnOk result (out.new.items ≡ out.old.items ++ reply_bytes with_cas reply.now) }
     ensures err { OnErr result (out.new.items ≡ out.old.items) }
 {
@@ -146,49 +145,17 @@ fn show_copied(out: &mut Vec<u8>, with_cas: bool, reply: &Reply) -> Result<(), N
     }
 }
 
-/// Whether hits are shown with their cas numbers: all that the answer to a request that isn't quiet depends on
-/// beside the reply.
-pub fn shows_cas(request: &Request) -> bool
-    ensures { result ≡ shows_cas request.now }
-{
-    matches!(request, Request::Get { with_cas: true, .. })
-}
-
-/// Appends the answer to the message, or changes nothing. A message without an answer, as a request with
-/// `noreply`, needs no memory.
-pub fn show(message: &Message, reply: Option<&Reply>, out: &mut Vec<u8>) -> Result<(), NoMemory>
-    requires { is_some reply ≡ is_ask message.now }
-    ensures ok { OnOk result (out.new.items ≡ out.old.items ++ answer message.now (option_copied reply.entry)) }
-    ensures err { OnErr result (out.new.items ≡ out.old.items) }
-    ensures silent { IsTrue (is_silent message.now) → IsOk result }
-{
-    match message {
-        Message::Ask(_, true) | Message::Quit => Ok(()),
-        Message::Ask(request, false) => match reply {
-            Some(reply) => show_copied(out, shows_cas(request), reply),
-            None => Ok(()),
-        },
-        Message::Wrong(WrongKind::Unknown) => show_line(out, b"ERROR"),
-        Message::Wrong(WrongKind::BadLine) | Message::Fatal(FatalKind::BadLine) => {
-            show_line(out, b"CLIENT_ERROR bad command line format")
-        }
-        Message::Fatal(FatalKind::LongLine) => show_line(out, b"CLIENT_ERROR line too long"),
-        Message::Fatal(FatalKind::BadChunk) => show_line(out, b"CLIENT_ERROR bad data chunk"),
-        Message::Fatal(FatalKind::TooLarge) => {
-            show_line(out, b"SERVER_ERROR object too large for cache")
-        }
-    }
-}
-
 /// Appends the answer that shows a reply to a request that isn't quiet, or changes nothing. Hits are shown with
-/// their cas numbers where `with_cas` says so, as `shows_cas` does of the request. An empty output takes the memory of
-/// hits, which have its own then.
+/// their cas numbers where `with_cas` says so. An empty output takes the memory of hits, which have its own then, where
+/// that isn't more: more answers may come behind a small one.
 pub fn show_reply(with_cas: bool, reply: &mut Reply, out: &mut Vec<u8>) -> Result<(), NoMemory>
     ensures ok { OnOk result (out.new.items ≡ out.old.items ++ reply_bytes with_cas reply.old) }
     ensures err { OnErr result (out.new.items ≡ out.old.items) }
 {
     match reply {
-        Reply::Values(hits) if out.is_empty() => hits.give_text(with_cas, out),
+        Reply::Values(hits) if out.is_empty() && hits.capacity() >= out.capacity() => {
+            hits.give_text(with_cas, out)
+        }
         _ => show_copied(out, with_cas, reply),
     }
 }

@@ -1,8 +1,7 @@
 //! Reads what stands behind the command word of a storage line.
 
 ghost use Rattle.std.specs.Prelude.{◌≡◌, option_map};
-ghost use Rattle.proto.specs.PlainReader.{quiet_in, plain_tail, storage_in};
-ghost use Rattle.proto.specs.Grammar.{storage};
+ghost use Rattle.proto.specs.PlainReader.{storage, quiet_in, plain_tail, storage_in};
 ghost use Rattle.proto.specs.Heads.{command_of, storage_line_of, tail_of, tail_pair};
 
 use crate::command_word::Verb;

@@ -14,7 +14,7 @@ use Rattle.script.specs.Events.{open_after, sent, sent_by, goes_by_event, goes_i
 use Rattle.script.specs.Events as script
 use Rattle.worker_port.specs.declared.events.PortRecord.{PortRecord}
 use Rattle.worker_port.specs.declared.events.PortRecord.TheVariants as was
-use Rattle.worker_port.specs.Ports.{fed, is_entry, has_gone}
+use Rattle.worker_port.specs.Ports.{fed, is_entry, is_in}
 use Rattle.worker_port.proofs.Facts.{any_more, any_no, fed_both}
 use Rattle.script.specs.PortEvents.{event_session, events_without, send_after, plays_from}
 use Rattle.script.specs.Records.{opened, opened_by}
@@ -159,8 +159,8 @@ goes_without s t (x ∷ xs) goes =
 
 -- an entry of which none goes leaves those that have gone
 gone_same : (l l' : List PortRecord) (x : PortRecord) (s : ℕ) → l' ≡ l ++ x ∷ [] → is_entry (was.Gone s) x ≡ false
-    → has_gone s l' ≡ has_gone s l
-gone_same l l' x s e stays = ap (has_gone s) e ∙ any_no (is_entry (was.Gone s)) l x stays
+    → is_in (was.Gone s) l' ≡ is_in (was.Gone s) l
+gone_same l l' x s e stays = ap (is_in (was.Gone s)) e ∙ any_no (is_entry (was.Gone s)) l x stays
 
 -- ---- what the rest of a send is
 
@@ -363,7 +363,7 @@ follows_close played left left' l l' x s closed closed' can_fail left'_is l_is n
           (λ other. f.begun t (sym (others t other) ∙ gone)));
       to_go = λ t goes. f.to_go t (goes_without s t left (ap (λ xs. goes_in_script xs t) (sym left'_is) ∙ goes));
       gone_by = λ t gone.
-          or_either (has_gone t l) (is_entry (was.Gone t) x)
-          (sym (ap (has_gone t) l_is ∙ any_more (is_entry (was.Gone t)) l x) ∙ gone)
+          or_either (is_in (was.Gone t) l) (is_entry (was.Gone t) x)
+          (sym (ap (is_in (was.Gone t)) l_is ∙ any_more (is_entry (was.Gone t)) l x) ∙ gone)
           (f.gone_by t) (caused t);
     }

@@ -11,8 +11,8 @@ use Rattle.proto.specs.declared.history.Answered.{Answered}
 use Rattle.proto.specs.Sizes.{Sizes}
 use Rattle.proto.specs.Steps.{Step}
 use Rattle.proto.specs.History.{max_moment, worker_share, session_share}
-use Rattle.engine.specs.Reaching.{moments, moment_after, moments_after, last_or, Reaches}
-use Rattle.engine.proofs.ReachingLemmas.{moments_more, times_more, reaches_more}
+use Rattle.engine.specs.Reaching.{moments_after, last_or, Reaches}
+use Rattle.engine.proofs.ReachingLemmas.{moments, moment_after, moments_more, times_more, reaches_more}
 use Rattle.script.specs.Clocks.{ClockState, answer_of, first_answers}
 use Rattle.script.specs.Execution.{Execution, Executes}
 use Rattle.script.specs.SequentialSessions.{Setup, AreTimed, LedTo, IsOf, HistoryGoesOn}

@@ -1,6 +1,6 @@
 -- One more message that is read.
-use Rattle.std.proofs.Common.{◌≡◌, ℕ, Bool, false, List, [], ◌∷◌, ◌++◌, length, Some, None, refl, sym, ap, ◌∙◌, arith, append_assoc}
-use Rattle.std.specs.List.{concat}
+use Rattle.std.proofs.Common.{◌≡◌, ℕ, Bool, true, false, ◌||◌, List, [], ◌∷◌, ◌++◌, length, Some, None, refl, ◌∙◌, arith}
+use Rattle.std.specs.List.{list_any}
 use Rattle.std.proofs.lemmas.List.{append-nil}
 use Rattle.proto.specs.declared.dialect.Dialect.TheVariants.{Strict}
 use Rattle.proto.specs.declared.message.Request.{Request}
@@ -8,36 +8,25 @@ use Rattle.proto.specs.declared.message.Reply.{Reply}
 use Rattle.proto.specs.declared.message.Message.{Message}
 use Rattle.proto.specs.declared.message.Message.TheVariants.{Ask, Wrong, Quit, Fatal}
 use Rattle.proto.specs.Grammar.{Spells}
-use Rattle.proto.specs.Reading.{ends_session, SpellEach, EndsAtLast, last_ends, asks}
+use Rattle.proto.specs.Reading.{ends_session, Reads, asks}
 use Rattle.proto.specs.Answers.{answer, is_ask, said}
 use Rattle.proto.proofs.AskLemmas.{asks-append, onto}
+use Rattle.proto.proofs.ReadingLemmas.{reads_one, reads_on, ends-append}
 
--- one piece more, joined
-pub concat_more : (pieces : List (List ℕ)) (piece : List ℕ) → concat (pieces ++ piece ∷ []) ≡ concat pieces ++ piece
-concat_more [] piece = append-nil piece
-concat_more (p ∷ pieces) piece = ap (λ (x : List ℕ). p ++ x) (concat_more pieces piece)
-    ∙ sym (append_assoc p (concat pieces) piece)
+-- one message more
+pub read_more : (read piece : List ℕ) (ms : List Message) (m : Message) → list_any ends_session ms ≡ false
+    → Reads Strict read ms [] → Spells Strict piece m → Reads Strict (read ++ piece) (ms ++ m ∷ []) []
+read_more read piece ms m go_on reads spells =
+    reads_on Strict (read ++ piece) read piece [] ms (m ∷ []) refl go_on reads (reads_one Strict piece m spells)
 
--- one piece more, which spells one message more
-pub spell_more : (pieces : List (List ℕ)) (ms : List Message) (piece : List ℕ) (m : Message) → SpellEach Strict pieces ms
-    → Spells Strict piece m
-    → SpellEach Strict (pieces ++ piece ∷ []) (ms ++ m ∷ [])
-spell_more [] [] piece m h one = (one, tt)
-spell_more [] (n ∷ ms) piece m h one = absurd h
-spell_more (p ∷ pieces) [] piece m h one = absurd h
-spell_more (p ∷ pieces) (n ∷ ms) piece m h one = (h.0, spell_more pieces ms piece m h.1 one)
-
--- behind messages of which none ends the session, one more that may
-pub ends_more : (ms : List Message) (m : Message) → EndsAtLast ms → last_ends ms ≡ false → EndsAtLast (ms ++ m ∷ [])
-ends_more [] m h e = tt
-ends_more (a ∷ []) m h e = (e, tt)
-ends_more (a ∷ b ∷ ms) m h e = (h.0, ends_more (b ∷ ms) m h.1 e)
-
--- whether messages end a session is said by the last one
-pub ended_more : (ms : List Message) (m : Message) → last_ends (ms ++ m ∷ []) ≡ ends_session m
-ended_more [] m = refl
-ended_more (a ∷ []) m = refl
-ended_more (a ∷ b ∷ ms) m = ended_more (b ∷ ms) m
+-- whether it ends the session
+pub ended_more : (ms : List Message) (m : Message) → list_any ends_session ms ≡ false
+    → list_any ends_session (ms ++ m ∷ []) ≡ ends_session m
+ended_more ms m go_on = ends-append ms (m ∷ []) go_on ∙ or_false (ends_session m)
+  where
+    or_false : (b : Bool) → (b || false) ≡ b
+    or_false true = refl
+    or_false false = refl
 
 -- one request more, and its answer
 pub said_ask : (ms : List Message) (rs : List Reply) (q : Request) (quiet : Bool) (r : Reply)

@@ -1,7 +1,8 @@
 -- What a port's list says of its script, by what holds of the port.
 use Rattle.std.proofs.Common.{◌≡◌, ◌∙◌, true, false, ◌||◌, [], ◌++◌, append-nil, Option, Some, None, refl, sym, ap}
 use Rattle.script.specs.Events as script
-use Rattle.worker_port.specs.Ports.{fed, has_ended}
+use Rattle.worker_port.specs.declared.events.PortRecord.TheVariants as was
+use Rattle.worker_port.specs.Ports.{fed, is_in}
 use Rattle.worker_port.specs.PortFacts.{PortFacts, port_facts}
 use Rattle.script.specs.declared.player.Player.{Player}
 use Rattle.script.specs.PortEvents.{is_playable}
@@ -24,7 +25,7 @@ pub played : (p : Player) → IsPlayerConsistent p → is_playable p.script.valu
 played p k tells =
     let l = p.records in let whole = p.script.value.items in let left = events_left p.sessions (in_order p.events) in
     let f = k.follows tells in
-    let none : has_ended l ≡ true → left ≡ [] =
+    let none : is_in was.Ended l ≡ true → left ≡ [] =
     λ over. ap (events_left p.sessions) (k.finished (sym k.at_end ∙ over)) in record {
       opened_first = (script.sessions_opened left, f.opened_are);
       fed_first = λ s. bool_cases (was_closed p.sessions s) (λ closed. f.begun s closed)

@@ -10,7 +10,7 @@ use Rattle.script.specs.declared.event.ScriptEvent.{ScriptEvent}
 use Rattle.script.specs.Events as script
 use Rattle.worker_port.specs.declared.events.PortRecord.{PortRecord}
 use Rattle.worker_port.specs.declared.events.PortRecord.TheVariants as was
-use Rattle.worker_port.specs.Ports.{has_ended}
+use Rattle.worker_port.specs.Ports.{is_in}
 use Rattle.worker_port.specs.Ports as list
 use Rattle.worker_port.specs.PortFacts.{PortFacts, port_facts}
 use Rattle.worker_port.proofs.Facts.{about, elsewhere, gone_here, shut_here, accepted_here}
@@ -413,7 +413,7 @@ no_sessions p ss_is l_is ended fail_is plays all none_aside = record {
       (subst (λ (l : List PortRecord). Agrees None (port_facts l t)) (sym l_is) (refl, refl, refl, refl));
   opened_are = ap numbers ss_is ∙ sym (ap opened l_is);
   rising = λ s x e. absurd (none_some x (sym (ap (λ (ss : List ScriptSessionState). session_entry ss s) ss_is) ∙ e));
-  at_end = ap has_ended l_is ∙ sym ended;
+  at_end = ap (is_in was.Ended) l_is ∙ sym ended;
   plays = λ tells. (λ i. plays_from (newest (ss_is i)) (is_session_open (ss_is i))
       (events_left (ss_is i) (in_order p.events)))
       ∙ ap (plays_from 0 (λ (t : ℕ). false)) (filter_all (is_left []) (in_order p.events) (λ x. refl)) ∙ plays tells;
@@ -424,7 +424,7 @@ no_sessions p ss_is l_is ended fail_is plays all none_aside = record {
         fed_are = λ t _. (λ i. list.fed t (sym l_is i) ++ script.sent (sym left_is i) t);
         begun = λ t closed. absurd (true≢false (sym closed ∙ ap (λ ss. was_closed ss t) ss_is));
         to_go = λ t goes. ap (λ xs. script.goes_in_script xs t) (sym left_is) ∙ goes;
-        gone_by = λ t gone. absurd (true≢false (sym gone ∙ ap (list.has_gone t) l_is));
+        gone_by = λ t gone. absurd (true≢false (sym gone ∙ ap (is_in (was.Gone t)) l_is));
       };
   aside = subst (NoneReady p.sessions) (sym none_aside) tt;
   finished = λ over. absurd (true≢false (sym over ∙ ended));

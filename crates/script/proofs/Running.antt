@@ -1,17 +1,17 @@
 -- One more event of a run.
-use Rattle.std.proofs.Common.{◌≡◌, ℕ, zero, suc, ◌<◌, ◌≤◌, Bool, true, false, cond, eqb, List, [], ◌∷◌, ◌++◌, length, take, get_or, set, map, refl, sym, ap}
+use Rattle.std.proofs.Common.{◌≡◌, ℕ, zero, suc, ◌<◌, ◌≤◌, Bool, true, false, cond, eqb, List, [], ◌∷◌, ◌++◌, length, get_or, set, map, refl, sym, ap}
 use Rattle.std.proofs.Common.{subst, ◌∙◌, arith, inl, inr, length-append}
 use Rattle.std.specs.Prelude.{All, Contains, filter_map, ◌≢◌}
 use Rattle.std.specs.List.{AllByRecursion}
 use Rattle.std.proofs.lemmas.Bool.{cases_lt, cases_eq, eq-eqb, ne_eqb, both_ways}
 use Rattle.std.proofs.lemmas.Grind.{flat_map-append}
-use Rattle.std.proofs.lemmas.List.{append-nil, map-append, length-map, length-take, get_or-map, get_or_append_left, get_or-set_same, get_or-set_other}
+use Rattle.std.proofs.lemmas.List.{append-nil, map-append, length-map, get_or-map, get_or_append_left, get_or-set_same, get_or-set_other}
 use Rattle.std.proofs.Math.ListN.{length-set}
 use Rattle.std.proofs.lemmas.List.Elements.{filter_map-append, All-push, All-weaker, All-contains, Contains-append_left, Contains-get_or, All-from_recursion}
 use Rattle.std.proofs.lemmas.List.Elements.{recursion_from_All}
 use Rattle.std.proofs.Math.Seq.{get_or-append_seam}
 use Rattle.proto.specs.declared.dialect.Dialect.TheVariants.{Strict}
-use Rattle.proto.proofs.MessageReader.{spelling_nonempty}
+use Rattle.proto.proofs.ReadingLemmas.{reads_empty, reads_before}
 use Rattle.proto.specs.declared.history.Answered.{Answered}
 use Rattle.proto.specs.Cache.{empty_cache}
 use Rattle.proto.specs.History.{session_share}
@@ -188,21 +188,14 @@ served_new s n new = record {
   bytes_are = refl;
   answered = record {
     messages = [];
-    pieces = [];
-    whole = refl;
-    spelled = tt;
-    ends_at_last = tt;
+    reads = reads_empty Strict;
     ended_is = sym new.not_ended;
     asked_is = refl;
     output_is = new.no_output;
   };
   unread_is = λ going. sym new.no_unread;
-  no_more = λ going k m spells. let some = spelling_nonempty Strict (take k []) m spells in
-      omega (arith, some, length-take k (nil ℕ));
+  no_more = λ going. (reads_empty Strict).1;
 }
-  where
-    nil : (A : Type 0) → List A
-    nil A = []
 
 -- a session begins
 pub run_opened : (setup : Setup) (events : List ScriptEvent) (n : ℕ) (now : Execution) (sessions : List SequentialSession)
@@ -393,13 +386,8 @@ answered_in history bytes s served =
     record {
       messages = a.messages;
       rest = served.rest;
-      reads = record {
-        pieces = a.pieces;
-        whole = served.bytes_are ∙ ap (λ (b : List ℕ). b ++ served.rest) a.whole;
-        spelled = a.spelled;
-        ends_at_last = a.ends_at_last;
-        no_more = λ going. served.no_more (sym a.ended_is ∙ going);
-      };
+      reads = reads_before Strict bytes served.read served.rest a.messages served.bytes_are a.reads
+          (λ going. served.no_more (sym a.ended_is ∙ going));
       asked_all = a.asked_is;
       output_is = a.output_is;
     }

@@ -18,7 +18,7 @@ use Rattle.script.specs.Execution.{Execution, AnswersBehind}
 use Rattle.script.specs.SequentialSessions.{Setup, LedTo, AreBytesAnswered, HistoryGoesOn, LedOnTo, AnswersNext, AnswersAll, Feeds}
 use Rattle.script.specs.declared.sequential_session.SequentialSession.{SequentialSession}
 use Rattle.proto.proofs.MessageReader.{spelling_nonempty}
-use Rattle.script.proofs.MessageLists.{concat_more, spell_more, ends_more, ended_more, said_ask, said_other, asks_other}
+use Rattle.script.proofs.MessageLists.{read_more, ended_more, said_ask, said_other, asks_other}
 use Rattle.script.proofs.Histories.{entry_of, led_more, share_one, goes_on_same, goes_on_one, goes_on_on}
 use Rattle.proto.proofs.AskLemmas.{asks-append}
 
@@ -38,11 +38,8 @@ answered_ask : (read : List ℕ) (share : List Answered) (output piece : List �
     (output ++ answer (Ask q quiet) (Some e.reply)) false
 answered_ask read share output piece q quiet e a spells is = record {
   messages = a.messages ++ Ask q quiet ∷ [];
-  pieces = a.pieces ++ piece ∷ [];
-  whole = ap (λ (x : List ℕ). x ++ piece) a.whole ∙ sym (concat_more a.pieces piece);
-  spelled = spell_more a.pieces a.messages piece (Ask q quiet) a.spelled spells;
-  ends_at_last = ends_more a.messages (Ask q quiet) a.ends_at_last a.ended_is;
-  ended_is = ended_more a.messages (Ask q quiet);
+  reads = read_more read piece a.messages (Ask q quiet) a.ended_is a.reads spells;
+  ended_is = ended_more a.messages (Ask q quiet) a.ended_is;
   asked_is = map-append (λ (x : Answered). x.request) share (e ∷ [])
       ∙ ap (λ (qs : List Request). qs ++ e.request ∷ []) a.asked_is
       ∙ ap (λ (x : Request). asks a.messages ++ x ∷ []) is ∙ sym (asks-append a.messages (Ask q quiet ∷ []));
@@ -58,11 +55,8 @@ answered_other : (read : List ℕ) (share : List Answered) (output piece : List 
     → AreBytesAnswered (read ++ piece) share (output ++ answer m None) (ends_session m)
 answered_other read share output piece m other a spells = record {
   messages = a.messages ++ m ∷ [];
-  pieces = a.pieces ++ piece ∷ [];
-  whole = ap (λ (x : List ℕ). x ++ piece) a.whole ∙ sym (concat_more a.pieces piece);
-  spelled = spell_more a.pieces a.messages piece m a.spelled spells;
-  ends_at_last = ends_more a.messages m a.ends_at_last a.ended_is;
-  ended_is = ended_more a.messages m;
+  reads = read_more read piece a.messages m a.ended_is a.reads spells;
+  ended_is = ended_more a.messages m a.ended_is;
   asked_is = a.asked_is ∙ sym (asks_other a.messages m other);
   output_is = ap (λ (x : List ℕ). x ++ answer m None) a.output_is
       ∙ sym (said_other a.messages (had share) m other (replies read share output false a));

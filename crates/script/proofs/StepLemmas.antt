@@ -12,7 +12,7 @@ use Rattle.script.specs.Events.{open_after, goes_in_script}
 use Rattle.worker_port.specs.declared.events.PortRecord.{PortRecord}
 use Rattle.worker_port.specs.declared.events.PortRecord.TheVariants as was
 use Rattle.worker_port.specs.declared.events.PortEvent.TheVariants as event
-use Rattle.worker_port.specs.Ports.{has_ended, was_opened}
+use Rattle.worker_port.specs.Ports.{is_in}
 use Rattle.worker_port.specs.Ports as list
 use Rattle.worker_port.specs.PortFacts.{PortFacts, port_facts}
 use Rattle.worker_port.proofs.Facts.{opened_here, fed_here}
@@ -167,7 +167,7 @@ open_consistent p q s k f o =
           (sym (entry_behind ss (fresh s) t (λ e. ne (sym e)))
           ∙ ap (λ (m : List ScriptSessionState). session_entry m t) (sym o.sessions_are)
           ∙ e) in omega (arith, le, o.newer))));
-      at_end = ap has_ended o.records_are ∙ ended_same l (was.Opened s) refl ∙ k.at_end ∙ sym o.ended_is;
+      at_end = ap (is_in was.Ended) o.records_are ∙ ended_same l (was.Opened s) refl ∙ k.at_end ∙ sym o.ended_is;
       plays = λ tells.
           let told = ap (λ sn. is_playable sn.value.items) (sym o.script_is) ∙ tells in
           (λ i. plays_from (newest (o.sessions_are i)) (is_session_open (o.sessions_are i))
@@ -214,7 +214,7 @@ not_opened (Some x) f h e = (x, refl)
 not_opened None f h e = absurd (true≢false (sym e ∙ h.0))
 
 -- in a consistent player no session that the list has as opened is above the newest
-pub old_sessions : (p : Player) → IsPlayerConsistent p → (t : ℕ) → was_opened t p.records ≡ true → t ≤ newest p.sessions
+pub old_sessions : (p : Player) → IsPlayerConsistent p → (t : ℕ) → is_in (was.Opened t) p.records ≡ true → t ≤ newest p.sessions
 old_sessions p k t e = let x = not_opened (session_entry p.sessions t) (port_facts p.records t) (k.each t) e in
     k.rising t x.0 x.1
 
@@ -336,7 +336,7 @@ send_consistent p q s bytes k f o =
       opened_are = ap numbers o.sessions_are ∙ k.opened_are ∙ sym (opened_more l q.records x o.records_are refl);
       rising = λ t y e. subst (λ (m : List ScriptSessionState). t ≤ newest m) (sym o.sessions_are)
           (k.rising t y (ap (λ (m : List ScriptSessionState). session_entry m t) (sym o.sessions_are) ∙ e));
-      at_end = ap has_ended o.records_are ∙ ended_same l x refl ∙ k.at_end ∙ sym o.ended_is;
+      at_end = ap (is_in was.Ended) o.records_are ∙ ended_same l x refl ∙ k.at_end ∙ sym o.ended_is;
       plays = λ tells.
           let told = ap (λ sn. is_playable sn.value.items) (sym o.script_is) ∙ tells in
           (λ i. plays_from (newest (o.sessions_are i)) (is_session_open (o.sessions_are i))
@@ -523,7 +523,7 @@ odd_consistent p q k sessions_are records_are ended_is script_is fail_is can_fai
   opened_are = ap numbers sessions_are ∙ k.opened_are ∙ sym (ap opened records_are);
   rising = λ t y e. subst (λ (m : List ScriptSessionState). t ≤ newest m) (sym sessions_are)
       (k.rising t y (ap (λ (m : List ScriptSessionState). session_entry m t) (sym sessions_are) ∙ e));
-  at_end = ap has_ended records_are ∙ k.at_end ∙ sym ended_is;
+  at_end = ap (is_in was.Ended) records_are ∙ k.at_end ∙ sym ended_is;
   plays = λ tells. absurd (silent (ap (λ sn. is_playable sn.value.items) (sym script_is) ∙ tells));
   follows = λ tells. absurd (silent (ap (λ sn. is_playable sn.value.items) (sym script_is) ∙ tells));
   aside = subst (λ (m : List ScriptSessionState). NoneReady m q.events.aside) (sym sessions_are)

@@ -1,6 +1,6 @@
 -- What a port tells after each of its calls.
 use Rattle.std.proofs.Common.{◌≡◌, ◌≢◌, ℕ, ◌==◌, Bool, true, false, true≢false, not, ◌&&◌, ◌||◌, cond, eq-eqb, ne_eqb}
-use Rattle.std.proofs.Common.{List, [], ◌∷◌, ◌++◌, take, refl, sym}
+use Rattle.std.proofs.Common.{List, [], ◌∷◌, ◌++◌, refl, sym}
 use Rattle.std.proofs.Common.{ap, subst, ◌∙◌, Option, Some, None, option_map, Result, Ok, Err}
 use Rattle.worker_port.specs.declared.events.PortRecord.{PortRecord}
 use Rattle.worker_port.specs.declared.events.PortRecord.TheVariants as was
@@ -8,9 +8,9 @@ use Rattle.worker_port.specs.declared.events.PortEvent.{PortEvent}
 use Rattle.worker_port.specs.declared.events.PortEvent.TheVariants as event
 use Rattle.worker_port.specs.declared.events.Gone.{Gone}
 use Rattle.proto.specs.declared.history.Answered.{Answered}
-use Rattle.worker_port.specs.Ports.{PortStory, then_told, then_gave, with_pause, event_records, give_records, has_gone, was_shut, IsOpenIn, MayCome}
-use Rattle.worker_port.specs.Ports.{is_open}
+use Rattle.worker_port.specs.Ports.{PortStory, then_told, then_gave, with_pause, event_records, is_open, MayCome}
 use Rattle.script.specs.PortEvents.{is_playable}
+use Rattle.script.specs.Records.{give_records}
 use Rattle.script.specs.States.{PortState, PlayerState, is_held, story_of, story_told, Gives, DropsSession, SetsHeld}
 use Rattle.worker_port.specs.PortFacts.{PortFacts, port_facts}
 use Rattle.script.specs.declared.player.Player.{Player}
@@ -33,7 +33,8 @@ told_step old new f script_is step =
     ∙ sym (ap (λ b. option_map f (cond b (Some (story_of old)) None)) no))
 
 -- what is asked of a call, where the port tells
-pub open_where_told : (port : PortState) (s : ℕ) → IsOpenIn s (story_told port) → is_playable port.player.script ≡ true
+pub open_where_told : (port : PortState) (s : ℕ)
+    → ((story : PortStory) → story_told port ≡ Some story → is_open s story.events ≡ true) → is_playable port.player.script ≡ true
     → is_open s port.player.records ≡ true
 open_where_told port s asked tells = asked (story_of port) (ap (λ b. cond b (Some (story_of port)) None) tells)
 
@@ -46,7 +47,7 @@ facts_open (Some x) f agrees active = sym (ap not agrees.1) ∙ and_right f.open
 
 -- where the port tells, a session that is open in its story is open in the player's table
 pub open_in_table : (port : PortState) (p : Player) (s : ℕ) → player_state p ≡ port.player → IsPlayerConsistent p
-    → IsOpenIn s (story_told port)
+    → ((story : PortStory) → story_told port ≡ Some story → is_open s story.events ≡ true)
     → is_playable port.player.script ≡ true → in_table.is_session_open p.sessions s ≡ true
 open_in_table port p s same k asked tells =
     facts_open (in_table.session_entry p.sessions s) (port_facts p.records s) (k.each s)
@@ -78,17 +79,14 @@ ends_held old new s t ends ends_is here others =
     ∙ sym (ap (λ b. cond b false (is_held old t)) (ends_is ∙ eq-eqb s t (sym same))))
     (λ apart. others t apart ∙ sym (ap (λ b. cond b false (is_held old t)) (ends_is ∙ ne_eqb s t (λ e. apart (sym e)))))
 
+-- two numbers are compared in either order
+either_order : (s t : ℕ) → (t == s) ≡ (s == t)
+either_order s t = either_way t s (λ same. eq-eqb t s same ∙ sym (eq-eqb s t (sym same)))
+    (λ apart. ne_eqb t s apart ∙ sym (ne_eqb s t (λ e. apart (sym e))))
+
 -- whether a record of a gone peer ends a session, spelt out, is whether it is of that session
 by_gone : (s t : ℕ) → (((s == t) || false) || false) ≡ (s == t)
 by_gone s t = or_none ((s == t) || false) ∙ or_none (s == t)
-
--- bytes that are accepted end no session
-no_end : (s : ℕ) (bytes : List ℕ) (n t : ℕ) (b : Bool)
-    → b ≡ cond (has_gone t (give_records s bytes (Ok n)) || was_shut t (give_records s bytes (Ok n))) false b
-no_end s bytes n t b =
-    let ended_if = λ (c : Bool). let l : List PortRecord = cond c [] (was.Accepted s (take n bytes) ∷ []) in
-    cond (has_gone t l || was_shut t l) false b in
-    bool_cases (n == 0) (λ none. sym (ap ended_if none)) (λ some. sym (ap ended_if some))
 
 -- this session is paused or not, and the others as they were
 now_held : (old new : PlayerState) (s t : ℕ) (held : Bool) → SetsHeld old s held new
@@ -105,89 +103,57 @@ pub record IsSameBeside (old new : PortState) : Type 0 where
   pub worker : new.worker ≡ old.worker
   pub history : new.history ≡ old.history
 
+-- the story of a port, by its list and by who is paused, where the rest is as it was
+story_is : (old new : PortState) (events : List PortRecord) (paused : ℕ → Bool) → IsSameBeside old new
+    → new.player.records ≡ events → ((t : ℕ) → is_held new.player t ≡ paused t)
+    → story_of new ≡ record (story_of old) { events = events; paused = paused }
+story_is old new events paused same events_are held i = record {
+  events = events_are i;
+  paused = λ t. held t i;
+  sizes = same.sizes i;
+  dialect = same.dialect i;
+  worker = same.worker i;
+  history = same.history i;
+}
+
 -- an event came
 pub told_next : (old new : PortState) (result : PortEvent) → IsSameBeside old new
     → new.player.script ≡ old.player.script
     → (is_playable old.player.script ≡ true → TellsNext old.player result new.player)
     → story_told new ≡ option_map (then_told (event_records result)) (story_told old)
-told_next old new (event.Opened s) same script_is tells = told_step old new (then_told (was.Opened s ∷ [])) script_is
-    (λ yes i. record {
-      events = (tells yes).records_are i;
-      paused = λ t. (tells yes).goes_on.3 t i;
-      sizes = same.sizes i;
-      dialect = same.dialect i;
-      worker = same.worker i;
-      history = same.history i;
-    })
+told_next old new (event.Opened s) same script_is tells =
+    told_step old new (then_told (was.Opened s ∷ [])) script_is
+    (λ yes. story_is old new _ _ same (tells yes).records_are (tells yes).goes_on.3)
 told_next old new (event.Data s bytes) same script_is tells =
     told_step old new (then_told (was.Data s bytes ∷ [])) script_is
-    (λ yes i. record {
-      events = (tells yes).records_are i;
-      paused = λ t. (tells yes).goes_on.3 t i;
-      sizes = same.sizes i;
-      dialect = same.dialect i;
-      worker = same.worker i;
-      history = same.history i;
-    })
-told_next old new event.Idle same script_is tells = told_step old new (then_told []) script_is
-    (λ yes i. record {
-      events = (tells yes).records_are i;
-      paused = λ t. (tells yes).goes_on.3 t i;
-      sizes = same.sizes i;
-      dialect = same.dialect i;
-      worker = same.worker i;
-      history = same.history i;
-    })
-told_next old new event.Ended same script_is tells = told_step old new (then_told (was.Ended ∷ [])) script_is
-    (λ yes i. record {
-      events = (tells yes).records_are i;
-      paused = λ t. (tells yes).goes_on.3 t i;
-      sizes = same.sizes i;
-      dialect = same.dialect i;
-      worker = same.worker i;
-      history = same.history i;
-    })
+    (λ yes. story_is old new _ _ same (tells yes).records_are (tells yes).goes_on.3)
+told_next old new event.Idle same script_is tells =
+    told_step old new (then_told []) script_is
+    (λ yes. story_is old new _ _ same (tells yes).records_are (tells yes).goes_on.3)
+told_next old new event.Ended same script_is tells =
+    told_step old new (then_told (was.Ended ∷ [])) script_is
+    (λ yes. story_is old new _ _ same (tells yes).records_are (tells yes).goes_on.3)
 told_next old new (event.Gone s) same script_is tells =
     told_step old new (then_told (was.Gone s ∷ [])) script_is
-    (λ yes i. record {
-      events = (tells yes).records_are i;
-      paused = λ t. ends_held old.player new.player s t (((s == t) || false) || false) (by_gone s t)
-          ((tells yes).goes_on.3 s ∙ (tells yes).plays.1.free) (λ u ne. (tells yes).goes_on.3 u) i;
-      sizes = same.sizes i;
-      dialect = same.dialect i;
-      worker = same.worker i;
-      history = same.history i;
-    })
+    (λ yes. story_is old new _ _ same (tells yes).records_are
+    (λ t. ends_held old.player new.player s t (((s == t) || false) || false) (by_gone s t)
+    ((tells yes).goes_on.3 s ∙ (tells yes).plays.1.free) (λ u ne. (tells yes).goes_on.3 u)))
 
 -- bytes were offered, by this history
 pub told_give : (old new : PortState) (s : ℕ) (bytes : List ℕ) (result : Result ℕ Gone) (history : List Answered)
-    → new.sizes ≡ old.sizes → new.dialect ≡ old.dialect → new.worker ≡ old.worker → new.history ≡ history
-    → new.player.script ≡ old.player.script
+    → IsSameBeside (record old { history = history }) new → new.player.script ≡ old.player.script
     → (is_playable old.player.script ≡ true
     → (new.player.records ≡ old.player.records ++ give_records s bytes result)
     × Gives old.player s bytes result new.player)
     → story_told new ≡ option_map (then_gave s bytes result history) (story_told old)
-told_give old new s bytes (Ok n) history sizes_are dialect_is worker_is history_is script_is tells =
+told_give old new s bytes (Ok n) history same script_is tells =
     told_step old new (then_gave s bytes (Ok n) history) script_is
-    (λ yes i. record {
-      events = (tells yes).0 i;
-      paused = λ t. ((tells yes).1.3 t ∙ no_end s bytes n t (is_held old.player t)) i;
-      sizes = sizes_are i;
-      dialect = dialect_is i;
-      worker = worker_is i;
-      history = history_is i;
-    })
-told_give old new s bytes (Err e) history sizes_are dialect_is worker_is history_is script_is tells =
+    (λ yes. story_is (record old { history = history }) new _ _ same (tells yes).0
+    (tells yes).1.3)
+told_give old new s bytes (Err e) history same script_is tells =
     told_step old new (then_gave s bytes (Err e) history) script_is
-    (λ yes i. record {
-      events = (tells yes).0 i;
-      paused = λ t. ends_held old.player new.player s t (((s == t) || false) || false) (by_gone s t) (tells yes).1.2
-          (tells yes).1.3 i;
-      sizes = sizes_are i;
-      dialect = dialect_is i;
-      worker = worker_is i;
-      history = history_is i;
-    })
+    (λ yes. story_is (record old { history = history }) new _ _ same (tells yes).0
+    (λ t. ends_held old.player new.player s t (t == s) (either_order s t) (tells yes).1.2 (tells yes).1.3))
 
 -- a session was paused or resumed
 pub told_held : (old new : PortState) (s : ℕ) (held : Bool) → IsSameBeside old new
@@ -196,14 +162,8 @@ pub told_held : (old new : PortState) (s : ℕ) (held : Bool) → IsSameBeside o
     → story_told new ≡ option_map (with_pause s held) (story_told old)
 told_held old new s held same script_is sets =
     told_step old new (with_pause s held) script_is
-    (λ yes i. record {
-      events = ap (λ (p : PlayerState). p.records) (sets yes).rest i;
-      paused = λ t. now_held old.player new.player s t held (sets yes) i;
-      sizes = same.sizes i;
-      dialect = same.dialect i;
-      worker = same.worker i;
-      history = same.history i;
-    })
+    (λ yes. story_is old new _ _ same (ap (λ (p : PlayerState). p.records) (sets yes).rest)
+    (λ t. now_held old.player new.player s t held (sets yes)))
 
 -- a session was shut
 pub told_shut : (old new : PortState) (s : ℕ) → IsSameBeside old new → new.player.script ≡ old.player.script
@@ -212,12 +172,5 @@ pub told_shut : (old new : PortState) (s : ℕ) → IsSameBeside old new → new
     → story_told new ≡ option_map (then_told (was.Shut s ∷ [])) (story_told old)
 told_shut old new s same script_is tells =
     told_step old new (then_told (was.Shut s ∷ [])) script_is
-    (λ yes i. record {
-      events = (tells yes).0 i;
-      paused = λ t. ends_held old.player new.player s t ((s == t) || false) (or_none (s == t)) (tells yes).1.here
-          (tells yes).1.others i;
-      sizes = same.sizes i;
-      dialect = same.dialect i;
-      worker = same.worker i;
-      history = same.history i;
-    })
+    (λ yes. story_is old new _ _ same (tells yes).0
+    (λ t. ends_held old.player new.player s t ((s == t) || false) (or_none (s == t)) (tells yes).1.here (tells yes).1.others))

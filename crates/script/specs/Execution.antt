@@ -1,5 +1,5 @@
 -- Requests that are executed one after the other, at the moments of a clock.
-use Rattle.std.specs.Prelude.{◌≡◌, ℕ, ◌+◌, List, ◌++◌, Some, None, refl}
+use Rattle.std.specs.Prelude.{◌≡◌, ℕ, ◌+◌, max, min, List, ◌++◌, Some, None, refl}
 use Rattle.std.specs.Coded.{Coded, code_by, coded×, coded_ℕ}
 use Rattle.proto.specs.declared.message.Request.{Request}
 use Rattle.proto.specs.declared.message.Reply.{Reply}
@@ -9,7 +9,7 @@ use Rattle.proto.specs.Sizes.{Sizes}
 use Rattle.proto.specs.Cache.{Cache, cache_code}
 use Rattle.proto.specs.Answers.{answer}
 use Rattle.proto.specs.Steps.{Step}
-use Rattle.engine.specs.Reaching.{moment_after}
+use Rattle.proto.specs.History.{max_moment}
 use Rattle.script.specs.Clocks.{ClockState, answer_of}
 
 -- a cache, the moment of its last request, and the clock that tells the next
@@ -34,7 +34,7 @@ execution_code =
 
 -- the request is executed at the clock's next moment, and has this reply
 pub record Executes (old : Execution) (t : ℕ) (q : Request) (reply : Reply) (new : Execution) : Type 0 where
-  pub moment_is : t ≡ moment_after old.moment (answer_of old.clock 0)
+  pub moment_is : t ≡ max old.moment (min (answer_of old.clock 0) max_moment)
   pub step : Step old.sizes old.cache t q reply new.cache
   pub sizes_stay : new.sizes ≡ old.sizes
   pub last : new.moment ≡ t

@@ -4,7 +4,8 @@ use Rattle.exchange.specs.Beginnings.{StartsWith}
 use Rattle.script.specs.declared.event.ScriptEvent.{ScriptEvent}
 use Rattle.script.specs.Events as script
 use Rattle.worker_port.specs.declared.events.PortRecord.{PortRecord}
-use Rattle.worker_port.specs.Ports.{fed, has_gone, was_shut, has_ended}
+use Rattle.worker_port.specs.declared.events.PortRecord.TheVariants as was
+use Rattle.worker_port.specs.Ports.{fed, is_in}
 use Rattle.script.specs.Records.{opened}
 
 -- a session's peer may go: the script says it, or a `give` can fail
@@ -20,7 +21,7 @@ pub record Follows (played left : List ScriptEvent) (records : List PortRecord) 
   pub fed_are : (s : ℕ) → closed s ≡ false → script.sent played s ≡ fed s records ++ script.sent left s
   pub begun : (s : ℕ) → closed s ≡ true → StartsWith (script.sent played s) (fed s records)
   pub to_go : (s : ℕ) → script.goes_in_script left s ≡ true → script.goes_in_script played s ≡ true
-  pub gone_by : (s : ℕ) → has_gone s records ≡ true → MayGo played can_fail s
+  pub gone_by : (s : ℕ) → is_in (was.Gone s) records ≡ true → MayGo played can_fail s
 
 -- The list says what the script does: the sessions that were opened are the first of the script's, and what came of
 -- each is a beginning of the bytes that the script sends it; once the list has Ended all were opened, and all bytes came
@@ -29,7 +30,7 @@ pub record Follows (played left : List ScriptEvent) (records : List PortRecord) 
 pub record IsPlayed (played : List ScriptEvent) (records : List PortRecord) (can_fail : Bool) : Type 0 where
   pub opened_first : StartsWith (script.sessions_opened played) (opened records)
   pub fed_first : (s : ℕ) → StartsWith (script.sent played s) (fed s records)
-  pub opened_all : has_ended records ≡ true → opened records ≡ script.sessions_opened played
-  pub fed_all : (s : ℕ) → has_ended records ≡ true → has_gone s records ≡ false → was_shut s records ≡ false
+  pub opened_all : is_in was.Ended records ≡ true → opened records ≡ script.sessions_opened played
+  pub fed_all : (s : ℕ) → is_in was.Ended records ≡ true → is_in (was.Gone s) records ≡ false → is_in (was.Shut s) records ≡ false
       → fed s records ≡ script.sent played s
-  pub gone_by : (s : ℕ) → has_gone s records ≡ true → MayGo played can_fail s
+  pub gone_by : (s : ℕ) → is_in (was.Gone s) records ≡ true → MayGo played can_fail s

@@ -10,7 +10,7 @@ use Rattle.worker_port.specs.declared.events.PortRecord.{PortRecord}
 use Rattle.worker_port.specs.declared.events.PortRecord.TheVariants as was
 use Rattle.worker_port.specs.declared.events.PortEvent.{PortEvent}
 use Rattle.worker_port.specs.declared.events.Gone.{Gone}
-use Rattle.worker_port.specs.Ports.{has_ended}
+use Rattle.worker_port.specs.Ports.{is_in}
 use Rattle.worker_port.specs.Ports as list
 use Rattle.worker_port.specs.PortFacts.{PortFacts, port_facts}
 use Rattle.script.specs.declared.player.Player.{Player}
@@ -18,7 +18,7 @@ use Rattle.script.specs.PortEvents.{event_session, plays_from, is_playable}
 use Rattle.script.specs.Remaining.{in_order}
 use Rattle.script.specs.PortSessions.{ScriptSessionState, numbers, newest, session_entry, is_closed, was_closed}
 use Rattle.script.specs.PortSessions.{is_session_open, is_paused}
-use Rattle.script.specs.Records.{opened}
+use Rattle.script.specs.Records.{opened, give_records}
 use Rattle.script.specs.Following.{Follows, MayGo}
 use Rattle.script.specs.States.{PlayerState, story_of, Plays, PortGoesOn, DropsSession, Gives, Fails, count_down}
 
@@ -56,7 +56,7 @@ pub record IsPlayerConsistent (p : Player) : Type 0 where
   pub each : (s : ℕ) → Agrees (session_entry p.sessions s) (port_facts p.records s)
   pub opened_are : numbers p.sessions ≡ opened p.records
   pub rising : (s : ℕ) (x : ScriptSessionState) → session_entry p.sessions s ≡ Some x → s ≤ newest p.sessions
-  pub at_end : has_ended p.records ≡ p.ended
+  pub at_end : is_in was.Ended p.records ≡ p.ended
   pub plays : is_playable p.script.value.items ≡ true
       → plays_from (newest p.sessions) (is_session_open p.sessions) (events_left p.sessions (in_order p.events)) ≡ true
   pub follows : is_playable p.script.value.items ≡ true
@@ -125,5 +125,5 @@ pub record CountsOffer (old : Player) (bytes : List ℕ) (new : Player) (fails :
   pub passed : fails ≡ false → Fails (player_state old) bytes → ⊥
 
 pub record GivesAs (old : Player) (s : ℕ) (bytes : List ℕ) (result : Result ℕ Gone) (new : Player) : Type 0 where
-  pub records_are : new.records ≡ old.records ++ list.give_records s bytes result
+  pub records_are : new.records ≡ old.records ++ give_records s bytes result
   pub gives : Gives (player_state old) s bytes result (player_state new)

@@ -1,7 +1,8 @@
 -- The list of a port's events.
-use Rattle.std.specs.Prelude.{ℕ, List, [], ◌∷◌, ◌++◌, filter_map, Option, Some, None}
+use Rattle.std.specs.Prelude.{ℕ, ◌==◌, if◌then◌else◌, List, [], ◌∷◌, ◌++◌, take, filter_map, Option, Some, None, Result, Ok, Err}
 use Rattle.worker_port.specs.declared.events.PortRecord.{PortRecord}
 use Rattle.worker_port.specs.declared.events.PortRecord.TheVariants as was
+use Rattle.worker_port.specs.declared.events.Gone.{Gone}
 use Rattle.script.specs.declared.records.Entries.{Entries}
 use Rattle.script.specs.declared.records.Entries.TheBlock as entries
 
@@ -9,6 +10,11 @@ use Rattle.script.specs.declared.records.Entries.TheBlock as entries
 abbrev pub listed : Entries → List PortRecord
 listed entries.None = []
 listed (entries.After' place before entry) = listed before ++ entry ∷ []
+
+-- a `give` adds the bytes that it accepted, if any, or that the session has gone
+abbrev pub give_records : ℕ → List ℕ → Result ℕ Gone → List PortRecord
+give_records s bytes (Ok n) = if n == 0 then [] else was.Accepted s (take n bytes) ∷ []
+give_records s bytes (Err e) = was.Gone s ∷ []
 
 abbrev pub opened_by : PortRecord → Option ℕ
 opened_by (was.Opened s) = Some s

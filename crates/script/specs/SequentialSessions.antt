@@ -1,15 +1,15 @@
 -- One session of a run: what was executed, read and answered so far.
-use Rattle.std.specs.Prelude.{◌≡◌, ℕ, ◌+◌, ◌≤◌, Bool, false, List, [], ◌++◌, length, take, Option, Some, None}
-use Rattle.std.specs.List.{concat, AllByRecursion}
+use Rattle.std.specs.Prelude.{◌≡◌, ℕ, ◌+◌, ◌≤◌, Bool, false, List, [], ◌++◌, length, map, take, Option, Some, None}
+use Rattle.std.specs.List.{list_any, AllByRecursion}
 use Rattle.proto.specs.declared.dialect.Dialect.TheVariants.{Strict}
 use Rattle.proto.specs.declared.message.Message.{Message}
 use Rattle.proto.specs.declared.history.Answered.{Answered}
 use Rattle.proto.specs.Grammar.{Spells, SpellsNone}
-use Rattle.proto.specs.Reading.{ends_session, SpellEach, EndsAtLast, last_ends, asks}
+use Rattle.proto.specs.Reading.{ends_session, Reads, asks}
 use Rattle.proto.specs.Answers.{said}
 use Rattle.proto.specs.Sizes.{Sizes}
 use Rattle.proto.specs.History.{session_share, had, asked}
-use Rattle.engine.specs.Reaching.{moments, moments_after, Reaches}
+use Rattle.engine.specs.Reaching.{moments_after, Reaches}
 use Rattle.script.specs.Clocks.{ClockState, answer_of, first_answers}
 use Rattle.script.specs.Execution.{Execution, AnswersBehind}
 use Rattle.script.specs.declared.sequential_session.SequentialSession.{SequentialSession}
@@ -21,7 +21,7 @@ pub record Setup : Type 0 where
 
 -- the moments of a history are those of the clock's first answers
 abbrev pub AreTimed : ClockState → List Answered → Type 0
-AreTimed clock history = moments history ≡ moments_after 0 (first_answers clock (length history))
+AreTimed clock history = map (λ e. e.moment) history ≡ moments_after 0 (first_answers clock (length history))
 
 -- From an empty cache the history has led to this cache and clock. The clock gave its first answers to it.
 pub record LedTo (setup : Setup) (history : List Answered) (now : Execution) : Type 0 where
@@ -33,11 +33,8 @@ pub record LedTo (setup : Setup) (history : List Answered) (now : Execution) : T
 -- the bytes are whole messages, which the share of the history and the output answer
 pub record AreBytesAnswered (read : List ℕ) (share : List Answered) (output : List ℕ) (ended : Bool) : Type 0 where
   pub messages : List Message
-  pub pieces : List (List ℕ)
-  pub whole : read ≡ concat pieces
-  pub spelled : SpellEach Strict pieces messages
-  pub ends_at_last : EndsAtLast messages
-  pub ended_is : last_ends messages ≡ ended
+  pub reads : Reads Strict read messages []
+  pub ended_is : list_any ends_session messages ≡ ended
   pub asked_is : asked share ≡ asks messages
   pub output_is : output ≡ said messages (had share)
 

@@ -3,7 +3,7 @@
 ghost use Rattle.std.specs.Prelude.{◌≡◌, ℕ, ◌++◌, [], ◌∷◌, ◌≤◌, ◌↔◌, length, true, false, IfOk, option_map, Some};
 ghost use Rattle.script.specs.Events.{IsPlayable};
 ghost use Rattle.worker_port.specs.declared.events.PortRecord.TheVariants.{Shut};
-ghost use Rattle.worker_port.specs.Ports.{PortStory, then_told, with_pause, event_records, then_gave, IsOpenIn, MayCome, given};
+ghost use Rattle.worker_port.specs.Ports.{PortStory, then_told, with_pause, event_records, then_gave, is_open, MayCome, given};
 ghost use Rattle.worker_port.specs.Giving.{MayBeGiven};
 ghost use Rattle.script.specs.PortEvents.{is_playable};
 ghost use Rattle.script.specs.PortSessions.{numbers};
@@ -125,7 +125,7 @@ impl Port for ScriptPort {
     }
 
     fn give(&mut self, session: u64, bytes: &[u8], history: ToldHistory) -> Result<usize, Gone>
-        requires open { IsOpenIn session (story_told self.old) }
+        requires open { (story : PortStory) → story_told self.old ≡ Some story → is_open session story.events ≡ true }
         requires said { (story : PortStory) → story_told self.old ≡ Some story → MayBeGiven story history session bytes.now }
         ensures within { IfOk result (λ n. n ≤ length bytes.now) }
         ensures leads { PlaysOn self.old self.new }
@@ -138,7 +138,7 @@ impl Port for ScriptPort {
     }
 
     fn pause(&mut self, session: u64)
-        requires { IsOpenIn session (story_told self.old) }
+        requires { (story : PortStory) → story_told self.old ≡ Some story → is_open session story.events ≡ true }
         ensures leads { PlaysOn self.old self.new }
         ensures told { story_told self.new ≡ option_map (with_pause session true) (story_told self.old) }
         ensures held { is_playable self.old.player.script ≡ true → SetsHeld self.old.player session true self.new.player }
@@ -147,7 +147,7 @@ impl Port for ScriptPort {
     }
 
     fn resume(&mut self, session: u64)
-        requires { IsOpenIn session (story_told self.old) }
+        requires { (story : PortStory) → story_told self.old ≡ Some story → is_open session story.events ≡ true }
         ensures leads { PlaysOn self.old self.new }
         ensures told { story_told self.new ≡ option_map (with_pause session false) (story_told self.old) }
         ensures held { is_playable self.old.player.script ≡ true → SetsHeld self.old.player session false self.new.player }
@@ -156,7 +156,7 @@ impl Port for ScriptPort {
     }
 
     fn shut(&mut self, session: u64)
-        requires { IsOpenIn session (story_told self.old) }
+        requires { (story : PortStory) → story_told self.old ≡ Some story → is_open session story.events ≡ true }
         ensures leads { PlaysOn self.old self.new }
         ensures told { story_told self.new ≡ option_map (then_told (Shut session ∷ [])) (story_told self.old) }
         ensures shuts { is_playable self.old.player.script ≡ true → DropsSession self.old.player session self.new.player }

@@ -11,7 +11,7 @@ use Rattle.segments.specs.declared.place.Place.{Place}
 use Rattle.engine.specs.declared.commands.Engine.{Engine}
 use Rattle.engine.specs.declared.live_map.LiveMap.{Ghosts as MapOf}
 use Rattle.engine.specs.Outcomes.{outcome_at}
-use Rattle.engine.specs.Counting.{CountsShown}
+use Rattle.engine.specs.Counting.{CountsShown, StaysAlike}
 use Rattle.engine.specs.Engines.{Changes, IsHandled}
 use Rattle.segcache.specs.declared.segment_map.SegmentMap.{SegmentMap}
 use Rattle.segcache.specs.Shown.{shown_entries}
@@ -37,33 +37,27 @@ members =
       keeps = KeepsStored;
     }
 
--- a reply without hits leaves the pool, and one with hits counts their reads
+-- a reply without hits leaves the pool
+stays_by : (found : MapState) (done : Outcome) (after : MapState) → IsSegmentedMap found → done.stored ≡ None
+    → has_hits done.reply ≡ false → StaysAlike HasSamePool found after → LeavesSegments found done after done.reply
+stays_by found done after kept none e alike = stays none e (alike found (record { pool = refl; kept = kept })).pool
+
+-- and one with hits counts their reads
 shown_by : (found : MapState) (done : Outcome) (after : MapState) (r : Reply) → IsSegmentedMap found
     → done.stored ≡ None → done.reply ≡ r
     → CountsShown IsReadAgain HasSamePool found r after → LeavesSegments found done after done.reply
 shown_by found done after (Values hits) kept none e counts = reads hits none e counts
-shown_by found done after Stored kept none e alike =
-    stays none (ap has_hits e) (alike found (record { pool = refl; kept = kept })).pool
-shown_by found done after NotStored kept none e alike =
-    stays none (ap has_hits e) (alike found (record { pool = refl; kept = kept })).pool
-shown_by found done after Exists kept none e alike =
-    stays none (ap has_hits e) (alike found (record { pool = refl; kept = kept })).pool
-shown_by found done after NotFound kept none e alike =
-    stays none (ap has_hits e) (alike found (record { pool = refl; kept = kept })).pool
-shown_by found done after Deleted kept none e alike =
-    stays none (ap has_hits e) (alike found (record { pool = refl; kept = kept })).pool
-shown_by found done after (Number n) kept none e alike =
-    stays none (ap has_hits e) (alike found (record { pool = refl; kept = kept })).pool
-shown_by found done after Flushed kept none e alike =
-    stays none (ap has_hits e) (alike found (record { pool = refl; kept = kept })).pool
-shown_by found done after TooLarge kept none e alike =
-    stays none (ap has_hits e) (alike found (record { pool = refl; kept = kept })).pool
-shown_by found done after NoMemory kept none e alike =
-    stays none (ap has_hits e) (alike found (record { pool = refl; kept = kept })).pool
-shown_by found done after NotNumber kept none e alike =
-    stays none (ap has_hits e) (alike found (record { pool = refl; kept = kept })).pool
-shown_by found done after NoCas kept none e alike =
-    stays none (ap has_hits e) (alike found (record { pool = refl; kept = kept })).pool
+shown_by found done after Stored kept none e alike = stays_by found done after kept none (ap has_hits e) alike
+shown_by found done after NotStored kept none e alike = stays_by found done after kept none (ap has_hits e) alike
+shown_by found done after Exists kept none e alike = stays_by found done after kept none (ap has_hits e) alike
+shown_by found done after NotFound kept none e alike = stays_by found done after kept none (ap has_hits e) alike
+shown_by found done after Deleted kept none e alike = stays_by found done after kept none (ap has_hits e) alike
+shown_by found done after (Number n) kept none e alike = stays_by found done after kept none (ap has_hits e) alike
+shown_by found done after Flushed kept none e alike = stays_by found done after kept none (ap has_hits e) alike
+shown_by found done after TooLarge kept none e alike = stays_by found done after kept none (ap has_hits e) alike
+shown_by found done after NoMemory kept none e alike = stays_by found done after kept none (ap has_hits e) alike
+shown_by found done after NotNumber kept none e alike = stays_by found done after kept none (ap has_hits e) alike
+shown_by found done after NoCas kept none e alike = stays_by found done after kept none (ap has_hits e) alike
 
 -- what was asked for is written, or nothing is
 changed_by : (found : MapState) (done : Outcome) (after : MapState) (stored : Option (List ℕ)) → IsSegmentedMap found

@@ -10,8 +10,9 @@ use Rattle.proto.specs.Sizes.{item_limit}
 use Rattle.proto.specs.Buckets.{bucket_of, time_to_live}
 use Rattle.proto.specs.Cache.{Entry, Entries, found_at}
 use Rattle.proto.specs.Commands.{Outcome}
-use Rattle.proto.specs.Steps.{Step, IsDated, MayForget, without}
+use Rattle.proto.specs.Steps.{Step, IsDated, without}
 use Rattle.proto.specs.Stored.{StoredItem, stored_item_of, item_stored, is_no_memory, written}
+use Rattle.proto.proofs.Options.{none_is_some}
 use Rattle.proto.proofs.CacheLemmas.{entry_size, without-nil}
 use Rattle.proto.proofs.StepLemmas.{get-stored, dated-insert}
 use Rattle.engine.specs.declared.commands.Engine.{Engine}
@@ -142,11 +143,12 @@ unstored : (before after : Engine SegmentMap) (t : ℕ) (q : Request) (reply : R
 unstored before after t q reply (inr r) none = inl r.reply_is
 unstored before after t q reply (inl x) none =
     let done = outcome_at (sizes_in before) (segmented_cache before) t q in
-    let old = (found_at (segmented_cache before) t).entries in
     let dated : x.dated ≡ done.entries =
     subst (λ (o : Option (List ℕ)). IsDated t done.entries o x.dated) none x.is_dated in
-    let nothing : x.forgotten ≡ [] = subst
-    (λ (o : Option (List ℕ)). MayForget (sizes_in before) old x.dated o x.forgotten) none x.may_forget in
+    let nothing : x.forgotten ≡ [] = elim x.may_forget [
+      | inl is ↦ is
+      | inr h ↦ absurd (none_is_some h.0 (sym none ∙ h.1))
+    ] in
     let same : (segmented_cache after).entries ≡ done.entries =
     x.entries ∙ ap (without x.dated) nothing ∙ without-nil x.dated ∙ dated in
     inr (subst (λ (o : Option (List ℕ)). IsDated t done.entries o (segmented_cache after).entries) (sym none) same)

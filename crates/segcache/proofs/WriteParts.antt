@@ -1,19 +1,15 @@
 -- A write by what the parts of it leave.
-use Rattle.std.proofs.Common.{◌≡◌, ℕ, ◌+◌, ◌-◌, ◌*◌, ◌/◌, ◌<◌, ◌≤◌, ◌^◌, Bool, true, false, cond, List, [], ◌∷◌, length, Option, Some, None, refl, sym, ap}
+use Rattle.std.proofs.Common.{◌≡◌, ℕ, ◌+◌, ◌*◌, ◌/◌, ◌<◌, ◌≤◌, ◌^◌, Bool, true, false, cond, List, length, Option, Some, None, refl, sym, ap}
 use Rattle.std.proofs.Common.{◌∙◌, inl, inr, arith}
-use Rattle.std.specs.Prelude.{bytes_eq, ◌⊎◌, sum_by, is_some, option_map}
-use Rattle.std.specs.List.{list_all}
-use Rattle.std.specs.Option.{option_map_or}
+use Rattle.std.specs.Prelude.{bytes_eq, is_some, option_map}
 use Rattle.std.specs.FinMap as finite
-use Rattle.std.specs.Cmp.Lexicographic.{nat_list_cmp_total}
-use Rattle.std.proofs.lemmas.Bool.{cases_Bool, false≢true, and_parts}
+use Rattle.std.proofs.lemmas.Bool.{cases_Bool, false≢true}
 use Rattle.std.proofs.lemmas.Slice.Eq.{bytes_eq-Decides}
-use Rattle.std.proofs.lemmas.List.Sums.{sum_by-cons}
 use Rattle.proto.specs.Sizes.{Sizes, item_limit}
 use Rattle.proto.specs.Cache.{Entry, Entries}
 use Rattle.proto.specs.Buckets.{MayLive}
-use Rattle.proto.specs.Steps.{without, size_at, MayEvict}
-use Rattle.proto.proofs.CacheLemmas.{entry_size, contains_bytes, same_entries, get-insert, get-remove, get-without}
+use Rattle.proto.specs.Steps.{without}
+use Rattle.proto.proofs.CacheLemmas.{contains_bytes, same_entries, get-insert, get-remove, get-without, not_forgotten}
 use Rattle.segments.specs.declared.place.Place.{Place}
 use Rattle.segments.specs.Items.{Item, IsStorable}
 use Rattle.segments.specs.Pools.{PoolState}
@@ -22,96 +18,11 @@ use Rattle.index.specs.Table.{Table}
 use Rattle.engine.specs.Written.{IsWritten, MayBeWritten}
 use Rattle.segcache.specs.Shown.{current, shown_entries, entry_at}
 use Rattle.segcache.specs.Kept.{IsTied}
-use Rattle.segcache.specs.Room.{AreKept, AreEvicted}
+use Rattle.segcache.specs.Room.{AreKept}
 use Rattle.segments.specs.Marks.{Marks}
 use Rattle.proto.proofs.CacheLemmas.{if_live}
 use Rattle.segcache.proofs.ShownItems.{get-live_in}
 use Rattle.segcache.proofs.TiedParts.{current_item}
-
--- keys of a map without a key are other ones
-other_keys : (e : Entries) (key : List ℕ) (fs : List (List ℕ))
-    → list_all (finite.contains_key (finite.remove e key)) fs ≡ true → contains_bytes fs key ≡ false
-other_keys e key [] h = refl
-other_keys e key (f ∷ fs) h =
-    let parts = and_parts (finite.contains_key (finite.remove e key) f)
-    (list_all (finite.contains_key (finite.remove e key)) fs) h in
-    let rest = other_keys e key fs parts.1 in
-    elim (cases_Bool (bytes_eq key f)) [
-      | inl y ↦
-          let same : f ≡ key = sym ((bytes_eq-Decides key f).0 y) in
-          let none : finite.contains_key (finite.remove e key) f ≡ false = ap is_some (get-remove e key f)
-          ∙ (let z = (bytes_eq-Decides f key).1 same in rw z refl) in
-          absurd (false≢true (sym none ∙ parts.0))
-      | inr n ↦ rw n rest
-    ]
-
--- what a map without a key has at a key, it has with another entry at that key
-kept_at : (e : Entries) (key : List ℕ) (w : Entry) (f : List ℕ) → finite.contains_key (finite.remove e key) f ≡ true
-    → finite.get (finite.insert e key w) f ≡ finite.get (finite.remove e key) f
-kept_at e key w f h =
-    elim (cases_Bool (bytes_eq f key)) [
-      | inl y ↦
-          let none : finite.contains_key (finite.remove e key) f ≡ false =
-          ap is_some (get-remove e key f) ∙ rw y refl in
-          absurd (false≢true (sym none ∙ h))
-      | inr n ↦ get-insert e key w f ∙ rw n (sym (get-remove e key f ∙ rw n refl))
-    ]
-
--- keys that a map without some key has it also has with another entry at that key
-kept_all : (e : Entries) (key : List ℕ) (w : Entry) (fs : List (List ℕ))
-    → list_all (finite.contains_key (finite.remove e key)) fs ≡ true
-    → list_all (finite.contains_key (finite.insert e key w)) fs ≡ true
-kept_all e key w [] h = refl
-kept_all e key w (f ∷ fs) h =
-    let parts = and_parts (finite.contains_key (finite.remove e key) f)
-    (list_all (finite.contains_key (finite.remove e key)) fs) h in
-    let here : finite.contains_key (finite.insert e key w) f ≡ true =
-    ap is_some (kept_at e key w f parts.0) ∙ parts.0 in
-    rw here (kept_all e key w fs parts.1)
-
--- the entries of such keys have the same sizes in sum, whether that key is taken out or has another entry
-kept_sizes : (e : Entries) (key : List ℕ) (w : Entry) (fs : List (List ℕ))
-    → list_all (finite.contains_key (finite.remove e key)) fs ≡ true
-    → sum_by (size_at (finite.insert e key w)) fs ≡ sum_by (size_at (finite.remove e key)) fs
-kept_sizes e key w [] h = refl
-kept_sizes e key w (f ∷ fs) h =
-    let parts = and_parts (finite.contains_key (finite.remove e key) f)
-    (list_all (finite.contains_key (finite.remove e key)) fs) h in
-    let here : size_at (finite.insert e key w) f ≡ size_at (finite.remove e key) f = ap
-    (λ (o : Option Entry). option_map_or (entry_size f) o 0) (kept_at e key w f parts.0) in
-    let rest = kept_sizes e key w fs parts.1 in
-    let one = sum_by-cons (size_at (finite.insert e key w)) f fs in
-    let other = sum_by-cons (size_at (finite.remove e key)) f fs in
-    omega (arith, here, rest, one, other)
-
--- a map without a key has no more entries than with it
-fewer : (e : Entries) (key : List ℕ) → finite.len (finite.remove e key) ≤ finite.len e
-fewer e key =
-    let l = finite.len-remove nat_list_cmp_total e key in
-    elim (cases_Bool (finite.contains_key e key)) [
-      | inl y ↦ (let is : finite.len (finite.remove e key) ≡ finite.len e - 1 = l ∙ rw y refl in omega (arith, is))
-      | inr n ↦ (let is : finite.len (finite.remove e key) ≡ finite.len e = l ∙ rw n refl in omega (arith, is))
-    ]
-
--- what may be forgotten of the other entries to make room may be forgotten where a key is written, which isn't forgotten itself
-forgets : (sizes : Sizes) (e : Entries) (key : List ℕ) (w : Entry) (fs : List (List ℕ))
-    → (fs ≡ []) ⊎ AreEvicted sizes (finite.remove e key) fs
-    → ((fs ≡ []) ⊎ MayEvict sizes e (finite.insert e key w) key fs) × (contains_bytes fs key ≡ false)
-forgets sizes e key w fs (inl none) = (inl none, ap (λ (xs : List (List ℕ)). contains_bytes xs key) none)
-forgets sizes e key w fs (inr h) =
-    let other = other_keys e key fs h.present in
-    let less = fewer e key in
-    let many = h.full in
-    let sums = kept_sizes e key w fs h.present in
-    let small = h.bounded in (
-      inr record {
-        not_stored = other;
-        present = kept_all e key w fs h.present;
-        full = omega (arith, less, many);
-        bounded = omega (arith, sums, small);
-      },
-      other,
-    )
 
 -- a key put into what was kept of the other entries
 inserted_kept : (e : Entries) (key : List ℕ) (w : Entry) (fs : List (List ℕ)) → contains_bytes fs key ≡ false
@@ -134,13 +45,13 @@ pub written_by : (sizes : Sizes) (t : ℕ) (e kept new : Entries) (key : List �
     → new ≡ finite.insert kept key (record asked { deadline = deadline }) → IsWritten sizes t e key asked new
 written_by sizes t e kept new key asked deadline k may is =
     let w : Entry = record asked { deadline = deadline } in
-    let f = forgets sizes e key w k.forgotten k.evicted in
+    let other = not_forgotten sizes e key k.forgotten k.evicted in
     record {
       deadline = deadline;
       may_live = may;
       forgotten = k.forgotten;
-      may_forget = f.0;
-      entries = is ∙ ap (λ (m : Entries). finite.insert m key w) k.entries ∙ inserted_kept e key w k.forgotten f.1;
+      may_forget = k.evicted;
+      entries = is ∙ ap (λ (m : Entries). finite.insert m key w) k.entries ∙ inserted_kept e key w k.forgotten other;
     }
 
 -- a key put where it was taken out is put

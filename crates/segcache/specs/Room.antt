@@ -1,11 +1,10 @@
 -- What is forgotten where room is made, and what an item that is written leaves.
-use Rattle.std.specs.Prelude.{◌≡◌, ℕ, ◌*◌, ◌≤◌, ◌⊎◌, false, List, [], sum_by, IsTrue, Option, Some, None}
-use Rattle.std.specs.List.{list_all}
+use Rattle.std.specs.Prelude.{◌≡◌, ℕ, ◌≤◌, ◌⊎◌, false, List, [], Option, Some, None}
 use Rattle.std.specs.FinMap as finite
 use Rattle.proto.specs.Sizes.{Sizes}
 use Rattle.proto.specs.Cache.{Entries, has_arrived}
 use Rattle.proto.specs.Buckets.{MayLive}
-use Rattle.proto.specs.Steps.{without, size_at}
+use Rattle.proto.specs.Steps.{without, MayEvict}
 use Rattle.segments.specs.declared.place.Place.{Place}
 use Rattle.segments.specs.Items.{Item}
 use Rattle.segments.specs.Pools.{PoolState, place_deadline}
@@ -14,16 +13,10 @@ use Rattle.index.specs.Table.{Table, Places}
 use Rattle.segcache.specs.Shown.{current, shown_entries, kept_entry}
 use Rattle.segcache.specs.Kept.{IsPast}
 
--- these are keys of entries, which are no fewer than the segments, and four segments' worth at most
-pub record AreEvicted (sizes : Sizes) (entries : Entries) (forgotten : List (List ℕ)) : Type 0 where
-  pub present : IsTrue (list_all (finite.contains_key entries) forgotten)
-  pub full : sizes.segments ≤ finite.len entries
-  pub bounded : sum_by (size_at entries) forgotten ≤ 4 * sizes.segment_size
-
 -- the entries were kept but for some that had to be forgotten
 pub record AreKept (sizes : Sizes) (old new : Entries) : Type 0 where
   pub forgotten : List (List ℕ)
-  pub evicted : (forgotten ≡ []) ⊎ AreEvicted sizes old forgotten
+  pub evicted : (forgotten ≡ []) ⊎ MayEvict sizes old forgotten
   pub entries : new ≡ without old forgotten
 
 -- no current item's deadline is at or before the moment t

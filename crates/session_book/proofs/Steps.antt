@@ -2,9 +2,7 @@
 use Rattle.std.proofs.Common.{◌≡◌, ℕ, ◌+◌, ◌<◌, ◌≤◌, true, false, List, [], ◌∷◌, ◌++◌}
 use Rattle.std.proofs.Common.{length, take, drop, Option, Some, None, Ok, Err, is_some, refl, sym}
 use Rattle.std.proofs.Common.{ap, subst, ◌∙◌, arith, inl, inr, append_assoc, length-append, take-append-drop}
-use Rattle.std.specs.List.{concat}
 use Rattle.std.proofs.lemmas.List.{append-nil}
-use Rattle.std.proofs.lemmas.List.Folds.{concat-append}
 use Rattle.std.proofs.lemmas.Bool.{both_ways}
 use Rattle.proto.specs.declared.dialect.Dialect.{Dialect}
 use Rattle.proto.specs.declared.message.Request.{Request}
@@ -23,8 +21,9 @@ use Rattle.session_book.specs.Session.{new_session, ReadsMessage, TakesLocal, Ta
 use Rattle.proto.specs.declared.no_memory.NoMemory.{NoMemory}
 use Rattle.session_book.proofs.Needing.{needs_one, spells_none, unfinished_short}
 use Rattle.session_book.proofs.Answering.{said-append, left-append, left_waits, said_waits}
-use Rattle.session_book.proofs.Reading.{SpellEach-append, ended_by-append, not_ended_before, EndsAtLast-append}
+use Rattle.session_book.proofs.Reading.{ended_by-append, not_ended_before, none_ends}
 use Rattle.proto.proofs.AskLemmas.{asks-append}
+use Rattle.proto.proofs.ReadingLemmas.{reads_empty, reads_one, reads_on}
 
 -- a message that was taken is what was read
 takes_one : (before after : SessionState) (m : Message) → ReadsMessage before m after
@@ -53,11 +52,10 @@ said_stays (m ∷ ms) e = said_waits m ms e
 -- nothing was read yet
 pub reads_nothing : (s : SessionState) → begins_asked s.queue ≡ true → ReadsOn s [] s
 reads_nothing s asked = record {
-  pieces = [];
-  spelled = tt;
+  read = [];
+  reads = reads_empty s.dialect;
   dialect = refl;
   unread = refl;
-  ends_at_last = tt;
   not_ended = λ e. refl;
   ended = refl;
   queue = rw append-nil (sym (left_stays s.queue asked));
@@ -89,16 +87,12 @@ reads_more before now after ms m h none t =
     let grouped : (before.queue ++ ms) ++ m ∷ [] ≡ before.queue ++ (ms ++ m ∷ []) =
     append_assoc before.queue ms (m ∷ []) in
     record {
-      pieces = h.pieces ++ t.piece ∷ [];
-      spelled = SpellEach-append before.dialect h.pieces (t.piece ∷ []) ms (m ∷ []) h.spelled
-          (rw h.dialect at t.spells, tt);
+      read = h.read ++ t.piece;
+      reads = reads_on before.dialect (h.read ++ t.piece) h.read t.piece [] ms (m ∷ []) refl
+          (none_ends ms (none_left before.ended ms open_yet)) h.reads
+          (reads_one before.dialect t.piece m (rw h.dialect at t.spells));
       dialect = t.dialect ∙ h.dialect;
-      unread = h.unread ∙ ap (λ (x : List ℕ). concat h.pieces ++ x) t.unread
-          ∙ sym (append_assoc (concat h.pieces) t.piece after.unread)
-          ∙ ap (λ (x : List ℕ). x ++ after.unread)
-          (ap (λ (x : List ℕ). concat h.pieces ++ x) (sym (append-nil t.piece))
-          ∙ sym (concat-append h.pieces (t.piece ∷ [])));
-      ends_at_last = EndsAtLast-append ms (m ∷ []) (none_left before.ended ms open_yet) tt;
+      unread = h.unread ∙ ap (λ (x : List ℕ). h.read ++ x) t.unread ∙ sym (append_assoc h.read t.piece after.unread);
       not_ended = λ e. absurd (never before.ended ms open_yet e);
       ended = t.ended ∙ ap (λ (e : Option EndCause). ended_by e (m ∷ [])) h.ended
           ∙ sym (ended_by-append before.ended ms (m ∷ []));
@@ -119,11 +113,10 @@ reads_more before now after ms m h none t =
 pub reads_no_more : (before now after : SessionState) (ms : List Message) → ReadsOn before ms now
     → TakesNothing now after → ReadsOn before ms after
 reads_no_more before now after ms h t = record {
-  pieces = h.pieces;
-  spelled = h.spelled;
+  read = h.read;
+  reads = h.reads;
   dialect = ap (λ (s : SessionState). s.dialect) t.rest ∙ h.dialect;
-  unread = h.unread ∙ ap (λ (s : SessionState). concat h.pieces ++ s.unread) (sym t.rest);
-  ends_at_last = h.ends_at_last;
+  unread = h.unread ∙ ap (λ (s : SessionState). h.read ++ s.unread) (sym t.rest);
   not_ended = h.not_ended;
   ended = ap (λ (s : SessionState). s.ended) t.rest ∙ h.ended;
   queue = ap (λ (s : SessionState). s.queue) t.rest ∙ h.queue;

@@ -1,23 +1,21 @@
 -- What a session's book says of a whole run: the bytes given and the output are what was said.
 use Rattle.std.specs.Prelude.{◌≡◌, ℕ, ◌+◌, ◌<◌, ◌⊎◌, true, List, [], ◌∷◌, ◌++◌, length, take, None, is_some}
-use Rattle.std.specs.List.{concat}
 use Rattle.proto.specs.declared.dialect.Dialect.{Dialect}
 use Rattle.proto.specs.declared.message.Reply.{Reply}
 use Rattle.proto.specs.declared.message.Message.{Message}
 use Rattle.proto.specs.Grammar.{SpellsNone}
-use Rattle.proto.specs.Reading.{SpellEach, EndsAtLast, Reads, asks}
+use Rattle.proto.specs.Reading.{Reads, asks}
 use Rattle.proto.specs.Answers.{said}
 use Rattle.session_book.specs.Session.{SessionState, new_session, left, ended_by, once_fed, ReadsOn, with_reply, gave}
 
 -- Of a session with lines of this dialect the bytes fed were read as the messages ms; once Quit or a fatal message was read, further bytes
 -- were dropped.
 pub record HasRead (d : Dialect) (fed_bytes : List ℕ) (ms : List Message) (s : SessionState) : Type 0 where
-  pub pieces : List (List ℕ)
+  pub read : List ℕ
   pub dropped : List ℕ
-  pub whole : fed_bytes ≡ concat pieces ++ s.unread ++ dropped
+  pub whole : fed_bytes ≡ read ++ s.unread ++ dropped
   pub dialect : s.dialect ≡ d
-  pub spelled : SpellEach d pieces ms
-  pub ends_at_last : EndsAtLast ms
+  pub reads : Reads d read ms []
   pub ended : s.ended ≡ ended_by None ms
   pub nothing_dropped : s.ended ≡ None → dropped ≡ []
 

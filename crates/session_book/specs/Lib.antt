@@ -1,4 +1,3 @@
-pub mod Kinds
 pub mod Session
 pub mod Book
 pub mod Accounts

@@ -2,7 +2,6 @@
 use Rattle.std.specs.Prelude.{◌≡◌, ℕ, ◌+◌, ◌<◌, ◌≤◌, ◌⊎◌, ⊤, Bool, true, false, List}
 use Rattle.std.specs.Prelude.{[], ◌∷◌, ◌++◌, length, drop, Option, Some, None, Result, Ok, Err}
 use Rattle.std.specs.Prelude.{is_some, ◌==◌, ◌&&◌, if◌then◌else◌}
-use Rattle.std.specs.List.{concat}
 use Rattle.proto.specs.declared.dialect.Dialect.{Dialect}
 use Rattle.proto.specs.declared.message.Request.{Request}
 use Rattle.proto.specs.declared.message.Reply.{Reply}
@@ -10,7 +9,7 @@ use Rattle.proto.specs.declared.message.Message.{Message}
 use Rattle.proto.specs.declared.message.Message.TheVariants.{Ask, Wrong, Quit, Fatal}
 use Rattle.proto.specs.declared.no_memory.NoMemory.{NoMemory}
 use Rattle.proto.specs.Grammar.{Spells, SpellsNone}
-use Rattle.proto.specs.Reading.{SpellEach, EndsAtLast, asks}
+use Rattle.proto.specs.Reading.{Reads, asks}
 use Rattle.proto.specs.Needs.{IsUnfinished}
 use Rattle.proto.specs.Answers.{said, is_ask}
 use Rattle.session_book.specs.declared.causes.EndCause.{EndCause}
@@ -69,15 +68,14 @@ abbrev pub begins_asked : List Message → Bool
 begins_asked [] = true
 begins_asked (m ∷ ms) = is_ask m
 
--- Spellings of the messages ms leave the front of the unread bytes, none of them after Quit or a fatal message.
--- The messages go behind the queue; then those before the queue's first request leave it, and their answers
--- go behind the output. The need is what the parser said where it found no message in what is left.
+-- Bytes at the front of the unread ones are read as the messages ms, and leave them. The messages go behind the
+-- queue; then those before the queue's first request leave it, and their answers go behind the output. The need
+-- is what the parser said where it found no message in what is left.
 pub record ReadsOn (before : SessionState) (ms : List Message) (after : SessionState) : Type 0 where
-  pub pieces : List (List ℕ)
-  pub spelled : SpellEach before.dialect pieces ms
+  pub read : List ℕ
+  pub reads : Reads before.dialect read ms []
   pub dialect : after.dialect ≡ before.dialect
-  pub unread : before.unread ≡ concat pieces ++ after.unread
-  pub ends_at_last : EndsAtLast ms
+  pub unread : before.unread ≡ read ++ after.unread
   pub not_ended : is_some before.ended ≡ true → ms ≡ []
   pub ended : after.ended ≡ ended_by before.ended ms
   pub queue : after.queue ≡ left (before.queue ++ ms) []

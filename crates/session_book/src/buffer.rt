@@ -1,10 +1,11 @@
 //! Bytes that come in behind and go out in front.
 
 ghost use Rattle.std.specs.Prelude.{◌≡◌, ◌++◌, [], length, drop, ◌≤◌, OnOk, OnErr};
-ghost use Rattle.proto.specs.Answers.{answer, is_ask, reply_bytes};
-ghost use Rattle.std.specs.Prelude.{is_some, option_copied};
+ghost use Rattle.std.specs.Prelude.{is_some};
+ghost use Rattle.std.specs.Option.{option_copied_mut};
+ghost use Rattle.proto.specs.Answers.{answer, is_ask};
 
-use proto::{Message, NoMemory, Reply, SpareBuffer, show, show_reply};
+use proto::{NoMemory, PendingAnswer, Reply, SpareBuffer};
 use std::alloc::Global;
 use std::marker::Model;
 use std::mem;
@@ -58,21 +59,13 @@ impl Buffer {
         Ok(())
     }
 
-    /// Puts the answer to a message behind the others.
-    pub fn show(&mut self, message: &Message, reply: Option<&Reply>) -> Result<(), NoMemory>
-        requires { is_some reply ≡ is_ask message.now }
-        ensures ok { OnOk result (self.new ≡ self.old ++ answer message.now (option_copied reply.entry)) }
+    /// Puts an answer behind the others.
+    pub fn show(&mut self, pending: &PendingAnswer, reply: Option<&mut Reply>) -> Result<(), NoMemory>
+        requires { is_some reply ≡ is_ask pending.now }
+        ensures ok { OnOk result (self.new ≡ self.old ++ answer pending.now (option_copied_mut reply.entry)) }
         ensures err { OnErr result (self.new ≡ self.old) }
     {
-        show(message, reply, &mut self.bytes)
-    }
-
-    /// Puts the answer that shows a reply behind the others.
-    pub fn show_reply(&mut self, with_cas: bool, reply: &mut Reply) -> Result<(), NoMemory>
-        ensures ok { OnOk result (self.new ≡ self.old ++ reply_bytes with_cas reply.old) }
-        ensures err { OnErr result (self.new ≡ self.old) }
-    {
-        show_reply(with_cas, reply, &mut self.bytes)
+        pending.show(reply, &mut self.bytes)
     }
 
     /// Takes bytes away in front.

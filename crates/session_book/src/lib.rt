@@ -9,7 +9,6 @@ pub mod laws;
 mod limits;
 mod load;
 mod open_session;
-mod pending_answer;
 mod ready_queues;
 mod session;
 mod spare_buffers;

@@ -12,12 +12,13 @@ ghost use Rattle.proto.specs.Reading.{asks};
 use crate::buffer::Buffer;
 use crate::causes::{EndCause, FeedFault, Received, Unsettled};
 use crate::limits::{MAX_UNREAD, MAX_WAITING};
-use crate::pending_answer::PendingAnswer;
 use crate::ready_queues::Tickets;
 use crate::spare_buffers::SpareBuffers;
 use crate::upkeep::Upkeep;
 use bytes::Bytes;
-use proto::{Dialect, Message, NextView, NoMemory, Reply, Request, next_view_behind, to_message};
+use proto::{
+    Dialect, Message, NextView, NoMemory, PendingAnswer, Reply, Request, next_view_behind, to_message,
+};
 use std::alloc::Global;
 use std::collections::VecDeque;
 use std::marker::Model;
@@ -419,7 +420,7 @@ fn put_behind(
 {
     let pending = PendingAnswer::of(message);
     if queue.is_empty() && !pending.is_ask() {
-        return pending.show(None, out);
+        return out.show(&pending, None);
     }
     queue.push_back(pending)?;
     Ok(())
@@ -437,7 +438,7 @@ fn answer_first(
     ensures out { OnOk result (out.new ≡ out.old ++ said queue.old.items (reply.old ∷ [])) }
 {
     if let Some(pending) = queue.pop_front() {
-        pending.show(Some(reply), out)?;
+        out.show(&pending, Some(reply))?;
     }
     answer_locals(queue, out)
 }
@@ -451,7 +452,7 @@ fn answer_locals(queue: &mut VecDeque<PendingAnswer>, out: &mut Buffer) -> Resul
         if pending.is_ask() {
             break;
         }
-        pending.show(None, out)?;
+        out.show(pending, None)?;
         queue.pop_front();
     }
     Ok(())

@@ -1,3 +1,4 @@
+pub mod Undated
 pub mod Kept
 pub mod Turns
 pub mod Callers

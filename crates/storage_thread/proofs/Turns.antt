@@ -15,8 +15,8 @@ use Rattle.proto.specs.History.{worker_share}
 use Rattle.exchange.specs.declared.messages.Taken.TheVariants.{Asked, Bye}
 use Rattle.proto.specs.Counts.{times}
 use Rattle.exchange.specs.Ends.{StorageView}
-use Rattle.engine.specs.Reaching.{moments, moment_after, moments_after, last_or, Reaches}
-use Rattle.engine.proofs.ReachingLemmas.{moments_more, times_more}
+use Rattle.engine.specs.Reaching.{moments_after, last_or, Reaches}
+use Rattle.engine.proofs.ReachingLemmas.{moments, moment_after, moments_more, times_more}
 use Rattle.storage_thread.specs.Serving.{AsksClock, IsTimed, taken_as, SaidBye, IsUnused, GetsNone, GetsMessage, AnswersOpenRequest}
 use Rattle.storage_thread.specs.Serving.{IsStorageServing}
 use Rattle.proto.proofs.CountLemmas.{one_more_time, no_more_time}
@@ -63,10 +63,11 @@ one_answer_more (Some told) mid after answers n first then =
 pub timed_first : (told : Option (List ℕ)) (h : List Answered) → h ≡ [] → IsTimed told told h
 timed_first told h none = ([], no_answers told, ap moments none)
 
--- a turn in which nothing came
+-- a turn in which no request came
 module _ (old now new : StorageView) (c : Cache) (m : ℕ) (r : IsStorageServing old now c m) where
-  pub serving_none : GetsNone now new → IsStorageServing old new c m
-  serving_none f = let whole : new ≡ record now { looks = f.0 } = f.1 in record {
+  serving_byes : (byes : List ℕ) (looks : List (ℕ × ℕ)) (last : ℕ) → new ≡ record now { byes = byes; looks = looks; last = last }
+      → All (λ w. w < now.workers) byes → ((v : ℕ) → times v byes ≤ 1) → IsStorageServing old new c m
+  serving_byes byes looks last whole inside once = record {
     same = (
       ap (λ (z : StorageView). z.exchange) whole ∙ r.same.0,
       ap (λ (z : StorageView). z.workers) whole
@@ -77,28 +78,19 @@ module _ (old now new : StorageView) (c : Cache) (m : ℕ) (r : IsStorageServing
     taken = subst (λ (z : StorageView). z.taken ≡ map taken_as z.history) (sym whole) r.taken;
     reaches = subst (λ (z : StorageView). Reaches z.geometry z.history c m) (sym whole) r.reaches;
     known = subst (λ (z : StorageView). All (λ (e : Answered). e.worker < z.workers) z.history) (sym whole) r.known;
-    inside = subst (λ (z : StorageView). All (λ w. w < z.workers) z.byes) (sym whole) r.inside;
-    once = λ v. subst (λ (z : StorageView). times v z.byes ≤ 1) (sym whole) (r.once v);
+    inside = subst (λ (z : StorageView). All (λ w. w < z.workers) z.byes) (sym whole) inside;
+    once = λ v. subst (λ (z : StorageView). times v z.byes ≤ 1) (sym whole) (once v);
   }
+
+  -- nothing came
+  pub serving_none : GetsNone now new → IsStorageServing old new c m
+  serving_none f = serving_byes now.byes f.0 now.last f.1 r.inside r.once
 
   -- a bye was taken
   pub serving_bye : (w : ℕ) → GetsMessage now new (Bye w) → IsStorageServing old new c m
-  serving_bye w f = let whole = f.after in record {
-    same = (
-      ap (λ (z : StorageView). z.exchange) whole ∙ r.same.0,
-      ap (λ (z : StorageView). z.workers) whole
-          ∙ r.same.1,
-      ap (λ (z : StorageView). z.geometry) whole ∙ r.same.2,
-    );
-    shut = ap (λ (z : StorageView). z.open_request) whole ∙ r.shut;
-    taken = subst (λ (z : StorageView). z.taken ≡ map taken_as z.history) (sym whole) r.taken;
-    reaches = subst (λ (z : StorageView). Reaches z.geometry z.history c m) (sym whole) r.reaches;
-    known = subst (λ (z : StorageView). All (λ (e : Answered). e.worker < z.workers) z.history) (sym whole) r.known;
-    inside = subst (λ (z : StorageView). All (λ w. w < z.workers) z.byes) (sym whole)
-        (All-cons (λ w. w < now.workers) f.lane now.byes f.inside r.inside);
-    once = λ v. subst (λ (z : StorageView). times v z.byes ≤ 1) (sym whole)
-        (one_more f.lane v now.byes f.is_next.1 (r.once v));
-  }
+  serving_bye w f =
+      serving_byes (f.lane ∷ now.byes) f.looks f.lane f.after (All-cons (λ w. w < now.workers) f.lane now.byes f.inside r.inside)
+      (λ v. one_more f.lane v now.byes f.is_next.1 (r.once v))
     where
       one_more : (w v : ℕ) (byes : List ℕ) → times w byes ≡ 0 → times v byes ≤ 1 → times v (w ∷ byes) ≤ 1
       one_more w v byes none few = dite (ℕ_discrete w v)

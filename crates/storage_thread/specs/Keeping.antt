@@ -1,30 +1,55 @@
 -- Histories in which nothing is forgotten, since little is stored.
-use Rattle.std.specs.Prelude.{◌≡◌, List}
+use Rattle.std.specs.Prelude.{◌≡◌, ℕ, ◌+◌, ◌-◌, ◌*◌, ◌≤◌, ◌⊎◌, ⊤, List, ◌∷◌, All, None}
+use Rattle.std.specs.List.{AllByRecursion}
+use Rattle.std.specs.Option.{option_map_or}
 use Rattle.proto.specs.declared.history.Answered.{Answered}
-use Rattle.proto.specs.Sizes.{Sizes}
+use Rattle.proto.specs.declared.message.Reply.{Reply}
+use Rattle.proto.specs.declared.message.Reply.TheVariants.{NoMemory}
+use Rattle.proto.specs.Sizes.{Sizes, item_limit}
 use Rattle.proto.specs.Cache.{Cache, empty_cache}
+use Rattle.proto.specs.Buckets.{bucket_of}
+use Rattle.proto.specs.Commands.{Outcome}
+use Rattle.proto.specs.Steps.{size_at}
 use Rattle.proto.specs.History.{Chain}
-use Rattle.proto.specs.Stored.{StoredItem, stored_items, HasNoDeadlines, ForgetsNothing}
-use Rattle.engine.specs.Keeping.{IsWithinBound}
+use Rattle.proto.specs.Stored.{StoredItem, written, SetsNoDeadline}
+use Rattle.engine.specs.Outcomes.{outcome_at}
 use Rattle.engine.specs.Reaching.{last_cache}
 
--- Where no request sets a deadline, and each chain of steps through the history stores no more than the bound, one of
--- these chains forgets nothing.
+-- the size of the item that a request stores, 0 where there is none
+abbrev pub stored_size : Outcome → Reply → ℕ
+stored_size done NoMemory = 0
+stored_size done _ = option_map_or (size_at done.entries) done.stored 0
+
+abbrev pub stored_bytes : Sizes → Cache → List Answered → List Cache → ℕ
+stored_bytes sizes before (e ∷ history) (after ∷ caches) =
+    stored_size (outcome_at sizes before e.moment e.request) e.reply + stored_bytes sizes after history caches
+stored_bytes _ _ _ _ = 0
+
+abbrev pub ForgetsNothing : Sizes → Cache → List Answered → List Cache → Type 0
+ForgetsNothing sizes before (e ∷ history) (after ∷ caches) =
+    ((e.reply ≡ NoMemory) ⊎ (after.entries ≡ (outcome_at sizes before e.moment e.request).entries))
+    × ForgetsNothing sizes after history caches
+ForgetsNothing _ _ _ _ = ⊤
+
+-- where each chain stores no more than all segments but one hold, each less the size of a largest item
 abbrev pub MayForgetNothing : Sizes → List Answered → Type 0
 MayForgetNothing sizes history =
-    HasNoDeadlines history
-    → ((caches : List Cache) → Chain sizes (empty_cache 0) history caches
-    → IsWithinBound sizes (stored_items sizes (empty_cache 0) history caches))
-    → (caches : List Cache) × Chain sizes (empty_cache 0) history caches
-    × ForgetsNothing sizes (empty_cache 0) history caches
+    let start = empty_cache 0 in
+    All (λ e. SetsNoDeadline e.request) history
+    → ((caches : List Cache) → Chain sizes start history caches
+    → stored_bytes sizes start history caches ≤ (sizes.segments - 1) * (sizes.segment_size - item_limit sizes))
+    → (caches : List Cache) × Chain sizes start history caches × ForgetsNothing sizes start history caches
 
--- So far nothing was forgotten, and a store keeps what was stored, where no request set a deadline and that is within
--- the bound.
+-- Where no request set a deadline, and what was stored is within the bound, nothing was forgotten so far, and a store keeps
+-- items of as many bytes, none of which has a deadline.
 abbrev pub KeepsSoFar : Sizes → List Answered → List Cache → (List StoredItem → Type 0) → Type 0
 KeepsSoFar sizes history caches keeps =
-    let items = stored_items sizes (empty_cache 0) history caches in
-    HasNoDeadlines history → IsWithinBound sizes items
-    → ForgetsNothing sizes (empty_cache 0) history caches × keeps items
+    let start = empty_cache 0 in
+    let bytes = stored_bytes sizes start history caches in
+    All (λ e. SetsNoDeadline e.request) history
+    → bytes ≤ (sizes.segments - 1) * (sizes.segment_size - item_limit sizes)
+    → (items : List StoredItem) × keeps items × (written items ≡ bytes)
+    × AllByRecursion (λ i. i.bucket ≡ bucket_of None) items × ForgetsNothing sizes start history caches
 
 -- A chain of steps leads through the history to this cache, and forgot nothing so far.
 pub record LeadsKeeping (sizes : Sizes) (history : List Answered) (cache : Cache)

@@ -1,9 +1,10 @@
 -- What the storage thread makes of requests.
-use Rattle.std.specs.Prelude.{◌≡◌, ℕ, ◌<◌, ◌≤◌, List, [], ◌∷◌, ◌++◌, map, All, Option, None, option_map}
+use Rattle.std.specs.Prelude.{◌≡◌, ℕ, ◌<◌, ◌≤◌, max, min, List, [], ◌∷◌, ◌++◌, map, All, Option, None, option_map}
 use Rattle.proto.specs.declared.history.Posted.{Posted}
 use Rattle.proto.specs.declared.history.Answered.{Answered}
 use Rattle.proto.specs.Cache.{Cache}
-use Rattle.engine.specs.Reaching.{moments, moment_after, moments_after, Reaches}
+use Rattle.proto.specs.History.{max_moment}
+use Rattle.engine.specs.Reaching.{moments_after, Reaches}
 use Rattle.proto.specs.Counts.{times}
 use Rattle.exchange.specs.Beginnings.{posted_of}
 use Rattle.exchange.specs.declared.messages.Taken.{Taken}
@@ -12,12 +13,12 @@ use Rattle.exchange.specs.Ends.{StorageView, IsNextMessage, with_taken}
 -- The clock was asked once, and the new moment is that of its answer.
 abbrev pub AsksClock : Option (List ℕ) → ℕ → Option (List ℕ) → ℕ → Type 0
 AsksClock old last new moment =
-    (answer : ℕ) × (new ≡ option_map (λ (told : List ℕ). told ++ answer ∷ []) old) × (moment ≡ moment_after last answer)
+    (answer : ℕ) × (new ≡ option_map (λ (told : List ℕ). told ++ answer ∷ []) old) × (moment ≡ max last (min answer max_moment))
 
 -- The clock was asked once for each request, which is told where it tells its answers, and the moments are those of these.
 abbrev pub IsTimed : Option (List ℕ) → Option (List ℕ) → List Answered → Type 0
 IsTimed old new history =
-    (answers : List ℕ) × (new ≡ option_map (λ (told : List ℕ). told ++ answers) old) × (moments history ≡ moments_after 0 answers)
+    (answers : List ℕ) × (new ≡ option_map (λ (told : List ℕ). told ++ answers) old) × (map (λ e. e.moment) history ≡ moments_after 0 answers)
 
 -- a request of the history, as it was taken
 abbrev pub taken_as : Answered → ℕ × Posted

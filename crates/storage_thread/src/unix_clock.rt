@@ -5,9 +5,9 @@ ghost use Rattle.std.specs.Time.{system_time_nanos};
 ghost use Rattle.storage_thread.specs.Readings.{seconds_in, AreSeconds};
 
 use engine::Clock;
+use proto::Trace;
 use std::slice;
 use std::time::{self, SystemTime, UNIX_EPOCH};
-use trace::Trace;
 
 /// Unix seconds, 0 before 1970 or where the clock can't be read. It tells its answers, each the seconds of one reading of the
 /// system's clock; no clause says that what the system reads goes on.

@@ -11,21 +11,23 @@ use Rattle.proto.specs.declared.history.Posted.{Posted}
 use Rattle.proto.specs.declared.history.Answered.{Answered}
 use Rattle.proto.specs.History.{worker_share, asked_posted}
 use Rattle.proto.specs.Sizes.{Sizes}
+use Rattle.proto.specs.Reading.{Reads}
 use Rattle.proto.proofs.GrammarLaws.{has_reading}
 use Rattle.exchange.specs.Beginnings.{posted_of}
 use Rattle.exchange.proofs.Lists.{at_below, at_some}
 use Rattle.session_book.specs.declared.causes.EndCause.{EndCause}
 use Rattle.session_book.specs.declared.causes.EndCause.TheVariants as causes
-use Rattle.engine.specs.Reaching.{moments, moment_after, moments_after}
+use Rattle.engine.specs.Reaching.{moments_after}
+use Rattle.engine.proofs.ReachingLemmas.{moments, moment_after}
 use Rattle.storage_thread.specs.Serving.{IsTimed}
 use Rattle.script.specs.declared.event.ScriptEvent.{ScriptEvent}
 use Rattle.script.specs.Clocks.{ClockState, answer_of, first_answers}
 use Rattle.script.specs.Scripts.{Workers, AreEventsOf}
 use Rattle.worker_port.specs.declared.events.PortRecord.{PortRecord}
 use Rattle.worker_port.specs.declared.events.PortRecord.TheVariants as was
-use Rattle.worker_port.specs.Ports.{PortStory, fed, given, was_opened}
+use Rattle.worker_port.specs.Ports.{PortStory, fed, given, is_in}
 use Rattle.worker.specs.Sessions.{cause_of}
-use Rattle.worker.specs.Reports.{IsCauseOf, AreListed, AreAnsweredIn}
+use Rattle.worker.specs.Reports.{IsCauseOf, AreListed, IsSessionAnswered}
 use Rattle.script.specs.declared.recording_clock.RecordingClock.{RecordingClock}
 use Rattle.script.specs.Readings.{readings_in_order}
 use Rattle.script.specs.ClockLeading.{GivesAnswers}
@@ -83,7 +85,7 @@ all_mapped P f (x ∷ xs) each zero d low = each x
 all_mapped P f (x ∷ xs) each (suc k) d low = all_mapped P f xs each k d (omega arith)
 
 -- a session is in the list's openings where the list has it opened
-any_opened : (s : ℕ) (events : List PortRecord) → list_any (λ t. t == s) (opened events) ≡ was_opened s events
+any_opened : (s : ℕ) (events : List PortRecord) → list_any (λ t. t == s) (opened events) ≡ is_in (was.Opened s) events
 any_opened s [] = refl
 any_opened s (was.Opened t ∷ events) = ap (λ b. (t == s) || b) (any_opened s events)
 any_opened s (was.Data t bytes ∷ events) = any_opened s events
@@ -97,7 +99,7 @@ may_end : (events : List PortRecord) (s : ℕ) (messages : List Message) (cause 
     → IsCauseOf events s messages cause → MayEnd messages cause
 may_end events s messages causes.Drained caused = caused.2
 may_end events s messages causes.Quit caused = caused.1
-may_end events s messages causes.Fatal caused = caused.1
+may_end events s messages causes.Fatal caused = (caused.1, caused.2)
 may_end events s messages causes.Gone caused = tt
 may_end events s messages causes.NoMemory caused = tt
 
@@ -113,7 +115,9 @@ posted_there P entries all e has =
 module _ (d : Dialect) (history : List Answered) (w : ℕ) (events : List ScriptEvent) (worker : GroupWorker PortState)
     (fail_give : ℕ) (can_fail : Bool) (exactly : asked_posted (worker_share history w) ≡ worker.sent)
     (listed : AreListed worker.port.player.records worker.sent worker.sessions.items worker.unopened)
-    (answered : AreAnsweredIn history d worker.port.player.records w worker.sessions.items)
+    (answered : (s : ℕ) (cause : EndCause) (messages : List Message) (rest : List ℕ)
+    → cause_of worker.sessions.items s ≡ Some cause → Reads d (fed s worker.port.player.records) messages rest
+    → IsSessionAnswered worker.port.player.records history w s cause messages)
     (played : IsPlayed events worker.port.player.records can_fail) (asked_to : can_fail ≡ true → 0 < fail_give) where
   one_outcome : (s : ℕ) → IsOutcomeOf d history w fail_give events (outcome_of worker s)
   one_outcome s =
@@ -189,7 +193,9 @@ keeping_run told leads_to clock_told clock_leads keeps found sizes ports clock r
     subst (λ (s : Sizes). IsRun told leads_to clock_told clock_leads ⊤ s ports clock report) same (record {
       history = run.history;
       made = run.made;
-      answered = run.answered;
+      one_each = run.one_each;
+      each = run.each;
+      none_beyond = run.none_beyond;
       bounded = λ _. run.bounded kept;
     })
 
@@ -214,13 +220,13 @@ replayed sizes d clock workers accept fail_give text scripts read ports ports_ar
       inside = subst (λ n. All (λ (e : Answered). e.worker < n) run.history) (sym ports_are.0) run.made.inside;
       moments_are = timed clock told report.clock run.history clock_is none run.made.leads run.made.moments;
       outcomes = map outcomes_of report.workers.items;
-      one_each = length-map report.workers.items outcomes_of ∙ run.answered.one_each ∙ sym ports_are.0;
+      one_each = length-map report.workers.items outcomes_of ∙ run.one_each ∙ sym ports_are.0;
       each = λ w events os there at.
           let x = at_mapped outcomes_of report.workers.items w os at in
-          let port = at_some ports w (subst (λ n. w < n) run.answered.one_each
+          let port = at_some ports w (subst (λ n. w < n) run.one_each
           (at_below report.workers.items w x.0 x.1)) in
           let is : IsPort sizes d accept fail_give w events port.0 = ports_are.1 w events port.0 there port.1 in
-          let of = run.answered.each w port.0 x.0 port.1 x.1 in
+          let of = run.each w port.0 x.0 port.1 x.1 in
           let script_is : x.0.port.player.script ≡ events = of.leads.0 ∙ ap (λ (p : PortState). p.player.script) is.1 in
           let plays : is_playable x.0.port.player.script ≡ true = ap is_playable script_is ∙ is.0 in
           let told_is = ap (λ b. cond b (Some (story_of x.0.port)) None) plays in
@@ -229,13 +235,13 @@ replayed sizes d clock workers accept fail_give text scripts read ports ports_ar
           let dialect_is : x.0.port.dialect ≡ d =
           of.spelled (story_of port.0) (story_of x.0.port) (ap (λ b. cond b (Some (story_of port.0)) None) first) told_is
           ∙ ap (λ (p : PortState). p.dialect) is.1 in
-          let answered : AreAnsweredIn run.history d x.0.port.player.records w x.0.sessions.items =
-          rw dialect_is at (of.answered (story_of x.0.port) told_is) in
           let can_fail_is : x.0.port.player.can_fail ≡ nat_lt 0 fail_give =
           of.leads.2 ∙ ap (λ (p : PortState). p.player.can_fail) is.1 in
           subst (AreOutcomesOf d run.history w fail_give events) x.2
           (worker_outcomes d run.history w events x.0 fail_give x.0.port.player.can_fail of.exactly
-          (of.listed (story_of x.0.port) told_is) answered
+          (of.listed (story_of x.0.port) told_is)
+          (λ s cause messages rest found reads. of.answered (story_of x.0.port) told_is s cause messages rest found
+          (subst (λ (e : Dialect). Reads e (fed s x.0.port.player.records) messages rest) (sym dialect_is) reads))
           (subst (λ (s : List ScriptEvent). IsPlayed s x.0.port.player.records x.0.port.player.can_fail) script_is
           (played w x.0 x.1 plays))
           (λ could. lt_true 0 fail_give (sym can_fail_is ∙ could)));

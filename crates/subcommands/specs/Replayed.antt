@@ -1,27 +1,27 @@
 -- What `segcached replay` prints, by the bytes of its script alone.
-use Rattle.std.specs.Prelude.{◌≡◌, ℕ, ◌+◌, ◌<◌, ◌⊎◌, ⊤, true, List, [], ◌∷◌, ◌++◌, ◌==◌, length, map, flat_map, All, Contains, Option, Some, None}
-use Rattle.std.specs.List.{list_any}
+use Rattle.std.specs.Prelude.{◌≡◌, ◌≢◌, ℕ, ◌+◌, ◌<◌, ◌⊎◌, ⊤, true, false, List, [], ◌∷◌, ◌++◌, ◌==◌, length, map, flat_map, All, Contains, Option, Some, None}
+use Rattle.std.specs.List.{list_any, last_or}
 use mathlib.Core.Option.{some}
 use lib.ListN.{get_elem?}
 use Rattle.proto.specs.declared.dialect.Dialect.{Dialect}
+use Rattle.proto.specs.declared.message.FatalKind.{FatalKind}
 use Rattle.proto.specs.declared.message.Message.{Message}
+use Rattle.proto.specs.declared.message.Message.TheVariants.{Quit, Fatal}
 use Rattle.proto.specs.declared.history.Answered.{Answered}
 use Rattle.proto.specs.Sizes.{Sizes}
 use Rattle.proto.specs.History.{Legal, worker_share, session_share, asked, had}
-use Rattle.proto.specs.Reading.{Reads, asks}
+use Rattle.proto.specs.Reading.{Reads, ends_session, asks}
 use Rattle.proto.specs.Answers.{said}
 use Rattle.exchange.specs.Beginnings.{StartsWith}
 use Rattle.worker_port.specs.Giving.{BeginsAnswers}
 use Rattle.session_book.specs.declared.causes.EndCause.{EndCause}
 use Rattle.session_book.specs.declared.causes.EndCause.TheVariants as causes
-use Rattle.session_book.specs.Session.{ended_by}
-use Rattle.engine.specs.Reaching.{moments, moments_after}
+use Rattle.engine.specs.Reaching.{moments_after}
 use Rattle.storage_thread.specs.Keeping.{MayForgetNothing}
 use Rattle.script.specs.declared.event.ScriptEvent.{ScriptEvent}
 use Rattle.script.specs.Events.{sessions_opened, sent, goes_in_script}
 use Rattle.script.specs.Clocks.{ClockState, first_answers}
 use Rattle.script.specs.Scripts.{Workers, AreEventsOf}
-use Rattle.worker.specs.Reports.{is_complete}
 use Rattle.subcommands.specs.Printed.{printed_line}
 
 -- What came of a session: its bytes that were read, those that it was given, and why it ended; None where it found no
@@ -34,10 +34,11 @@ pub record SessionOutcome : Type 0 where
 
 -- a session whose bytes spell these messages may have ended so
 abbrev pub MayEnd : List Message → EndCause → Type 0
-MayEnd messages causes.Drained = ended_by None messages ≡ None
+MayEnd messages causes.Drained = list_any ends_session messages ≡ false
 MayEnd messages causes.Gone = ⊤
 MayEnd messages causes.NoMemory = ⊤
-MayEnd messages cause = ended_by None messages ≡ Some cause
+MayEnd messages causes.Quit = last_or None messages ≡ Some Quit
+MayEnd messages causes.Fatal = (kind : FatalKind) × (last_or None messages ≡ Some (Fatal kind))
 
 -- What came of a session spells some messages in this dialect. Its requests in the history are the first of theirs, and it was given a
 -- beginning of their answers there; of all messages, and all answers, where it drained or ended by Quit or a fatal line.
@@ -47,7 +48,7 @@ pub record GivesAnswersOf (d : Dialect) (history : List Answered) (worker : ℕ)
   pub rest : List ℕ
   pub reads : Reads d outcome.came messages rest
   pub answers : BeginsAnswers history worker outcome.number outcome.given messages
-  pub complete : is_complete cause ≡ true
+  pub complete : cause ≢ causes.Gone → cause ≢ causes.NoMemory
       → (asked (session_share history worker outcome.number) ≡ asks messages)
       × (outcome.given ≡ said messages (had (session_share history worker outcome.number)))
   pub may_end : MayEnd messages cause
@@ -90,7 +91,7 @@ pub record IsReplayOf (sizes : Sizes) (d : Dialect) (clock : ClockState) (worker
   pub history : List Answered
   pub legal : Legal sizes history
   pub inside : All (λ (e : Answered). e.worker < length scripts) history
-  pub moments_are : moments history ≡ moments_after 0 (first_answers clock (length history))
+  pub moments_are : map (λ e. e.moment) history ≡ moments_after 0 (first_answers clock (length history))
   pub outcomes : List (List SessionOutcome)
   pub one_each : length outcomes ≡ length scripts
   pub each : (w : ℕ) (script : List ScriptEvent) (os : List SessionOutcome) → get_elem? scripts w ≡ some script

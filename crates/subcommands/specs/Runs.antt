@@ -10,7 +10,6 @@ use Rattle.net.specs.Stories.{story_of, IsNew}
 use Rattle.storage_thread.specs.declared.unix_clock.UnixClock.{UnixClock}
 use Rattle.storage_thread.specs.Readings.{answers_in, AreSeconds}
 use Rattle.segcache.specs.StoreState.{Store}
-use Rattle.segcache.specs.Keeping.{KeepsStored}
 use Rattle.group.specs.declared.report.GroupReport.{GroupReport}
 use Rattle.group.specs.Headline.{IsRun}
 use Rattle.subcommands.specs.NewStores.{IsNewStore}
@@ -39,5 +38,5 @@ pub record IsServed {R : Type 0} (sizes : Sizes) (d : Dialect) (workers : ℕ)
   pub new_store : IsNewStore sizes store
   pub clock : UnixClock R
   pub unread : clock.readings.items ≡ []
-  pub run : IsRun socket_told (λ _ _. ⊤) clock_told (λ _ _. ⊤) (KeepsStored store.map []) sizes ports clock report
+  pub run : IsRun socket_told (λ _ _. ⊤) clock_told (λ _ _. ⊤) ⊤ sizes ports clock report
   pub seconds : AreSeconds report.clock.readings.items

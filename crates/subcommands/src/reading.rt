@@ -8,10 +8,10 @@ ghost use Rattle.subcommands.specs.Reading.{ReadsOn};
 
 use crate::fault::Fault;
 use command_line::{Options, on_one_line};
+use proto::Trace;
 use script::{MAX_SCRIPT, ScriptFault};
 use std::alloc::Global;
 use std::io::{self, ErrorKind, Read};
-use trace::Trace;
 
 /// The most bytes that one read is asked for.
 const PIECE: usize = 8192;

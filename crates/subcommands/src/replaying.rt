@@ -13,14 +13,13 @@ use crate::fault::Fault;
 use crate::reading::script_bytes;
 use command_line::Options;
 use group::{Config, GroupWorker, run_group};
-use proto::Geometry;
+use proto::{Geometry, Trace};
 use script::{RecordingClock, ScriptClock, ScriptPort, WorkerScript, read_script};
 use segcache::Store;
 use std::alloc::{AllocError, Global};
 use std::io::{Read, Write};
 use std::sync::Wait;
 use std::thread::Threads;
-use trace::Trace;
 use worker::OpenGate;
 
 /// The events of the script, by worker, and the bytes that its reads gave.
@@ -108,7 +107,8 @@ fn ports_of(
     geometry: Geometry,
     scripts: Vec<WorkerScript>,
 ) -> Result<Vec<ScriptPort>, Fault>
-    ensures { IfOk result (λ ports. ArePorts geometry options.entry.now.dialect options.entry.now.accept options.entry.now.fail_give scripts.items ports.items) }
+    ensures { IfOk result (λ ports. ArePorts geometry options.entry.now.dialect options.entry.now.accept
+        options.entry.now.fail_give scripts.items ports.items) }
 {
     let mut ports = Vec::with_capacity(alloc, scripts.len())?;
     for script in scripts {
@@ -140,12 +140,14 @@ pub fn replay<H: Threads + Wait + Sync, R: Read + Drop, W: Write>(
     // they are all that it had, where it tells
     ensures read { IfOk result (λ read. IfSome (R.remaining script) (λ text. read.items ≡ text)) }
     ensures printed { IfOk result (λ read. (printed : List ℕ)
-        × IsReplayOf geometry options.entry.now.dialect (clock_at options.entry.now.now options.entry.now.tick) options.entry.now.workers options.entry.now.fail_give read.items printed
+        × IsReplayOf geometry options.entry.now.dialect (clock_at options.entry.now.now options.entry.now.tick)
+        options.entry.now.workers options.entry.now.fail_give read.items printed
         × Appends (W.contents out.old) (W.contents out.new) printed) }
 
     // it is a group's run over ports with the faults that the options ask for
     ensures ran { IfOk result (λ read. (printed : List ℕ)
-        × IsPrinted geometry options.entry.now.dialect (clock_at options.entry.now.now options.entry.now.tick) options.entry.now.workers options.entry.now.accept options.entry.now.fail_give read.items printed
+        × IsPrinted geometry options.entry.now.dialect (clock_at options.entry.now.now options.entry.now.tick)
+        options.entry.now.workers options.entry.now.accept options.entry.now.fail_give read.items printed
         × Appends (W.contents out.old) (W.contents out.new) printed) }
 {
     let (scripts, text) = read_events(alloc, options, script)?;

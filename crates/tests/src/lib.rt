@@ -21,3 +21,5 @@ mod same;
 mod signals;
 #[cfg(test)]
 mod sizes;
+#[cfg(test)]
+mod traces;

@@ -20,10 +20,11 @@ use Rattle.worker.specs.declared.state.WorkerState.{WorkerState}
 use Rattle.worker.specs.Sessions.{RunView, facts, asked_by, AreFactsConsistent}
 use Rattle.worker_port.specs.PortFacts.{port_facts}
 use Rattle.worker.specs.EndCauses.{piece_of}
-use Rattle.worker.specs.Workers.{once_flushed, end_of, posted_by, unsettled_post, IsNumbered, IsSteady, IsStoryKnown, run_view, IsWorkerServing, WasToldOfHistory}
+use Rattle.worker.specs.Workers.{once_flushed, end_of, posted_by, unsettled_post, IsNumbered, IsSteady, IsStoryKnown}
+use Rattle.worker.specs.Workers.{run_view, IsWorkerServing, WasToldOfHistory}
 use Rattle.exchange.proofs.Lists.{starts_longer}
 use Rattle.worker.proofs.Facts.{asked_here, asked_elsewhere}
-use Rattle.worker.proofs.SessionSteps.{runs, is_running, served_read}
+use Rattle.worker.proofs.SessionSteps.{runs, runs_on, served_read}
 use Rattle.worker.proofs.RunViews.{facts_equal, change_at, at_other, at_same}
 use Rattle.worker.proofs.StoryLaws.{same_story, paused_kept}
 use Rattle.worker.proofs.PieceLaws.{pieces_kept}
@@ -69,21 +70,8 @@ told_read v v' unopened ended t s read ms h open_is reads here_asked other_asked
     (λ i. (facts (record v { back = b i }) t).had)
     (λ i. (facts (record v { sessions = r i }) t).cause) (book t ∙ at_same t (Some read) (session_of v.book t))
     (λ i. piece i t) in
-    let now : AreFactsConsistent f' = is_running f' run.opened run.cause
-    (record {
-      gone = run.running.gone;
-      shut = run.running.shut;
-      s = read;
-      state = refl;
-      served = record {
-        bytes = served.bytes;
-        messages = served.messages;
-        fed = served.fed;
-        has_read = served.has_read;
-        has_said = served.has_said;
-        asked = served.asked;
-      };
-    }) in
+    let now : AreFactsConsistent f' =
+    runs_on (facts v t) (record (facts v t) { asked = asked_by v.posted t ++ asks ms }) read (v.piece t) run refl refl refl refl served in
     let others : (k : ℕ) → t ≢ k → facts v' k ≡ facts v k =
     λ k ne. facts_equal (facts v' k) (facts v k) d (ap (λ l. port_facts l k) e) (other_asked k ne)
     (λ i. (facts (record v { back = b i }) k).had)

@@ -2,29 +2,12 @@
 use Rattle.std.proofs.Common.{◌≡◌, ℕ, true≢false, cond, List, [], ◌++◌, take, drop, refl, sym, ap, ◌∙◌}
 use Rattle.std.proofs.Common.{append_assoc, append-nil, take-append-drop, Option}
 use Rattle.std.proofs.Common.{Some, None, is_some}
-use Rattle.std.specs.List.{concat}
 use Rattle.proto.specs.declared.dialect.Dialect.{Dialect}
 use Rattle.proto.specs.declared.message.Reply.{Reply}
 use Rattle.proto.specs.declared.message.Message.{Message}
 use Rattle.session_book.specs.declared.causes.EndCause.{EndCause}
 use Rattle.session_book.specs.Session.{SessionState}
-use Rattle.session_book.specs.Accounts.{HasRead, HasSaid, StartsAccounts, FeedKeeps, GiveKeeps}
-
--- of a new session, fed nothing, no message was read and nothing was said
-pub starts_accounts : StartsAccounts
-starts_accounts d = (
-  record {
-    pieces = [];
-    dropped = [];
-    whole = refl;
-    dialect = refl;
-    spelled = tt;
-    ends_at_last = tt;
-    ended = refl;
-    nothing_dropped = λ e. refl;
-  },
-  record { whole = refl; queue = refl; replied = refl },
-)
+use Rattle.session_book.specs.Accounts.{HasRead, HasSaid, FeedKeeps, GiveKeeps}
 
 -- by whether the session has ended
 fed_by : (d : Dialect) (o : Option EndCause) (bytes piece given : List ℕ) (ms : List Message) (replies : List Reply)
@@ -34,15 +17,14 @@ fed_by : (d : Dialect) (o : Option EndCause) (bytes piece given : List ℕ) (ms 
     × HasSaid ms replies given (cond (is_some o) s (record s { unread = s.unread ++ piece }))
 fed_by d None bytes piece given ms replies s e h k = (
   record {
-    pieces = h.pieces;
+    read = h.read;
     dropped = [];
     whole = ap (λ (x : List ℕ). x ++ piece)
-        (h.whole ∙ ap (λ (x : List ℕ). (concat h.pieces ++ s.unread) ++ x) (h.nothing_dropped e)
-        ∙ append-nil (concat h.pieces ++ s.unread)) ∙ append_assoc (concat h.pieces) s.unread piece
-        ∙ sym (append-nil (concat h.pieces ++ (s.unread ++ piece)));
+        (h.whole ∙ ap (λ (x : List ℕ). (h.read ++ s.unread) ++ x) (h.nothing_dropped e)
+        ∙ append-nil (h.read ++ s.unread)) ∙ append_assoc h.read s.unread piece
+        ∙ sym (append-nil (h.read ++ (s.unread ++ piece)));
     dialect = h.dialect;
-    spelled = h.spelled;
-    ends_at_last = h.ends_at_last;
+    reads = h.reads;
     ended = h.ended;
     nothing_dropped = λ x. refl;
   },
@@ -50,12 +32,11 @@ fed_by d None bytes piece given ms replies s e h k = (
 )
 fed_by d (Some c) bytes piece given ms replies s e h k = (
   record {
-    pieces = h.pieces;
+    read = h.read;
     dropped = h.dropped ++ piece;
-    whole = ap (λ (x : List ℕ). x ++ piece) h.whole ∙ append_assoc (concat h.pieces ++ s.unread) h.dropped piece;
+    whole = ap (λ (x : List ℕ). x ++ piece) h.whole ∙ append_assoc (h.read ++ s.unread) h.dropped piece;
     dialect = h.dialect;
-    spelled = h.spelled;
-    ends_at_last = h.ends_at_last;
+    reads = h.reads;
     ended = h.ended;
     nothing_dropped = λ x. absurd (true≢false (sym (ap is_some e) ∙ ap is_some x));
   },
@@ -70,12 +51,11 @@ feed_keeps d bytes piece given ms replies s h k = fed_by d s.ended bytes piece g
 pub give_keeps : GiveKeeps
 give_keeps d bytes given n ms replies s h k = (
   record {
-    pieces = h.pieces;
+    read = h.read;
     dropped = h.dropped;
     whole = h.whole;
     dialect = h.dialect;
-    spelled = h.spelled;
-    ends_at_last = h.ends_at_last;
+    reads = h.reads;
     ended = h.ended;
     nothing_dropped = h.nothing_dropped;
   },

@@ -8,50 +8,42 @@ use Rattle.proto.specs.declared.history.Posted.{Posted}
 use Rattle.proto.specs.declared.history.Answered.{Answered}
 use Rattle.worker.specs.Sessions.{asked_by, had_by}
 
--- the requests of a post that is taken under a test are its one request, taken under the same test
-request_if : (c : Bool) (p : Posted) → map (λ (p : Posted). p.request) (cond c (p ∷ []) []) ≡ cond c (p.request ∷ []) []
-request_if true p = refl
-request_if false p = refl
+-- Lists of which entries belong to sessions, and of each one part is read: posts with their requests, answers with their replies.
+module _ {E R : Type 0} (session : E → ℕ) (part : E → R) where
+  abbrev parts : List E → ℕ → List R
+  parts l s = map part (filter (λ (e : E). session e == s) l)
 
--- one more post adds its request to those of a session if it is that session's, and else nothing
-asked_more : (l : List Posted) (p : Posted) (s : ℕ)
-    → asked_by (l ++ p ∷ []) s ≡ asked_by l s ++ cond (p.session == s) (p.request ∷ []) []
-asked_more l p s =
-    ap (map (λ (p : Posted). p.request)) (filter-append (λ (p : Posted). p.session == s) l (p ∷ []))
-    ∙ map-append (λ (p : Posted). p.request) (filter (λ (p : Posted). p.session == s) l)
-    (cond (p.session == s) (p ∷ []) [])
-    ∙ ap (λ k. asked_by l s ++ k) (request_if (p.session == s) p)
+  -- the parts of an entry that is taken under a test are its one part, taken under the same test
+  part_if : (c : Bool) (e : E) → map part (cond c (e ∷ []) []) ≡ cond c (part e ∷ []) []
+  part_if true e = refl
+  part_if false e = refl
 
--- one more post of a session adds its request behind the session's others
+  -- one more entry adds its part to those of a session if it is that session's, and else nothing
+  parts_more : (l : List E) (e : E) (s : ℕ) → parts (l ++ e ∷ []) s ≡ parts l s ++ cond (session e == s) (part e ∷ []) []
+  parts_more l e s =
+      ap (map part) (filter-append (λ (e : E). session e == s) l (e ∷ []))
+      ∙ map-append part (filter (λ (e : E). session e == s) l) (cond (session e == s) (e ∷ []) [])
+      ∙ ap (λ k. parts l s ++ k) (part_if (session e == s) e)
+
+  parts_here : (l : List E) (e : E) (s : ℕ) → session e ≡ s → parts (l ++ e ∷ []) s ≡ parts l s ++ part e ∷ []
+  parts_here l e s is = parts_more l e s ∙ ap (λ c. parts l s ++ cond c (part e ∷ []) []) (eq-eqb (session e) s is)
+
+  parts_elsewhere : (l : List E) (e : E) (s : ℕ) → session e ≢ s → parts (l ++ e ∷ []) s ≡ parts l s
+  parts_elsewhere l e s ne = parts_more l e s
+      ∙ ap (λ c. parts l s ++ cond c (part e ∷ []) []) (ne_eqb (session e) s ne) ∙ append-nil (parts l s)
+
+-- one more post of a session adds its request behind the session's others, and to those of another session nothing
 pub asked_here : (l : List Posted) (p : Posted) (s : ℕ) → p.session ≡ s
     → asked_by (l ++ p ∷ []) s ≡ asked_by l s ++ p.request ∷ []
-asked_here l p s e = asked_more l p s ∙ ap (λ c. asked_by l s ++ cond c (p.request ∷ []) []) (eq-eqb p.session s e)
+asked_here = parts_here (λ (p : Posted). p.session) (λ (p : Posted). p.request)
 
--- one more post of another session leaves the requests of this one
 pub asked_elsewhere : (l : List Posted) (p : Posted) (s : ℕ) → p.session ≢ s → asked_by (l ++ p ∷ []) s ≡ asked_by l s
-asked_elsewhere l p s ne = asked_more l p s
-    ∙ ap (λ c. asked_by l s ++ cond c (p.request ∷ []) []) (ne_eqb p.session s ne) ∙ append-nil (asked_by l s)
+asked_elsewhere = parts_elsewhere (λ (p : Posted). p.session) (λ (p : Posted). p.request)
 
--- the replies of an answer that is taken under a test are its one reply, taken under the same test
-reply_if : (c : Bool) (a : Answered) → map (λ (a : Answered). a.reply) (cond c (a ∷ []) []) ≡ cond c (a.reply ∷ []) []
-reply_if true a = refl
-reply_if false a = refl
-
--- one more answer adds its reply to those of a session if it is that session's, and else nothing
-had_more : (l : List Answered) (a : Answered) (s : ℕ)
-    → had_by (l ++ a ∷ []) s ≡ had_by l s ++ cond (a.session == s) (a.reply ∷ []) []
-had_more l a s =
-    ap (map (λ (a : Answered). a.reply)) (filter-append (λ (a : Answered). a.session == s) l (a ∷ []))
-    ∙ map-append (λ (a : Answered). a.reply) (filter (λ (a : Answered). a.session == s) l)
-    (cond (a.session == s) (a ∷ []) [])
-    ∙ ap (λ k. had_by l s ++ k) (reply_if (a.session == s) a)
-
--- one more answer of a session adds its reply behind the session's others
+-- and so an answer with its reply
 pub had_here : (l : List Answered) (a : Answered) (s : ℕ) → a.session ≡ s
     → had_by (l ++ a ∷ []) s ≡ had_by l s ++ a.reply ∷ []
-had_here l a s e = had_more l a s ∙ ap (λ c. had_by l s ++ cond c (a.reply ∷ []) []) (eq-eqb a.session s e)
+had_here = parts_here (λ (a : Answered). a.session) (λ (a : Answered). a.reply)
 
--- one more answer of another session leaves the replies of this one
 pub had_elsewhere : (l : List Answered) (a : Answered) (s : ℕ) → a.session ≢ s → had_by (l ++ a ∷ []) s ≡ had_by l s
-had_elsewhere l a s ne = had_more l a s ∙ ap (λ c. had_by l s ++ cond c (a.reply ∷ []) []) (ne_eqb a.session s ne)
-    ∙ append-nil (had_by l s)
+had_elsewhere = parts_elsewhere (λ (a : Answered). a.session) (λ (a : Answered). a.reply)

@@ -3,7 +3,6 @@ use Rattle.std.proofs.Common.{◌≡◌, ◌≢◌, ℕ, ◌-◌, ◌^◌, ◌�
 use Rattle.std.proofs.Common.{List, [], ◌∷◌, ◌++◌, length, take, min}
 use Rattle.std.proofs.Common.{refl, sym, ap, subst, ◌∙◌, append-nil, Option, Some, None, Result, Ok, Err, is_some, ◌⊎◌, inl, inr}
 use Rattle.std.specs.Option.{option_map}
-use Rattle.proto.specs.declared.history.Posted.{Posted}
 use Rattle.proto.specs.declared.history.Answered.{Answered}
 use Rattle.exchange.specs.Ends.{WorkerView}
 use Rattle.exchange.specs.Beginnings.{StartsWith}
@@ -17,18 +16,18 @@ use Rattle.session_book.specs.Book.{BookState, session_of, out_of, held_of, Only
 use Rattle.worker_port.specs.declared.events.PortRecord.{PortRecord}
 use Rattle.worker_port.specs.declared.events.PortRecord.TheVariants as was
 use Rattle.worker.specs.declared.state.WorkerState.{WorkerState}
-use Rattle.worker_port.specs.Ports.{PortStory, then_gave, with_pause, is_open, give_records, has_ended, opened_count, AcceptsOnlyOpen}
+use Rattle.worker_port.specs.Ports.{PortStory, then_gave, with_pause, is_open, is_in, opened_count}
 use Rattle.worker.specs.Sessions.{RunView, facts, AreFactsConsistent, IsSessionServed}
 use Rattle.worker_port.specs.PortFacts.{port_facts}
 use Rattle.worker.specs.EndCauses.{RisesFrom, piece_of}
-use Rattle.worker.specs.Workers.{end_of, posted_by, IsSteady, AreSessionsCounted, IsStoryKnown, run_view, IsWorkerServing, IsStoryBy, Closes, LeavesWorker}
+use Rattle.worker.specs.Workers.{end_of, posted_by, IsStoryKnown, run_view, IsWorkerServing, IsStoryBy, Closes, LeavesWorker}
 use Rattle.worker_port.proofs.Facts.{elsewhere, accepted_here}
 use Rattle.worker.proofs.SessionSteps.{runs, served_fed, served_holding, served_gave}
-use Rattle.worker.proofs.RunViews.{facts_equal, change_at, at_other, at_same}
-use Rattle.worker_port.proofs.Lists.{ended_same, count_same, accepts_more}
-use Rattle.worker.proofs.StoryLaws.{paused_but, paused_elsewhere}
+use Rattle.worker.proofs.RunViews.{AreSessionsCounted, facts_equal, change_at, at_other, at_same}
+use Rattle.worker_port.proofs.Lists.{AcceptsOnlyOpen, ended_same, count_same, accepts_more}
+use Rattle.worker.proofs.StoryLaws.{paused_but}
 use Rattle.worker.proofs.PieceLaws.{pieces_at}
-use Rattle.worker.proofs.WorkerSteps.{WorkerGoesOn, StoryFacts, steps_on, closes_in, steady_same, steady_closed, same_end, later_is}
+use Rattle.worker.proofs.WorkerSteps.{WorkerGoesOn, StoryFacts, steps_on, closes_in, own_closed, own_within}
 use Rattle.worker.proofs.WorkerSteps.{told_gone, told_open, fact_at, running_on}
 use Rattle.proto.proofs.CountLemmas.{either_way}
 
@@ -43,7 +42,7 @@ told_within v v' unopened ended h e r each = record {
   rising = subst (RisesFrom 0) (sym r) h.rising;
   counted = subst (λ (y : List PortRecord × List (ℕ × EndCause)). AreSessionsCounted y.0 y.1 unopened)
       (λ i. (sym e i, sym r i)) h.counted;
-  at_end = ap has_ended e ∙ h.at_end;
+  at_end = ap (is_in was.Ended) e ∙ h.at_end;
   accepts = subst AcceptsOnlyOpen (sym e) h.accepts;
 }
 
@@ -89,22 +88,16 @@ pub within_goes_on : {P : Type 0} (told : P → Option PortStory) (old new : Wor
     → ((story : PortStory) → StoryFacts story old old.unopened old.ended
     → StoryFacts (f story) new old.unopened old.ended) → WorkerGoesOn told old new
 within_goes_on told old new f rest stays port p u d h each =
-    steps_on told old new f stays port (record {
-      same_end = same_end old new rest.end;
-      later = later_is (end_of old) (end_of new) rest.end;
-      steady = subst (λ (y : WorkerView × Option Posted). IsSteady y.0 y.1 new.book)
-          (λ i. (sym rest.end i, sym rest.request i))
-          (steady_same (end_of old) old.request old.book new.book p u h.steady);
-      dialect = d;
-      strangers = rest.strangers ∙ h.strangers;
-      unopened = rest.unopened;
-      ended = rest.ended;
-    }) h (λ story e was_so. each story was_so)
+    steps_on told old new f stays port (own_within told old new old.port rest (p, u, d) h) h (λ story e was_so. each story was_so)
 
 -- ---- output is given
 
+-- the entry of accepted bytes, if there are any
+abbrev pub accepted : ℕ → ℕ → List ℕ → List PortRecord
+accepted t n out = cond (n == 0) [] (was.Accepted t (take n out) ∷ [])
+
 -- a `give` that accepted n bytes adds the first n of the output to what the session was given
-gave_facts : (l : List PortRecord) (t n : ℕ) (out : List ℕ) → port_facts (l ++ give_records t out (Ok n)) t ≡ record
+gave_facts : (l : List PortRecord) (t n : ℕ) (out : List ℕ) → port_facts (l ++ accepted t n out) t ≡ record
     (port_facts l t) { given = (port_facts l t).given ++ take n out }
 gave_facts l t n out =
     either_way n 0
@@ -118,7 +111,7 @@ gave_facts l t n out =
 
 -- a `give` to one session leaves what the list says of another
 gave_elsewhere : (l : List PortRecord) (t n : ℕ) (out : List ℕ) (s : ℕ) → t ≢ s
-    → port_facts (l ++ give_records t out (Ok n)) s ≡ port_facts l s
+    → port_facts (l ++ accepted t n out) s ≡ port_facts l s
 gave_elsewhere l t n out s ne =
     either_way n 0
     (λ (e : n ≡ 0). ap (λ b. port_facts (l ++ cond b [] (was.Accepted t (take n out) ∷ [])) s) (eq-eqb n 0 e)
@@ -128,13 +121,13 @@ gave_elsewhere l t n out s ne =
 
 -- the list as a whole
 record ListSame (l m : List PortRecord) : Type 0 where
-  ended : has_ended m ≡ has_ended l
+  ended : is_in was.Ended m ≡ is_in was.Ended l
   count : opened_count m ≡ opened_count l
   accepts : AcceptsOnlyOpen l → AcceptsOnlyOpen m
 
 -- a `give` to an open session neither ends the list nor opens a session, and bytes are still accepted for open sessions only
 gave_list : (l : List PortRecord) (t n : ℕ) (out : List ℕ) → is_open t l ≡ true
-    → ListSame l (l ++ give_records t out (Ok n))
+    → ListSame l (l ++ accepted t n out)
 gave_list l t n out opened =
     either_way n 0
     (λ (e : n ≡ 0). subst (λ m. ListSame l m)
@@ -148,7 +141,7 @@ gave_list l t n out opened =
 -- all that is known stays true where n bytes of an open session's output are given
 pub told_gave : (v v' : RunView) (unopened : ℕ) (ended : Bool) (t n : ℕ) (s : SessionState)
     → IsStoryKnown v unopened ended → session_of v.book t ≡ Some s
-    → v'.dialect ≡ v.dialect → v'.events ≡ v.events ++ give_records t s.out (Ok n) → v'.posted ≡ v.posted → v'.back ≡ v.back
+    → v'.dialect ≡ v.dialect → v'.events ≡ v.events ++ accepted t n s.out → v'.posted ≡ v.posted → v'.back ≡ v.back
     → v'.sessions ≡ v.sessions
     → ((k : ℕ) → session_of v'.book k ≡ cond (k == t)
     (option_map (λ (x : SessionState). gave x n) (session_of v.book t)) (session_of v.book k))
@@ -183,23 +176,29 @@ told_gave v v' unopened ended t n s h open_is d e p b r book piece =
           (λ i. (sym e i, sym r i))
           (subst (λ (y : ℕ). (length v.sessions ≤ y) × (unopened ≡ min (y - length v.sessions) (2 ^ 64 - 1)))
           (sym same.count) h.counted);
-      at_end = ap has_ended e ∙ same.ended ∙ h.at_end;
+      at_end = ap (is_in was.Ended) e ∙ same.ended ∙ h.at_end;
       accepts = subst AcceptsOnlyOpen (sym e) (same.accepts h.accepts);
     }
 
--- where bytes are given by the history that the end was told of last, the story is still its worker's
+-- by the history that the end was told of last the story is still its worker's
+still_by : (end : WorkerView) (book : BookState) (history : List Answered) → history ≡ end.seen
+    → (story : PortStory) → IsStoryBy story end book → IsStoryBy (record story { history = history }) end book
+still_by end book history is story (h, d) = (
+  record {
+    worker_is = h.worker_is;
+    sizes_are = h.sizes_are;
+    later = subst (λ l. StartsWith end.seen l) (sym is) (starts_self end.seen);
+  },
+  d,
+)
+
+-- so it is where bytes are given by it
 pub gives_by : {P : Type 0} (old : WorkerState P) (t : ℕ) (b : List ℕ) (result : Result ℕ Gone) (history : List Answered)
     → history ≡ (end_of old).seen
     → (story : PortStory) → IsStoryBy story (end_of old) old.book
     → IsStoryBy (then_gave t b result history story) (end_of old) old.book
-gives_by old t b result history is story (h, d) = (
-  record {
-    worker_is = h.worker_is;
-    sizes_are = h.sizes_are;
-    later = subst (λ l. StartsWith (end_of old).seen l) (sym is) (starts_self (end_of old).seen);
-  },
-  d,
-)
+gives_by old t b (Ok n) history is story h = still_by (end_of old) old.book history is story h
+gives_by old t b (Err e) history is story h = still_by (end_of old) old.book history is story h
 
 -- a session whose peer has gone at a `give`
 pub lost_goes_on : {P : Type 0} (told : P → Option PortStory) (old new : WorkerState P) (port : P) (t : ℕ) (s : SessionState)
@@ -209,22 +208,15 @@ pub lost_goes_on : {P : Type 0} (told : P → Option PortStory) (old new : Worke
     → Closes (record old { port = port }) new t causes.Gone → WorkerGoesOn told old new
 lost_goes_on told old new port t s b gone history history_is open_is told_is h port_is k =
     let f = then_gave t b (Err gone) history in
-    steps_on told old new f (gives_by old t b (Err gone) history history_is) (ap told port_is ∙ told_is) (record {
-      same_end = same_end old new k.end;
-      later = later_is (end_of old) (end_of new) k.end;
-      steady = steady_closed (record old { port = port }) new t causes.Gone k h.steady;
-      dialect = ap (λ (x : BookState). x.dialect) k.book.rest;
-      strangers = k.strangers ∙ h.strangers;
-      unopened = k.unopened;
-      ended = k.ended;
-    }) h
+    steps_on told old new f (gives_by old t b (Err gone) history history_is) (ap told port_is ∙ told_is)
+    (own_closed told old new port t causes.Gone k h) h
     (λ story e was_so.
     let run = runs (facts (run_view story old) t) s (was_so.0.each t) open_is in (
       told_gone (run_view story old) (run_view (f story) new) old.unopened old.ended t was_so.0
           (closes_in story (record old { port = port }) new t causes.Gone (was.Gone t) k was_so.0.rising) run,
       paused_but story (f story) t (piece_of old.book) (piece_of new.book)
           (pieces_at old.book new.book t None k.book.only_at)
-          (λ q ne. paused_elsewhere story (was.Gone t) q (ne_eqb t q ne)) was_so.1,
+          (λ q ne. at_other t q false (story.paused q) ne) was_so.1,
     ))
 
 -- ---- which session it was

@@ -15,23 +15,23 @@ use Rattle.session_book.specs.Book.{BookState, session_of, held_of}
 use Rattle.worker_port.specs.declared.events.PortRecord.{PortRecord}
 use Rattle.worker_port.specs.declared.events.PortRecord.TheVariants as was
 use Rattle.worker.specs.declared.state.WorkerState.{WorkerState}
-use Rattle.worker_port.specs.Ports.{PortStory, then_told, with_pause, IsOpenIn, is_open, was_opened, has_ended, AcceptsOnlyOpen}
+use Rattle.worker_port.specs.Ports.{PortStory, then_told, with_pause, is_open, is_in}
 use Rattle.worker.specs.Sessions.{RunView, facts, cause_of, AreFactsConsistent}
 use Rattle.worker_port.specs.PortFacts.{PortFacts, port_facts}
 use Rattle.worker.specs.EndCauses.{RisesFrom, piece_of}
-use Rattle.worker.specs.Workers.{end_of, posted_by, IsSteady, AreSessionsCounted, IsStoryKnown, run_view, IsWorkerServing, Closes, Shuts, LeavesWorker}
+use Rattle.worker.specs.Workers.{end_of, posted_by, IsSteady, IsStoryKnown, run_view, IsWorkerServing, Closes, Shuts, LeavesWorker}
 use Rattle.worker.specs.Workers.{HandlesData, feeds, holds, shuts, drops, Admits, Refuses, SameRest}
 use Rattle.worker.proofs.EndCauseLemmas.{rises_more, rises_with, length-with, cause_more, cause_new}
 use Rattle.worker_port.proofs.Facts.{elsewhere, opened_here, fed_here, shut_here}
 use Rattle.worker.proofs.SessionSteps.{Stays, served_came, closed_no_memory, runs, runs_at_port, untouched, is_running, is_unopened, served_new}
 use Rattle.worker.proofs.SessionSteps.{opened_if_placed}
-use Rattle.worker.proofs.RunViews.{facts_equal, change_at, at_other, at_same, ClosesIn}
-use Rattle.worker_port.proofs.Lists.{ended_same, ended_now, count_same, count_more, accepts_more}
+use Rattle.worker.proofs.RunViews.{AreSessionsCounted, facts_equal, change_at, at_other, at_same, ClosesIn}
+use Rattle.worker_port.proofs.Lists.{AcceptsOnlyOpen, ended_same, ended_now, count_same, count_more, accepts_more}
 use Rattle.worker.proofs.RunViews.{shuts_here, close_all, apart_shut}
 use Rattle.worker.proofs.StoryLaws.{told_before, two_calls, paused_elsewhere, paused_kept, paused_but, paused_more, resumed_holds_none}
 use Rattle.worker.proofs.PieceLaws.{pieces_at, pieces_kept, fed_piece}
 use Rattle.worker.proofs.WorkerSteps.{WorkerGoesOn, OwnFacts, StoryFacts, steps, steps_on, steady_same, same_end, later_is}
-use Rattle.worker.proofs.WorkerSteps.{told_finished, told_gone, closes_in, steady_closed, shut_goes_on, told_fed, told_held, open_here, open_at}
+use Rattle.worker.proofs.WorkerSteps.{told_finished, told_gone, closes_in, own_closed, own_within, shut_goes_on, told_fed, told_held, open_here, open_at}
 use Rattle.proto.proofs.CountLemmas.{either_way}
 
 -- a truth value that can't be true is false
@@ -69,7 +69,8 @@ finished_is (Some s) c e =
 -- a session that has finished is still open at a port that tells its list
 pub finished_open : {P : Type 0} (told : P → Option PortStory) (w : WorkerState P) (t : ℕ) (c : EndCause)
     → IsWorkerServing told w
-    → option_and_then finished_by (session_of w.book t) ≡ Some c → IsOpenIn t (told w.port)
+    → option_and_then finished_by (session_of w.book t) ≡ Some c
+    → (story : PortStory) → told w.port ≡ Some story → is_open t story.events ≡ true
 finished_open told w t c h e = let f = finished_is (session_of w.book t) c e in open_at told w t f.0 h f.1
 
 -- the worker goes on where it shuts a session that has finished, with the cause by which that ended
@@ -92,11 +93,11 @@ finish_goes_on told old new t c k h e =
 
 -- what may be opened next
 abbrev pub MayOpen : List PortRecord → ℕ → Type 0
-MayOpen l t = (0 < t) × ((u : ℕ) → was_opened u l ≡ true → u < t) × (has_ended l ≡ false)
+MayOpen l t = (0 < t) × ((u : ℕ) → is_in (was.Opened u) l ≡ true → u < t) × (is_in was.Ended l ≡ false)
 
 -- such a session wasn't opened before
-pub fresh : (l : List PortRecord) (t : ℕ) → MayOpen l t → was_opened t l ≡ false
-fresh l t may = bool_false (was_opened t l) (λ e. let lt = may.1 t e in omega (arith, lt))
+pub fresh : (l : List PortRecord) (t : ℕ) → MayOpen l t → is_in (was.Opened t) l ≡ false
+fresh l t may = bool_false (is_in (was.Opened t) l) (λ e. let lt = may.1 t e in omega (arith, lt))
 
 -- all that is known stays true where a session is opened and gets an entry in the report and in the book
 pub told_admitted : (v v' : RunView) (unopened : ℕ) (ended : Bool) (t : ℕ) → IsStoryKnown v unopened ended
@@ -139,7 +140,7 @@ told_admitted v v' unopened ended t h may d e p k r book piece =
       counted = subst (λ (y : List PortRecord × List (ℕ × EndCause)). AreSessionsCounted y.0 y.1 unopened)
           (λ i. (sym e i, sym r i))
           (omega (arith, len, more, h.counted.0), omega (arith, len, more, h.counted.0, h.counted.1));
-      at_end = ap has_ended e ∙ ended_same l x refl ∙ h.at_end;
+      at_end = ap (is_in was.Ended) e ∙ ended_same l x refl ∙ h.at_end;
       accepts = subst AcceptsOnlyOpen (sym e) (accepts_more l x h.accepts tt);
     }
 
@@ -179,7 +180,7 @@ told_refused v v' unopened ended t h may d e p k r book piece =
       counted = subst (λ (z : List PortRecord × List (ℕ × EndCause)). AreSessionsCounted z.0 z.1
           (min (unopened + 1) (2 ^ 64 - 1))) (λ i. (sym e i, sym r i))
           (omega (arith, same, more, h.counted.0), omega (arith, same, more, h.counted.0, h.counted.1));
-      at_end = ap has_ended e ∙ ended_same m y refl ∙ ended_same l x refl ∙ h.at_end;
+      at_end = ap (is_in was.Ended) e ∙ ended_same m y refl ∙ ended_same l x refl ∙ h.at_end;
       accepts = subst AcceptsOnlyOpen (sym e) (accepts_more m y (accepts_more l x h.accepts tt) tt);
     }
 
@@ -268,7 +269,7 @@ opened_goes_on told old new port t opens rest h k =
 -- a session that has just been opened is open
 pub opened_is_open : {P : Type 0} (told : P → Option PortStory) (w : WorkerState P) (port : P) (t : ℕ)
     → IsWorkerServing told w → OpensAt told w.port port t
-    → IsOpenIn t (told port)
+    → (story : PortStory) → told port ≡ Some story → is_open t story.events ≡ true
 opened_is_open told w port t h opens =
     λ after e.
     let b = told_before (then_told (was.Opened t ∷ [])) (told w.port) (told port) opens.told_is after e in
@@ -282,7 +283,8 @@ opened_is_open told w port t h opens =
 -- an entry that leaves a session open
 pub still_open : {P : Type 0} (told : P → Option PortStory) (old port : P) (t : ℕ) (b : List ℕ)
     → told port ≡ option_map (then_told (was.Data t b ∷ [])) (told old)
-    → ((story : PortStory) → told old ≡ Some story → is_open t story.events ≡ true) → IsOpenIn t (told port)
+    → ((story : PortStory) → told old ≡ Some story → is_open t story.events ≡ true)
+    → (story : PortStory) → told port ≡ Some story → is_open t story.events ≡ true
 still_open told old port t b told_is opened =
     λ after e.
     let q = told_before (then_told (was.Data t b ∷ [])) (told old) (told port) told_is after e in
@@ -299,23 +301,6 @@ came_unheld told w port t b h told_is resumed =
     λ after e.
     let q = told_before (then_told (was.Data t b ∷ [])) (told w.port) (told port) told_is after e in
     resumed_holds_none (piece_of w.book t) (q.0.paused t) (h.paused q.0 q.1 t) (resumed q.0 q.1)
-
--- receiving leaves the rest
-rest_facts : {P : Type 0} (told : P → Option PortStory) (old new : WorkerState P) (port : P)
-    → LeavesWorker (record old { port = port }) new
-    → (new.book.posted ≡ old.book.posted) × (new.book.unsettled ≡ old.book.unsettled)
-    × (new.book.dialect ≡ old.book.dialect) → IsWorkerServing told old → OwnFacts old new
-rest_facts told old new port rest b h = record {
-  same_end = same_end old new rest.end;
-  later = later_is (end_of old) (end_of new) rest.end;
-  steady = subst (λ (y : WorkerView × Option Posted). IsSteady y.0 y.1 new.book)
-      (λ i. (sym rest.end i, sym rest.request i))
-      (steady_same (end_of old) old.request old.book new.book b.0 b.1 h.steady);
-  dialect = b.2;
-  strangers = rest.strangers ∙ h.strangers;
-  unopened = rest.unopened;
-  ended = rest.ended;
-}
 
 -- a session of which bytes just came, and which is shut
 told_data_shut : (v v' : RunView) (unopened : ℕ) (ended : Bool) (t : ℕ) (b : List ℕ) → IsStoryKnown v unopened ended
@@ -353,7 +338,7 @@ told_data_shut v v' unopened ended t b h opened k =
           (λ i. (sym k.events i, sym k.sessions i))
           (subst (λ (y : ℕ × ℕ). (y.1 ≤ y.0) × (unopened ≡ min (y.0 - y.1) (2 ^ 64 - 1)))
           (λ i. (sym (two ∙ one) i, sym len i)) h.counted);
-      at_end = ap has_ended k.events ∙ ended_same m (was.Shut t) refl ∙ ended_same l (was.Data t b) refl ∙ h.at_end;
+      at_end = ap (is_in was.Ended) k.events ∙ ended_same m (was.Shut t) refl ∙ ended_same l (was.Data t b) refl ∙ h.at_end;
       accepts = subst AcceptsOnlyOpen (sym k.events)
           (accepts_more m (was.Shut t) (accepts_more l (was.Data t b) h.accepts tt) tt);
     }
@@ -382,7 +367,7 @@ received_goes_on told old new port t b came h (feeds none book port_is rest) =
     let pieces = pieces_kept old.book new.book t
     (option_map (λ (s : SessionState). once_fed s b) (session_of old.book t)) book.only_at
     (fed_piece (session_of old.book t) b) in
-    steps_on told old new f (λ s q. q) (ap told port_is ∙ came.told_is) (rest_facts told old new port rest (
+    steps_on told old new f (λ s q. q) (ap told port_is ∙ came.told_is) (own_within told old new port rest (
       ap (λ (x : BookState). x.posted) book.rest,
       ap (λ (x : BookState). x.unsettled) book.rest,
       ap (λ (x : BookState). x.dialect) book.rest,
@@ -398,7 +383,7 @@ received_goes_on told old new port t b came h (holds none k) =
     let f = then_told (was.Data t b ∷ []) in let g = with_pause t true in
     steps_on told old new (λ story. g (f story)) (λ s q. q)
     (two_calls f g (told old.port) (told port) (told new.port) came.told_is k.port)
-    (rest_facts told old new port k.leaves (
+    (own_within told old new port k.leaves (
       ap (λ (x : BookState). x.posted) k.book.rest,
       ap (λ (x : BookState). x.unsettled) k.book.rest,
       ap (λ (x : BookState). x.dialect) k.book.rest,
@@ -421,15 +406,8 @@ received_goes_on told old new port t b came h (holds none k) =
 received_goes_on told old new port t b came h (shuts why k) =
     let f = then_told (was.Data t b ∷ []) in let g = then_told (was.Shut t ∷ []) in
     steps_on told old new (λ story. g (f story)) (λ s q. q)
-    (two_calls f g (told old.port) (told port) (told new.port) came.told_is k.port) (record {
-      same_end = same_end old new k.closes.end;
-      later = later_is (end_of old) (end_of new) k.closes.end;
-      steady = steady_closed (record old { port = port }) new t causes.NoMemory k.closes h.steady;
-      dialect = ap (λ (x : BookState). x.dialect) k.closes.book.rest;
-      strangers = k.closes.strangers ∙ h.strangers;
-      unopened = k.closes.unopened;
-      ended = k.closes.ended;
-    }) h
+    (two_calls f g (told old.port) (told port) (told new.port) came.told_is k.port)
+    (own_closed told old new port t causes.NoMemory k.closes h) h
     (λ story e was_so. (
       told_data_shut (run_view story old) (run_view (g (f story)) new) old.unopened old.ended t b was_so.0
           (came.opened story e)
@@ -441,7 +419,7 @@ received_goes_on told old new port t b came h (shuts why k) =
     ))
 received_goes_on told old new port t b came h (drops none book port_is rest) =
     let f = then_told (was.Data t b ∷ []) in
-    steps_on told old new f (λ s q. q) (ap told port_is ∙ came.told_is) (rest_facts told old new port rest (
+    steps_on told old new f (λ s q. q) (ap told port_is ∙ came.told_is) (own_within told old new port rest (
       ap (λ (x : BookState). x.posted) book,
       ap (λ (x : BookState). x.unsettled) book,
       ap (λ (x : BookState). x.dialect) book,
@@ -460,15 +438,7 @@ pub gone_goes_on : {P : Type 0} (told : P → Option PortStory) (old new : Worke
     → WorkerGoesOn told old new
 gone_goes_on told old new port t loses h port_is k =
     let f = then_told (was.Gone t ∷ []) in
-    steps_on told old new f (λ s q. q) (ap told port_is ∙ loses.told_is) (record {
-      same_end = same_end old new k.end;
-      later = later_is (end_of old) (end_of new) k.end;
-      steady = steady_closed (record old { port = port }) new t causes.Gone k h.steady;
-      dialect = ap (λ (x : BookState). x.dialect) k.book.rest;
-      strangers = k.strangers ∙ h.strangers;
-      unopened = k.unopened;
-      ended = k.ended;
-    }) h
+    steps_on told old new f (λ s q. q) (ap told port_is ∙ loses.told_is) (own_closed told old new port t causes.Gone k h) h
     (λ story e was_so.
     let o = open_here story.events t (loses.opened story e) in
     let run = runs_at_port (facts (run_view story old) t) (was_so.0.each t) o.0 o.1 o.2 in (
@@ -479,22 +449,26 @@ gone_goes_on told old new port t loses h port_is k =
           (λ s ne. paused_elsewhere story (was.Gone t) s (ne_eqb t s ne)) was_so.1,
     ))
 
+-- where only the port changed
+own_moved : {P : Type 0} (told : P → Option PortStory) (old : WorkerState P) (port : P) → IsWorkerServing told old
+    → OwnFacts old (record old { port = port })
+own_moved told old port h = record {
+  same_end = record { exchange = refl; worker = refl };
+  later = later_is (end_of old) (end_of old) refl;
+  steady = h.steady;
+  dialect = refl;
+  strangers = h.strangers;
+  unopened = refl;
+  ended = refl;
+}
+
 -- what a port that tells nothing has gone of
 pub stranger_goes_on : {P : Type 0} (told : P → Option PortStory) (old : WorkerState P) (port : P) (t : ℕ)
     → LosesAt told old.port port t
     → IsWorkerServing told old → session_of old.book t ≡ None → WorkerGoesOn told old (record old { port = port })
 stranger_goes_on told old port t loses h none =
     let f = then_told (was.Gone t ∷ []) in
-    steps_on told old (record old { port = port }) f (λ s q. q) loses.told_is
-    (record {
-      same_end = record { exchange = refl; worker = refl };
-      later = later_is (end_of old) (end_of old) refl;
-      steady = h.steady;
-      dialect = refl;
-      strangers = h.strangers;
-      unopened = refl;
-      ended = refl;
-    }) h
+    steps_on told old (record old { port = port }) f (λ s q. q) loses.told_is (own_moved told old port h) h
     (λ story e was_so. absurd (open_in_book story old t was_so.0 (loses.opened story e) none))
 
 -- what the worker does where a session has gone
@@ -514,16 +488,7 @@ pub idle_goes_on : {P : Type 0} (told : P → Option PortStory) (old : WorkerSta
     → told port ≡ option_map (then_told []) (told old.port)
     → IsWorkerServing told old → WorkerGoesOn told old (record old { port = port })
 idle_goes_on told old port told_is h =
-    steps_on told old (record old { port = port }) (then_told []) (λ s q. q) told_is
-    (record {
-      same_end = record { exchange = refl; worker = refl };
-      later = later_is (end_of old) (end_of old) refl;
-      steady = h.steady;
-      dialect = refl;
-      strangers = h.strangers;
-      unopened = refl;
-      ended = refl;
-    }) h
+    steps_on told old (record old { port = port }) (then_told []) (λ s q. q) told_is (own_moved told old port h) h
     (λ story e was_so. subst (λ (l : List PortRecord). StoryFacts (record story { events = l })
     (record old { port = port }) old.unopened old.ended) (sym (append-nil story.events)) was_so)
 

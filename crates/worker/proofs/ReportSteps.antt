@@ -1,18 +1,20 @@
 -- What a worker that has drained reports.
-use Rattle.std.proofs.Common.{◌≡◌, ℕ, zero, suc, ◌<◌, ◌==◌, ◌&&◌, Bool, true, false}
+use Rattle.std.proofs.Common.{◌≡◌, ◌≢◌, ◌⊎◌, inl, inr, ⊎_elim, ℕ, zero, suc, ◌<◌, ◌==◌, ◌&&◌, Bool, true, false}
 use Rattle.std.proofs.Common.{true≢false, cond, eq-eqb, List, [], ◌∷◌, ◌++◌, length, map, refl}
 use Rattle.std.proofs.Common.{sym, ap, subst, ◌∙◌, append-nil, arith, Option, Some, None, is_some}
 use Rattle.std.specs.Prelude.{IsSome, slice_index_or}
-use Rattle.std.specs.List.{filter, concat}
+use Rattle.std.specs.List.{filter, list_any, last_or}
+use Rattle.proto.specs.declared.dialect.Dialect.{Dialect}
 use Rattle.proto.specs.declared.message.Request.{Request}
 use Rattle.proto.specs.declared.message.Reply.{Reply}
+use Rattle.proto.specs.declared.message.FatalKind.{FatalKind}
 use Rattle.proto.specs.declared.message.Message.{Message}
 use Rattle.proto.specs.declared.message.Message.TheVariants.{Ask, Wrong, Quit, Fatal}
 use Rattle.proto.specs.declared.history.Posted.{Posted}
 use Rattle.proto.specs.declared.history.Answered.{Answered}
 use Rattle.proto.specs.History.{worker_share, session_share, asked_posted, asked, had}
 use Rattle.proto.specs.Grammar.{SpellsNone}
-use Rattle.proto.specs.Reading.{Reads, asks, last_ends, EndsAtLast}
+use Rattle.proto.specs.Reading.{Reads, asks, ends_session}
 use Rattle.proto.specs.Answers.{said}
 use Rattle.exchange.specs.Beginnings.{StartsWith, posted_of}
 use Rattle.exchange.specs.Ends.{WorkerView}
@@ -20,11 +22,12 @@ use Rattle.session_book.specs.declared.causes.EndCause.{EndCause}
 use Rattle.session_book.specs.declared.causes.EndCause.TheVariants as causes
 use Rattle.session_book.specs.Session.{SessionState, left, ended_by, finished_by, IsEmptied, Stops, ended, waiting, no_message}
 use Rattle.session_book.specs.Book.{session_of, held_of}
+use Rattle.session_book.proofs.Reading.{has_ended_by, none_ends}
 use Rattle.worker_port.specs.Ports.{fed, given}
 use Rattle.worker.specs.Sessions.{SessionFacts, RunView, facts, asked_by, had_by, cause_of, IsKnownAs, IsReportedAs, IsClosed, IsRunning, IsSessionServed}
 use Rattle.worker.specs.Sessions.{BeginsWith}
 use Rattle.worker.specs.Workers.{IsStoryKnown}
-use Rattle.worker.specs.Reports.{IsReported, IsCauseOf, is_complete}
+use Rattle.worker.specs.Reports.{IsReported, IsCauseOf}
 use Rattle.worker.proofs.Answering.{said_further, begins_on}
 use Rattle.worker.proofs.Readings.{same_reading, first_of_reading}
 use Rattle.worker.proofs.SessionSteps.{not_both, opened_if_placed}
@@ -85,26 +88,51 @@ left_none (Wrong kind ∷ ms) rs e = left_none ms rs e
 left_none (Quit ∷ ms) rs e = left_none ms rs e
 left_none (Fatal kind ∷ ms) rs e = left_none ms rs e
 
--- where a message has ended the session, and only the last one may, the last one ends it
-ended_true : (ms : List Message) (c : EndCause) → ended_by None ms ≡ Some c → EndsAtLast ms → last_ends ms ≡ true
-ended_true [] c e h = absurd (cc)
-ended_true (Ask q quiet ∷ []) c e h = absurd (cc)
-ended_true (Wrong kind ∷ []) c e h = absurd (cc)
-ended_true (Quit ∷ []) c e h = refl
-ended_true (Fatal kind ∷ []) c e h = refl
-ended_true (Ask q quiet ∷ n ∷ ms) c e h = ended_true (n ∷ ms) c e h.1
-ended_true (Wrong kind ∷ n ∷ ms) c e h = ended_true (n ∷ ms) c e h.1
-ended_true (Quit ∷ n ∷ ms) c e h = absurd (true≢false h.0)
-ended_true (Fatal kind ∷ n ∷ ms) c e h = absurd (true≢false h.0)
+-- where something has ended the session a message does
+ended_true : (ms : List Message) (c : EndCause) → ended_by None ms ≡ Some c → list_any ends_session ms ≡ true
+ended_true ms c e = sym (has_ended_by ms) ∙ ap is_some e
+
+-- a message that doesn't end the session leaves to the others what has
+ended_behind : (m : Message) (ms : List Message) → ends_session m ≡ false → ended_by None (m ∷ ms) ≡ ended_by None ms
+ended_behind (Ask q quiet) ms e = refl
+ended_behind (Wrong kind) ms e = refl
+ended_behind Quit ms e = absurd cc
+ended_behind (Fatal kind) ms e = absurd cc
+
+-- what has ended a session whose bytes are read is its last message
+by_last : (d : Dialect) (b : List ℕ) (o : Option Message) (ms : List Message) (c : EndCause) → Reads d b ms []
+    → ended_by None ms ≡ Some c → (m : Message) × (last_or o ms ≡ Some m) × (ended_by None (m ∷ []) ≡ Some c)
+by_last d b o [] c r e = absurd cc
+by_last d b o (m ∷ ms) c (p, behind, split, spells, inl r) e = (
+  m,
+  ap (last_or (Some m)) r.1,
+  subst (λ (ns : List Message). ended_by None (m ∷ ns) ≡ Some c) r.1 e,
+)
+by_last d b o (m ∷ ms) c (p, behind, split, spells, inr r) e =
+    by_last d behind (Some m) ms c r.1 (sym (ended_behind m ms r.0) ∙ e)
+
+-- the message by which a session ends with Quit
+is_quit : (m : Message) → ended_by None (m ∷ []) ≡ Some causes.Quit → m ≡ Quit
+is_quit (Ask q quiet) e = absurd cc
+is_quit (Wrong kind) e = absurd cc
+is_quit Quit e = refl
+is_quit (Fatal kind) e = absurd cc
+
+-- and one by which it ends with Fatal
+is_fatal : (m : Message) → ended_by None (m ∷ []) ≡ Some causes.Fatal → (kind : FatalKind) × (m ≡ Fatal kind)
+is_fatal (Ask q quiet) e = absurd cc
+is_fatal (Wrong kind) e = absurd cc
+is_fatal Quit e = absurd cc
+is_fatal (Fatal kind) e = (kind, refl)
 
 -- ---- one session
 
 -- a session's requests are the first of its messages', and the bytes given are a beginning of their answers; both are complete
--- where it was answered to its end; and the cause is one of it
+-- but where it has gone or memory was refused; and the cause is one of it
 record IsFinal (v : RunView) (s : ℕ) (cause : EndCause) (messages : List Message) : Type 0 where
   first : StartsWith (asks messages) (asked_by v.posted s)
   beginning : StartsWith (said messages (had_by v.back s)) (given s v.events)
-  complete : is_complete cause ≡ true → (asked_by v.posted s ≡ asks messages)
+  complete : cause ≢ causes.Gone → cause ≢ causes.NoMemory → (asked_by v.posted s ≡ asks messages)
       × (given s v.events ≡ said messages (had_by v.back s))
   caused : IsCauseOf v.events s messages cause
 
@@ -118,14 +146,14 @@ final_whole v s cause messages read same asked_is given_is caused =
     given_is ∙ ap (λ (ms : List Message). said ms (had_by v.back s)) (sym same) in record {
       first = ([], sym a ∙ sym (append-nil (asked_by v.posted s)));
       beginning = ([], sym b ∙ sym (append-nil (given s v.events)));
-      complete = λ e. (a, b);
+      complete = λ not_gone enough. (a, b);
       caused = subst (λ (ms : List Message). IsCauseOf v.events s ms cause) (sym same) caused;
     }
 
 -- where only the first were
 final_begun : (v : RunView) (s : ℕ) (cause : EndCause) (messages read more : List Message) → messages ≡ read ++ more
     → asked_by v.posted s ≡ asks read → StartsWith (said read (had_by v.back s)) (given s v.events)
-    → is_complete cause ≡ false
+    → (cause ≡ causes.Gone) ⊎ (cause ≡ causes.NoMemory)
     → IsCauseOf v.events s messages cause → IsFinal v s cause messages
 final_begun v s cause messages read more split asked_is said_is partial caused =
     let on : StartsWith (said messages (had_by v.back s)) (said read (had_by v.back s)) = subst
@@ -138,7 +166,7 @@ final_begun v s cause messages read more split asked_is said_is partial caused =
       );
       beginning = begins_on (given s v.events) (said read (had_by v.back s))
           (said messages (had_by v.back s)) said_is on;
-      complete = λ e. absurd (true≢false (sym e ∙ partial));
+      complete = λ not_gone enough. absurd (⊎_elim (λ is. not_gone is) (λ is. enough is) partial);
       caused = caused;
     }
 
@@ -147,24 +175,27 @@ whole_read : (v : RunView) (s : ℕ) (c : EndCause) (messages : List Message) (r
     → Reads v.dialect (fed s v.events) messages rest → ended_by None h.messages ≡ Some c → messages ≡ h.messages
 whole_read v s c messages rest h reads e =
     same_reading v.dialect (fed s v.events) h.rest rest h.messages messages h.read
-    (λ goes_on. absurd (true≢false (sym (ended_true h.messages c e h.read.ends_at_last) ∙ goes_on))) reads
+    (λ goes_on. absurd (true≢false (sym (ended_true h.messages c e) ∙ goes_on))) reads
 
 -- a closed session is final with its cause, whatever messages its bytes spell
 final_closed : (v : RunView) (s : ℕ) (c : EndCause) (messages : List Message) (rest : List ℕ) → IsClosed (facts v s) c
     → Reads v.dialect (fed s v.events) messages rest → IsFinal v s c messages
 final_closed v s causes.Drained messages rest h reads = absurd h.caused
 final_closed v s causes.Quit messages rest h reads = let w = h.caused.1 in
+    let last = by_last v.dialect h.read.read None h.messages causes.Quit h.read.reads w.2 in
     final_whole v s causes.Quit messages h.messages (whole_read v s causes.Quit messages rest h reads w.2) h.asked w.0
-    (h.caused.0, w.2)
+    (h.caused.0, last.1 ∙ ap Some (is_quit last.0 last.2))
 final_closed v s causes.Fatal messages rest h reads = let w = h.caused.1 in
+    let last = by_last v.dialect h.read.read None h.messages causes.Fatal h.read.reads w.2 in
+    let fatal = is_fatal last.0 last.2 in
     final_whole v s causes.Fatal messages h.messages (whole_read v s causes.Fatal messages rest h reads w.2) h.asked w.0
-    (h.caused.0, w.2)
+    (h.caused.0, fatal.0, last.1 ∙ ap Some fatal.1)
 final_closed v s causes.Gone messages rest h reads = let m =
     first_of_reading v.dialect (fed s v.events) h.rest rest h.messages messages h.read reads in
-    final_begun v s causes.Gone messages h.messages m.0 m.1 h.asked h.said refl h.caused
+    final_begun v s causes.Gone messages h.messages m.0 m.1 h.asked h.said (inl refl) h.caused
 final_closed v s causes.NoMemory messages rest h reads = let m =
     first_of_reading v.dialect (fed s v.events) h.rest rest h.messages messages h.read reads in
-    final_begun v s causes.NoMemory messages h.messages m.0 m.1 h.asked h.said refl h.caused
+    final_begun v s causes.NoMemory messages h.messages m.0 m.1 h.asked h.said (inr refl) h.caused
 
 -- a session that is still open has read all that spells a message
 ended_none : (s : SessionState) → s.queue ≡ [] → s.out ≡ [] → finished_by s ≡ None → s.ended ≡ None
@@ -193,18 +224,17 @@ final_drained v s messages rest run held emptied many reads =
     let spelled_none : SpellsNone v.dialect st.unread =
     rw r.has_read.dialect at (no_more st emptied.out ends emptied.stops) in
     let begun : BeginsWith v.dialect (fed s v.events) r.messages st.unread = record {
-      pieces = r.has_read.pieces;
+      read = r.has_read.read;
       whole = r.fed ∙ append-nil r.bytes ∙ r.has_read.whole
-          ∙ ap (λ (x : List ℕ). (concat r.has_read.pieces ++ st.unread) ++ x)
-          (r.has_read.nothing_dropped ends) ∙ append-nil (concat r.has_read.pieces ++ st.unread);
-      spelled = r.has_read.spelled;
-      ends_at_last = r.has_read.ends_at_last;
+          ∙ ap (λ (x : List ℕ). (r.has_read.read ++ st.unread) ++ x)
+          (r.has_read.nothing_dropped ends) ∙ append-nil (r.has_read.read ++ st.unread);
+      reads = r.has_read.reads;
     } in
     let same = same_reading v.dialect (fed s v.events) st.unread rest r.messages messages begun (λ e. spelled_none) reads in
     final_whole v s causes.Drained messages r.messages same r.asked
     (sym (append-nil (given s v.events)) ∙ ap (λ (x : List ℕ). given s v.events ++ x) (sym emptied.out)
     ∙ r.has_said.whole)
-    (run.gone, run.shut, sym r.has_read.ended ∙ ends)
+    (run.gone, run.shut, none_ends r.messages (sym r.has_read.ended ∙ ends))
 
 -- a session with an entry in the report is final, where it has as many replies as requests and, if it is still open,
 -- is emptied
@@ -318,7 +348,7 @@ reported v end unopened h posted back all none emptied = record {
           first = subst (λ x. StartsWith (asks messages) x) (sym qa) k.first;
           begins = subst (λ x. StartsWith (said messages x) (given s v.events)) (sym qh) k.beginning;
         };
-        complete = λ d. let w = k.complete d in (qa ∙ w.0, w.1 ∙ ap (said messages) (sym qh));
+        complete = λ not_gone enough. let w = k.complete not_gone enough in (qa ∙ w.0, w.1 ∙ ap (said messages) (sym qh));
         caused = k.caused;
       };
 }

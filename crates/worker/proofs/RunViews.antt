@@ -1,10 +1,11 @@
 -- What changes at one session leaves what is known of the others.
-use Rattle.std.proofs.Common.{◌≡◌, ◌≢◌, ℕ, ◌==◌, true, false, cond, eq-eqb, ne_eqb}
-use Rattle.std.proofs.Common.{[], ◌∷◌, ◌++◌, refl, sym, ap, subst, ◌∙◌, Some, None}
+use Rattle.std.proofs.Common.{◌≡◌, ◌≢◌, ℕ, ◌-◌, ◌^◌, ◌≤◌, min, ◌==◌, true, false, cond, eq-eqb, ne_eqb}
+use Rattle.std.proofs.Common.{List, [], ◌∷◌, ◌++◌, length, refl, sym, ap, subst, ◌∙◌, Some, None}
 use Rattle.session_book.specs.declared.causes.EndCause.{EndCause}
 use Rattle.session_book.specs.Book.{session_of}
 use Rattle.worker_port.specs.declared.events.PortRecord.{PortRecord}
 use Rattle.worker_port.specs.declared.events.PortRecord.TheVariants.{Gone, Shut}
+use Rattle.worker_port.specs.Ports.{opened_count}
 use Rattle.worker.specs.Sessions.{SessionFacts, asked_by, had_by, cause_of, RunView, facts, AreFactsConsistent, IsClosed}
 use Rattle.worker_port.specs.PortFacts.{PortFacts, port_facts}
 use Rattle.worker.specs.EndCauses.{with_cause}
@@ -12,6 +13,11 @@ use Rattle.worker_port.proofs.Facts.{about, elsewhere, shut_here, gone_here}
 use Rattle.worker.proofs.EndCauseLemmas.{cause_apart, cause_here}
 use Rattle.worker.proofs.SessionSteps.{Stays, is_closed}
 use Rattle.proto.proofs.CountLemmas.{either_way}
+
+-- the sessions in the report and those unopened are those that the list opens; the count stays at the greatest number
+abbrev pub AreSessionsCounted : List PortRecord → List (ℕ × EndCause) → ℕ → Type 0
+AreSessionsCounted events sessions unopened =
+    (length sessions ≤ opened_count events) × (unopened ≡ min (opened_count events - length sessions) (2 ^ 64 - 1))
 
 -- what is known of two sessions is the same where each part of it is
 pub facts_equal : (f g : SessionFacts) → f.dialect ≡ g.dialect → f.port ≡ g.port → f.asked ≡ g.asked → f.had ≡ g.had → f.cause ≡ g.cause

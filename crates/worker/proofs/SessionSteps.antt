@@ -2,7 +2,6 @@
 use Rattle.std.proofs.Common.{◌≡◌, ℕ, ◌<◌, ◌⊎◌, inl, inr, Bool, true, false, true≢false}
 use Rattle.std.proofs.Common.{List, [], ◌∷◌, ◌++◌, length, take, refl, sym, ap, subst, ◌∙◌}
 use Rattle.std.proofs.Common.{append_assoc, append-nil, arith, Option, Some, None, is_some}
-use Rattle.std.specs.List.{concat}
 use Rattle.std.proofs.lemmas.List.{length-append}
 use Rattle.proto.specs.declared.dialect.Dialect.{Dialect}
 use Rattle.proto.specs.declared.message.Request.{Request}
@@ -19,8 +18,8 @@ use Rattle.session_book.specs.Accounts.{HasRead, HasSaid}
 use Rattle.worker.specs.Sessions.{SessionFacts, IsUntouched, IsUnopened, IsSessionServed, IsRunning, BeginsWith, IsWhole, IsCaused, IsClosed, IsReportedAs}
 use Rattle.worker.specs.Sessions.{IsKnownAs, AreFactsConsistent}
 use Rattle.worker.proofs.Answering.{said_more, said_all, begins_on}
-use Rattle.session_book.proofs.AccountLaws.{read_keeps, settle_keeps}
-use Rattle.worker.proofs.BookLaws.{starts_accounts, feed_keeps, give_keeps}
+use Rattle.session_book.proofs.AccountLaws.{starts_accounts, read_keeps, settle_keeps}
+use Rattle.worker.proofs.BookLaws.{feed_keeps, give_keeps}
 use Rattle.proto.proofs.AskLemmas.{asks-append}
 
 -- nothing is both there and missing
@@ -86,6 +85,27 @@ is_running f o c h = record {
   known = subst (λ b. IsKnownAs b f.cause f) (sym o)
       (subst (λ k. IsReportedAs f k) (sym c) h);
 }
+
+-- a session that runs on in this state, of which by now other things may have come, been asked, had and given
+pub runs_on : (f g : SessionFacts) (s : SessionState) (held : List ℕ) → Runs f → g.port.opened ≡ f.port.opened
+    → g.port.gone ≡ f.port.gone → g.port.shut ≡ f.port.shut → g.cause ≡ f.cause → IsSessionServed held g s
+    → AreFactsConsistent (record g { state = Some s; piece = held })
+runs_on f g s held r opened gone shut cause served =
+    is_running (record g { state = Some s; piece = held }) (opened ∙ r.opened) (cause ∙ r.cause)
+    (record {
+      gone = gone ∙ r.running.gone;
+      shut = shut ∙ r.running.shut;
+      s = s;
+      state = refl;
+      served = record {
+        bytes = served.bytes;
+        messages = served.messages;
+        fed = served.fed;
+        has_read = served.has_read;
+        has_said = served.has_said;
+        asked = served.asked;
+      };
+    })
 
 -- a closed session is as its cause in the report says
 placed_closed : (f : SessionFacts) (c : EndCause) → IsClosed f c → IsReportedAs f (Some c)
@@ -158,12 +178,11 @@ served_holding f s held piece h = record {
   messages = h.messages;
   fed = h.fed;
   has_read = record {
-    pieces = h.has_read.pieces;
+    read = h.has_read.read;
     dropped = h.has_read.dropped;
     whole = h.has_read.whole;
     dialect = h.has_read.dialect;
-    spelled = h.has_read.spelled;
-    ends_at_last = h.has_read.ends_at_last;
+    reads = h.has_read.reads;
     ended = h.has_read.ended;
     nothing_dropped = h.has_read.nothing_dropped;
   };
@@ -220,11 +239,10 @@ pub begins : (d : Dialect) (bytes held total : List ℕ) (ms : List Message) (s 
 begins d bytes held total ms s e h = (
   (s.unread ++ h.dropped) ++ held,
   record {
-    pieces = h.pieces;
-    whole = e ∙ ap (λ (x : List ℕ). x ++ held) (h.whole ∙ append_assoc (concat h.pieces) s.unread h.dropped)
-        ∙ append_assoc (concat h.pieces) (s.unread ++ h.dropped) held;
-    spelled = h.spelled;
-    ends_at_last = h.ends_at_last;
+    read = h.read;
+    whole = e ∙ ap (λ (x : List ℕ). x ++ held) (h.whole ∙ append_assoc h.read s.unread h.dropped)
+        ∙ append_assoc h.read (s.unread ++ h.dropped) held;
+    reads = h.reads;
   },
 )
 

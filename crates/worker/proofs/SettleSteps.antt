@@ -25,16 +25,16 @@ use Rattle.worker_port.specs.declared.events.PortRecord.TheVariants as was
 use Rattle.worker.specs.declared.state.WorkerState.{WorkerState}
 use Rattle.worker.specs.Sessions.{RunView, facts, asked_by, had_by, cause_of, AreFactsConsistent, IsSessionServed}
 use Rattle.worker_port.specs.PortFacts.{PortFacts, port_facts}
-use Rattle.worker_port.specs.Ports.{PortStory, then_told, has_ended, AcceptsOnlyOpen}
+use Rattle.worker_port.specs.Ports.{PortStory, then_told, is_in}
 use Rattle.worker.specs.EndCauses.{RisesFrom, piece_of}
 use Rattle.worker.specs.Workers.{once_flushed, end_of, posted_by, unsettled_post, IsNumbered}
-use Rattle.worker.specs.Workers.{IsSteady, AreSessionsCounted, IsStoryKnown, run_view, IsWorkerServing}
+use Rattle.worker.specs.Workers.{IsSteady, IsStoryKnown, run_view, IsWorkerServing}
 use Rattle.worker.specs.Workers.{TakesNone, TakesBack, Shuts, WasToldOfHistory}
 use Rattle.worker.proofs.Facts.{had_here, had_elsewhere}
-use Rattle.worker.proofs.SessionSteps.{runs, is_running, Stays, served_settled, closed_starved, dropped}
+use Rattle.worker.proofs.SessionSteps.{runs, runs_on, Stays, served_settled, closed_starved, dropped}
 use Rattle.worker.proofs.EndCauseLemmas.{rises_with, length-with}
-use Rattle.worker.proofs.RunViews.{facts_equal, change_at, at_other, at_same, ClosesIn, close_all, shuts_here, apart_shut}
-use Rattle.worker_port.proofs.Lists.{ended_same, count_same, accepts_more}
+use Rattle.worker.proofs.RunViews.{AreSessionsCounted, facts_equal, change_at, at_other, at_same, ClosesIn, close_all, shuts_here, apart_shut}
+use Rattle.worker_port.proofs.Lists.{AcceptsOnlyOpen, ended_same, count_same, accepts_more}
 use Rattle.worker.proofs.StoryLaws.{same_story, paused_kept, paused_but, paused_elsewhere}
 use Rattle.worker.proofs.PieceLaws.{pieces_kept, pieces_gone}
 use Rattle.worker.proofs.WorkerSteps.{WorkerGoesOn, steps_on, steady_closed, same_end, later_is, later_trans, closes_in}
@@ -177,21 +177,9 @@ told_kept v v' unopened ended a s h open_is has k =
     subst (λ (x : SessionState). IsSessionServed (v.piece t) (facts v t) x) (sym same) run.running.served in
     let served = served_settled (facts v t) s (v.piece t) a.reply has was_served in
     let f' = record (facts v t) { had = had_by v.back t ++ a.reply ∷ []; state = Some (with_reply s a.reply) } in
-    let now : AreFactsConsistent f' = is_running f' run.opened run.cause
-    (record {
-      gone = run.running.gone;
-      shut = run.running.shut;
-      s = with_reply s a.reply;
-      state = refl;
-      served = record {
-        bytes = served.bytes;
-        messages = served.messages;
-        fed = served.fed;
-        has_read = served.has_read;
-        has_said = served.has_said;
-        asked = served.asked;
-      };
-    }) in
+    let now : AreFactsConsistent f' =
+    runs_on (facts v t) (record (facts v t) { had = had_by v.back t ++ a.reply ∷ [] }) (with_reply s a.reply) (v.piece t) run
+    refl refl refl refl served in
     told_within v v' unopened ended h k.events k.sessions
     (change_at t v v' (taken_elsewhere v v' a (Some (with_reply s a.reply)) k)
     (subst AreFactsConsistent (sym (taken_here v v' a (Some (with_reply s a.reply)) k)) now) (λ j ne. h.each j))
@@ -383,7 +371,7 @@ told_starved v u v' unopened ended a s h open_is k c =
           (subst (λ (y : ℕ × ℕ). (y.1 ≤ y.0) × (unopened ≡ min (y.0 - y.1) (2 ^ 64 - 1))) (λ i. (sym one i, sym len i))
           (subst (λ (y : List PortRecord × List (ℕ × EndCause)). AreSessionsCounted y.0 y.1 unopened)
           (λ i. (sym k.events i, sym k.sessions i)) h.counted));
-      at_end = ap has_ended c.events ∙ ended_same l (was.Shut t) refl ∙ ap has_ended k.events ∙ h.at_end;
+      at_end = ap (is_in was.Ended) c.events ∙ ended_same l (was.Shut t) refl ∙ ap (is_in was.Ended) k.events ∙ h.at_end;
       accepts = subst AcceptsOnlyOpen (sym c.events)
           (accepts_more l (was.Shut t) (subst AcceptsOnlyOpen (sym k.events) h.accepts) tt);
     }

@@ -1,12 +1,12 @@
 -- What the calls of a port make of its story, and which sessions that leaves paused.
 use Rattle.std.proofs.Common.{◌≡◌, ◌≢◌, ℕ, ◌==◌, Bool, true, false, true≢false, ◌||◌, cond, eq-eqb, List, [], ◌∷◌}
-use Rattle.std.proofs.Common.{take, refl, sym, ap, ◌∙◌, Option, Some}
-use Rattle.std.proofs.Common.{None, is_some, Ok}
+use Rattle.std.proofs.Common.{refl, sym, ap, ◌∙◌, Option, Some}
+use Rattle.std.proofs.Common.{None, is_some}
 use Rattle.std.specs.Option.{option_map}
 use Rattle.proto.proofs.Options.{some_is}
 use Rattle.worker_port.specs.declared.events.PortRecord.{PortRecord}
 use Rattle.worker_port.specs.declared.events.PortRecord.TheVariants as was
-use Rattle.worker_port.specs.Ports.{PortStory, has_gone, was_shut, then_told, give_records}
+use Rattle.worker_port.specs.Ports.{PortStory, is_in, then_told}
 use Rattle.worker.specs.Workers.{ArePaused}
 use Rattle.worker_port.proofs.Facts.{about}
 use Rattle.worker.proofs.RunViews.{at_other}
@@ -44,7 +44,7 @@ tells_none (Some story) h = absurd (h story refl)
 
 -- an entry about another session doesn't end this one
 pub ends_elsewhere : (x : PortRecord) (s : ℕ) → about s x ≡ false
-    → (has_gone s (x ∷ []) || was_shut s (x ∷ [])) ≡ false
+    → (is_in (was.Gone s) (x ∷ []) || is_in (was.Shut s) (x ∷ [])) ≡ false
 ends_elsewhere (was.Opened t) s e = refl
 ends_elsewhere (was.Data t b) s e = refl
 ends_elsewhere (was.Gone t) s e = ap (λ b. (b || false) || false) e
@@ -56,17 +56,6 @@ ends_elsewhere (was.Shut t) s e = ap (λ b. (false || b) || false) e
 pub paused_elsewhere : (story : PortStory) (x : PortRecord) (s : ℕ) → about s x ≡ false
     → (then_told (x ∷ []) story).paused s ≡ story.paused s
 paused_elsewhere story x s e = ap (λ b. cond b false (story.paused s)) (ends_elsewhere x s e)
-
--- accepted bytes, whether there are any or not, end no session, and leave each one paused, or not
-accepted_if : (story : PortStory) (b : Bool) (t s : ℕ) (bytes : List ℕ)
-    → (then_told (cond b [] (was.Accepted t bytes ∷ [])) story).paused s ≡ story.paused s
-accepted_if story true t s bytes = refl
-accepted_if story false t s bytes = refl
-
--- accepted bytes leave all paused, or not
-pub paused_given : (story : PortStory) (t n : ℕ) (out : List ℕ) (s : ℕ)
-    → (then_told (give_records t out (Ok n)) story).paused s ≡ story.paused s
-paused_given story t n out s = accepted_if story (n == 0) t s (take n out)
 
 -- ---- the sessions of which bytes are held are paused
 

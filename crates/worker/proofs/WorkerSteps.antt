@@ -12,24 +12,24 @@ use Rattle.session_book.specs.Book.{BookState, session_of}
 use Rattle.worker_port.specs.declared.events.PortRecord.{PortRecord}
 use Rattle.worker_port.specs.declared.events.PortRecord.TheVariants as was
 use Rattle.worker.specs.declared.state.WorkerState.{WorkerState}
-use Rattle.worker_port.specs.Ports.{PortStory, then_told, IsOpenIn, is_open, was_opened, has_gone, was_shut, has_ended, opened_count, AcceptsOnlyOpen}
+use Rattle.worker_port.specs.Ports.{PortStory, then_told, is_open, is_in, opened_count}
 use Rattle.worker.specs.Sessions.{SessionFacts, RunView, facts, asked_by, had_by, cause_of, AreFactsConsistent, IsSessionServed}
 use Rattle.worker_port.specs.PortFacts.{PortFacts, port_facts}
 use Rattle.worker.specs.Sessions.{IsClosed}
 use Rattle.worker.specs.EndCauses.{RisesFrom, piece_of}
-use Rattle.worker.specs.Workers.{end_of, posted_by, IsSteady, AreSessionsCounted, IsStoryKnown, run_view, ArePaused, IsWorkerServing, IsSameEnd, IsLaterEnd}
+use Rattle.worker.specs.Workers.{end_of, posted_by, IsSteady, IsStoryKnown, run_view, ArePaused, IsWorkerServing, IsSameEnd, IsLaterEnd}
 use Rattle.worker_port.specs.Giving.{IsStoryOf}
 use Rattle.exchange.proofs.Lists.{starts_trans}
-use Rattle.worker.specs.Workers.{Continues, Closes, Shuts, IsStoryBy}
+use Rattle.worker.specs.Workers.{Continues, Closes, Shuts, LeavesWorker, IsStoryBy}
 use Rattle.worker.proofs.EndCauseLemmas.{rises_with, length-with}
 use Rattle.worker_port.proofs.Facts.{about, elsewhere, fed_here}
-use Rattle.worker.proofs.SessionSteps.{Runs, runs, runs_at_port, is_running, closed_gone, closed_no_memory, closed_finished, served_came, served_fed}
+use Rattle.worker.proofs.SessionSteps.{Runs, runs, runs_at_port, runs_on, closed_gone, closed_no_memory, closed_finished, served_came, served_fed}
 use Rattle.worker.proofs.SessionSteps.{served_holding}
 use Rattle.worker.proofs.StoryLaws.{told_before, tells_as, paused_but, paused_elsewhere}
 use Rattle.worker.proofs.PieceLaws.{pieces_at}
 use Rattle.worker.proofs.RunViews.{facts_equal, change_at, at_other, at_same, ClosesIn, shuts_here, goes_here, stays}
-use Rattle.worker_port.proofs.Lists.{IsProper, ended_same, count_same, accepts_more}
-use Rattle.worker.proofs.RunViews.{close_all, apart_shut, apart_gone}
+use Rattle.worker_port.proofs.Lists.{AcceptsOnlyOpen, IsProper, ended_same, count_same, accepts_more}
+use Rattle.worker.proofs.RunViews.{AreSessionsCounted, close_all, apart_shut, apart_gone}
 
 -- a worker went on, and still serves
 pub record WorkerGoesOn {P : Type 0} (told : P → Option PortStory) (old new : WorkerState P) : Type 0 where
@@ -94,7 +94,7 @@ steady_same end request book book' p u h = record {
 -- sessions are consistent
 told_closed : (v v' : RunView) (unopened : ℕ) (ended : Bool) (t : ℕ) (c : EndCause) (x : PortRecord)
     → IsStoryKnown v unopened ended → ClosesIn v v' t c x
-    → has_ended (v.events ++ x ∷ []) ≡ has_ended v.events → opened_count (v.events ++ x ∷ []) ≡ opened_count v.events
+    → is_in was.Ended (v.events ++ x ∷ []) ≡ is_in was.Ended v.events → opened_count (v.events ++ x ∷ []) ≡ opened_count v.events
     → IsProper v.events x
     → ((s : ℕ) → AreFactsConsistent (facts v' s)) → IsStoryKnown v' unopened ended
 told_closed v v' unopened ended t c x h k same count proper each = record {
@@ -105,7 +105,7 @@ told_closed v v' unopened ended t c x h k same count proper each = record {
       (let len = length-with v.sessions t c in
       subst (λ (y : ℕ × ℕ). (y.1 ≤ y.0) × (unopened ≡ min (y.0 - y.1) (2 ^ 64 - 1)))
       (λ i. (sym count i, sym len i)) h.counted);
-  at_end = ap has_ended k.events ∙ same ∙ h.at_end;
+  at_end = ap (is_in was.Ended) k.events ∙ same ∙ h.at_end;
   accepts = subst AcceptsOnlyOpen (sym k.events) (accepts_more v.events x h.accepts proper);
 }
 
@@ -223,6 +223,36 @@ pub record OwnFacts {P : Type 0} (old new : WorkerState P) : Type 0 where
   pub unopened : new.unopened ≡ old.unopened
   pub ended : new.ended ≡ old.ended
 
+-- where a session was closed, and the port may be another one
+pub own_closed : {P : Type 0} (told : P → Option PortStory) (old new : WorkerState P) (port : P) (t : ℕ) (c : EndCause)
+    → Closes (record old { port = port }) new t c → IsWorkerServing told old → OwnFacts old new
+own_closed told old new port t c k h = record {
+  same_end = same_end old new k.end;
+  later = later_is (end_of old) (end_of new) k.end;
+  steady = steady_closed (record old { port = port }) new t c k h.steady;
+  dialect = ap (λ (b : BookState). b.dialect) k.book.rest;
+  strangers = k.strangers ∙ h.strangers;
+  unopened = k.unopened;
+  ended = k.ended;
+}
+
+-- where the port and the book changed, which posted nothing
+pub own_within : {P : Type 0} (told : P → Option PortStory) (old new : WorkerState P) (port : P)
+    → LeavesWorker (record old { port = port }) new
+    → (new.book.posted ≡ old.book.posted) × (new.book.unsettled ≡ old.book.unsettled)
+    × (new.book.dialect ≡ old.book.dialect) → IsWorkerServing told old → OwnFacts old new
+own_within told old new port rest b h = record {
+  same_end = same_end old new rest.end;
+  later = later_is (end_of old) (end_of new) rest.end;
+  steady = subst (λ (y : WorkerView × Option Posted). IsSteady y.0 y.1 new.book)
+      (λ i. (sym rest.end i, sym rest.request i))
+      (steady_same (end_of old) old.request old.book new.book b.0 b.1 h.steady);
+  dialect = b.2;
+  strangers = rest.strangers ∙ h.strangers;
+  unopened = rest.unopened;
+  ended = rest.ended;
+}
+
 -- what is true of it beside its own facts, at this story
 abbrev pub StoryFacts : {P : Type 0} → PortStory → WorkerState P → ℕ → Bool → Type 0
 StoryFacts story w unopened ended = IsStoryKnown (run_view story w) unopened ended × ArePaused story (piece_of w.book)
@@ -283,15 +313,7 @@ pub shut_goes_on : {P : Type 0} (told : P → Option PortStory) (old new : Worke
     → IsStoryKnown (run_view (then_told (was.Shut t ∷ []) story) new) old.unopened old.ended)
     → WorkerGoesOn told old new
 shut_goes_on told old new t c k h is_told =
-    steps_on told old new (then_told (was.Shut t ∷ [])) (λ s q. q) k.port (record {
-      same_end = same_end old new k.closes.end;
-      later = later_is (end_of old) (end_of new) k.closes.end;
-      steady = steady_closed old new t c k.closes h.steady;
-      dialect = ap (λ (b : BookState). b.dialect) k.closes.book.rest;
-      strangers = k.closes.strangers ∙ h.strangers;
-      unopened = k.closes.unopened;
-      ended = k.closes.ended;
-    }) h
+    steps_on told old new (then_told (was.Shut t ∷ [])) (λ s q. q) k.port (own_closed told old new old.port t c k.closes h) h
     (λ story e was_so. (
       is_told story was_so.0 (closes_in story old new t c (was.Shut t) k.closes was_so.0.rising),
       paused_but story (then_told (was.Shut t ∷ []) story) t (piece_of old.book) (piece_of new.book)
@@ -312,21 +334,21 @@ no_memory_goes_on told old new t s k h e =
 
 -- a session that the port's list has open was opened there, and has neither gone nor been shut
 pub open_here : (l : List PortRecord) (t : ℕ) → is_open t l ≡ true
-    → (was_opened t l ≡ true) × (has_gone t l ≡ false) × (was_shut t l ≡ false)
-open_here l t e = open_parts (was_opened t l) (has_gone t l) (was_shut t l) e
+    → (is_in (was.Opened t) l ≡ true) × (is_in (was.Gone t) l ≡ false) × (is_in (was.Shut t) l ≡ false)
+open_here l t e = open_parts (is_in (was.Opened t) l) (is_in (was.Gone t) l) (is_in (was.Shut t) l) e
 
 -- a session that is open in the book is open at the port
 pub told_open : (v : RunView) (unopened : ℕ) (ended : Bool) (t : ℕ) (s : SessionState) → IsStoryKnown v unopened ended
     → session_of v.book t ≡ Some s
     → is_open t v.events ≡ true
 told_open v unopened ended t s h e =
-    let r = runs (facts v t) s (h.each t) e in open_of (was_opened t v.events) (has_gone t v.events)
-    (was_shut t v.events) r.opened r.running.gone r.running.shut
+    let r = runs (facts v t) s (h.each t) e in open_of (is_in (was.Opened t) v.events) (is_in (was.Gone t) v.events)
+    (is_in (was.Shut t) v.events) r.opened r.running.gone r.running.shut
 
 -- the same of a worker
 pub open_at : {P : Type 0} (told : P → Option PortStory) (w : WorkerState P) (t : ℕ) (s : SessionState)
     → IsWorkerServing told w → session_of w.book t ≡ Some s
-    → IsOpenIn t (told w.port)
+    → (story : PortStory) → told w.port ≡ Some story → is_open t story.events ≡ true
 open_at told w t s h e = λ story q. told_open (run_view story w) w.unopened w.ended t s (h.known story q) e
 
 -- the other facts stay where only the port's list, the book and a piece change at one session
@@ -343,7 +365,7 @@ others_same v v' t x d e p b r other book piece s ne =
 -- the view but for its list, where an entry that opens nothing was added
 pub told_same : (v v' : RunView) (unopened : ℕ) (ended : Bool) (x : PortRecord) → IsStoryKnown v unopened ended
     → v'.events ≡ v.events ++ x ∷ []
-    → v'.sessions ≡ v.sessions → has_ended (v.events ++ x ∷ []) ≡ has_ended v.events
+    → v'.sessions ≡ v.sessions → is_in was.Ended (v.events ++ x ∷ []) ≡ is_in was.Ended v.events
     → opened_count (v.events ++ x ∷ []) ≡ opened_count v.events
     → IsProper v.events x → ((s : ℕ) → AreFactsConsistent (facts v' s)) → IsStoryKnown v' unopened ended
 told_same v v' unopened ended x h e r same count proper each = record {
@@ -353,7 +375,7 @@ told_same v v' unopened ended x h e r same count proper each = record {
       (λ i. (sym e i, sym r i))
       (subst (λ (y : ℕ). (length v.sessions ≤ y) × (unopened ≡ min (y - length v.sessions) (2 ^ 64 - 1)))
       (sym count) h.counted);
-  at_end = ap has_ended e ∙ same ∙ h.at_end;
+  at_end = ap (is_in was.Ended) e ∙ same ∙ h.at_end;
   accepts = subst AcceptsOnlyOpen (sym e) (accepts_more v.events x h.accepts proper);
 }
 
@@ -372,22 +394,7 @@ pub running_on : (f : SessionFacts) (port : PortFacts) (s : SessionState) (q : L
     → port.gone ≡ f.port.gone → port.shut ≡ f.port.shut → IsSessionServed q (record f { port = port }) s
     → AreFactsConsistent (record f { port = port; state = Some s; piece = q })
 running_on f port s q r o g h served =
-    is_running (record f { port = port; state = Some s; piece = q }) (o ∙ r.opened) r.cause
-    (record {
-      gone = g ∙ r.running.gone;
-      shut = h
-          ∙ r.running.shut;
-      s = s;
-      state = refl;
-      served = record {
-        bytes = served.bytes;
-        messages = served.messages;
-        fed = served.fed;
-        has_read = served.has_read;
-        has_said = served.has_said;
-        asked = served.asked;
-      };
-    })
+    runs_on f (record f { port = port }) s q r o g h refl served
 
 -- bytes came and were fed
 pub told_fed : (v v' : RunView) (unopened : ℕ) (ended : Bool) (t : ℕ) (b : List ℕ) → IsStoryKnown v unopened ended

@@ -1,65 +1,52 @@
 -- What a worker's report says.
-use Rattle.std.specs.Prelude.{◌≡◌, ℕ, Bool, true, false, List, [], All, Some, None, IsSome}
+use Rattle.std.specs.Prelude.{◌≡◌, ◌≢◌, ℕ, ◌-◌, ◌^◌, ◌≤◌, true, false, min, List, [], ◌∷◌, ◌++◌, length, All, Some, None, IsSome}
+use Rattle.std.specs.List.{list_any, last_or}
 use Rattle.proto.specs.declared.dialect.Dialect.{Dialect}
+use Rattle.proto.specs.declared.message.FatalKind.{FatalKind}
 use Rattle.proto.specs.declared.message.Message.{Message}
+use Rattle.proto.specs.declared.message.Message.TheVariants.{Quit, Fatal}
 use Rattle.proto.specs.declared.history.Posted.{Posted}
 use Rattle.proto.specs.declared.history.Answered.{Answered}
 use Rattle.proto.specs.History.{worker_share, session_share, asked_posted, asked, had}
-use Rattle.proto.specs.Reading.{Reads, asks}
+use Rattle.proto.specs.Reading.{Reads, ends_session, asks}
 use Rattle.proto.specs.Answers.{said}
 use Rattle.exchange.specs.Ends.{WorkerView}
 use Rattle.session_book.specs.declared.causes.EndCause.{EndCause}
 use Rattle.session_book.specs.declared.causes.EndCause.TheVariants as causes
-use Rattle.session_book.specs.Session.{ended_by}
 use Rattle.worker_port.specs.declared.events.PortRecord.{PortRecord}
-use Rattle.worker_port.specs.Ports.{fed, given, was_opened, has_gone, was_shut, has_ended, AcceptsOnlyOpen}
+use Rattle.worker_port.specs.declared.events.PortRecord.TheVariants as was
+use Rattle.worker_port.specs.Ports.{fed, given, is_in, is_open, opened_count}
 use Rattle.worker_port.specs.Giving.{BeginsAnswers}
 use Rattle.worker.specs.Sessions.{cause_of}
 use Rattle.worker.specs.EndCauses.{RisesFrom}
-use Rattle.worker.specs.Workers.{AreSessionsCounted}
 
--- the session was answered to its end
-abbrev pub is_complete : EndCause → Bool
-is_complete causes.Gone = false
-is_complete causes.NoMemory = false
-is_complete _ = true
-
--- Why a session whose bytes spell these messages may have ended. Quit and Fatal stand only where that is the last
--- message; Drained only where the session was neither gone nor shut and no message ends it; Gone only where the
--- port's list has it; Quit, Fatal and NoMemory only where the list has the session shut.
 abbrev pub IsCauseOf : List PortRecord → ℕ → List Message → EndCause → Type 0
 IsCauseOf events s messages causes.Drained =
-    (has_gone s events ≡ false) × (was_shut s events ≡ false) × (ended_by None messages ≡ None)
-IsCauseOf events s messages causes.Gone = has_gone s events ≡ true
-IsCauseOf events s messages causes.NoMemory = was_shut s events ≡ true
-IsCauseOf events s messages cause = (was_shut s events ≡ true) × (ended_by None messages ≡ Some cause)
+    (is_in (was.Gone s) events ≡ false) × (is_in (was.Shut s) events ≡ false) × (list_any ends_session messages ≡ false)
+IsCauseOf events s messages causes.Gone = is_in (was.Gone s) events ≡ true
+IsCauseOf events s messages causes.NoMemory = is_in (was.Shut s) events ≡ true
+IsCauseOf events s messages causes.Quit = (is_in (was.Shut s) events ≡ true) × (last_or None messages ≡ Some Quit)
+IsCauseOf events s messages causes.Fatal =
+    (is_in (was.Shut s) events ≡ true) × (kind : FatalKind) × (last_or None messages ≡ Some (Fatal kind))
 
--- Of a session whose bytes spell these messages: the bytes given begin their answers, these and its requests in the history
--- are complete where the session was answered to its end, and the cause is one of it.
+-- of a session whose bytes spell these messages; it was answered to its end but where it has gone or memory was refused
 pub record IsSessionAnswered (events : List PortRecord) (history : List Answered) (worker s : ℕ) (cause : EndCause)
     (messages : List Message) : Type 0 where
   pub answers : BeginsAnswers history worker s (given s events) messages
-  pub complete : is_complete cause ≡ true → (asked (session_share history worker s) ≡ asks messages)
+  pub complete : cause ≢ causes.Gone → cause ≢ causes.NoMemory → (asked (session_share history worker s) ≡ asks messages)
       × (given s events ≡ said messages (had (session_share history worker s)))
   pub caused : IsCauseOf events s messages cause
 
--- In this history each session of the report was answered, whatever messages its bytes spell in this dialect.
-abbrev pub AreAnsweredIn : List Answered → Dialect → List PortRecord → ℕ → List (ℕ × EndCause) → Type 0
-AreAnsweredIn history d events worker sessions =
-    (s : ℕ) (cause : EndCause) (messages : List Message) (rest : List ℕ) → cause_of sessions s ≡ Some cause
-    → Reads d (fed s events) messages rest → IsSessionAnswered events history worker s cause messages
-
--- Of a port's list and a report of its sessions: the list has Ended; each session of the report was opened; each one opened
--- stands in the report once, or was shut and is counted as unopened; bytes were accepted for open sessions only; and none
--- were for a session that isn't in the report, of which no request was sent.
+-- the report has each session that was opened once, or it was shut and is counted, and nothing was given to or asked by another
 pub record AreListed (events : List PortRecord) (sent : List Posted) (sessions : List (ℕ × EndCause)) (unopened : ℕ)
     : Type 0 where
-  pub ended : has_ended events ≡ true
+  pub ended : is_in was.Ended events ≡ true
   pub once : RisesFrom 0 sessions
-  pub opened : (s : ℕ) → IsSome (cause_of sessions s) → was_opened s events ≡ true
-  pub refused : (s : ℕ) → was_opened s events ≡ true → cause_of sessions s ≡ None → was_shut s events ≡ true
-  pub counted : AreSessionsCounted events sessions unopened
-  pub accepts : AcceptsOnlyOpen events
+  pub opened : (s : ℕ) → IsSome (cause_of sessions s) → is_in (was.Opened s) events ≡ true
+  pub refused : (s : ℕ) → is_in (was.Opened s) events ≡ true → cause_of sessions s ≡ None → is_in (was.Shut s) events ≡ true
+  pub counted : (length sessions ≤ opened_count events) × (unopened ≡ min (opened_count events - length sessions) (2 ^ 64 - 1))
+  pub accepts : (before behind : List PortRecord) (s : ℕ) (bytes : List ℕ) → events ≡ before ++ was.Accepted s bytes ∷ behind
+      → is_open s before ≡ true
   pub no_stranger : (s : ℕ) → cause_of sessions s ≡ None → given s events ≡ []
   pub placed : All (λ (p : Posted). IsSome (cause_of sessions p.session)) sent
 
@@ -70,7 +57,8 @@ pub record IsReported (d : Dialect) (events : List PortRecord) (end : WorkerView
   pub listed : AreListed events end.sent sessions unopened
   pub answered : (history : List Answered) → worker_share history end.worker ≡ end.back
       → asked_posted (worker_share history end.worker) ≡ end.sent
-      → AreAnsweredIn history d events end.worker sessions
+      → (s : ℕ) (cause : EndCause) (messages : List Message) (rest : List ℕ) → cause_of sessions s ≡ Some cause
+      → Reads d (fed s events) messages rest → IsSessionAnswered events history end.worker s cause messages
 
 -- the end has said bye, and nothing is outstanding
 pub record IsOver (old new : WorkerView) : Type 0 where

@@ -1,14 +1,13 @@
 -- What a worker knows of one session while it runs.
 use Rattle.std.specs.Prelude.{◌≡◌, ℕ, ◌≤◌, ◌⊎◌, Bool, true, false, List, [], ◌∷◌, ◌++◌, length, Option, Some, None}
 use Rattle.std.specs.Prelude.{◌==◌, if◌then◌else◌, map, filter}
-use Rattle.std.specs.List.{concat}
 use Rattle.proto.specs.declared.dialect.Dialect.{Dialect}
 use Rattle.proto.specs.declared.message.Request.{Request}
 use Rattle.proto.specs.declared.message.Reply.{Reply}
 use Rattle.proto.specs.declared.message.Message.{Message}
 use Rattle.proto.specs.declared.history.Posted.{Posted}
 use Rattle.proto.specs.declared.history.Answered.{Answered}
-use Rattle.proto.specs.Reading.{SpellEach, EndsAtLast, asks}
+use Rattle.proto.specs.Reading.{Reads, asks}
 use Rattle.proto.specs.Answers.{said}
 use Rattle.exchange.specs.Beginnings.{StartsWith}
 use Rattle.session_book.specs.declared.causes.EndCause.{EndCause}
@@ -80,12 +79,11 @@ pub record IsRunning (f : SessionFacts) : Type 0 where
   pub state : f.state ≡ Some s
   pub served : IsSessionServed f.piece f s
 
--- b begins with spellings of the messages, and rest is behind them
+-- bytes at the front of b are read as the messages, and rest is behind them
 pub record BeginsWith (d : Dialect) (b : List ℕ) (messages : List Message) (rest : List ℕ) : Type 0 where
-  pub pieces : List (List ℕ)
-  pub whole : b ≡ concat pieces ++ rest
-  pub spelled : SpellEach d pieces messages
-  pub ends_at_last : EndsAtLast messages
+  pub read : List ℕ
+  pub whole : b ≡ read ++ rest
+  pub reads : Reads d read messages []
 
 -- all was answered and given before the session was shut with a cause that it read itself
 abbrev pub IsWhole : SessionFacts → List Message → EndCause → Type 0

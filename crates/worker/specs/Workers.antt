@@ -18,7 +18,7 @@ use Rattle.session_book.specs.Book.{BookState, session_of, ChangesSession, OnlyA
 use Rattle.worker_port.specs.declared.events.PortRecord.{PortRecord}
 use Rattle.worker_port.specs.declared.events.PortRecord.TheVariants as was
 use Rattle.worker.specs.declared.state.WorkerState.{WorkerState}
-use Rattle.worker_port.specs.Ports.{PortStory, then_told, with_pause, has_ended, opened_count, AcceptsOnlyOpen}
+use Rattle.worker_port.specs.Ports.{PortStory, then_told, with_pause, is_in, is_open, opened_count}
 use Rattle.worker_port.specs.Giving.{IsStoryOf}
 use Rattle.worker.specs.Sessions.{RunView, facts, AreFactsConsistent}
 use Rattle.worker.specs.EndCauses.{RisesFrom, with_cause, piece_of}
@@ -58,19 +58,15 @@ pub record IsSteady (end : WorkerView) (request : Option Posted) (book : BookSta
   pub back : asked_posted end.back ≡ take (length end.back) end.sent
   pub told : WasToldOfHistory end
 
--- the sessions in the report and those unopened are those that the list opens; the count stays at the greatest
--- number
-abbrev pub AreSessionsCounted : List PortRecord → List (ℕ × EndCause) → ℕ → Type 0
-AreSessionsCounted events sessions unopened =
-    (length sessions ≤ opened_count events) × (unopened ≡ min (opened_count events - length sessions) (2 ^ 64 - 1))
-
 -- All that is known where the port tells its list.
 pub record IsStoryKnown (v : RunView) (unopened : ℕ) (ended : Bool) : Type 0 where
   pub each : (s : ℕ) → AreFactsConsistent (facts v s)
   pub rising : RisesFrom 0 v.sessions
-  pub counted : AreSessionsCounted v.events v.sessions unopened
-  pub at_end : has_ended v.events ≡ ended
-  pub accepts : AcceptsOnlyOpen v.events
+  pub counted : (length v.sessions ≤ opened_count v.events)
+      × (unopened ≡ min (opened_count v.events - length v.sessions) (2 ^ 64 - 1))
+  pub at_end : is_in was.Ended v.events ≡ ended
+  pub accepts : (before behind : List PortRecord) (s : ℕ) (bytes : List ℕ) → v.events ≡ before ++ was.Accepted s bytes ∷ behind
+      → is_open s before ≡ true
 
 abbrev pub run_view : {P : Type 0} → PortStory → WorkerState P → RunView
 run_view story w =

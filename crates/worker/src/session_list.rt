@@ -5,11 +5,11 @@ ghost use Rattle.session_book.specs.declared.causes.EndCause.TheVariants.{Draine
 ghost use Rattle.worker.specs.EndCauses.{RisesFrom, with_cause};
 
 use crate::end_causes::set_cause;
+use proto::Trace;
 use session_book::EndCause;
 use std::alloc::{AllocError, Global};
 use std::marker::Model;
 use std::slice;
-use trace::Trace;
 
 /// What is noted of a session.
 #[derive(Clone, Copy)]

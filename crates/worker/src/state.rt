@@ -1,9 +1,9 @@
 //! What a worker holds while it runs, and the parts of its steps.
 
-ghost use Rattle.std.specs.Prelude.{◌≡◌, ◌≤◌, ◌+◌, ◌⊎◌, Some, None, IsSome, [], length};
+ghost use Rattle.std.specs.Prelude.{◌≡◌, ◌≤◌, ◌+◌, ◌⊎◌, Some, None, IsSome, [], length, true};
 ghost use Rattle.session_book.specs.Book.{session_of};
 ghost use Rattle.worker.specs.EndCauses.{piece_of};
-ghost use Rattle.worker_port.specs.Ports.{PortStory, IsOpenIn};
+ghost use Rattle.worker_port.specs.Ports.{PortStory, is_open};
 ghost use Rattle.worker.specs.Workers.{end_of, Closes, Shuts, Admits, Refuses, SameRest, HandlesData};
 
 use crate::reply_buffers::ReplyBuffers;
@@ -58,7 +58,7 @@ impl<P: Port> WorkerState<P> {
     }
 
     pub(crate) fn shut(&mut self, session: u64, cause: EndCause)
-        requires { IsOpenIn session (P.told self.old.port) }
+        requires { (story : PortStory) → P.told self.old.port ≡ Some story → is_open session story.events ≡ true }
         ensures shuts { Shuts P.told self.old self.new session cause }
         ensures leads { P.leads_to self.old.port self.new.port }
     {
@@ -68,7 +68,7 @@ impl<P: Port> WorkerState<P> {
 
     /// Shuts a session that was just opened, as there is no room for it.
     fn refuse(&mut self, newcomer: u64)
-        requires { IsOpenIn newcomer (P.told self.old.port) }
+        requires { (story : PortStory) → P.told self.old.port ≡ Some story → is_open newcomer story.events ≡ true }
         ensures leads { P.leads_to self.old.port self.new.port }
         ensures rest { SameRest self.old self.new }
         ensures refuses { Refuses P.told self.old self.new newcomer }
@@ -79,7 +79,7 @@ impl<P: Port> WorkerState<P> {
 
     /// Opens a session in the book, and writes its entry in the report.
     pub(crate) fn admit(&mut self, session: u64)
-        requires { IsOpenIn session (P.told self.old.port) }
+        requires { (story : PortStory) → P.told self.old.port ≡ Some story → is_open session story.events ≡ true }
         ensures leads { P.leads_to self.old.port self.new.port }
         ensures rest { SameRest self.old self.new }
         ensures admits { Admits P.told self.old self.new session ⊎ Refuses P.told self.old self.new session }
@@ -94,7 +94,7 @@ impl<P: Port> WorkerState<P> {
     /// Feeds a piece of input that came, or holds it until it fits, and then pauses its session. Input of a session that
     /// isn't open is dropped. At a port that tells, a session of which bytes are held is paused and has no data.
     pub(crate) fn receive(&mut self, session: u64, bytes: Bytes)
-        requires open { IsOpenIn session (P.told self.old.port) }
+        requires open { (story : PortStory) → P.told self.old.port ≡ Some story → is_open session story.events ≡ true }
         requires resumed { (story : PortStory) → P.told self.old.port ≡ Some story → piece_of self.old.book session ≡ [] }
         ensures receives { HandlesData P.told self.old session bytes self.new }
         ensures leads { P.leads_to self.old.port self.new.port }

@@ -11,21 +11,19 @@ use Rattle.exchange.specs.Beginnings.{StartsWith}
 use Rattle.exchange.specs.Ends.{WorkerView}
 use Rattle.worker_port.specs.Ports.{PortStory, fed, given}
 
--- The session's requests in the history are the first of those that the messages ask, and the bytes begin what is said to
--- the messages there.
+-- the session's requests in the history are the first of the messages', and the bytes begin what is said to these there
 pub record BeginsAnswers (history : List Answered) (worker s : ℕ) (bytes : List ℕ) (messages : List Message) : Type 0 where
   pub first : StartsWith (asks messages) (asked (session_share history worker s))
   pub begins : StartsWith (said messages (had (session_share history worker s))) bytes
 
--- The history is legal, and in it the bytes that the session took, with these behind, begin the answers to the messages that
--- the bytes which came of it spell in this dialect.
+-- by this history these bytes may go behind those that the session took, whatever messages those spell that came of it
 pub record MayBeSent (sizes : Sizes) (d : Dialect) (worker : ℕ) (history : List Answered) (s : ℕ) (came took bytes : List ℕ)
     : Type 0 where
   pub legal : Legal sizes history
   pub said_there : (messages : List Message) (rest : List ℕ) → Reads d came messages rest
       → BeginsAnswers history worker s (took ++ bytes) messages
 
--- By the list of a port, and its sizes, its dialect and its worker's number. The history begins with the one of the last bytes.
+-- by what the port tells: the history begins with the one of the last bytes, and these may be sent
 pub record MayBeGiven (story : PortStory) (history : List Answered) (s : ℕ) (bytes : List ℕ) : Type 0 where
   pub later : StartsWith history story.history
   pub may : MayBeSent story.sizes story.dialect story.worker history s (fed s story.events) (given s story.events) bytes

@@ -1,7 +1,8 @@
 //! What a port's records say of a session.
 
 ghost use Rattle.std.specs.Prelude.{◌≡◌, ℕ, ◌<◌, ◌≤◌, true};
-ghost use Rattle.worker_port.specs.Ports.{is_open, was_opened, has_ended};
+ghost use Rattle.worker_port.specs.declared.events.PortRecord.TheVariants.{Opened, Ended};
+ghost use Rattle.worker_port.specs.Ports.{is_in, is_open};
 
 use worker_port::PortRecord;
 
@@ -25,7 +26,7 @@ pub(crate) fn is_open_in(records: &[PortRecord], session: u64) -> bool
 
 /// The greatest number that was opened, or 0.
 fn newest_in(records: &[PortRecord]) -> u64
-    ensures { (t : ℕ) → was_opened t records.now ≡ true → t ≤ result }
+    ensures { (t : ℕ) → is_in (Opened t) records.now ≡ true → t ≤ result }
 {
     let mut newest = 0;
     for entry in records {
@@ -39,14 +40,14 @@ fn newest_in(records: &[PortRecord]) -> u64
 /// Whether the number is above 0 and each number that was opened.
 pub(crate) fn is_new_in(records: &[PortRecord], session: u64) -> bool
     ensures above { result ≡ true → 0 < session }
-    ensures newer { result ≡ true → (t : ℕ) → was_opened t records.now ≡ true → t < session }
+    ensures newer { result ≡ true → (t : ℕ) → is_in (Opened t) records.now ≡ true → t < session }
 {
     newest_in(records) < session
 }
 
 /// Whether the port has ended.
 pub(crate) fn has_ended_in(records: &[PortRecord]) -> bool
-    ensures { result ≡ has_ended records.now }
+    ensures { result ≡ is_in Ended records.now }
 {
     let mut ended = false;
     for entry in records {

@@ -2,12 +2,12 @@ use Rattle.std.proofs.Common.{rules, ◌≡◌, ℕ, ◌+◌, ◌++◌, ◌∷�
 use Rattle.std.proofs.Common.{arith, refl, sym, ap, subst, ◌∙◌}
 use Rattle.std.specs.FinMap as map
 use Rattle.std.proofs.lemmas.List.Sums.{sum_by-cons}
-use Rattle.proto.specs.Commands.{hit_of, hits_of}
+use Rattle.proto.specs.Commands.{hits_of}
 use Rattle.proto.specs.Hits.{hit_room}
 use Rattle.proto.specs.declared.hits.Hit.{Hit}
 use Rattle.engine.specs.Shown.{entry_of}
 use Rattle.engine.specs.Finding.{AreFound, keys_found}
-use Rattle.engine.proofs.HitLemmas.{hits_there, found_more, hits_found_more}
+use Rattle.engine.proofs.HitLemmas.{hit_of, hits_there, found_more, hits_found_more}
 use Rattle.engine.proofs.hits.find_keys.Goals as goal
 
 -- one key more was found

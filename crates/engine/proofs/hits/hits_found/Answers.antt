@@ -3,13 +3,13 @@ use Rattle.std.specs.Prelude.{IsSome}
 use Rattle.std.specs.FinMap as map
 use Rattle.std.proofs.lemmas.List.{get_or_default}
 use Rattle.proto.specs.Cache.{Entries}
-use Rattle.proto.specs.Commands.{hit_of, hits_of}
+use Rattle.proto.specs.Commands.{hits_of}
 use Rattle.proto.specs.Hits.{Writing, hit_room}
 use Rattle.proto.specs.declared.hits.Hit.{Hit}
 use Rattle.engine.specs.Shown.{entry_of}
 use Rattle.engine.specs.Counting.{CountsEach, keys_of}
 use Rattle.engine.specs.Finding.{keys_found}
-use Rattle.engine.proofs.HitLemmas.{found_there, hits_more, room_less, room_first}
+use Rattle.engine.proofs.HitLemmas.{hit_of, found_there, hits_more, room_less, room_first}
 use Rattle.engine.proofs.CountLemmas.{counts_hit}
 use Rattle.engine.proofs.hits.hits_found.Goals as goal
 

@@ -1,4 +1,7 @@
-use Rattle.std.proofs.Common.{false, true, sym, ap, ◌∙◌}
+use Rattle.std.proofs.Common.{sym, ap, ◌∙◌}
+use Rattle.proto.specs.declared.message.Message.TheVariants.{Wrong, Fatal}
+use Rattle.proto.specs.declared.message.WrongKind.TheVariants as wrong
+use Rattle.proto.specs.declared.message.FatalKind.TheVariants as fatal
 use Rattle.proto.specs.PlainReader.{meaning_of}
 use Rattle.proto.proofs.FirstWord.{some_of}
 use Rattle.proto.proofs.ViewLemmas.{storage_line, other_line, unknown_line}
@@ -9,13 +12,13 @@ returns-in_default c = absurd (some_of c.args.line.now (sym c.new-words.ensures 
 
 pub returns-in-Some-Storage : goal.returns-in-Some-Storage
 returns-in-Some-Storage c =
-    c.storage_meaning.ensures ∙ ap (λ o. meaning_of o true false) c.storage.ensures
+    c.storage_meaning.ensures ∙ ap (meaning_of (Fatal fatal.BadLine)) c.storage.ensures
     ∙ storage_line c.args.line.now c.in-Some.word.now c.next.new.self c.in-Some-Storage.verb
     (sym c.new-words.ensures ∙ c.in-Some.ensures) (rw c.in-Some-Storage.field-0-is at c.in-Some-Storage.ensures)
 
 pub returns-in-Some-Other : goal.returns-in-Some-Other
 returns-in-Some-Other c =
-    c.other_meaning.ensures ∙ ap (λ o. meaning_of o false true) c.line_view.ensures
+    c.other_meaning.ensures ∙ ap (meaning_of (Wrong wrong.BadLine)) c.line_view.ensures
     ∙ other_line c.args.line.now c.in-Some.word.now c.next.new.self c.in-Some-Other.word
     (sym c.new-words.ensures ∙ c.in-Some.ensures) (rw c.in-Some-Other.field-0-is at c.in-Some-Other.ensures)
 

@@ -1,6 +1,6 @@
 use Rattle.std.proofs.Common.{◌≡◌, ◌+◌, length}
 use Rattle.std.specs.List.{prefix_len}
-use Rattle.proto.specs.Lines.{is_key_byte}
+use Rattle.proto.specs.Words.{is_key_byte}
 use Rattle.proto.proofs.words.key_length.Given as goal
 
 -- the bytes so far are counted

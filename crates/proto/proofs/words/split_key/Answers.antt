@@ -1,6 +1,6 @@
 use Rattle.std.proofs.Common.{arith}
 use Rattle.std.proofs.lemmas.List.Sums.{prefix_len-le-length}
-use Rattle.proto.specs.Lines.{is_key_byte}
+use Rattle.proto.specs.Words.{is_key_byte}
 use Rattle.proto.proofs.FirstWord.{split_key, no_key, key_is, key_front_word}
 use Rattle.proto.proofs.words.split_key.Goals as goal
 use Rattle.proto.proofs.words.split_key.Goals.{else-length-ge1-via-then-length-ge1+else-length-le-MAX_KEY, else-length-ge1-via-else-length-ge1}

@@ -1,15 +1,13 @@
-use Rattle.std.proofs.Common.{◌≡◌, rules, ℕ, List, ◌++◌, sym, subst}
+use Rattle.std.proofs.Common.{◌≡◌, rules, ℕ, sym, subst}
 use Rattle.proto.specs.declared.history.Answered.{Answered}
 use Rattle.proto.specs.declared.message.Request.{Request}
 use Rattle.proto.specs.Sizes.{Sizes}
 use Rattle.proto.specs.Steps.{Step}
 use Rattle.exchange.specs.Ends.{StorageView}
 use Rattle.engine.specs.Reaching.{Reaches}
-use Rattle.proto.specs.Stored.{StoredItem, stored_by, SetsNoDeadline}
-use Rattle.engine.specs.Keeping.{IsWithinBound, ForgetsNone}
 use Rattle.storage_thread.specs.Keeping.{LeadsKeeping}
 use Rattle.engine.proofs.ReachingLemmas.{reaches_more, legal_of}
-use Rattle.storage_thread.proofs.Kept.{leads_more}
+use Rattle.storage_thread.proofs.Kept.{KeepsStep, leads_more}
 use Rattle.storage_thread.proofs.serving.execute.Goals as goal
 
 pub answer_later-requires-clause-legal : goal.answer_later-requires-clause-legal
@@ -68,10 +66,7 @@ returns-clause-kept g c l = let p = c.args.posted in let m = g.S.StorageEngine i
     (m.keeps c.handle-reply.new.self) l
     (subst (λ (z : Sizes × Request). Step z.0 old e.moment z.1 e.reply after)
     (λ i. (sizes i, request i)) c.handle-reply.ensures.step)
-    (subst (λ (z : Sizes × Request). (items : List StoredItem) → m.keeps c.args.store.now items → SetsNoDeadline z.1
-    → IsWithinBound z.0 (items ++ stored_by z.0 old (record e { request = z.1 }))
-    → ForgetsNone z.0 old e.moment z.1 e.reply after
-    × m.keeps c.handle-reply.new.self (items ++ stored_by z.0 old (record e { request = z.1 })))
-    (λ i. (sizes i, request i)) c.handle-reply.ensures.kept) in
+    (subst (λ (z : Sizes × Request). KeepsStep z.0 old (record e { request = z.1 }) after (m.keeps c.args.store.now)
+    (m.keeps c.handle-reply.new.self)) (λ i. (sizes i, request i)) c.handle-reply.ensures.kept) in
     subst (λ (z : StorageView). LeadsKeeping z.geometry z.history after (m.keeps c.handle-reply.new.self))
     (sym c.answer_later.ensures.answered) more

@@ -1,11 +1,24 @@
-use Rattle.std.proofs.Common.{rules, arith, ℕ, ◌<◌, All, sym, subst, ◌∙◌}
+use Rattle.std.proofs.Common.{rules, arith, ℕ, ◌<◌, All, ap, sym, subst, ◌∙◌}
 use Rattle.proto.specs.declared.history.Posted.{Posted}
 use Rattle.exchange.specs.Ends.{StorageView}
 use Rattle.storage_thread.specs.Serving.{SaidBye}
 use Rattle.storage_thread.specs.Keeping.{LeadsKeeping, MayForgetNothing}
-use Rattle.storage_thread.proofs.Kept.{none_forgotten}
+use Rattle.storage_thread.proofs.Kept.{leads_first, none_forgotten}
 use Rattle.storage_thread.proofs.Turns.{longer, same_sizes, same_byes, same_workers, serving_asked, timed_asked, all_said}
 use Rattle.storage_thread.proofs.serving.run_storage.Goals as goal
+
+pub loop-init : goal.loop-init
+loop-init g c = let same = c.batched-end.ensures in let unused = c.requires.unused in (
+  tt,
+  tt,
+  search rules,
+  search rules,
+  search rules,
+  search rules,
+  search rules,
+  search rules,
+  leads_first _ _ _ _ (ap (λ (z : StorageView). z.history) (ap (λ batch. batch.end) same) ∙ unused.2) c.requires.empty.0,
+)
 
 pub loop-preserved-in-Some-Asked : goal.loop-preserved-in-Some-Asked
 loop-preserved-in-Some-Asked g c = let i = c.loop.invariant in

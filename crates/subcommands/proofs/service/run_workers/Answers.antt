@@ -1,10 +1,10 @@
-use Rattle.std.proofs.Common.{[], subst, sym}
+use Rattle.std.proofs.Common.{[], sym}
 use Rattle.std.specs.Prelude.{⊤}
-use Rattle.proto.specs.Sizes.{Sizes}
 use Rattle.segcache.specs.Keeping.{KeepsStored}
-use Rattle.group.specs.Headline.{IsRun}
+use Rattle.segcache.specs.StoreState.{sizes_in}
 use Rattle.subcommands.specs.Runs.{socket_told, clock_told}
 use Rattle.subcommands.proofs.Ports.{new_of}
+use Rattle.subcommands.proofs.ReplayLemmas.{keeping_run}
 use Rattle.subcommands.proofs.service.run_workers.Goals as goal
 
 pub run_group-requires-clause-ports : goal.run_group-requires-clause-ports
@@ -19,7 +19,8 @@ returns g c = record {
   new_store = c.requires.store;
   clock = c.new-clock.result;
   unread = c.new-clock.ensures;
-  run = subst (λ (z : Sizes). IsRun socket_told (λ _ _. ⊤) clock_told (λ _ _. ⊤) (KeepsStored c.args.store.map []) z
-      c.args.ports.items c.new-clock.result c.in_ok-report.report) c.requires.store.sizes_are c.in_ok-report.ensures.run;
+  run = keeping_run socket_told (λ _ _. ⊤) clock_told (λ _ _. ⊤) (KeepsStored c.args.store.map []) (sizes_in c.args.store)
+      c.args.geometry c.args.ports.items c.new-clock.result c.in_ok-report.report c.in_ok-report.ensures.run
+      c.requires.store.sizes_are c.requires.store.keeps;
   seconds = c.agrees.ensures;
 }

@@ -2,7 +2,7 @@ use Rattle.std.proofs.Common.{◌≡◌, ◌≢◌, ℕ, false, [], ◌∷◌, �
 use Rattle.std.proofs.Common.{⊎_elim}
 use Rattle.worker_port.specs.declared.events.PortRecord.{PortRecord}
 use Rattle.worker_port.specs.declared.events.PortRecord.TheVariants as was
-use Rattle.worker_port.specs.Ports.{has_ended, fed, is_entry}
+use Rattle.worker_port.specs.Ports.{is_in, fed, is_entry}
 use Rattle.worker_port.specs.PortFacts.{port_facts}
 use Rattle.worker_port.proofs.Facts.{about}
 use Rattle.worker_port.proofs.Lists.{ended_same}
@@ -52,7 +52,7 @@ returns-then-change-clause-consistent c =
       each = each_step ss ss' l l' e s k.each l_is apart a.others here;
       opened_are = a.numbers_are ∙ k.opened_are ∙ sym (opened_more l l' e l_is none);
       rising = rising_at ss ss' s (with_stage Closed) a k.rising;
-      at_end = ap has_ended l_is ∙ ended_same l e no_end ∙ k.at_end;
+      at_end = ap (is_in was.Ended) l_is ∙ ended_same l e no_end ∙ k.at_end;
       plays = λ tells. (λ i. plays_from (ap (last_from 0) a.numbers_are i) (is_session_open ss') (left i))
           ∙ leave_out (newest ss) (is_session_open ss) (is_session_open ss') s (events_left ss (in_order p.events))
           (k.rising s x.0 x.1)

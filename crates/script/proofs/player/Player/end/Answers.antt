@@ -1,7 +1,7 @@
 use Rattle.std.proofs.Common.{◌≡◌, List, [], ◌∷◌, ◌++◌, refl, subst, sym, ◌∙◌, ap}
 use Rattle.worker_port.specs.declared.events.PortRecord.{PortRecord}
 use Rattle.worker_port.specs.declared.events.PortRecord.TheVariants as was
-use Rattle.worker_port.specs.Ports.{has_ended}
+use Rattle.worker_port.specs.Ports.{is_in}
 use Rattle.worker_port.specs.PortFacts.{port_facts}
 use Rattle.worker_port.proofs.Facts.{elsewhere}
 use Rattle.worker_port.proofs.Lists.{ended_now}
@@ -20,7 +20,7 @@ returns-clause-consistent c =
           (subst (Agrees (session_entry p.sessions t)) (sym (elsewhere l was.Ended t refl)) (k.each t));
       opened_are = k.opened_are ∙ sym (opened_more l l' was.Ended l_is refl);
       rising = k.rising;
-      at_end = ap has_ended l_is ∙ ended_now l;
+      at_end = ap (is_in was.Ended) l_is ∙ ended_now l;
       plays = k.plays;
       follows = λ tells. let left = events_left p.sessions (in_order p.events) in
           follows_still p.script.value.items left left l l' was.Ended (was_closed p.sessions)

@@ -1,7 +1,7 @@
 use Rattle.std.proofs.Common.{◌≡◌, ℕ, List, [], ◌∷◌, ◌++◌, refl, sym, ◌∙◌, ap, not, ne_eqb}
 use Rattle.worker_port.specs.declared.events.PortRecord.{PortRecord}
 use Rattle.worker_port.specs.declared.events.PortRecord.TheVariants as was
-use Rattle.worker_port.specs.Ports.{has_ended}
+use Rattle.worker_port.specs.Ports.{is_in}
 use Rattle.worker_port.proofs.Lists.{ended_same}
 use Rattle.script.specs.PortSessions.{ScriptSessionState, newest, last_from, is_session_open, is_closed, is_waiting}
 use Rattle.script.specs.PortSessions.{was_closed, with_output, AcceptsAt}
@@ -28,7 +28,7 @@ returns-clause-consistent c =
           (agrees_accepted ss ss' l s b x.0 a.at x.1 (k.each s));
       opened_are = a.at.numbers_are ∙ k.opened_are ∙ sym (opened_more l l' (was.Accepted s b) l_is refl);
       rising = rising_at ss ss' s (with_output b) a.at k.rising;
-      at_end = ap has_ended l_is ∙ ended_same l (was.Accepted s b) refl ∙ k.at_end;
+      at_end = ap (is_in was.Ended) l_is ∙ ended_same l (was.Accepted s b) refl ∙ k.at_end;
       plays = λ tells. plays_along (newest ss) (newest ss') (is_session_open ss) (is_session_open ss')
           (events_left ss (in_order p.events)) (events_left ss' (in_order p.events))
           (ap (last_from 0) a.at.numbers_are)

@@ -1,6 +1,6 @@
 use Rattle.std.proofs.Common.{[], ◌++◌, ap, ◌∙◌, subst}
 use Rattle.std.specs.Prelude.{unwrap_or}
-use Rattle.worker_port.specs.Ports.{give_records}
+use Rattle.script.specs.Records.{give_records}
 use Rattle.script.specs.States.{PortState, PlayerState, Gives}
 use Rattle.script.specs.Players.{player_state}
 use Rattle.script.proofs.ToldLemmas.{open_in_table, told_give}
@@ -18,9 +18,12 @@ pub returns-clause-told : goal.returns-clause-told
 returns-clause-told c =
     let player_is = ap (λ (p : PortState). p.player) c.self.view_is in
     told_give c.args.self.now _ c.args.session c.args.bytes.now c.give.result c.args.history
-    (ap (λ (p : PortState). p.sizes) c.self.view_is) (ap (λ (p : PortState). p.dialect) c.self.view_is)
-    (ap (λ (p : PortState). p.worker) c.self.view_is)
-    (ap (λ o. unwrap_or o []) c.of.ensures)
+    (record {
+      sizes = ap (λ (p : PortState). p.sizes) c.self.view_is;
+      dialect = ap (λ (p : PortState). p.dialect) c.self.view_is;
+      worker = ap (λ (p : PortState). p.worker) c.self.view_is;
+      history = ap (λ o. unwrap_or o []) c.of.ensures;
+    })
     (c.give.ensures.counts.0 ∙ ap (λ (p : PlayerState). p.script) player_is)
     (λ tells. let gives = c.give.ensures.given
     (open_in_table c.args.self.now c.self.inside.player c.args.session player_is c.self.invariant c.requires.«open»

@@ -4,7 +4,7 @@ use Rattle.std.proofs.lemmas.List.{take_all}
 use Rattle.std.proofs.lemmas.List.Folds.{list_any_more}
 use Rattle.worker_port.specs.declared.events.PortRecord.{PortRecord}
 use Rattle.worker_port.specs.declared.events.PortRecord.TheVariants as was
-use Rattle.worker_port.specs.Ports.{is_entry, was_opened}
+use Rattle.worker_port.specs.Ports.{is_entry, is_in}
 use Rattle.threads_tests.proofs.workers.records.newest_in.Goals as goal
 use Rattle.threads_tests.proofs.workers.records.newest_in.Goals.{in-Opened, in_default}
 
@@ -14,10 +14,10 @@ either false b e = inr e
 
 -- one more record opened the session, or one of those before
 one_more : (t : ℕ) (records : List PortRecord) (i : ℕ) (x : PortRecord) → i < length records → x ≡ get_or records i x
-    → was_opened t (take (i + 1) records) ≡ true
-    → (was_opened t (take i records) ≡ true) ⊎ (is_entry (was.Opened t) x ≡ true)
+    → is_in (was.Opened t) (take (i + 1) records) ≡ true
+    → (is_in (was.Opened t) (take i records) ≡ true) ⊎ (is_entry (was.Opened t) x ≡ true)
 one_more t records i x within at opened =
-    elim (either (was_opened t (take i records)) (is_entry (was.Opened t) (get_or records i x))
+    elim (either (is_in (was.Opened t) (take i records)) (is_entry (was.Opened t) (get_or records i x))
     (sym (list_any_more (is_entry (was.Opened t)) records i x within) ∙ opened))
     [ inl h ↦ inl h | inr h ↦ inr (ap (is_entry (was.Opened t)) at ∙ h) ]
 
@@ -46,5 +46,5 @@ loop-entry-preserved c t opened =
 
 pub returns : goal.returns
 returns c t opened =
-    c.loop-entry.invariant t (ap (was_opened t)
+    c.loop-entry.invariant t (ap (is_in (was.Opened t))
     (take_all c.loop-entry.entry-index c.args.records.now c.loop-entry-test.false) ∙ opened)

@@ -2,15 +2,15 @@ use Rattle.std.proofs.Common.{ℕ, List, ◌++◌, refl, sym, ap, subst, ◌∙�
 use Rattle.std.specs.Option.{option_map}
 use Rattle.session_book.specs.Session.{SessionState, gave}
 use Rattle.session_book.specs.Book.{BookState, session_of}
-use Rattle.worker_port.specs.Ports.{then_gave, give_records, fed, given}
+use Rattle.worker_port.specs.Ports.{then_gave, fed, given}
 use Rattle.proto.specs.declared.history.Answered.{Answered}
 use Rattle.proto.specs.Sizes.{Sizes}
 use Rattle.worker.specs.EndCauses.{piece_of}
 use Rattle.worker.specs.Workers.{run_view}
-use Rattle.worker.proofs.StoryLaws.{paused_kept, paused_given}
+use Rattle.worker.proofs.StoryLaws.{paused_kept}
 use Rattle.worker.proofs.PieceLaws.{pieces_kept, gave_piece}
 use Rattle.worker.proofs.WorkerSteps.{continues, open_at}
-use Rattle.worker.proofs.OutputSteps.{told_gave, gives_by, lost_goes_on, within_goes_on, offered_is}
+use Rattle.worker.proofs.OutputSteps.{accepted, told_gave, gives_by, lost_goes_on, within_goes_on, offered_is}
 use Rattle.worker_port.specs.Giving.{MayBeSent, MayBeGiven}
 use Rattle.worker.specs.Workers.{end_of}
 use Rattle.worker.proofs.GiveSteps.{may_be_given}
@@ -52,10 +52,10 @@ invariant_of-self g c = let w = c.self.inside.state in let t = c.args.session in
     (ap (λ (b : BookState). b.dialect) k.rest) c.self.invariant
     (λ story was_so. (
       told_gave (run_view story w) (run_view (f story) new) w.unopened w.ended t n s.0 was_so.0 s.1 refl
-          (ap (λ (b : List ℕ). story.events ++ give_records t b (Ok n)) s.2) refl refl refl k.only_at
+          (ap (λ (b : List ℕ). story.events ++ accepted t n b) s.2) refl refl refl k.only_at
           (λ i q. pieces q i),
       paused_kept story (f story) (piece_of w.book) (piece_of new.book) pieces
-          (λ q. paused_given story t n out q) was_so.1,
+          (λ q. refl) was_so.1,
     ))).serving
 
 pub returns-in-Ok-clause-goes_on : goal.returns-in-Ok-clause-goes_on
@@ -78,10 +78,10 @@ returns-in-Ok-clause-goes_on g c = let w = c.self.inside.state in let t = c.args
     (ap (λ (b : BookState). b.dialect) k.rest) c.self.invariant
     (λ story was_so. (
       told_gave (run_view story w) (run_view (f story) new) w.unopened w.ended t n s.0 was_so.0 s.1 refl
-          (ap (λ (b : List ℕ). story.events ++ give_records t b (Ok n)) s.2) refl refl refl k.only_at
+          (ap (λ (b : List ℕ). story.events ++ accepted t n b) s.2) refl refl refl k.only_at
           (λ i q. pieces q i),
       paused_kept story (f story) (piece_of w.book) (piece_of new.book) pieces
-          (λ q. paused_given story t n out q) was_so.1,
+          (λ q. refl) was_so.1,
     )))
 
 pub invariant_of-self-in-Err : goal.invariant_of-self-in-Err

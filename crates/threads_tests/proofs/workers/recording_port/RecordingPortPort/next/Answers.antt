@@ -1,6 +1,7 @@
 use Rattle.std.proofs.Common.{◌≡◌, [], ap, sym, ◌∙◌, Option}
 use Rattle.std.specs.Option.{option_map_or}
-use Rattle.worker_port.specs.Ports.{PortStory, was_opened, has_ended}
+use Rattle.worker_port.specs.declared.events.PortRecord.TheVariants as was
+use Rattle.worker_port.specs.Ports.{PortStory, is_in}
 use Rattle.threads_tests.proofs.workers.recording_port.RecordingPortPort.next.Goals as goal
 
 pub returns-else-not-is_new_in-clause-may : goal.returns-else-not-is_new_in-clause-may
@@ -10,6 +11,6 @@ returns-else-not-is_new_in-clause-may g c story told =
     let new = c.is_new_in.ensures in
     let is_new = c.if-not-is_new_in.false in (
       new.above is_new,
-      λ t opened. new.newer is_new t (ap (was_opened t) (c.as_slice-in-Some-Open.ensures.value ∙ sym events) ∙ opened),
-      ap has_ended (events ∙ sym c.as_slice.ensures.value) ∙ (sym c.has_ended_in.ensures ∙ c.if-has_ended_in.false),
+      λ t opened. new.newer is_new t (ap (is_in (was.Opened t)) (c.as_slice-in-Some-Open.ensures.value ∙ sym events) ∙ opened),
+      ap (is_in was.Ended) (events ∙ sym c.as_slice.ensures.value) ∙ (sym c.has_ended_in.ensures ∙ c.if-has_ended_in.false),
     )

@@ -1,6 +1,6 @@
 ghost use Rattle.std.specs.Prelude.{[], ◌∷◌};
 
-use crate::{Noted, Trace};
+use proto::{Noted, Trace};
 use std::mem::size_of;
 use std::test::Fail;
 

@@ -15,10 +15,10 @@ use denote.Shadow.{makes_shadow}
 use denote.Steps.{nothing}
 use denote.Triple.Entry.{alive}
 use denote.Triple.Walked.{Stays, walk_of, says, ends_at}
-use Rattle.trace.specs.contracts.Trace as T
-use Rattle.trace.specs.contracts.Trace.new as f
-use Rattle.trace.proofs.Trace.new.Statement.{statement}
-use Rattle.trace.proofs.Trace.new.Code as code
+use Rattle.proto.specs.contracts.trace.Trace as T
+use Rattle.proto.specs.contracts.trace.Trace.new as f
+use Rattle.proto.proofs.trace.Trace.new.Statement.{statement}
+use Rattle.proto.proofs.trace.Trace.new.Code as code
 
 pub new_spec : {M : Type 1} → statement M
 new_spec 𝓤 𝓛 𝓜 𝓡 wired A L =

@@ -16,10 +16,10 @@ use denote.Ref.{MutRef, ShrRef, mut_vals, mut_Tells, shr_vals, shr_Tells}
 use denote.Signature.{plain}
 use denote.Steps.{opens, closes}
 use denote.Triple.Walked.{says, Stays, stay_ref, stay_none_ref, walk_of, Goes-ref, Goes-none_ref, ends_at}
-use Rattle.trace.specs.contracts.Trace as T
-use Rattle.trace.specs.contracts.Trace.note_as as f
-use Rattle.trace.proofs.Trace.note_as.Statement.{statement}
-use Rattle.trace.proofs.Trace.note_as.Code as code
+use Rattle.proto.specs.contracts.trace.Trace as T
+use Rattle.proto.specs.contracts.trace.Trace.note_as as f
+use Rattle.proto.proofs.trace.Trace.note_as.Statement.{statement}
+use Rattle.proto.proofs.trace.Trace.note_as.Code as code
 
 pub note_as_spec : {M : Type 1} → statement M
 note_as_spec 𝓤 𝓛 𝓜 𝓡 wired A N L LN G d bound =

@@ -1,11 +1,7 @@
 //! Lists that only clauses read. They take no memory, and what is noted in them costs nothing at run time.
-#![tactic(auto)]
 
 ghost use Rattle.std.specs.Prelude.{◌≡◌, List, [], ◌++◌};
 ghost use Rattle.std.specs.Borrow.{ftrue};
-
-#[cfg(test)]
-mod tests;
 
 use std::marker::{Model, PhantomData};
 

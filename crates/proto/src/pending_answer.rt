@@ -1,0 +1,128 @@
+//! The answer to a message, whether its reply is there already or is still to come.
+
+ghost use Rattle.std.specs.Prelude.{◌≡◌, ◌++◌, is_some, option_copied, None, IsOk, IsTrue, OnOk, OnErr};
+ghost use Rattle.std.specs.Option.{option_copied_mut};
+ghost use Rattle.proto.specs.Answers.{answer, is_ask, is_silent, shows_cas};
+ghost use Rattle.proto.specs.AnswerKinds.{kind_of};
+
+use crate::message::{FatalKind, Message, Reply, Request, WrongKind};
+use crate::no_memory::NoMemory;
+use crate::showing::{show_copied, show_line, show_reply};
+use std::marker::Model;
+use std::snapshot::Snapshot;
+
+/// What of a message its answer depends on.
+#[derive(Clone, Copy)]
+pub(crate) enum AnswerKind {
+    Ask { with_cas: bool },
+    QuietAsk,
+    Wrong(WrongKind),
+    Quit,
+    Fatal(FatalKind),
+}
+
+/// Whether hits are shown with their cas numbers: all that the answer to a request that isn't quiet depends on
+/// beside the reply.
+fn shows_cas(request: &Request) -> bool
+    ensures { result ≡ shows_cas request.now }
+{
+    matches!(request, Request::Get { with_cas: true, .. })
+}
+
+fn kind_of(message: &Message) -> AnswerKind
+    ensures { result ≡ kind_of message.now }
+{
+    match message {
+        Message::Ask(_, true) => AnswerKind::QuietAsk,
+        Message::Ask(request, false) => AnswerKind::Ask {
+            with_cas: shows_cas(request),
+        },
+        Message::Wrong(kind) => AnswerKind::Wrong(*kind),
+        Message::Quit => AnswerKind::Quit,
+        Message::Fatal(kind) => AnswerKind::Fatal(*kind),
+    }
+}
+
+/// The answer to a message, which is still to be given. Clauses see the message; of its bytes nothing is kept but its kind.
+#[derive(Drop)]
+pub struct PendingAnswer {
+    kind: AnswerKind,
+    message: Snapshot<Message>,
+}
+
+impl Model for PendingAnswer {
+    ghost use Rattle.proto.specs.declared.message.Message.{Message};
+
+    ghost Value = { Message };
+
+    ghost use Rattle.std.specs.Prelude.{◌≡◌};
+    ghost use Rattle.proto.specs.AnswerKinds.{kind_of};
+
+    ghost view = { λ a. a.message.value };
+
+    ghost invariant = { λ a. a.kind ≡ kind_of a.message.value };
+}
+
+impl PendingAnswer {
+    pub fn of(message: &Message) -> Self
+        ensures { result ≡ message.now }
+    {
+        PendingAnswer {
+            kind: kind_of(message),
+            message: Snapshot::of(message),
+        }
+    }
+
+    pub fn is_ask(&self) -> bool
+        ensures { result ≡ is_ask self.now }
+    {
+        matches!(self.kind, AnswerKind::Ask { .. } | AnswerKind::QuietAsk)
+    }
+
+    /// Appends the answer, or changes nothing. An empty output takes the memory of hits, which have its own then.
+    pub fn show(&self, reply: Option<&mut Reply>, out: &mut Vec<u8>) -> Result<(), NoMemory>
+        requires { is_some reply ≡ is_ask self.now }
+        ensures ok { OnOk result (out.new.items ≡ out.old.items ++ answer self.now (option_copied_mut reply.entry)) }
+        ensures err { OnErr result (out.new.items ≡ out.old.items) }
+    {
+        match (self.kind, reply) {
+            (AnswerKind::Ask { with_cas }, Some(reply)) => show_reply(with_cas, reply, out),
+            _ => self.show_local(out),
+        }
+    }
+
+    /// Appends the answer where no reply is a part of it, or changes nothing.
+    fn show_local(&self, out: &mut Vec<u8>) -> Result<(), NoMemory>
+        ensures ok { OnOk result (out.new.items ≡ out.old.items ++ answer self.now None) }
+        ensures err { OnErr result (out.new.items ≡ out.old.items) }
+        ensures silent { IsTrue (is_silent self.now) → IsOk result }
+    {
+        match self.kind {
+            AnswerKind::Ask { .. } | AnswerKind::QuietAsk | AnswerKind::Quit => Ok(()),
+            AnswerKind::Wrong(WrongKind::Unknown) => show_line(out, b"ERROR"),
+            AnswerKind::Wrong(WrongKind::BadLine) | AnswerKind::Fatal(FatalKind::BadLine) => {
+                show_line(out, b"CLIENT_ERROR bad command line format")
+            }
+            AnswerKind::Fatal(FatalKind::LongLine) => show_line(out, b"CLIENT_ERROR line too long"),
+            AnswerKind::Fatal(FatalKind::BadChunk) => show_line(out, b"CLIENT_ERROR bad data chunk"),
+            AnswerKind::Fatal(FatalKind::TooLarge) => {
+                show_line(out, b"SERVER_ERROR object too large for cache")
+            }
+        }
+    }
+}
+
+/// Appends the answer to the message, or changes nothing. A message without an answer, as a request with
+/// `noreply`, needs no memory.
+pub fn show(message: &Message, reply: Option<&Reply>, out: &mut Vec<u8>) -> Result<(), NoMemory>
+    requires { is_some reply ≡ is_ask message.now }
+    ensures ok { OnOk result (out.new.items ≡ out.old.items ++ answer message.now (option_copied reply.entry)) }
+    ensures err { OnErr result (out.new.items ≡ out.old.items) }
+    ensures silent { IsTrue (is_silent message.now) → IsOk result }
+{
+    let pending = PendingAnswer::of(message);
+    match (pending.kind, reply) {
+        (AnswerKind::Ask { with_cas }, Some(reply)) => show_copied(out, with_cas, reply),
+        _ => pending.show_local(out),
+    }
+}

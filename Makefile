@@ -15,7 +15,7 @@ test: ## the gate: every proof from nothing, the wrong bodies that must be refus
 quick: ## for daily work: proves what changed since the last run, and runs the rows
 	@bash tools/quick.sh
 
-bench: ## compares a served segcached with memcached; writes the tables and pictures of docs/PERFORMANCE.md (half an hour)
+bench: ## compares a served segcached with memcached; writes the tables and pictures of docs/PERFORMANCE.md (twenty minutes)
 	@bash tools/bench.sh --write
 
 soak: ## hostile use of a served segcached, long: about 40 minutes

@@ -65,6 +65,10 @@ LOADS = (
 )
 
 
+# A fixed rate is what both serve, and is no figure.
+FIXED = {it.name for it in LOADS if "--rate" in it.words}
+
+
 def quartiles(numbers):
     """The lower quartile, the median and the upper quartile."""
     numbers = list(numbers)
@@ -220,6 +224,8 @@ def table(results, names):
     for name, by_size in results.items():
         rates = [", ".join(f"{statistics.median(pair[at]['rate'] for pair in by_size[size]) / 1000:,.0f}" for at in (0, 1)) for size in sizes]
         cells = [rates] + [[shown(ratio(pair, figure) for pair in by_size[size]) for size in sizes] for figure in FIGURES]
+        if name in FIXED:
+            cells[:2] = [""], [""]
         rows.append(f"| {name}{marks(by_size)} | " + " | ".join("<br>".join(it) for it in cells) + " |")
     said = [f"In each cell a line for {', '.join(map(str, sizes))} workers."] if many else [f"{sizes[0]} workers."]
     if any("(1)" in it for it in rows):
@@ -255,10 +261,9 @@ def idle_line(shares, name_of):
 def draw(results, names, picture):
     """A picture of the rates' ratios, by gnuplot: their medians as bars, their quartiles as lines. Where the rate is fixed there are none."""
     sizes = list(next(iter(results.values())))
-    fixed = {it.name for it in LOADS if "--rate" in it.words}
     with tempfile.NamedTemporaryFile("w", suffix=".dat") as data:
         for name, by_size in results.items():
-            if name in fixed:
+            if name in FIXED:
                 continue
             cells = []
             for size in sizes:

@@ -104,7 +104,10 @@ impl PendingAnswer {
                 show_line(out, b"CLIENT_ERROR bad command line format")
             }
             AnswerKind::Fatal(FatalKind::LongLine) => show_line(out, b"CLIENT_ERROR line too long"),
-            AnswerKind::Fatal(FatalKind::BadChunk) => show_line(out, b"CLIENT_ERROR bad data chunk"),
+            AnswerKind::Fatal(FatalKind::BadChunk) => show_line(
+                out,
+                b"CLIENT_ERROR bad data chunk",
+            ),
             AnswerKind::Fatal(FatalKind::TooLarge) => {
                 show_line(out, b"SERVER_ERROR object too large for cache")
             }

@@ -60,7 +60,11 @@ impl Buffer {
     }
 
     /// Puts an answer behind the others.
-    pub fn show(&mut self, pending: &PendingAnswer, reply: Option<&mut Reply>) -> Result<(), NoMemory>
+    pub fn show(
+        &mut self,
+        pending: &PendingAnswer,
+        reply: Option<&mut Reply>,
+    ) -> Result<(), NoMemory>
         requires { is_some reply ≡ is_ask pending.now }
         ensures ok { OnOk result (self.new ≡ self.old ++ answer pending.now (option_copied_mut reply.entry)) }
         ensures err { OnErr result (self.new ≡ self.old) }

@@ -17,7 +17,8 @@ use crate::spare_buffers::SpareBuffers;
 use crate::upkeep::Upkeep;
 use bytes::Bytes;
 use proto::{
-    Dialect, Message, NextView, NoMemory, PendingAnswer, Reply, Request, next_view_behind, to_message,
+    Dialect, Message, NextView, NoMemory, PendingAnswer, Reply, Request, next_view_behind,
+    to_message,
 };
 use std::alloc::Global;
 use std::collections::VecDeque;

@@ -19,7 +19,7 @@ use Rattle.worker_port.specs.Ports.{PortStory, then_told, with_pause, is_open, i
 use Rattle.worker.specs.Sessions.{RunView, facts, cause_of, AreFactsConsistent}
 use Rattle.worker_port.specs.PortFacts.{PortFacts, port_facts}
 use Rattle.worker.specs.EndCauses.{RisesFrom, piece_of}
-use Rattle.worker.specs.Workers.{end_of, posted_by, IsSteady, IsStoryKnown, run_view, IsWorkerServing, Closes, Shuts, LeavesWorker}
+use Rattle.worker.specs.Workers.{end_of, posted_by, IsSteady, IsStoryKnown, run_view, IsWorkerServing, Closes, Shuts}
 use Rattle.worker.specs.Workers.{HandlesData, feeds, holds, shuts, drops, Admits, Refuses, SameRest}
 use Rattle.worker.proofs.EndCauseLemmas.{rises_more, rises_with, length-with, cause_more, cause_new}
 use Rattle.worker_port.proofs.Facts.{elsewhere, opened_here, fed_here, shut_here}

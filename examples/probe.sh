@@ -1,5 +1,5 @@
 #!/usr/bin/env bash
-# Whether a segcached answers: status 0 where it answers `get health` within two seconds. Usage: probe.sh [HOST [PORT]].
+# Whether a segcached answers: status 0 if it answers `get health` within two seconds. Usage: probe.sh [HOST [PORT]].
 exec timeout 2 bash -c '
   exec 3<>"/dev/tcp/$0/$1" && printf "get health\r\nquit\r\n" >&3 && read -r answer <&3 &&
   [[ $answer == END* || $answer == "VALUE health "* ]]

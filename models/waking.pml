@@ -2,12 +2,13 @@
 
    Beside each step stands the code that it models: crate, file and function. Each load and each store of what threads share is
    a step of its own; what a thread does with memory of its own goes with them. An idle turn that spins does nothing but look
-   again, so it is left out. So are all time-outs: who isn't woken sleeps for ever, and spin finds a run that ends before its
-   threads do. The other wrong end that it finds is a run that goes on for ever.
+   again, and so does a poll that doesn't wait while a port spins: both are left out. So are all time-outs: who isn't
+   woken sleeps for ever, and spin finds a run that ends before its threads do. The other wrong end that it finds is a run that
+   goes on for ever.
 
    A client sends some requests at any time, waits for their answers and closes. There is one stream for each worker. A peer
-   takes all that it is given, since a worker doesn't sleep while one doesn't; and one that has closed is gone at once, since a
-   port that waits whether answers cease looks again by time-outs.
+   takes all that it is given, since a worker doesn't sleep while one doesn't; and the session of one that has closed ends at
+   once, since it is owed nothing then.
 
    Without SOCKETS the port is any that brings requests, nothing or its end, and nothing only where the worker may not wait.
    Each other name that is asked for by #ifdef makes a wrong protocol: tools/tests/test_waking.py has them refused. */
@@ -108,7 +109,7 @@ inline tell() {                                    /* storage_thread/serving.rt:
 #endif
 }
 
-inline tell_eighth() {                             /* storage_thread/serving.rt: tell_eighth */
+inline flush_every_eighth() {                      /* storage_thread/serving.rt: flush_every_eighth */
 #ifdef NO_EIGHTH
   skip
 #else
@@ -140,7 +141,7 @@ inline look() {                                    /* exchange/storage_batch.rt:
 }
 
 inline take_next() {                               /* storage_thread/serving.rt: take_next */
-  tell_eighth();
+  flush_every_eighth();
   if
   :: named > counts[looked_lane] ->                /* exchange/storage_batch.rt: next_seen */
      d_step { lane = looked_lane; found = true; is_bye = (counts[lane] + 1 == bye[lane]) }
@@ -202,7 +203,7 @@ inline open_next() {                               /* net/port.rt: open_next */
   fi
 }
 
-inline read_ready() {                              /* net/port.rt: read_ready */
+inline next_input() {                              /* net/streams.rt: next_input */
   if
   :: !event && is_ready ->                         /* net/streams.rt: read */
      d_step {
@@ -219,7 +220,7 @@ inline read_ready() {                              /* net/port.rt: read_ready */
 
 inline known_event() {                             /* net/port.rt: known_event */
   open_next();
-  read_ready()
+  next_input()
 }
 
 inline look_at_sockets(waits) {                    /* net/port.rt: look */
@@ -227,7 +228,7 @@ inline look_at_sockets(waits) {                    /* net/port.rt: look */
     !waits || waker_event[me] || stream_event[me];
     d_step {
       woken = waker_event[me]; waker_event[me] = false;
-      if                                           /* net/streams.rt: mark */
+      if                                           /* net/streams.rt: hear_all */
       :: stream_event[me] -> stream_event[me] = false; is_ready = true; saw_close = has_closed[me]
       :: else
       fi
@@ -236,7 +237,7 @@ inline look_at_sockets(waits) {                    /* net/port.rt: look */
   if :: woken -> d_step { wakes[me] = 0; woken = false } :: else fi   /* net/hand.rt: clear_wakes */
 }
 
-inline end_if_over() {                             /* net/hand.rt: is_over */
+inline end_if_drained() {                          /* net/hand.rt: is_drained */
   if
   :: !event && !is_open && has_ended[me] ->
      if :: streams[me] == 0 -> d_step { event = true; port_ended = true } :: else fi
@@ -247,7 +248,7 @@ inline end_if_over() {                             /* net/hand.rt: is_over */
 inline next_event() {                              /* net/port.rt: next_event */
   known_event();
 #ifndef ENDS_BEHIND_ITS_LOOK
-  end_if_over();
+  end_if_drained();
 #endif
   if
   :: event
@@ -256,7 +257,7 @@ inline next_event() {                              /* net/port.rt: next_event */
      look_at_sockets(may_wait);
      known_event();
 #ifdef ENDS_BEHIND_ITS_LOOK
-     end_if_over()
+     end_if_drained()
 #endif
   fi
 }
@@ -388,7 +389,7 @@ inline end() {                                     /* net/hand.rt: end */
 #endif
 }
 
-proctype listener() {                              /* net/listener.rt: run */
+proctype listener() {                              /* net/listener.rt: run_heard */
   byte at;
   bool ends_at_once;
   do

@@ -21,6 +21,8 @@ each_file() {
   "$1" 644 packaging/segcached.bash "$prefix/share/bash-completion/completions/segcached"
   "$1" 644 "$made/segcached.service" "$units/segcached.service"
   "$1" 644 "$made/segcached@.service" "$units/segcached@.service"
+  "$1" 755 "$made/ready" "$prefix/lib/segcached/ready"
+  "$1" 755 examples/probe.sh "$prefix/lib/segcached/probe"
   "$1" 644 crates/segcached/out/PROVED "$documents/PROVED"
   for page in $pages; do
     "$1" 644 "$made/$page.md" "$documents/$page.md"
@@ -36,11 +38,12 @@ each_file() {
   done
 }
 
-# Makes what differs by PREFIX or by place: the man page, the units, and the pages, whose examples lie beside them, and
-# in which a link to a page that isn't installed is its text alone.
+# Makes what differs by PREFIX or by place: the man page, the units with the script that they call, and the pages, whose
+# examples lie beside them, and in which a link to a page that isn't installed is its text alone.
 make_files() {
   tools/man_page.sh $program >"$made/segcached.1"
-  sed "s|/usr/bin/|$prefix/bin/|" systemd/segcached.service >"$made/segcached.service"
+  sed -e "s|/usr/bin/|$prefix/bin/|" -e "s|/usr/lib/|$prefix/lib/|" systemd/segcached.service >"$made/segcached.service"
+  sed "s|^probe=.*|probe=$prefix/lib/segcached/probe|" packaging/ready.sh >"$made/ready"
   sed -e '1,2c # An instance of segcached; its options stand in /etc/default/segcached-NAME.' \
     -e 's|^EnvironmentFile=.*|&-%i|' -e 's|^Description=segcached|& (%i)|' \
     "$made/segcached.service" >"$made/segcached@.service"
@@ -70,7 +73,7 @@ put)
   ;;
 remove)
   each_file remove_file
-  rm -rf "${DESTDIR:-}$documents"
+  rm -rf "${DESTDIR:-}$documents" "${DESTDIR:-}$prefix/lib/segcached"
   if cmp -s packaging/segcached.default "$defaults"; then rm "$defaults"; fi
   ;;
 esac

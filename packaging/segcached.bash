@@ -9,5 +9,5 @@ _segcached() {
     mapfile -t COMPREPLY < <(compgen -W "$help" -- "$word")
   fi
 }
-# (where it has no word to offer, names of files: a script to replay)
+# (if it has no word to offer, names of files: a script to replay)
 complete -o default -F _segcached segcached

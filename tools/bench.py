@@ -2,16 +2,17 @@
 """Compares segcached with memcached, or with another build of segcached, on the same machine in the same run.
 
     tools/bench.py [--quick] [--write] [--only WORD,..] [--speed] [--misses] [--segments] [--rounds N]
-                   [--seconds S] [--program FILE] [--against FILE]
+                   [--seconds S] [--program FILE] [--against FILE] [--tunables WORDS]
 
 memcached (of Debian) with 1, 2 and 4 threads stands beside `segcached serve` with 1, 2 and 3 workers. tools/speed.py measures how
-fast each is, by tools/load.c, which checks each answer; then tools/misses.py measures misses at equal memory. --write puts what
-came of both between the marks in docs/PERFORMANCE.md, pictures into docs/performance.svg and docs/misses.svg, and the tables of
-misses into out/bench.md. --quick runs each load once and briefly, with 2 workers. --only takes loads whose names have a WORD,
-and neither misses nor pauses. --speed takes all but the misses, --misses these alone, --segments those of segcached by the size
-of its segments, which is in no other run. --program names another build to measure, --against one of segcached that takes
-memcached's place: a change for speed is judged by that, and ratios above 1 say that the program does more, or takes longer, than
-the one it is against.
+fast each is, by tools/load.c, which checks each answer; tools/beside_redis.py how many requests redis answers to a load of its own;
+then tools/misses.py measures misses at equal memory. --write puts the figures of all between the marks in docs/PERFORMANCE.md,
+pictures into docs/performance.svg and docs/misses.svg, and the tables of misses into out/bench.md. --quick runs each load once and
+briefly, with 2 workers. --only takes loads whose names have a WORD, and no misses, pauses or redis. --speed takes all but the
+misses, --misses these alone, --segments those of segcached by the size of its segments, which is in no other run. --program names
+another build to measure, --against one of segcached that takes memcached's place: a change for speed is judged by that, and ratios
+above 1 say that the program does more, or takes longer, than the one it is against. Loads with an option that the other build hasn't
+got are left out. --tunables gives the program that is measured another GLIBC_TUNABLES than the units do.
 """
 import argparse
 import datetime
@@ -22,6 +23,7 @@ import sys
 import tempfile
 import textwrap
 
+import beside_redis
 import misses
 import speed
 from served import PROGRAM, TOP, Trouble
@@ -93,11 +95,16 @@ def names_of(words):
 
 
 def speed_parts(load, words):
-    """The table of speed, and two lines behind it; a whole run's picture with --write."""
+    """The table of speed, two lines after it, and the table of redis; a whole run's picture with --write."""
     called = names_of(words)
     names = list(called.values())
     runs = speed.Speed(load, list(called), words.rounds, words.seconds, say)
+    if words.tunables:
+        runs.tunables[words.program] = words.tunables
     loads = [it for it in speed.LOADS if any(word in it.name for word in words.only.split(","))]
+    if words.against:
+        known = said_of([os.path.abspath(words.against), "serve", "--help"]).split()
+        loads = [it for it in loads if set(it.options[::2]) <= set(known)]
     if not loads:
         raise Trouble(f"no load has a name with {words.only}")
     sizes = (2,) if words.quick else (1, 2, 3)
@@ -105,6 +112,8 @@ def speed_parts(load, words):
     parts = [speed.table(results, names)]
     if not words.only:
         parts.append([speed.pause_line(runs.pauses(), called), speed.idle_line(runs.idle(), called)])
+        if not words.against:
+            parts.append(beside_redis.table(beside_redis.rates(words.rounds, words.seconds, runs.shuffled), results))
     if words.write:
         speed.draw(results, names, f"{TOP}/docs/performance.svg")
     return parts
@@ -162,10 +171,11 @@ def read_words():
     parser.add_argument("--seconds", type=float)
     parser.add_argument("--program", default=PROGRAM)
     parser.add_argument("--against")
+    parser.add_argument("--tunables")
     words = parser.parse_args()
     words.rounds = words.rounds or (1 if words.quick else 7)
     words.seconds = words.seconds or (0.5 if words.quick else 0.8)
-    if words.write and (words.quick or words.only or words.segments or words.against or words.program != PROGRAM):
+    if words.write and (words.quick or words.only or words.segments or words.against or words.tunables or words.program != PROGRAM):
         parser.error("--write is for a whole run of the program that stands in crates/segcached/out")
     if words.against and os.path.realpath(words.against) == os.path.realpath(words.program):
         parser.error("--against is for another build than the one that is measured")
@@ -174,7 +184,7 @@ def read_words():
 
 def main():
     words = read_words()
-    missing = [it for it in ("memcached", "gcc", "gnuplot") if not shutil.which(it)]
+    missing = [it for it in ("memcached", "redis-server", "redis-benchmark", "gcc", "gnuplot") if not shutil.which(it)]
     if missing:
         sys.exit(f"bench: install {', '.join(missing)} first, as tools/bench.sh does")
     for program in (words.program, words.against):

@@ -8,11 +8,16 @@
 FILE stands below crates (group/src/run.rt), FUNCTION is a name, or TYPE::NAME in a trait or an impl. A clause's names
 lead to definitions by the imports of its file, and so does each definition. What the kit defines isn't followed. A type
 that is declared in the code is listed, and not followed further: its fields stand there.
+
+The first cells of the page's tables have to name each of these types, each type in a field of one, or in the head of a
+contract's function, that contracts see as another value, and each word of the kit that is cited.
 """
 import argparse
+import glob
 import os
 import re
 import sys
+import textwrap
 from collections import namedtuple
 
 TOP = os.path.dirname(os.path.dirname(os.path.abspath(__file__)))
@@ -88,7 +93,7 @@ class Sources:
         return "\n".join(self.spec(definition.crate, definition.file)[1][first - 1 : definition.last])
 
     def find(self, module, name):
-        """What an imported name is: a definition, a type of the code, or None where the kit has it."""
+        """What an imported name is: a definition, a type of the code, or None if the kit has it."""
         parts = module.split(".")
         if parts[0] != "Rattle" or parts[2:3] != ["specs"] or not os.path.isdir(self.path(parts[1])):
             return None
@@ -102,7 +107,8 @@ class Sources:
         return self.find(*imports[name]) if name in imports else None
 
     def cited(self, text, imports, defined):
-        """The definitions and types that a text names by these imports, or by the definitions of its own file."""
+        """What a text names by these imports, or by the definitions of its own file: each name with the definition or type
+        to which it leads, or None if the kit has it."""
         text = without_comments(text)
         bound = {name for form in BINDERS for names in form.findall(text) for name in names.split()}
         text = re.sub(r"\bpub [\w'«»]+ :", " ", text)
@@ -112,21 +118,21 @@ class Sources:
             if before.endswith("."):
                 alias = re.search(r"\w+(?=\.$)", before)
                 if alias and imports.get(alias[0], ("", ""))[1] is None:
-                    yield self.find(imports[alias[0]][0], name)
+                    yield f"{alias[0]}.{name}", self.find(imports[alias[0]][0], name)
             elif name in imports and imports[name][1] is not None:
-                yield self.find(*imports[name])
+                yield name, self.find(*imports[name])
             elif name in defined and name not in bound:
-                yield defined[name]
+                yield name, defined[name]
 
     def cited_by(self, definition):
         if not definition.first:
             return []
         defined, _, imports = self.spec(definition.crate, definition.file)
         found = self.cited(self.text_of(definition), imports, defined)
-        return [it for it in dict.fromkeys(found) if it and it != definition]
+        return [it for it in dict.fromkeys(found) if it[1] != definition]
 
-    def clauses(self, contract):
-        """The texts of a contract's clauses, and the imports of its file."""
+    def head_and_clauses(self, contract):
+        """The head of a contract's function, the texts of its clauses, and the imports of its file."""
         file, _, function = contract.partition(":")
         text = read(self.path(file))
         owner, _, name = function.rpartition("::")
@@ -135,27 +141,39 @@ class Sources:
         if not start:
             raise Trouble(f"{file} has no {function}")
         at = re.compile(r"\brequires\b|\bensures\b|\{|;$", re.MULTILINE).search(text, start.end()).start()
-        clauses = []
+        head, clauses = text[start.start() : at], []
         while clause := re.compile(r"(?:\s|//.*)*(?:requires|ensures)\b[^{]*\{").match(text, at):
             depth, at = 1, clause.end()
             while depth:
                 depth += {"{": 1, "}": -1}.get(text[at], 0)
                 at += 1
             clauses.append(text[clause.start() : at].strip())
-        return clauses, imports_of(text, "ghost use ")
+        return head, clauses, imports_of(text, "ghost use ")
 
     def closure(self, contracts):
-        """The definitions and types on which contracts rest, in the order in which a reader meets them."""
-        found, waiting = {}, []
+        """The definitions and types on which contracts rest, in the order in which a reader meets them, and the kit's words."""
+        found, words, waiting = {}, {}, []
         for contract in contracts:
-            clauses, imports = self.clauses(contract)
+            _, clauses, imports = self.head_and_clauses(contract)
             waiting += self.cited("\n".join(clauses), imports, {})
         while waiting:
-            definition = waiting.pop(0)
-            if definition and definition not in found:
+            name, definition = waiting.pop(0)
+            if definition is None:
+                words[name] = None
+            elif definition not in found:
                 found[definition] = None
                 waiting += self.cited_by(definition)
-        return [it for it in found if it.first], [it for it in found if not it.first]
+        return [it for it in found if it.first], [it for it in found if not it.first], list(words)
+
+    def seen_as_others(self, contracts, types):
+        """The types in the fields of these types, and in the heads of contracts, that contracts see as another value."""
+        heads = [self.head_and_clauses(contract)[0] for contract in contracts]
+        models = set(re.findall(r"\bimpl(?:<[^{;]*?>)? Model for (\w+)", "\n".join(map(read, glob.glob(self.path("*", "src", "*.rt"))))))
+        for it in types:
+            text = read(self.path(it.crate, "src", f"{it.file}.rt"))
+            body = re.search(rf"\b(?:struct|enum) {it.name}\b.*?(?:^\}}|;$)", text, re.MULTILINE | re.DOTALL)
+            heads.append(without_comments(body[0]))
+        return sorted(models & set(re.findall(r"\w+", "\n".join(heads))))
 
 
 def place_of(definition):
@@ -163,7 +181,7 @@ def place_of(definition):
 
 
 def counts_of(definitions):
-    lines = sum(it.last - it.above + 1 for it in definitions)
+    lines = sum(it.last - it.first + 1 for it in definitions)
     return f"{len(definitions)} definitions in {len(set(map(place_of, definitions)))} files, {lines} lines"
 
 
@@ -172,11 +190,12 @@ def contracts_of(page):
     return re.findall(r"^<!-- contract ([\w/.]+:[\w:]+) -->$", page, re.MULTILINE)
 
 
-# An entry of the page: the names that one sentence explains, in a line of its own, and the texts behind it. Where it
-# explains several, each has the comment of the sources above it.
-ENTRY = re.compile(r"^<!-- ((?:\w+\.\w+\.\S+ ?)+)-->\n(?:\*In .*\*\n\n```text\n(?:.*\n)*?```\n)?", re.MULTILINE)
+# An entry of the page: the names that one paragraph explains, in a line of its own, and the texts after it, without the
+# comments of the sources.
+ENTRY = re.compile(r"^<!-- ((?:\w+\.\w+\.\S+ ?)+)-->\n(?:\*In [^*]*\*\n\n```text\n(?:.*\n)*?```\n)?", re.MULTILINE)
 CONTRACT = re.compile(r"^<!-- contract ([\w/.]+:[\w:]+) -->\n(?:```text\n(?:.*\n)*?```\n)?", re.MULTILINE)
-COUNTS = re.compile(r"^<!-- counts -->\n.*\n", re.MULTILINE)
+COUNTS = re.compile(r"^<!-- counts -->\n(?:.+\n)+", re.MULTILINE)
+FIRST_CELL = re.compile(r"^\|([^|]*)\|", re.MULTILINE)
 
 
 def key_of(definition):
@@ -185,27 +204,33 @@ def key_of(definition):
 
 def filled(page, sources):
     """The page with the texts that the sources have now, and what is wrong with its entries."""
-    definitions, types = sources.closure(contracts_of(page))
+    contracts = contracts_of(page)
+    definitions, types, words = sources.closure(contracts)
     by_key = {key_of(it): it for it in definitions}
     named = [key for match in ENTRY.finditer(page) for key in match[1].split()]
     wrong = [f"{key} stands twice" for key in dict.fromkeys(named) if named.count(key) > 1]
     wrong += [f"{key} has no entry" for key in by_key if key not in named]
     wrong += [f"{key} is no longer cited" for key in named if key not in by_key]
+    listed = {name for cell in FIRST_CELL.findall(page) for name in re.findall(r"`([^`]*)`", cell)}
+    listed_too = [it.name for it in types] + sources.seen_as_others(contracts, types) + words
+    wrong += [f"{name} isn't listed" for name in dict.fromkeys(listed_too) if name not in listed]
 
     def entry(match):
         here = [by_key[key] for key in match[1].split() if key in by_key]
         if not here:
             return match[0]
-        texts = "\n\n".join(sources.text_of(it, with_comment=len(here) > 1) for it in here)
+        texts = "\n\n".join(map(sources.text_of, here))
         places = ", ".join(f"`{it}`" for it in dict.fromkeys(map(place_of, here)))
-        return f"<!-- {match[1].strip()} -->\n*In {places}*\n\n```text\n{texts}\n```\n"
+        return f"<!-- {match[1].strip()} -->\n{textwrap.fill(f'*In {places}*', 100)}\n\n```text\n{texts}\n```\n"
 
     def contract(match):
-        clauses = "\n".join(sources.clauses(match[1])[0])
+        clauses = "\n".join(sources.head_and_clauses(match[1])[1])
         return f"<!-- contract {match[1]} -->\n```text\n{clauses}\n```\n"
 
     page = CONTRACT.sub(contract, ENTRY.sub(entry, page))
     counts = f"{counts_of(definitions)}, over {len(types)} types of the code."
+    if len(contracts) > 1:
+        counts += f"\nThe first contract rests on {counts_of(sources.closure(contracts[:1])[0])}."
     return COUNTS.sub(f"<!-- counts -->\n{counts}\n", page), wrong
 
 
@@ -226,9 +251,9 @@ def main():
             wrong.append(f"{PAGE} has not the texts of the sources: tools/closure.py fill")
         print("\n".join(wrong) or counts_of(sources.closure(contracts_of(page))[0]))
         return bool(wrong)
-    definitions, types = sources.closure(given.contracts or contracts_of(read(path)))
+    definitions, types, _ = sources.closure(given.contracts or contracts_of(read(path)))
     for it in definitions:
-        print(f"crates/{place_of(it)}:{it.above}-{it.last} {it.name}")
+        print(f"crates/{place_of(it)}:{it.first}-{it.last} {it.name}")
         if given.text:
             print(sources.text_of(it, with_comment=True) + "\n")
     for it in types:

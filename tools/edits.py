@@ -15,9 +15,10 @@ import sys
 TOP = os.path.dirname(os.path.dirname(os.path.abspath(__file__)))
 HEAD = """# Wrong bodies
 
-Each is a body that the gate plants and the prover has to refuse: an edit in `crates/CRATE/must-fail`.
-The contract is the one that it turns, as [PROOFS.md](PROOFS.md) names it; the proof that fails may be
-that of a function below it. `tools/edits.py write` makes this page from the edits' first lines.
+Each row is a body that the gate plants and that the prover must refuse. The edit stands in
+`crates/CRATE/must-fail`. The contract is the one that the body violates, as
+[PROOFS.md](PROOFS.md) names it; the proof that fails may be that of a function below it.
+`tools/edits.py write` makes this page from the first lines of the edits.
 """
 
 

@@ -14,7 +14,7 @@ work=$(mktemp -d)
 times_pid=
 trap '[ -z "$times_pid" ] || kill "$times_pid" 2>/dev/null; rm -rf "$work"' EXIT
 
-# Says how far the gate is, behind each line that ends a crate's proof, its tests or its edits.
+# Says how far the gate is, after each line that ends a crate's proof, its tests or its edits.
 with_progress() {
   local crates proved=0 line so_far
   crates=$(grep -cE '^[a-z_0-9]+[^#]*:' crates.txt)

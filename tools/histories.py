@@ -22,7 +22,7 @@ KEYS_AT_A_TIME = 4
 OPERATIONS_OF_KEY = 60
 
 Operation = collections.namedtuple("Operation", "client begin end key verb words answer")
-# A key's value and its cas number: None where there is none, or where nothing has told the number yet. `newest` is the greatest
+# A key's value and its cas number: None if there is none, or if nothing has told the number yet. `newest` is the greatest
 # number that was told.
 State = collections.namedtuple("State", "value number newest")
 
@@ -44,7 +44,7 @@ class Connection:
                 return []
             value = self.file.read(int(head[3]) + 2)[:-2]
             self.file.readline()
-            # (memcached leaves spaces behind a number that got shorter)
+            # (memcached leaves spaces after a number that got shorter)
             return [value.decode().rstrip(), head[4].decode()]
         if verb in ("set", "add", "replace", "cas"):
             value, *number = words
@@ -95,7 +95,7 @@ def record(port, seconds):
 
 
 def next_state(state, operation):
-    """The state behind the operation, or None where it would be answered otherwise."""
+    """The state after the operation, or None if it would be answered otherwise."""
     value, number, newest = state
     verb, words, answer = operation.verb, operation.words, operation.answer
     there = value is not None
@@ -132,7 +132,7 @@ def has_order(operations):
         left = [at for at in range(count) if not done >> at & 1]
         first_end = min(operations[at].end for at in left)
         for at in left:
-            # (one that begins behind the end of another that is left can't come before it)
+            # (one that begins after the end of another that is left can't come before it)
             if operations[at].begin > first_end:
                 break
             after = next_state(state, operations[at])

@@ -5,7 +5,7 @@
 
 Each part serves the program on a free port, does its worst beside a canary (a client whose every answer is checked and timed),
 and says a line. Without --long the parts take about three minutes in all; with it the fuzz alone takes half an hour, unless
---fuzz-seconds says otherwise. Ends with status 0 where nothing was wrong, lost or late.
+--fuzz-seconds says otherwise. Ends with status 0 if nothing was wrong, lost or late.
 """
 import argparse
 import multiprocessing
@@ -26,9 +26,7 @@ import served
 from served import TOP, NotServing, Trouble, read_to_end, reset
 
 PROGRAM = served.PROGRAM
-# What a session leaves behind until the server ends: its number and its end.
-BYTES_A_SESSION = 16
-# (six answers to the canary may take so many seconds)
+# The most seconds that six answers to the canary may take.
 LATE = 1.0
 # (in place of a minute, or of half an hour)
 FUZZ_SECONDS = None
@@ -71,7 +69,7 @@ class Client:
         return self.ask(b"%s %s 0 0 %d%s\r\n%s" % (verb, key, len(value), tail, value))
 
     def get(self, key, verb=b"get"):
-        """The value, or the value and the cas number for `gets`; None where there is none."""
+        """The value, or the value and the cas number for `gets`; None if there is none."""
         self.send(b"%s %s\r\n" % (verb, key))
         head = self.line()
         if head == b"END":
@@ -82,7 +80,7 @@ class Client:
             self.more()
         value, rest = self.unread[:length], self.unread[length:]
         if not rest.startswith(b"\r\nEND\r\n"):
-            raise Trouble(f"behind a value came {rest[:20]!r}")
+            raise Trouble(f"after a value came {rest[:20]!r}")
         self.unread = rest[7:]
         return (value, int(words[4])) if verb == b"gets" else value
 
@@ -280,8 +278,8 @@ def fuzz(is_long):
         grown, opened = server.kilobytes("VmRSS") - settled[0], crowd.opened - settled[1]
         crowd.close()
         said = canary.stop()
-        # Each session that was opened leaves its end in its worker's report.
-        if grown > 16 * 1024 + opened * BYTES_A_SESSION // 1024:
+        # (a session that has gone leaves nothing)
+        if grown > 16 * 1024:
             raise Trouble(f"memory grew by {grown} kB in the last three quarters, with {opened} sessions; {said}")
         return f"{sent // 1024} kB of bad bytes, memory grew by {grown} kB with {opened} sessions; {said}"
 
@@ -386,7 +384,7 @@ REFUSED = b"SERVER_ERROR out of memory\r\n"
 
 
 def refused_session(name):
-    """A session's requests, each with the answers that it may be given where one request for memory was refused."""
+    """A session's requests, each with the answers that it may be given if one request for memory was refused."""
     value = b"v" * 480
     stored, hit = b"STORED\r\n", b"VALUE %s 0 480\r\n%s\r\n" % (name, value)
     return [
@@ -402,7 +400,7 @@ def refused_session(name):
 
 
 def check_refused(session, got):
-    """Whether the session was served whole, told of want of memory, or cut; anything else is trouble."""
+    """Whether the session was served whole, told that memory is out, or cut; anything else is trouble."""
     was_told = False
     for request, answers in session:
         whole = [it for it in [*answers, REFUSED] if got.startswith(it)]
@@ -413,7 +411,7 @@ def check_refused(session, got):
         was_told |= whole[0] not in answers[:1]
         got = got[len(whole[0]) :]
     if got:
-        raise Trouble(f"behind all answers came {got[:60]!r}")
+        raise Trouble(f"after all answers came {got[:60]!r}")
     return "a session told" if was_told else "sessions whole"
 
 
@@ -451,13 +449,13 @@ def answers_to(server, session):
 
 
 def one_refusal(environment):
-    """What came of a run of two sessions."""
+    """How a run of two sessions ended."""
     found = []
     try:
         with serve("--sessions", "2", "--workers", "1", "--segments", "8", "--segment-size", "4096", environment=environment) as server:
             for session in map(refused_session, (b"a", b"b")):
                 found.append(check_refused(session, answers_to(server, session)))
-            status, fault = server.wait(30), server.process.stderr.read()
+            status, fault = server.wait(30), server.errors()
             # (it may have ended with a fault)
             server.stop()
     except NotServing as ended:
@@ -515,8 +513,8 @@ def large_use(is_long):
 
         together(server, 60, fill)
         resident = server.kilobytes("VmRSS")
-        # (a 32nd of the segments for the marks, at most three slots of 4 bytes an item for the index, and 32 MiB for merges, workers and program)
-        most = segments * 1024 * (1 + 1 / 32 + 12 / size) + 32768
+        # (a 256th of the segments for the marks, at most three slots of 4 bytes an item for the index, and 32 MiB for merges, workers and program)
+        most = segments * 1024 * (1 + 1 / 256 + 12 / size) + 32768
         if resident > most:
             raise Trouble(f"{resident} kB of memory, and at most {most:.0f} were said")
         return f"{8 * writes} values of {size} bytes into {segments} MiB, {sum(found)} old ones found and right, {resident // 1024} MiB of memory"
@@ -524,7 +522,7 @@ def large_use(is_long):
 
 def shared_counters(is_long):
     """Eight clients count, compare and swap, and add on shared keys: what was acknowledged is what is there."""
-    # (so many rounds of at most 200 bytes that the segments forget nothing)
+    # (the rounds are at most as many, with at most 200 bytes each, as evict nothing from the segments)
     seconds, most = (60, 60_000) if is_long else (10, 30_000)
     with serve("--workers", "3", "--segment-size", "1048576", "--segments", "128") as server:
         setup = Client(server)
@@ -571,13 +569,13 @@ def press(server, chance):
         else:
             peer.sendall(b"set half 0 0 131072\r\n" + b"h" * 131000)
     except OSError:
-        # (the server may have closed it for want of memory, or reads no more of it)
+        # (the server may have closed it since memory is out, or reads no more of it)
         pass
     return peer
 
 
 def pressed_session(server, number):
-    """Whether a session was served to its end; a wrong answer is trouble, want of memory isn't."""
+    """Whether a session was served to its end; a wrong answer is trouble, out of memory isn't."""
     refused = b"SERVER_ERROR out of memory"
     try:
         client = Client(server)

@@ -1,15 +1,15 @@
 // A load for servers of the memcached text protocol, which measures requests a second and latencies.
 //
 //   load HOST PORT [--connections N] [--threads N] [--pipeline N] [--seconds S] [--reads N] [--keys N] [--value BYTES]
-//                  [--sets PERCENT] [--many KEYS] [--zipf EXPONENT] [--rate R] [--fill] [--through] [--lives] [--seed N]
+//                  [--sets PERCENT] [--many KEYS] [--zipf EXPONENT] [--rate R] [--fill] [--through] [--ttls] [--seed N]
 //
-// Each connection keeps a pipeline of requests on its way: it sends so many in one piece, reads all their answers, and sends
-// the next. A latency is the time from that send to the last byte of the request's answer. Each answer is checked: its keys are
+// Each connection keeps a pipeline of requests on its way: it sends them in one piece, reads all their answers, and sends
+// the next ones. A latency is the time from that send to the last byte of the request's answer. Each answer is checked: its keys are
 // those that were asked, in order, and each value is the one that its key has to hold. --fill writes each key once and measures
-// nothing. --many asks so many keys in one get. --rate sends so many requests a second in all, evenly, in place of as many as
-// can be. --through writes each key that was missed, as a client of a cache does: at the front of the next pipeline, beyond its
-// number of requests and their rate. --lives writes half of the keys with a life of 60 seconds, three tenths with 600. --reads
-// ends after so many keys were asked, in place of after some seconds; one connection asks the same keys in the same order each
+// nothing. --many asks for this number of keys in one get. --rate sends this number of requests a second in all, evenly, in place
+// of as many as can be. --through writes each key that was missed, as a client of a cache does: at the front of the next pipeline, beyond its
+// number of requests and their rate. --ttls writes half of the keys with a TTL of 60 seconds, three tenths with 600. --reads
+// ends after this number of keys was asked, in place of after some seconds; one connection asks the same keys in the same order each
 // time. The last line is of words NAME=FIGURE; `busy` is the share of the time that the threads ran: near 1 the load itself is
 // what limits.
 #define _GNU_SOURCE
@@ -36,7 +36,7 @@ struct options {
     int port, connections, threads, pipeline, many, sets, keys, value, seed;
     double seconds, rate, zipf;
     long reads;
-    bool fill, through, lives;
+    bool fill, through, ttls;
 };
 
 static struct options options = {
@@ -45,7 +45,7 @@ static struct options options = {
 
 enum { MOST_LATENCIES = 1 << 20, LETTERS = 26, TAILS = 10, KEY_LENGTH = 11, LONGEST_KEY = 32 };
 
-// What memcached answers to a set now and then, where all the items that it could let go are in use: it is counted.
+// What memcached answers to a set now and then, if all the items that it could let go are in use: it is counted.
 #define REFUSED "SERVER_ERROR out of memory storing object\r\n"
 
 // What is asked, and how its answer is read.
@@ -79,7 +79,7 @@ struct worker {
 static struct connection *connections;
 static double *zipf_sums;
 static char *values;                // for each letter the value that is full of it, with its line's end
-static char tails[TAILS][32];       // by a key's last digit what stands behind the key in its set: flags, life and length
+static char tails[TAILS][32];       // by a key's last digit what follows the key in its set: flags, TTL and length
 static volatile bool is_over;
 
 static double now(void) {
@@ -127,8 +127,8 @@ static void make_values(void) {
 }
 
 static void make_tails(void) {
-    static const int lives[TAILS] = {60, 600, 60, 0, 60, 600, 60, 0, 60, 600};
-    for (int i = 0; i < TAILS; i++) sprintf(tails[i], " 0 %d %d\r\n", options.lives ? lives[i] : 0, options.value);
+    static const int ttls[TAILS] = {60, 600, 60, 0, 60, 600, 60, 0, 60, 600};
+    for (int i = 0; i < TAILS; i++) sprintf(tails[i], " 0 %d %d\r\n", options.ttls ? ttls[i] : 0, options.value);
 }
 
 // The key's name: "key-" and seven digits.
@@ -163,7 +163,7 @@ static void add_get(struct connection *c, int key) {
     add(c, "\r\n", 2);
 }
 
-// The next request of a connection. False where nothing is left.
+// The next request of a connection. False if nothing is left.
 static bool next_request(struct worker *w, struct connection *c, struct request *r) {
     if (options.fill) {
         if (c->next_fill >= c->end_fill) return false;
@@ -179,7 +179,7 @@ static void ask(struct connection *c, struct request r) {
     c->asked[c->waiting++] = r;
 }
 
-// Writes the next pipeline into the buffer, behind what was missed in the last one. False where there is nothing left to ask.
+// Writes the next pipeline into the buffer, after what was missed in the last one. False if there is nothing left to ask.
 static bool make_pipeline(struct worker *w, struct connection *c) {
     struct request next;
     c->out_length = c->out_sent = 0;
@@ -194,7 +194,7 @@ static bool can_be(const char *in, size_t length, const char *text, size_t text_
     return !memcmp(in, text, length < text_length ? length : text_length);
 }
 
-// The length of one VALUE with its block, 0 where it isn't whole yet, or -1 where it is none; `nth` becomes the number of its
+// The length of one VALUE with its block, 0 if it isn't whole yet, or -1 if it is none; `nth` becomes the number of its
 // key in the request, which has to be `*nth` or a later one.
 static long value_length(const struct request *r, const char *in, size_t length, int *nth) {
     size_t head = 6 + KEY_LENGTH;
@@ -213,7 +213,7 @@ static long value_length(const struct request *r, const char *in, size_t length,
     return memcmp(in + value, value_of((r->first_key + *nth) % options.keys), size) ? -1 : (long)(value + size);
 }
 
-// The length of the answer that the bytes begin with, 0 where it isn't whole yet, or -1 where it is none.
+// The length of the answer that the bytes begin with, 0 if it isn't whole yet, or -1 if it is none.
 static long answer_length(struct worker *w, struct connection *c, const struct request *r, const char *in, size_t length) {
     if (r->is_set) {
         if (can_be(in, length, REFUSED, sizeof REFUSED - 1)) {
@@ -245,7 +245,7 @@ static void note_latency(struct worker *w, double seconds) {
     if (place < MOST_LATENCIES) w->latencies[place] = (uint32_t)(seconds * 1e6);
 }
 
-// Reads what came. False where the server went away or answered what it must not.
+// Reads what came. False if the server went away or answered what it must not.
 static bool read_answers(struct worker *w, struct connection *c) {
     ssize_t got = recv(c->fd, c->in + c->in_length, c->in_room - c->in_length, 0);
     if (got == 0) return false;
@@ -404,7 +404,7 @@ static void read_words(int count, char **words) {
         const char *word = words[i], *next = words[i + 1];
         if (!strcmp(word, "--fill")) options.fill = true;
         else if (!strcmp(word, "--through")) options.through = true;
-        else if (!strcmp(word, "--lives")) options.lives = true;
+        else if (!strcmp(word, "--ttls")) options.ttls = true;
         else if (!strcmp(word, "--zipf")) options.zipf = fraction(word, next, 10), i++;
         else if (!strcmp(word, "--connections")) options.connections = number(word, next, 1, 20000), i++;
         else if (!strcmp(word, "--threads")) options.threads = number(word, next, 1, 64), i++;

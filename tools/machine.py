@@ -13,7 +13,7 @@ import sys
 
 TOP = os.path.dirname(os.path.dirname(os.path.abspath(__file__)))
 KIT = f"{TOP}/tools/kit.txt"
-# What the proof of a crate may take, in gigabytes, where nothing is kept.
+# What the proof of a crate may take, in gigabytes, if nothing is kept.
 GIGABYTES_A_PROOF = 4.5
 # Where the free memory of the machine stands, and the limit of a control group beside the line of what it uses, by both versions of such groups.
 MEMORY = "/proc/meminfo"
@@ -34,7 +34,7 @@ def processors():
 
 
 def number_in(path, word=""):
-    """The number behind a word at a line's start, or None where there is no such file or no number in it."""
+    """The number after a word at a line's start, or None if there is no such file or no number in it."""
     try:
         with open(path, encoding="ascii") as file:
             found = re.search(rf"^{word}\W*(\d+)", file.read(), re.MULTILINE)
@@ -80,7 +80,7 @@ def at_once():
 
 
 def stop_where_lacking(*lacking):
-    """Ends the program with status 1 and one line where one of these says what is lacking."""
+    """Ends the program with status 1 and one line if one of these says what is lacking."""
     for said in lacking:
         if said:
             sys.exit(f"segcached: {said}")

@@ -1,10 +1,10 @@
 """Misses of segcached and memcached at equal resident memory: for tools/bench.py, which says the words.
 
 A client reads keys by Zipf's law and writes each that it missed. All keys with their values have some times as many bytes as the
-memory, so no server keeps them all. memcached (of Debian, with its own defaults) gets an -m with which so much is resident as the point
-says; segcached gets the most segments with which it has no more resident than memcached, once each server was filled with all
+memory, so no server keeps them all. memcached (of Debian, with its own defaults) gets an -m with which the point's memory is
+resident; segcached gets the most segments with which it has no more resident than memcached, once each server was filled with all
 keys. Then both are warmed by a number of reads, and a further number is counted: of reads, not of seconds, so a slow machine
-counts the same misses. Where keys have lives the clock counts too, and both servers are read at one fixed rate.
+counts the same misses. If keys have TTLs the clock counts too, and both servers are read at one fixed rate.
 """
 import concurrent.futures
 import dataclasses
@@ -17,9 +17,9 @@ from served import OnPort, Server, Trouble, free_port
 
 MIB = 1 << 20
 KEY_BYTES, HEAD_BYTES = 11, 24
-# What is read for warming and what is counted: so many times the keys, and no fewer than so many.
+# How many reads warm and how many are counted, as multiples of the number of keys, and the least number of reads.
 WARMED, COUNTED, LEAST = 4, 2, 1_000_000
-# Where keys have lives: reads a second, and the seconds of warming and of counting.
+# If keys have TTLs: reads a second, and the seconds of warming and of counting.
 RATE, WARM_SECONDS, COUNT_SECONDS = 60_000, 100, 40
 SEGMENT_SIZE = 64 << 10
 MEMORIES, VALUES, EXPONENTS = (32, 64, 128), (100, 300, 1000), (0.8, 0.99)
@@ -38,7 +38,7 @@ class Point:
     value: int
     zipf: float
     times: float = TIMES
-    lives: bool = False
+    ttls: bool = False
     sets: int = 0
     segment_size: int = SEGMENT_SIZE
 
@@ -54,12 +54,12 @@ class Point:
     def words(self):
         """The load's words."""
         asked = ["--through", "--zipf", self.zipf, "--threads", 1, "--pipeline", 256, "--keys", self.keys, "--value", self.value]
-        asked += ["--sets", self.sets, "--connections", 4 if self.lives else 1]
-        return asked + (["--lives", "--rate", RATE] if self.lives else [])
+        asked += ["--sets", self.sets, "--connections", 4 if self.ttls else 1]
+        return asked + (["--ttls", "--rate", RATE] if self.ttls else [])
 
     def reads(self):
         """How many reads warm, and how many are counted."""
-        if self.lives:
+        if self.ttls:
             return RATE * WARM_SECONDS, RATE * COUNT_SECONDS
         return max(WARMED * self.keys, LEAST), max(COUNTED * self.keys, LEAST)
 
@@ -75,15 +75,15 @@ class Side:
 
 
 def curve():
-    """The points of the picture, those with fewer and with more keys, and those with lives."""
+    """The points of the picture, those with fewer and with more keys, and those with TTLs."""
     plain = [Point(memory, value, zipf) for zipf in EXPONENTS for value in VALUES for memory in MEMORIES]
     others = [Point(32, value, 0.99, times) for value in VALUES for times in OTHER_TIMES]
-    return plain, others, [Point(64, value, 0.99, lives=True, segment_size=MIB) for value in (100, 1000)]
+    return plain, others, [Point(64, value, 0.99, ttls=True, segment_size=MIB) for value in (100, 1000)]
 
 
 def segment_points():
     """The points that tell which size of a segment misses least."""
-    kinds = ({"memory": 32}, {"memory": 32, "sets": 30}, {"memory": 64, "lives": True})
+    kinds = ({"memory": 32}, {"memory": 32, "sets": 30}, {"memory": 64, "ttls": True})
     return [Point(value=value, zipf=0.99, **kind, segment_size=size) for kind in kinds for value in (100, 1000) for size in SEGMENT_SIZES]
 
 
@@ -123,7 +123,7 @@ class Misses:
         megabytes = point.memory - 5 - point.memory // 32
         budget = self.filled(self.memcached(megabytes), point)
         segment = point.segment_size / MIB
-        taken = segment * (1 + 1 / 32 + 12 / (HEAD_BYTES + KEY_BYTES + point.value))
+        taken = segment * (1 + 1 / 256 + 12 / (HEAD_BYTES + KEY_BYTES + point.value))
         segments, most = int(0.85 * budget / taken), math.inf
         for _ in range(6):
             over = self.filled(self.segcached(point, segments), point) - budget
@@ -161,13 +161,13 @@ class Misses:
         return side
 
     def each(self, run, points):
-        """By point, what came of running it: those at a fixed rate all at once, beside the others, of which the longest go first."""
+        """By point, the result of its run: those at a fixed rate all at once, beside the others, of which the longest go first."""
         stores = sorted({it.store for it in points}, key=lambda it: -it.keys)
         order = sorted(points, key=lambda it: -it.keys)
         pool = concurrent.futures.ThreadPoolExecutor
         with pool(self.at_once) as busy, pool(len(points)) as timed:
             sizes = dict(zip(stores, busy.map(self.fit, stores)))
-            runs = {it: (timed if it.lives else busy).submit(run, it, sizes[it.store]) for it in order}
+            runs = {it: (timed if it.ttls else busy).submit(run, it, sizes[it.store]) for it in order}
             return {it: ran.result() for it, ran in runs.items()}
 
 
@@ -192,7 +192,7 @@ def table(points, results):
     ]
     for point in points:
         sides = results[point]
-        cells = [str(point.memory), f"{point.value:,}", f"{point.zipf:g}" + (", with lives" if point.lives else ""), f"{point.keys:,} ({point.times:g})"]
+        cells = [str(point.memory), f"{point.value:,}", f"{point.zipf:g}" + (", with TTLs" if point.ttls else ""), f"{point.keys:,} ({point.times:g})"]
         cells += [pair(sides, lambda it: it.size), pair(sides, lambda it: f"{it.resident:.1f}"), pair(sides, lambda it: f"{it.missed:.2f}")]
         rows.append("| " + " | ".join([*cells, f"{ratio(sides):.2f}"]) + " |")
     return rows
@@ -200,20 +200,20 @@ def table(points, results):
 
 def least_held(sides):
     """The least share of the fixed rate that one of these kept."""
-    return f"With lives each server kept at least {min(it.rate for it in sides) / RATE:.1%} of the rate of {RATE:,} reads a second."
+    return f"With TTLs each server kept at least {min(it.rate for it in sides) / RATE:.1%} of the rate of {RATE:,} reads a second."
 
 
 def conditions(results):
     """What the tables don't say of the runs."""
-    held = least_held([side for point, sides in results.items() if point.lives for side in sides])
-    return f"segcached has segments of {SEGMENT_SIZE >> 10} KiB, and of 1 MiB with lives. {held}"
+    held = least_held([side for point, sides in results.items() if point.ttls for side in sides])
+    return f"segcached has segments of {SEGMENT_SIZE >> 10} KiB, and of 1 MiB with TTLs. {held}"
 
 
 def ratios(results):
     """The ratios in a line, from the least to the greatest of each kind of point."""
     kinds = {}
     for point, sides in results.items():
-        name = f"{point.value:,} bytes{', with lives' if point.lives else ''}" if point.times == TIMES else f"keys of {point.times:g} times the memory"
+        name = f"{point.value:,} bytes{', with TTLs' if point.ttls else ''}" if point.times == TIMES else f"keys of {point.times:g} times the memory"
         kinds.setdefault(name, []).append(ratio(sides))
     said = [f"{name} {min(it):.2f}" + (f" to {max(it):.2f}" if len(it) > 1 else "") for name, it in kinds.items()]
     return f"segcached's misses beside memcached's: {'; '.join(said)}."
@@ -226,10 +226,10 @@ def segment_table(points, results):
     for at in range(0, len(points), len(SEGMENT_SIZES)):
         row = points[at : at + len(SEGMENT_SIZES)]
         name = f"{row[0].memory} MiB, {row[0].value:,} bytes" + (f", {row[0].sets} of 100 are writes" if row[0].sets else "")
-        name += ", with lives" if row[0].lives else ""
+        name += ", with TTLs" if row[0].ttls else ""
         cells = [f"{results[it].missed:.2f} ({results[it].size} segments, {results[it].resident:.1f} MiB)" for it in row]
         rows.append(f"| {name} | " + " | ".join(cells) + " |")
-    return [*rows, "", least_held([results[it] for it in points if it.lives])]
+    return [*rows, "", least_held([results[it] for it in points if it.ttls])]
 
 
 def panel(zipf, results, folder):

@@ -1,11 +1,12 @@
 #!/usr/bin/python3
-"""Other people's suites against the proved program: memcached's own tests, pymemcache's, memccapable, those of Cache::Memcached::Fast.
+"""Other people's suites against the proved program: memcached's own tests, pymemcache's, memccapable, those of Cache::Memcached::Fast; and
+a limit of requests a minute by limits, on which Flask-Limiter stands.
 
     tools/peers.py [--program PROGRAM] [--only SUITE] [--show]
 
-Their sources come by apt-get into out/peers. What fails has to be what tools/peers/expected lists, each below the sentence of
-docs/CLIENTS.md or docs/OPERATIONS.md that tells it; --show prints what failed in that file's form. The last line is 'N passed, M failed as
-the documents say, K otherwise'.
+The program serves them with the package's options. Their sources come by apt-get into out/peers. What fails has to be what
+tools/peers/expected lists, each below the sentence of docs/CLIENTS.md or docs/OPERATIONS.md that tells it; --show prints what failed in that
+file's form. The last line is 'N passed, M failed as the documents say, K otherwise'.
 """
 import argparse
 import contextlib
@@ -22,25 +23,29 @@ from served import PROGRAM, TOP, Server
 HERE = f"{TOP}/tools/peers"
 WORK = f"{TOP}/out/peers"
 SOURCES = ["memcached", "libcache-memcached-fast-perl"]
-PACKAGES = """libmemcached-tools python3-pymemcache python3-pytest libcache-memcached-fast-perl libtest2-suite-perl perl""".split()
+PACKAGES = """libmemcached-tools python3-pymemcache python3-pytest python3-limits libcache-memcached-fast-perl libtest2-suite-perl perl""".split()
 # Those of memcached's tests that speak of the commands that there are.
 OF_MEMCACHED = """bogus-commands cas evictions expirations flags flush-all getset incrdecr issue_104 issue_108 issue_14 issue_152
     issue_163 issue_183 issue_192 issue_22 issue_29 issue_42 issue_68 issue_70 lru malicious-commands multiversioning noreply quit""".split()
+# The options of the package, but for the numbers of workers and segments.
+OPTIONS = ["--lenient", "--counters-in-place", "--segment-size", "1048576"]
 OF_PYMEMCACHE = "/usr/lib/python3/dist-packages/pymemcache/test/test_integration.py"
 OF_FAST = """big-value commands flush-all magic malformed namespace noreply nowait serialize utf8""".split()
-# So long one file of tests may take.
-SECONDS = 120
+# The most seconds that one file of tests may take, and the test of a limit, which asks for two minutes.
+SECONDS, LIMIT_SECONDS = 120, 150
+# The most of 400 requests in two minutes that a limit of 100 a minute may let through: a counter of a minute ends up to 11 seconds early.
+MOST_PASSED = 230
 
 
 class Trouble(Exception):
     """Why the suites can't be run."""
 
 
-def run(words, **how):
-    """What a command said; servers that it left behind are ended with it."""
+def run(words, seconds=SECONDS, **how):
+    """What a command said; servers that it didn't end are ended with it."""
     process = subprocess.Popen(words, stdout=subprocess.PIPE, stderr=subprocess.PIPE, text=True, errors="replace", start_new_session=True, **how)
     try:
-        said, faults = process.communicate(timeout=SECONDS)
+        said, faults = process.communicate(timeout=seconds)
         return subprocess.CompletedProcess(words, process.returncode, said, faults)
     finally:
         with contextlib.suppress(ProcessLookupError):
@@ -109,16 +114,16 @@ def fast(program):
     tests, results = unpack("libcache-memcached-fast-perl"), {}
     shutil.copy(f"{HERE}/Memd.pm", tests)
     for name in OF_FAST:
-        with Server(program, "--segment-size", "1048576") as server:
+        with Server(program, *OPTIONS) as server:
             environment = {**os.environ, "PORT": str(server.port)}
             results.update(of_tap(f"fast/{name}.t", ["perl", f"t/{name}.t"], cwd=os.path.dirname(tests), env=environment))
     return results
 
 
 def pymemcache(program):
-    """Its integration tests, as the package has them; one with several clients passes where it does with each."""
+    """Its integration tests, as the package has them; one with several clients passes if it does with each."""
     results = {}
-    with Server(program, "--segment-size", "1048576") as server:
+    with Server(program, *OPTIONS) as server:
         words = ["/usr/bin/python3", "-B", "-m", "pytest", "-p", "no:cacheprovider", "--tb=no", "-rA"]
         # (the package lacks the certificates of the one over TLS)
         words += [OF_PYMEMCACHE, "-k", "not tls", "--server", "127.0.0.1", "--port", str(server.port)]
@@ -131,7 +136,7 @@ def pymemcache(program):
 def memccapable(program):
     """Its text part: each line begins with a test, and what went wrong may stand before the verdict."""
     results, name = {}, None
-    with Server(program) as server:
+    with Server(program, *OPTIONS) as server:
         words = ["sh", "-c", 'memccapable -h 127.0.0.1 -p "$0" -a -t 5 2>&1', str(server.port)]
         for line in run(words).stdout.splitlines():
             name = line[6:40].strip().replace(" ", "_") if line.startswith("ascii ") else name
@@ -141,7 +146,15 @@ def memccapable(program):
     return results
 
 
-SUITES = {"memcached": memcached, "fast": fast, "pymemcache": pymemcache, "memccapable": memccapable}
+def limits(program):
+    """A limit of 100 requests a minute holds."""
+    with Server(program, *OPTIONS) as server:
+        said = run(["/usr/bin/python3", "-B", f"{TOP}/tools/clients/limits_calls.py", str(server.port)], LIMIT_SECONDS).stdout
+    print(f"limits: {said.strip()} of 400 requests passed")
+    return {"limits/100_a_minute": said.strip().isdigit() and 200 <= int(said) <= MOST_PASSED}
+
+
+SUITES = {"memcached": memcached, "fast": fast, "pymemcache": pymemcache, "memccapable": memccapable, "limits": limits}
 
 
 def numbers_of(word):
@@ -152,7 +165,7 @@ def numbers_of(word):
 
 
 def read_expected():
-    """By test its sentence, where each stands in its page."""
+    """By test its sentence; each has to stand in its page."""
     expected, sentence, pages = {}, None, {}
     for page in ("CLIENTS", "OPERATIONS"):
         with open(f"{TOP}/docs/{page}.md", encoding="utf-8") as file:

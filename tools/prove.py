@@ -2,7 +2,7 @@
 """Proves segcached and the crates that it stands on, and builds it as crates/segcached/out/segcached.
 
     tools/prove.py          with a line for each crate that is proved
-    tools/prove.py --kept   proves nothing: status 0 where the program was built so, and nothing that it is built of has changed since
+    tools/prove.py --kept   proves nothing: status 0 if the program was built so, and nothing that it is built of has changed since
 
 It calls the prover for each crate once those below it are proved, as many side by side as there are processors and memory for. The crates
 from which the way to the program takes longest get several processes, and the others yield to them. What is proved stands in out/proofs: after an
@@ -32,22 +32,22 @@ PROOFS = f"{TOP}/out/proofs"
 LIBRARIES = f"{PROOFS}/libraries"
 # What of a crate isn't a part of its proof or of its stored run.
 IGNORED = ("out", "must-fail")
-# A crate that no run of the gate has measured is taken to need half a minute, and one more for so many lines.
+# A crate that no run of the gate has measured is taken to need half a minute, and one more for each of these numbers of lines.
 LINES_A_MINUTE = 2500
-# From a crate the way is near the longest one where it is shorter by at most such a share of the longest of all. Such a crate is proved by several
-# processes, which is so much faster, while its way is longer than another share: behind that few crates stand above it, and its library without its
-# proofs saves them more.
+# From a crate the way is near the longest one if it is shorter by at most this share of the longest of all. Such a crate is proved by several
+# processes, which is faster by this factor, while its way is longer than another share: after that few crates stand above it, and its library without
+# its proofs saves them more.
 NEAR = 0.15
 JOBS = 2
 FASTER = 1.5
 LAST = 0.3
-# The other crates yield by so much (nice).
+# The nice value of the other crates.
 NICE = 10
-# For the estimate: where all processors have work, so much of their time is used.
+# For the estimate: the share of the processors' time that is used while all of them have work.
 SHARE_USED = 0.9
-# Of what the prover says of a crate that isn't proved so many characters are shown, the last ones.
+# How many of the last characters of what the prover says of a crate that isn't proved are shown.
 SHOWN = 3000
-# So many seconds lie between two looks at what runs.
+# The seconds between two looks at what runs.
 EVERY = 0.2
 # The status after an interrupt.
 INTERRUPTED = 130
@@ -101,7 +101,7 @@ def sum_of_sources(name):
 
 
 def record():
-    """A sum of all that the program is built of, and one of the program; None where there is none."""
+    """A sum of all that the program is built of, and one of the program; None if there is none."""
     if not os.path.exists(PROGRAM):
         return None
     return f"sources {sum_of_sources(NAME)}\nprogram {sum_of_file(PROGRAM)}\n"
@@ -205,8 +205,8 @@ def kit_folder():
 
 @dataclasses.dataclass(frozen=True)
 class How:
-    """How a crate is proved: by so many processes, and so much nicer than others. Where work is kept each process reads the libraries, and proves some
-    functions at a time; the library that comes of it holds its proofs. Else the processes are copies of one that has read them, which is faster where
+    """How a crate is proved: by how many processes, and with which nice value. If work is kept, each process reads the libraries, and proves some
+    functions at a time; the library that comes of it holds its proofs. Else the processes are copies of one that has read them, which is faster if
     there is little to read, and the library holds what it states alone, which is read faster."""
 
     processes: int
@@ -281,12 +281,17 @@ class Proof:
         self.ran.wait()
 
 
-def how_to_prove(name, crates, ways, longest):
-    """How to prove a crate that is ready, where the longest way that is left is so long."""
-    whole = max(ways.values())
+def is_waited_for(name, crates, ways, proved):
+    """Whether all other crates that are left stand on this one, so that nothing can be proved beside it."""
+    return all(name in with_those_below(crates, it) for it in ways if it not in proved)
+
+
+def how_to_prove(name, crates, ways, proved):
+    """How to prove a crate that is ready."""
+    whole, longest = max(ways.values()), max(way for it, way in ways.items() if it not in proved)
     is_near = longest - ways[name] <= NEAR * whole
     nice = 0 if is_near else NICE
-    if name == NAME or not crates[name]:
+    if is_waited_for(name, crates, ways, proved) or not crates[name]:
         return How(machine.processors(), False, nice)
     processes = min(JOBS, machine.processors()) if is_near and ways[name] > LAST * whole else 1
     return How(processes, processes > 1, nice)
@@ -294,15 +299,13 @@ def how_to_prove(name, crates, ways, longest):
 
 def to_start(crates, ways, proved, running):
     """The crates to start now, those with the longest way first, and how to prove each."""
-    left = [name for name in ways if name not in proved]
-    longest = max(map(ways.get, left), default=0)
-    ready = [name for name in left if name not in running and proved.issuperset(crates[name])]
+    ready = [name for name in ways if name not in proved and name not in running and proved.issuperset(crates[name])]
     chosen = sorted(ready, key=ways.get, reverse=True)[: machine.at_once() - len(running)]
-    return [(name, how_to_prove(name, crates, ways, longest)) for name in chosen]
+    return [(name, how_to_prove(name, crates, ways, proved)) for name in chosen]
 
 
 def prove_side_by_side(crates, proved, progress, interrupts):
-    """Proves the crates that are left, and gives the name of one that isn't proved, if there is one. It ends early where a signal was added to interrupts."""
+    """Proves the crates that are left, and gives the name of one that isn't proved, if there is one. It ends early if a signal was added to interrupts."""
     prover, ways, running = Prover(kit_folder()), ways_to_the_top(crates, dict(progress.left)), {}
     try:
         while progress.left and not interrupts:
@@ -326,7 +329,7 @@ def prove(interrupts):
     """Proves what isn't proved yet, and gives the status."""
     crates = read_crates()
     names = with_those_below(crates, NAME)
-    # The program is linked behind its proof, so it is proved anew where it isn't kept.
+    # The program is linked after its proof, so it is proved anew if it isn't kept.
     proved = {name for name in names - {NAME} if is_proved(name)}
     progress = Progress(crates, names, proved)
     refused = prove_side_by_side(crates, proved, progress, interrupts)

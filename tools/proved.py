@@ -2,10 +2,10 @@
 """Writes and checks the record of what the built segcached was proved from: crates/segcached/out/PROVED.
 
     tools/proved.py write --log FILE [--alone]   after the program was built; FILE is what `rt ci` said, or tools/prove.py of the program's crates alone
-    tools/proved.py check [PROGRAM]              ends with a line and status 1 where the program can't be packaged
+    tools/proved.py check [PROGRAM]              ends with a line and status 1 if the program can't be packaged
 
 The record holds for one program, by its sha256, and for one state of the repository's files, by the sum that git gives
-them. Of a crate it has the prover's line, or that of rt, where an earlier run on the machine proved it.
+them. Of a crate it has the prover's line, or that of rt, if an earlier run on the machine proved it.
 """
 import argparse
 import hashlib
@@ -55,7 +55,7 @@ def commit_of(files):
 
 
 def verdicts_of_log(path):
-    """By crate, what a run said of its proof, and behind them all its last line."""
+    """By crate, what a run said of its proof, and after them all its last line."""
     verdicts, crate = {}, None
     with open(path, encoding="utf-8", errors="replace") as file:
         lines = file.read().splitlines()

@@ -1,7 +1,8 @@
 """Which lines of a client's stream segcached would refuse, and why. `tools/script_of.py refused` counts them.
 
-The stream is cut into lines and data blocks as memcached does it, which is more lenient; each line is then held against
-segcached's own rules (docs/CLIENTS.md). A line that memcached refuses as well is counted, too.
+The stream is cut into lines and data blocks as memcached does it, which takes more than segcached; each line is then held
+against segcached's own rules (docs/CLIENTS.md), those of `serve --lenient` if asked. A line that memcached refuses as well is
+counted, too.
 """
 import collections
 import re
@@ -12,7 +13,7 @@ NUMBER = rb"(?:0|[1-9][0-9]*)"
 TEN_DIGITS = rb"(?:0|[1-9][0-9]{0,9})"
 QUIET = rb"(?: noreply)?"
 STORAGE = rb"(?P<key>%b) (?P<flags>%b) (?:0|-?[1-9][0-9]{0,9}) (?P<size>%b)" % (KEY, NUMBER, TEN_DIGITS)
-# What may stand behind each command's word.
+# What may follow each command's word.
 FORMS = {
     b"get": rb"(?: %b)+" % KEY,
     b"gets": rb"(?: %b)+" % KEY,
@@ -26,16 +27,17 @@ FORMS = {
     b"flush_all": rb"(?: %b)?%b" % (TEN_DIGITS, QUIET),
     b"quit": rb"",
 }
-FORMS = {word: re.compile(form) for word, form in FORMS.items()}
+# With --lenient a zero after the key of a `delete` doesn't count.
+LENIENT_FORMS = {**FORMS, b"delete": rb" %b(?: 0)?%b" % (KEY, QUIET)}
+FORMS, LENIENT_FORMS = ({word: re.compile(form) for word, form in forms.items()} for forms in (FORMS, LENIENT_FORMS))
 # Of each command with a data block, at which place of the line, counted from 0, the block's length stands in memcached.
 LENGTHS = {b"set": 4, b"add": 4, b"replace": 4, b"append": 4, b"prepend": 4, b"cas": 4, b"ms": 2}
-MOST_LINE = 2_048
-MOST_DATA = 131_072
+MOST_LINE, MOST_LENIENT_LINE = 2_048, 32_768
 # memcached closes a session whose line is longer.
 MOST_READ = 1_048_576
 
 NO_RETURN = "the line ends without a carriage return"
-TOO_LONG = f"the line has more than {MOST_LINE:,} bytes"
+TOO_LONG = f"the line has more than {MOST_LINE:,} bytes, or {MOST_LENIENT_LINE:,} with --lenient"
 UNKNOWN = "there is no such command"
 SPACES = "a space too many: two in a row, or one before the line's end"
 BAD_FORM = "a key, a number or a further word that it doesn't take"
@@ -44,30 +46,31 @@ BAD_BLOCK = "the data block has another length than the line says"
 BINARY = "the binary protocol"
 
 
-def why_refused(line, segment_size):
-    """Why segcached refuses a line, with its end, at this size of segments; nothing where it takes it."""
+def why_refused(line, segment_size, is_lenient=False):
+    """Why segcached refuses a line, with its end, at this size of segments; nothing if it takes it."""
     if not line.endswith(b"\r\n"):
         return NO_RETURN
-    if len(line) > MOST_LINE:
+    if len(line) > (MOST_LENIENT_LINE if is_lenient else MOST_LINE):
         return TOO_LONG
-    word, _, _ = line[:-2].partition(b" ")
+    text = line[:-2].rstrip(b" ") if is_lenient else line[:-2]
+    word, _, _ = text.partition(b" ")
     if word not in FORMS:
         return UNKNOWN
-    said = FORMS[word].fullmatch(line[len(word) : -2])
+    said = (LENIENT_FORMS if is_lenient else FORMS)[word].fullmatch(text[len(word) :])
     if said is None:
-        return SPACES if b"" in line[:-2].split(b" ") else BAD_FORM
+        return SPACES if b"" in text.split(b" ") else BAD_FORM
     numbers = said.groupdict()
     if int(numbers.get("flags") or 0) >= 1 << 32 or int(numbers.get("number") or 0) >= 1 << 64:
         return BAD_FORM
     if "size" in numbers:
-        size = int(numbers["size"])
-        item = (24 + len(numbers["key"]) + size + 7) // 8 * 8
-        return TOO_LARGE if size > MOST_DATA or item > segment_size // 8 else None
+        # (an item that fits has a block that fits: the most that a block may have is an eighth of the largest segment)
+        item = (24 + len(numbers["key"]) + int(numbers["size"]) + 7) // 8 * 8
+        return TOO_LARGE if item > segment_size // 8 else None
     return None
 
 
 def block_length(line):
-    """How many bytes of data memcached reads behind a line, with the end of the data."""
+    """How many bytes of data memcached reads after a line, with the end of the data."""
     words = line.split()
     place = LENGTHS.get(words[0]) if words else None
     if place is None or len(words) <= place or not words[place].isdigit():
@@ -117,19 +120,20 @@ class Session:
 class Refusals:
     """Counts what is refused, of all sessions together."""
 
-    def __init__(self, segment_size):
-        self.segment_size, self.lines, self.counts, self.firsts = segment_size, 0, collections.Counter(), {}
+    def __init__(self, segment_size, is_lenient=False):
+        self.segment_size, self.is_lenient = segment_size, is_lenient
+        self.lines, self.counts, self.firsts = 0, collections.Counter(), {}
         self.lock = threading.Lock()
 
     def session(self):
         return Session(self.keep)
 
     def keep(self, line, why):
-        """Counts a line, or what was found wrong behind it."""
+        """Counts a line, or what was found wrong after it."""
         with self.lock:
             if why is None:
                 self.lines += 1
-                why = why_refused(line, self.segment_size)
+                why = why_refused(line, self.segment_size, self.is_lenient)
             if why:
                 kind = (line.split(b" ")[0].strip()[:20].decode("latin-1"), why)
                 self.counts[kind] += 1

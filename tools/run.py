@@ -3,9 +3,9 @@
 
     tools/run.py
 
-Where nothing is proved yet, the script first runs on a build that is checked as it runs (`rt try`), which takes a minute or two, while the
+If nothing is proved yet, the script first runs on a build that is checked as it runs (`rt try`), which takes a minute or two, while the
 proofs begin; then the proofs go on, a line for each crate. At the end the proved program replays the script and serves. What was proved is
-kept: an interrupt loses none of it, and where all is kept the proved program runs at once.
+kept: an interrupt loses none of it, and if all is kept the proved program runs at once.
 """
 import contextlib
 import os
@@ -29,11 +29,11 @@ PROGRAM = f"{CRATE}/out/segcached"
 TRY = ["rt", "try", "--data", f"first.script=../../{SCRIPT}", "--", "replay", "first.script"]
 # By these signals the run is ended.
 ENDS = (signal.SIGINT, signal.SIGTERM, signal.SIGHUP)
-# The proofs yield by so much (nice) to the first answer, which is made beside them.
+# The nice value of the proofs, which yield to the first answer that is made beside them.
 NICE = 10
-# So many seconds lie between two looks at what the proofs said.
+# The seconds between two looks at what the proofs said.
 EVERY = 0.2
-# So long a socket may be silent.
+# The most seconds that a socket may be silent.
 SECONDS = 10
 
 
@@ -76,7 +76,7 @@ def show_script():
 
 
 def show_replay(printed):
-    """Shows what a replay of the script printed, decoded, and ends with status 1 where it isn't what the protocol says."""
+    """Shows what a replay of the script printed, decoded, and ends with status 1 if it isn't what the protocol says."""
     say(printed.rstrip("\n"))
     say()
     say("Worker 0 gave session 1 these bytes:")

@@ -33,7 +33,7 @@ class NotServing(Trouble):
 class Process:
     """A process that is ended with the block that uses it."""
 
-    def __init__(self, words, environment=None, limits=None):
+    def __init__(self, words, environment=None, limits=None, stderr=subprocess.PIPE):
         def begin():
             # (What runs these may ignore them, as a shell's background or nohup does, and a child would, too.)
             for number in (signal.SIGHUP, signal.SIGINT):
@@ -41,22 +41,27 @@ class Process:
             for what, most in (limits or {}).items():
                 resource.setrlimit(what, (most, most))
 
-        pipe = subprocess.PIPE
-        self.process = subprocess.Popen(words, stdout=pipe, stderr=pipe, text=True, env=environment, preexec_fn=begin)
+        self.process = subprocess.Popen(words, stdout=subprocess.PIPE, stderr=stderr, text=True, env=environment, preexec_fn=begin)
         self.was_stopped = False
 
     def stop(self):
         self.was_stopped = True
         self.process.kill()
         self.process.wait()
-        self.process.stdout.close()
-        self.process.stderr.close()
+        for pipe in (self.process.stdout, self.process.stderr):
+            if pipe:
+                pipe.close()
 
     def __enter__(self):
         return self
 
     def __exit__(self, *_):
         self.stop()
+
+    def errors(self):
+        """What it wrote to standard error, up to its end, if that is a pipe of ours; without the line of a server's options."""
+        said = self.process.stderr.read() if self.process.stderr else ""
+        return re.sub(r"\Asegcached: --listen .*\n", "", said)
 
     def kilobytes(self, what):
         """A line of the process's status: VmRSS is what is resident."""
@@ -75,20 +80,20 @@ class Process:
 class Server(Process):
     """`segcached serve` with these words."""
 
-    def __init__(self, program, *words, listen="127.0.0.1:0", environment=None, limits=None):
-        super().__init__([program, "serve", "--listen", listen, *words], environment, limits)
+    def __init__(self, program, *words, listen="127.0.0.1:0", environment=None, limits=None, stderr=subprocess.PIPE):
+        super().__init__([program, "serve", "--listen", listen, *words], environment, limits, stderr)
         self.first_line = self.process.stdout.readline()
         found = re.fullmatch(r"listening on (.+):([1-9][0-9]*)\n", self.first_line)
         if not found:
             if self.first_line:
                 self.process.kill()
-            status, fault = self.process.wait(30), self.process.stderr.read()
+            status, fault = self.process.wait(30), self.errors()
             self.stop()
             raise NotServing(status, self.first_line + fault)
         self.host, self.port = found[1].strip("[]"), int(found[2])
 
     def connect(self, seconds=20, receive_buffer=None):
-        """A connection whose calls wait so long."""
+        """A connection whose calls wait for at most this number of seconds."""
         stream = socket.socket(socket.AF_INET6 if ":" in self.host else socket.AF_INET)
         if receive_buffer:
             stream.setsockopt(socket.SOL_SOCKET, socket.SO_RCVBUF, receive_buffer)
@@ -106,11 +111,11 @@ class Server(Process):
 
     def must_run(self):
         if self.process.poll() is not None:
-            raise Trouble(f"the server ended with status {self.process.returncode}: {self.process.stderr.read()}")
+            raise Trouble(f"the server ended with status {self.process.returncode}: {self.errors()}")
 
     def __exit__(self, *_):
         try:
-            # (one that was to accept so many sessions ends by itself)
+            # (one with a number of sessions to accept ends by itself)
             if not self.was_stopped and self.process.poll() != 0:
                 self.must_run()
         finally:
@@ -141,7 +146,7 @@ def free_port():
 
 
 def read_exactly(stream, count):
-    """So many bytes, or those up to the end."""
+    """This number of bytes, or those up to the end."""
     parts = []
     while count > 0:
         part = stream.recv(min(count, 1 << 20))

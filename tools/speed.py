@@ -1,7 +1,7 @@
 """Rates, latencies and processor time of two servers beside each other: for tools/bench.py, which says the words.
 
-In each round both servers are started anew and filled, and run each load one behind the other, in a turn that is shuffled. A ratio
-is one of two runs of the same round. Tables have the median of the rounds' ratios and their quartiles, and 'equal' where the
+In each round both servers are started anew and filled, and run each load one after the other, in a turn that is shuffled. A ratio
+is one of two runs of the same round. Tables have the median of the rounds' ratios and their quartiles, and 'equal' if the
 quartiles have 1 between them.
 """
 import dataclasses
@@ -19,8 +19,8 @@ MIB = 1 << 20
 # The workers of segcached, and the threads of memcached beside them: a storage thread comes on top of the workers.
 THREADS = {1: 1, 2: 2, 3: 4}
 # Both servers may ask for huge pages, as docs/OPERATIONS.md says.
-TUNABLES = {"GLIBC_TUNABLES": "glibc.malloc.hugetlb=1"}
-# The segments of 1 MiB that segcached has where a value has so many bytes: room for what the load stores, and more.
+TUNABLES = "glibc.malloc.hugetlb=1"
+# By the bytes of a value, how many segments of 1 MiB segcached has: room for what the load stores, and more.
 SEGMENTS = {100: 128, 1000: 512, 10000: 512}
 KEYS = {100: 100_000, 1000: 100_000, 10000: 10_000}
 # The load of the longest pause: both servers have 64 MiB, which half of the keys fill.
@@ -31,17 +31,20 @@ FIGURES = {"rate": "rate", "p50": "p50", "p99": "p99", "p999": "p99.9", "process
 
 @dataclasses.dataclass(frozen=True)
 class Load:
-    """A load's name and words, the bytes of a value, and whether server and load have processors of their own."""
+    """A load's name and words, the bytes of a value, whether server and load have processors of their own, and what else segcached is given."""
 
     name: str
     words: tuple = ()
     value: int = 100
     apart: bool = False
+    options: tuple = ()
 
     def shape(self):
         return "--value", self.value, "--keys", KEYS[self.value]
 
 
+# For how many microseconds storage and workers look for work before they sleep.
+SPIN = ("--spin", 100)
 # Those that write come last of their values, since what they write makes segcached merge segments.
 LOADS = (
     Load("pipeline 1"),
@@ -49,12 +52,14 @@ LOADS = (
     Load("pipeline 64", ("--pipeline", 64)),
     Load("one connection", ("--connections", 1)),
     Load("one connection, processors apart", ("--connections", 1, "--threads", 1), apart=True),
+    Load("one connection, --spin 100", ("--connections", 1), options=SPIN),
     Load("one connection, pipeline 16", ("--pipeline", 16, "--connections", 1)),
     Load("get of 16 keys", ("--many", 16)),
     Load("keys by Zipf's law, pipeline 16", ("--pipeline", 16, "--zipf", 0.99)),
     Load("first answer after a pause of 10 ms", ("--connections", 1, "--rate", 100)),
     Load("1,000 a second", ("--rate", 1000)),
     Load("20,000 a second", ("--rate", 20000)),
+    Load("20,000 a second, --spin 100", ("--rate", 20000), options=SPIN),
     Load("80,000 a second", ("--rate", 80000)),
     Load("one set in ten, pipeline 16", ("--pipeline", 16, "--sets", 10)),
     Load("sets, pipeline 16", ("--pipeline", 16, "--sets", 100)),
@@ -82,7 +87,7 @@ def ratio(pair, figure):
 
 
 def shown(ratios):
-    """The median with its quartiles; 'equal' where 1 is between these."""
+    """The median with its quartiles; 'equal' if 1 is between these."""
     low, middle, high = quartiles(ratios)
     if low == high:
         return f"{middle:.2f}"
@@ -94,6 +99,7 @@ class Speed:
 
     def __init__(self, load, kinds, rounds, seconds, say):
         self.load, self.kinds, self.rounds, self.seconds, self.say = load, kinds, rounds, seconds, say
+        self.tunables = dict.fromkeys(kinds, TUNABLES)
         # (always the same turns)
         self.turns = random.Random(1)
 
@@ -102,13 +108,13 @@ class Speed:
         self.turns.shuffle(items)
         return items
 
-    def started(self, kind, workers, megabytes, segment_size=MIB):
-        tuned = {**os.environ, **TUNABLES}
+    def started(self, kind, workers, megabytes, segment_size=MIB, options=()):
+        tuned = {**os.environ, "GLIBC_TUNABLES": self.tunables[kind]}
         if kind == "memcached":
             port = free_port()
             words = ["-u", "nobody", "-l", "127.0.0.1", "-p", port, "-t", THREADS[workers], "-m", megabytes, "-c", 4096]
             return OnPort(port, ["memcached", *map(str, words)], tuned)
-        words = ["--workers", workers, "--segment-size", segment_size, "--segments", megabytes * MIB // segment_size]
+        words = ["--workers", workers, "--segment-size", segment_size, "--segments", megabytes * MIB // segment_size, *options]
         return Server(kind, *map(str, words), environment=tuned)
 
     def run(self, server, *words, processors=None):
@@ -127,7 +133,7 @@ class Speed:
         return figures
 
     def run_load(self, server, load):
-        """One run, for a second at least where it has a rate."""
+        """One run, for a second at least if it has a rate."""
         seconds = max(self.seconds, 1) if "--rate" in load.words else self.seconds
         words = ["--seconds", seconds, *load.shape(), *load.words]
         if not load.apart:
@@ -141,12 +147,12 @@ class Speed:
             keep_on(server, every)
 
     def run_round(self, workers, loads):
-        """All loads of one value size: by name, the figures of both servers."""
+        """All loads of one value size and the same options: by name, the figures of both servers."""
         value, servers = loads[0].value, {}
         try:
             for kind in self.shuffled(self.kinds):
                 megabytes = 1024 if kind == "memcached" else SEGMENTS[value]
-                servers[kind] = self.started(kind, workers, megabytes)
+                servers[kind] = self.started(kind, workers, megabytes, options=loads[0].options)
                 self.run(servers[kind], "--fill", "--pipeline", 16, *loads[0].shape())
             return {it.name: self.run_both(servers, it) for it in loads}
         finally:
@@ -162,9 +168,12 @@ class Speed:
     def compared(self, sizes, loads):
         """By load and workers, the pairs of all rounds."""
         results = {it.name: {size: [] for size in sizes} for it in loads}
-        parts = [(size, [it for it in loads if it.value == value]) for size in sizes for value in SEGMENTS]
+        servers = {(it.value, it.options): [] for it in loads}
+        for it in loads:
+            servers[it.value, it.options].append(it)
+        parts = [(size, some) for size in sizes for some in servers.values()]
         for turn in range(self.rounds):
-            for size, some in self.shuffled(it for it in parts if it[1]):
+            for size, some in self.shuffled(parts):
                 for name, pair in self.run_round(size, some).items():
                     results[name][size].append(pair)
             self.say(f"round {turn + 1} of {self.rounds}")
@@ -259,7 +268,7 @@ def idle_line(shares, name_of):
 
 
 def draw(results, names, picture):
-    """A picture of the rates' ratios, by gnuplot: their medians as bars, their quartiles as lines. Where the rate is fixed there are none."""
+    """A picture of the rates' ratios, by gnuplot: their medians as bars, their quartiles as lines. If the rate is fixed there are none."""
     sizes = list(next(iter(results.values())))
     with tempfile.NamedTemporaryFile("w", suffix=".dat") as data:
         for name, by_size in results.items():

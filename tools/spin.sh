@@ -1,7 +1,7 @@
 #!/usr/bin/env bash
 # Has spin search a model: tools/spin.sh FILE [-DNAME..]. First each state: none in which no thread can go on before all have
 # ended, and none that breaks an assertion. Then each run: none goes on for ever. It says what spin found, and ends with 0
-# where all was searched and nothing is wrong.
+# if all was searched and nothing is wrong.
 set -eu
 model=$(realpath "$1")
 shift

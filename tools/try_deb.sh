@@ -2,7 +2,7 @@
 # The package, tried: it is made of the proved program alone, lintian has no warning of it, it needs the C library
 # alone, its units are tight, and its pages' links lead to what is in it. A clean root, made by Debian's tools, takes it;
 # its user serves from there; and nothing is left once it has gone. Then `make install` and `make uninstall`, the
-# completion, and the program behind a container's init. Usage: try_deb.sh [LOG], where
+# completion, and the program under a container's init. Usage: try_deb.sh [LOG], where
 # LOG is what `rt ci` said of the program's crates, of which the record of the proofs is then written. The last line is
 # 'N passed, M failed'.
 set -u
@@ -68,7 +68,7 @@ has_tight_units() {
   mkdir "$units"
   cp "$work/content/lib/systemd/system/segcached.service" "$units"
   cp "$work/content/lib/systemd/system/segcached@.service" "$units/segcached@one.service"
-  sed -i "s|/usr/bin/segcached|$PWD/$program|" "$units"/*
+  sed -i -e "s|/usr/bin/segcached|$PWD/$program|" -e "s|/usr/lib/|$work/content/usr/lib/|" "$units"/*
   systemd-analyze verify --man=no "$units"/* 2>&1 | tee "$work/complaints"
   [ ! -s "$work/complaints" ] || return 1
   grep -qx 'EnvironmentFile=/etc/default/segcached-%i' "$units/segcached@one.service" || return 1
@@ -122,6 +122,7 @@ serves_as_its_user() {
   printf 'set a 0 0 1\r\nx\r\nget a\r\nquit\r\n' >&3
   [ "$(cat <&3)" = $'STORED\r\nVALUE a 0 1\r\nx\r\nEND\r' ] || return 1
   exec 3>&-
+  MAINPID=$server chroot "$root" /usr/lib/segcached/ready --listen "127.0.0.1:$port" || return 1
   began=$(date +%s%N)
   kill -TERM "$server"
   wait "$server" || status=$?
@@ -130,7 +131,7 @@ serves_as_its_user() {
   [ $took -lt 1000 ] && { [ $status -eq 0 ] || [ $status -eq $((128 + 15)) ]; }
 }
 
-# Process 1 of a container doesn't end by SIGTERM; behind tini the program does within a second.
+# Process 1 of a container doesn't end by SIGTERM; under tini the program does within a second.
 ends_behind_an_init() {
   local init began took
   unshare --pid --fork --kill-child tini -- "$PWD/$program" serve --listen 127.0.0.1:0 >"$work/first" &
@@ -159,8 +160,11 @@ purges_beside_a_process() {
   chroot "$root" getent passwd segcached && chroot "$root" userdel segcached
 }
 
-# After a removal its options and its user stay, as Debian wants it; after a purge nothing does.
+# After a removal its options and its user stay, as Debian wants it; after a purge nothing does, nor what
+# `systemctl enable` makes for an instance.
 leaves_nothing() {
+  local wanted_by=$root/etc/systemd/system/multi-user.target.wants
+  ln -s /lib/systemd/system/segcached@.service "$wanted_by/segcached@one.service" || return 1
   chroot "$root" dpkg --remove segcached
   [ ! -e "$root/usr/bin/segcached" ] && [ -e "$root/etc/default/segcached" ] || return 1
   chroot "$root" dpkg --purge segcached
@@ -172,6 +176,7 @@ installs_and_uninstalls() {
   make install PREFIX=/opt/cache DESTDIR="$to" || return 1
   "$here/bin/segcached" --version
   grep -q '^ExecStart=/opt/cache/bin/segcached ' "$here/lib/systemd/system/segcached.service" || return 1
+  grep -q '^ExecStartPost=/opt/cache/lib/segcached/ready ' "$here/lib/systemd/system/segcached.service" || return 1
   man --warnings --local-file "$here/share/man/man1/segcached.1" 2>&1 >/dev/null | grep . && return 1
   printf 'stats\r\n' | "$here/share/doc/segcached/examples/script_of.py" refused - | grep '1 refused of 1' || return 1
   make uninstall PREFIX=/opt/cache DESTDIR="$to" || return 1

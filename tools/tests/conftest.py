@@ -46,7 +46,7 @@ def serve(program):
 
 @pytest.fixture
 def say(request):
-    """Says a line behind all tests."""
+    """Says a line after all tests."""
     return lambda text: FIGURES.append(f"{request.node.name}: {text}")
 
 

@@ -5,6 +5,8 @@ the program has bytes, and walks where the program has tables.
 """
 LASTING = 1024  # the bucket of what has no deadline
 BUCKETS = 1025
+# Commands that take a data block and are answered without a look at the cache or at the clock.
+REFUSED = (b"append", b"prepend")
 
 
 def bucket_of(ttl):
@@ -197,15 +199,19 @@ class Cache:
         return b"OK\r\n"
 
     def answer(self, request, now):
-        """A request's bytes, and what it is answered. A `cas` number of None is that of what is there, or 0."""
-        self.begin(now)
+        """A request's bytes, and what it is answered. A `cas` number of None is that of what is there, or 0. An `append` and a `prepend`, and
+        a zero after the key of a `delete`, are for the lenient dialect."""
         verb, *words = request
+        if verb in REFUSED:
+            key, flags, exptime, value, _ = words
+            return b"%b %b %d %d %d\r\n%b\r\n" % (verb, key, flags, exptime, len(value), value), b"ERROR\r\n"
+        self.begin(now)
         if verb in (b"get", b"gets"):
             (keys,) = words
             return b"%b %b\r\n" % (verb, b" ".join(keys)), self.get(keys, verb == b"gets", now)
         if verb == b"delete":
-            (key,) = words
-            return b"delete %b\r\n" % key, self.delete(key, now)
+            key, *zero = words
+            return b"delete %b%b\r\n" % (key, b" 0" * len(zero)), self.delete(key, now)
         if verb in (b"incr", b"decr"):
             key, amount = words
             return b"%b %b %d\r\n" % (verb, key, amount), self.change(key, amount, verb == b"incr", now)

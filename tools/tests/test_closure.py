@@ -4,6 +4,7 @@ contracts rest on. They take a second.
     python3 -m pytest tools/tests/test_closure.py
 """
 import os
+import pathlib
 import sys
 
 import pytest
@@ -82,20 +83,31 @@ def tree(tmp_path):
 
 
 def test_a_contract_leads_to_what_its_clauses_name_and_what_that_rests_on(tree):
-    definitions, types = closure.Sources(tree).closure(["high/src/call.rt:Thing::call"])
+    definitions, types, words = closure.Sources(tree).closure(["high/src/call.rt:Thing::call"])
     found = ["low.Kinds.IsSmall", "low.Sizes.Size", "low.Kinds.most", "low.Sizes.limit"]
     assert [closure.key_of(it) for it in definitions] == found
-    assert types == []
-    assert closure.counts_of(definitions) == "4 definitions in 2 files, 11 lines"
+    assert (types, words) == ([], ["ℕ"])
+    assert closure.counts_of(definitions) == "4 definitions in 2 files, 8 lines"
 
 
 def test_a_type_of_the_code_is_told_by_its_file(tree):
     with open(f"{tree}/crates/high/src/call.rt", "a", encoding="utf-8") as file:
         file.write("fn last()\n    ensures { is_round result }\n{\n}\n")
-    definitions, types = closure.Sources(tree).closure(["high/src/call.rt:last"])
+    definitions, types, words = closure.Sources(tree).closure(["high/src/call.rt:last"])
     assert [closure.key_of(it) for it in definitions] == ["low.Kinds.is_round"]
     assert [(it.crate, it.file, it.name) for it in types] == [("low", "parts/shape", "Shape")]
+    assert words == ["Bool", "true", "false"]
     assert closure.Sources(tree).text_of(definitions[0]).count("\n") == 3
+
+
+def test_a_type_that_contracts_see_as_another_value_is_found_in_fields_and_heads(tree):
+    (path := pathlib.Path(tree) / "crates/low/src/parts").mkdir(parents=True)
+    (path.parent / "seen.rt").write_text("impl Model for Sides {\n}\nimpl<T: Drop> Model for Text<T> {\n}\nimpl Model for Unseen {\n}\n", encoding="utf-8")
+    (path / "shape.rt").write_text("/// (no Unseen)\npub enum Shape {\n    Round,\n    Square(Sides),\n}\nstruct Other(Unseen);\n", encoding="utf-8")
+    with open(f"{tree}/crates/high/src/call.rt", "a", encoding="utf-8") as file:
+        file.write("fn last(text: &Text<u8>)\n    ensures { is_round result }\n{\n}\n")
+    sources, contracts = closure.Sources(tree), ["high/src/call.rt:last"]
+    assert sources.seen_as_others(contracts, sources.closure(contracts)[1]) == ["Sides", "Text"]
 
 
 def test_a_function_that_isnt_there_is_said(tree):
@@ -110,6 +122,10 @@ It is small.
 <!-- low.Sizes.unused -->
 <!-- counts -->
 none yet
+
+| Word | Meaning |
+|---|---|
+| `N`, `ℕ` | a number |
 """
 
 FILLED = """# Page
@@ -125,13 +141,16 @@ It is small.
 abbrev pub IsSmall : ℕ → Type 0
 IsSmall n = (shadowed : ℕ) × (n ≤ shadowed) × (n ≤ most)
 
--- the most
 abbrev pub most : ℕ
 most = sizes.limit
 ```
 <!-- low.Sizes.unused -->
 <!-- counts -->
-3 definitions in 2 files, 7 lines, over 0 types of the code.
+3 definitions in 2 files, 6 lines, over 0 types of the code.
+
+| Word | Meaning |
+|---|---|
+| `N`, `ℕ` | a number |
 """
 
 
@@ -140,11 +159,19 @@ def test_the_page_has_the_texts_and_says_what_has_no_entry(tree):
     assert page == FILLED
     assert wrong == ["low.Sizes.limit has no entry", "low.Sizes.unused is no longer cited"]
     assert closure.filled(page, closure.Sources(tree)) == (page, wrong)
+    unlisted = page.replace("`ℕ`", "ℕ")
+    assert closure.filled(unlisted, closure.Sources(tree)) == (unlisted, [*wrong, "ℕ isn't listed"])
+
+
+def test_with_several_contracts_what_the_first_rests_on_is_counted_too(tree):
+    page = PAGE.replace("It is small.", "<!-- contract high/src/call.rt:Thing::call -->")
+    counts = "4 definitions in 2 files, 8 lines, over 0 types of the code.\nThe first contract rests on 3 definitions in 2 files, 6 lines.\n"
+    assert f"<!-- counts -->\n{counts}" in closure.filled(page, closure.Sources(tree))[0]
 
 
 def test_the_headlines_page_has_what_its_contracts_rest_on():
     page = closure.read(f"{TOP}/{closure.PAGE}")
-    assert len(closure.contracts_of(page)) == 2
+    assert len(closure.contracts_of(page)) == 3
     now, wrong = closure.filled(page, closure.Sources(TOP))
     assert wrong == []
     assert now == page

@@ -10,12 +10,12 @@ import subprocess
 import pytest
 from served import read_exactly
 
-# Of so many slots, and so of fewer, the first slots of chosen keys are among the first SPAN.
+# The first slots of chosen keys are among the first SPAN of this number of slots, and so of fewer.
 SLOTS = 1 << 18
 SPAN = 64
 COUNT = 4_000
 KNOWN = 0x0123456789ABCDEF
-# What the store takes where it is given no seed, as in `segcached replay`.
+# What the store takes if it is given no seed, as in `segcached replay`.
 OF_REPLAY = 0x9E3779B97F4A7C15
 
 
@@ -30,7 +30,7 @@ def chosen_for(compiled):
     return keys
 
 
-def by_chance():
+def plain_keys():
     return [b"plain-%010d" % number for number in range(COUNT)]
 
 
@@ -74,11 +74,11 @@ def test_the_seed_is_the_systems_random_bytes(compiled, chosen_for, cost_of):
     shim = compiled("known_random", "-shared", "-fPIC")
     environment = {**os.environ, "LD_PRELOAD": shim, "KNOWN_RANDOM": str(KNOWN)}
     chosen = cost_of("that were chosen for the server's own random bytes", chosen_for(KNOWN), environment)
-    plain = cost_of("by chance", by_chance(), environment)
+    plain = cost_of("that nobody chose", plain_keys(), environment)
     assert is_flooded(chosen, plain)
 
 
 @pytest.mark.parametrize("seed", [KNOWN, OF_REPLAY], ids=["another server's bytes", "the seed of replay"])
 def test_keys_chosen_for_another_seed_cost_no_more_than_others(chosen_for, cost_of, seed):
     chosen = cost_of("that were chosen for another seed", chosen_for(seed))
-    assert not is_flooded(chosen, cost_of("by chance", by_chance()))
+    assert not is_flooded(chosen, cost_of("that nobody chose", plain_keys()))

@@ -1,11 +1,16 @@
-"""Where `segcached serve` listens: its first line, its end after so many sessions, and each refusal in its words."""
+"""Where `segcached serve` listens: its first lines, its end after a number of sessions, and each refusal in its words."""
+import contextlib
+import os
 import re
 import resource
+import select
 import socket
 import subprocess
+import time
 
 import pytest
-from asking import SET_AND_GET, SET_AND_GET_ANSWER, ask_set_and_get
+import served
+from asking import SET_AND_GET, SET_AND_GET_ANSWER, ask, ask_set_and_get
 from served import read_to_end
 
 
@@ -28,6 +33,86 @@ def test_it_prints_its_real_port_and_ends_after_its_sessions(serve):
             stream.sendall(SET_AND_GET % (key, key) + b"quit\r\n")
             assert read_to_end(stream) == SET_AND_GET_ANSWER % key
     assert server.wait() == 0
+
+
+@pytest.mark.parametrize("words, in_force", [
+    ("", "--workers 2 --segment-size 65536 --segments 64"),
+    ("--segments 9 --lenient --spin 0 --counters-in-place --idle 60 --sessions 3 --segment-size 4096 --workers 3",
+     "--workers 3 --segment-size 4096 --segments 9 --sessions 3 --idle 60 --spin 0 --lenient --counters-in-place"),
+], ids=["the least options", "all options"])
+def test_it_says_on_standard_error_first_which_options_are_in_force(serve, words, in_force):
+    errors = serve(*words.split()).process.stderr
+    assert select.select([errors], [], [], 10)[0]
+    assert errors.readline() == f"segcached: --listen 127.0.0.1:0 {in_force}\n"
+
+
+def names_of_threads(server):
+    folder, names = f"/proc/{server.process.pid}/task", []
+    for task in os.listdir(folder):
+        with open(f"{folder}/{task}/comm", encoding="ascii") as file:
+            names.append(file.read().strip())
+    return sorted(names)
+
+
+def test_its_threads_have_names(serve):
+    server, wanted = serve("--workers", "3"), ["listener", "segcached", "storage", "worker 0", "worker 1", "worker 2"]
+    until = time.monotonic() + 5
+    while names_of_threads(server) != wanted and time.monotonic() < until:
+        time.sleep(0.01)
+    assert names_of_threads(server) == wanted
+
+
+def test_with_few_descriptors_it_serves_all_of_its_sessions_and_then_ends(serve):
+    """A connection that couldn't be accepted yet doesn't count."""
+    server = serve("--workers", "1", "--sessions", "200", limits={resource.RLIMIT_NOFILE: 40})
+    for _ in range(4):
+        # (more than there are descriptors for: the later ones are accepted once the first ones have gone)
+        streams = [server.connect() for _ in range(50)]
+        for stream in streams:
+            stream.sendall(b"get a\r\nquit\r\n")
+        for stream in streams:
+            assert read_to_end(stream) == b"END\r\n"
+            stream.close()
+    assert server.wait() == 0
+
+
+def test_those_that_wait_for_a_full_worker_are_served_after_the_last_one_was_accepted(serve):
+    server = serve("--workers", "1", "--sessions", "1060")
+    first = [server.connect() for _ in range(1024)]
+    for stream in first:
+        stream.sendall(b"get a\r\n")
+    for stream in first:
+        assert stream.recv(5) == b"END\r\n"
+    waiting = [server.connect() for _ in range(36)]
+    for stream in waiting:
+        stream.sendall(b"get a\r\nquit\r\n")
+    time.sleep(0.3)
+    for stream in first:
+        stream.close()
+    for stream in waiting:
+        assert read_to_end(stream) == b"END\r\n"
+        stream.close()
+    assert server.wait() == 0
+
+
+def test_standard_error_that_nobody_reads_stops_nothing(program):
+    """What it has to say there, of connections that it can't accept too, finds a pipe that is full."""
+    reading, writing = os.pipe()
+    os.set_blocking(writing, False)
+    with contextlib.suppress(BlockingIOError):
+        while True:
+            os.write(writing, bytes(4096))
+    os.set_blocking(writing, True)
+    with served.Server(program, limits={resource.RLIMIT_NOFILE: 40}, stderr=writing) as server:
+        for _ in range(2):
+            streams = [server.connect() for _ in range(60)]
+            time.sleep(0.2)
+            for stream in streams:
+                stream.close()
+        with server.connect() as stream:
+            ask(stream, b"get a\r\n", b"END\r\n")
+    for end in (reading, writing):
+        os.close(end)
 
 
 def test_it_serves_over_ipv6(serve):
@@ -81,7 +166,8 @@ def test_a_bad_geometry_is_told_before_a_bad_address(program):
 
 def test_where_the_first_line_cannot_be_written_it_ends(program):
     with open("/dev/full", "wb") as full:
-        assert ended(program, "--listen", "127.0.0.1:0", stdout=full) == (1, None, b"fault: cannot write\n")
+        status, _, said = ended(program, "--listen", "127.0.0.1:0", stdout=full)
+    assert status == 1 and said.splitlines()[-1] == b"fault: cannot write"
 
 
 @pytest.mark.parametrize("words", [

@@ -1,7 +1,8 @@
 """Random requests, replayed by the program and answered by a model of lists that forgets by the same rules.
 
 Each answer is the same byte for byte. Long runs over small pools give back, merge and clear all the time, and a tick
-between requests lets entries die. Short ones are chosen by hypothesis, which shortens what fails.
+between requests lets entries expire. Short ones are chosen by hypothesis, which shortens what fails. Some of either kind are in the
+lenient dialect, with spaces before the ends of lines, and with what that dialect alone takes.
 """
 import concurrent.futures
 import random
@@ -10,12 +11,12 @@ import tempfile
 
 from hypothesis import given, settings
 from hypothesis import strategies as st
-from model import Cache
+from model import REFUSED, Cache
 
 FIRST_MOMENT = 1000
 
 
-def replay(program, sent, segment_size, segments, tick):
+def replay(program, sent, segment_size, segments, tick, *dialect):
     """What one session is given that sends these requests, fifty in a piece."""
     with tempfile.NamedTemporaryFile("w", suffix=".script") as script:
         script.write("open 0 1\n")
@@ -23,10 +24,24 @@ def replay(program, sent, segment_size, segments, tick):
             script.write(f"send 0 1 {b''.join(sent[at : at + 50]).hex()}\n")
         script.flush()
         words = [program, "replay", script.name, "--segment-size", str(segment_size), "--segments", str(segments)]
-        words += ["--tick", str(tick), "--now", str(FIRST_MOMENT)]
+        words += ["--tick", str(tick), "--now", str(FIRST_MOMENT), *dialect]
         printed = subprocess.run(words, stdout=subprocess.PIPE, text=True, check=True, timeout=120).stdout
     digits = printed.split()[2]
     return b"" if digits == "-" else bytes.fromhex(digits)
+
+
+def spelled(cache, requests, tick):
+    """Of each request its bytes and its answer. The clock ticks for those that the cache executes."""
+    pairs, executed = [], 0
+    for request in requests:
+        pairs.append(cache.answer(request, FIRST_MOMENT + tick * executed))
+        executed += request[0] not in REFUSED
+    return zip(*pairs)
+
+
+def with_spaces(sent):
+    """The same requests, each with none to two spaces before the end of its line."""
+    return [request.replace(b"\r\n", b" " * (at % 3) + b"\r\n", 1) for at, request in enumerate(sent)]
 
 
 def must_be_answered_as(wanted, given_bytes, sent):
@@ -40,45 +55,45 @@ def must_be_answered_as(wanted, given_bytes, sent):
 
 # ---- long runs
 
-def random_request(chance, keys, lives):
-    """A request over so many keys, some of them asked for more often than others."""
+def random_request(chance, keys, ttls, is_lenient):
+    """A request over this number of keys, some of them asked for more often than others."""
     key = b"key%d" % min(chance.randrange(keys), chance.randrange(keys))
     kind = chance.random()
     if kind < 0.4:
         asked = [key] + [b"key%d" % chance.randrange(keys) for _ in range(chance.randrange(3))]
         return b"gets" if chance.random() < 0.3 else b"get", asked
     if kind < 0.9:
-        verb = chance.choice((b"set", b"set", b"set", b"set", b"add", b"replace", b"cas"))
+        verb = chance.choice((b"set", b"set", b"set", b"set", b"add", b"replace", b"cas", *(REFUSED if is_lenient else ())))
         number, size = chance.randrange(10 ** chance.randrange(1, 21)), chance.randrange(chance.choice((20, 200, 500)))
         value = b"%d" % number if chance.random() < 0.2 else b"v" * size
         unique = None if chance.random() < 0.7 else chance.randrange(1000)
-        return verb, key, chance.randrange(2**32), chance.choice(lives), value, unique
+        return verb, key, chance.randrange(2**32), chance.choice(ttls), value, unique
     if kind < 0.95:
-        return b"delete", key
+        return (b"delete", key, b"0") if is_lenient and chance.random() < 0.5 else (b"delete", key)
     if kind < 0.9995:
         return chance.choice((b"incr", b"decr")), key, chance.randrange(2 ** chance.randrange(1, 65))
     return b"flush_all", chance.choice((0, 20))
 
 
-# segment size, segments, tick, how many keys, lives that are asked for
+# segment size, segments, tick, how many keys, TTLs that are asked for, dialect
 RUNS = (
-    (4096, 8, 0, 600, (0,)),
-    (4096, 8, 1, 90, (0, 0, 5, 20, 60, 100, 300, -1)),
-    (4096, 9, 3, 90, (0, 16, 24, 40, 2047, 2048, 5000, 40000, 600000, 9000000)),
-    (8192, 8, 0, 900, (0, 0, 8, 30)),
-    (4096, 23, 1, 1500, (0, 0, 0, 50, 200, 400)),
+    (4096, 8, 0, 600, (0,), []),
+    (4096, 8, 1, 90, (0, 0, 5, 20, 60, 100, 300, -1), ["--lenient"]),
+    (4096, 9, 3, 90, (0, 16, 24, 40, 2047, 2048, 5000, 40000, 600000, 9000000), []),
+    (8192, 8, 0, 900, (0, 0, 8, 30), ["--lenient"]),
+    (4096, 23, 1, 1500, (0, 0, 0, 50, 200, 400), []),
 )
 REQUESTS = 40_000
 
 
 def long_run(program, number):
     """How often the model merged, cleared and gave back segments."""
-    segment_size, segments, tick, keys, lives = RUNS[number % len(RUNS)]
+    segment_size, segments, tick, keys, ttls, dialect = RUNS[number % len(RUNS)]
     chance, cache = random.Random(number), Cache(segment_size, segments)
-    requests = (random_request(chance, keys, lives) for _ in range(REQUESTS))
-    spelled = [cache.answer(it, FIRST_MOMENT + tick * turn) for turn, it in enumerate(requests)]
-    sent, wanted = zip(*spelled)
-    must_be_answered_as(wanted, replay(program, sent, segment_size, segments, tick), sent)
+    requests = (random_request(chance, keys, ttls, bool(dialect)) for _ in range(REQUESTS))
+    sent, wanted = spelled(cache, requests, tick)
+    sent = with_spaces(sent) if dialect else sent
+    must_be_answered_as(wanted, replay(program, sent, segment_size, segments, tick, *dialect), sent)
     return cache.merges, cache.clearings, cache.given_back
 
 
@@ -98,12 +113,12 @@ def key(number):
 
 
 def writes(first, count, size, exptime):
-    """Writes of so many keys in a row, which fill a small pool."""
+    """Writes of this number of keys in a row, which fill a small pool."""
     return [(b"set", key(number), 0, exptime, b"v" * size, None) for number in range(first, first + count)]
 
 
 def reads(first, count):
-    """One `get` of so many keys in a row: what merges keep is what was read more often."""
+    """One `get` of this number of keys in a row: what merges keep is what was read more often."""
     return [(b"get", [key(number) for number in range(first, first + count)])]
 
 
@@ -130,17 +145,25 @@ PARTS = st.one_of(
     st.builds(lambda it, count: [(b"get", [it] * count)], KEYS, st.integers(1, 200)),
     st.builds(writes, FIRSTS, COUNTS, st.integers(100, 480), st.sampled_from([0, 20, 300]) | EXPTIMES),
 )
-# (a list of at least so many, for many that are long, and shortened all the same where one fails)
+# (a list with a least length, so that many are long, which is shortened all the same if one fails)
 SCRIPTS = st.integers(0, 30).flatmap(lambda least: st.lists(PARTS, min_size=least, max_size=40))
 SIZES = st.sampled_from([(4096, 8), (4096, 9), (8192, 8), (4096, 23)])
 
 
+def lenient_form(request):
+    """The same request with what the lenient dialect alone takes; in place of each `cas` an `append`."""
+    verb, *words = request
+    return (b"delete", *words, b"0") if verb == b"delete" else (b"append", *words) if verb == b"cas" else request
+
+
 @settings(max_examples=100)
-@given(SIZES, st.sampled_from([0, 1, 3, 40]), SCRIPTS)
-def test_any_requests_are_answered_as_by_the_model(program, sizes, tick, parts):
-    cache = Cache(*sizes)
+@given(SIZES, st.sampled_from([0, 1, 3, 40]), SCRIPTS, st.booleans())
+def test_any_requests_are_answered_as_by_the_model(program, sizes, tick, parts, is_lenient):
     # (the last one shows all that is left)
     requests = sum(parts, []) + reads(0, ALL_KEYS)
-    spelled = [cache.answer(it, FIRST_MOMENT + tick * turn) for turn, it in enumerate(requests)]
-    sent, wanted = zip(*spelled)
-    must_be_answered_as(wanted, replay(program, sent, *sizes, tick), sent)
+    if is_lenient:
+        sent, wanted = spelled(Cache(*sizes), map(lenient_form, requests), tick)
+        sent, dialect = with_spaces(sent), ["--lenient"]
+    else:
+        (sent, wanted), dialect = spelled(Cache(*sizes), requests, tick), []
+    must_be_answered_as(wanted, replay(program, sent, *sizes, tick, *dialect), sent)

@@ -1,4 +1,4 @@
-"""Tests of what comes before and around the proofs: what is kept, the minutes, and what `make run` says where something is missing.
+"""Tests of what comes before and around the proofs: what is kept, the minutes, and what `make run` says if something is missing.
 They prove nothing and take a few seconds.
 
     python3 -m pytest tools/tests/test_prove.py
@@ -57,6 +57,15 @@ def test_those_with_the_longest_way_start_first_and_are_proved_by_several_proces
     assert prove.to_start(CRATES, ways, {"base", "left", "right", "aside"}, {}) == [("top", how(4, False, 0))]
     monkeypatch.setattr(machine, "processors", lambda: 1)
     assert prove.to_start(CRATES, ways, {"base"}, {"right": None}) == [("left", how(1, False, 0))]
+
+
+def test_a_crate_for_which_all_others_wait_has_all_processors(monkeypatch):
+    ways = prove.ways_to_the_top(CRATES, MINUTES)
+    monkeypatch.setattr(prove, "LAST", 0.2)
+    monkeypatch.setattr(machine, "processors", lambda: 4)
+    monkeypatch.setattr(machine, "at_once", lambda: 2)
+    assert prove.to_start(CRATES, ways, {"base", "left", "aside"}, {}) == [("right", prove.How(4, False, 0))]
+    assert prove.to_start(CRATES, ways, {"base", "left"}, {"aside": None}) == [("right", prove.How(2, True, 0))]
 
 
 def test_each_crate_of_the_repository_has_its_minutes():

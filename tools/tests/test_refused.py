@@ -54,7 +54,7 @@ def test_a_refused_request_for_memory_changes_nothing_that_is_written(refuse, sa
 
 
 def beginnings(lines):
-    """The first two words of each line: a session's bytes may be others where memory was refused."""
+    """The first two words of each line: a session's bytes may be others if memory was refused."""
     return [line.split(b" ")[:2] for line in lines.splitlines()]
 
 

@@ -60,33 +60,56 @@ CASES = [
     (b"ms a 2 F0\r\nhi\r\n", UNKNOWN),
     (b"\r\n", UNKNOWN),
 ]
+# Those that segcached with --lenient takes, or refuses for another reason.
+LENIENT = {
+    b"get a \r\n": None,
+    b"get" + b" %b" % LONG_KEY * 8 + b" %b\r\n" % (b"k" * 36): None,
+    b"set a 0 0 1 \r\nx\r\n": None,
+    b"delete a 0\r\n": None,
+    b"flush_all \r\n": None,
+}
+# Further ones with --lenient.
+LENIENT_CASES = [(sent, LENIENT.get(sent, why)) for sent, why in CASES] + [
+    (b"delete a 0 noreply\r\n", None),
+    (b"delete a 00\r\n", BAD_FORM),
+    (b"delete a 1\r\n", BAD_FORM),
+    (b"delete a 0 0\r\n", BAD_FORM),
+    (b"delete 0\r\n", None),
+    (b"get   \r\n", BAD_FORM),
+    (b"get  a \r\n", SPACES),
+    (b"   \r\n", UNKNOWN),
+    (b"get" + b" %b" % LONG_KEY * 130 + b" %b\r\n" % (b"k" * 132), None),
+    (b"get" + b" %b" % LONG_KEY * 130 + b" %b\r\n" % (b"k" * 134), TOO_LONG),
+]
 COMMANDS = [b"get", b"gets", b"set", b"add", b"cas", b"delete", b"incr", b"flush_all"]
 WORDS = [*COMMANDS, b"noreply", b"a", b"\x7f", b"", b"0", b"00", b"7", b"-1", b"-0", b"1x"]
 
 
-def said_of(pieces):
-    refusals = refused_lines.Refusals(MEBIBYTE)
+def said_of(pieces, is_lenient=False):
+    refusals = refused_lines.Refusals(MEBIBYTE, is_lenient)
     session = refusals.session()
     for piece in pieces:
         session.send(piece)
     return refusals
 
 
-def reason_of(data):
-    reasons = [why for _, why in said_of([data]).counts]
+def reason_of(data, is_lenient=False):
+    reasons = [why for _, why in said_of([data], is_lenient).counts]
     assert len(reasons) < 2
     return reasons[0] if reasons else None
 
 
-def refuses(program, streams, folder):
+def refuses(program, streams, folder, *dialect):
     """Whether the program answers each stream, and what ends it, in a session of its own with an error."""
     lines = [f"open 0 {n}\nsend 0 {n} {(data + extra).hex()}\n" for n, (data, extra) in enumerate(streams, 1)]
     (folder / "script").write_text("".join(lines))
-    words = [program, "replay", "--segment-size", str(MEBIBYTE), str(folder / "script")]
+    words = [program, "replay", "--segment-size", str(MEBIBYTE), str(folder / "script"), *dialect]
     answers = subprocess.run(words, capture_output=True, check=True, timeout=60).stdout.decode().splitlines()
-    texts = [bytes.fromhex(line.split()[2].replace("-", "")) for line in answers]
-    errors = (b"ERROR", b"CLIENT_ERROR", b"SERVER_ERROR")
-    return [any(line.startswith(errors) for line in text.splitlines()) for text in texts]
+    return [has_error(bytes.fromhex(line.split()[2].replace("-", ""))) for line in answers]
+
+
+def has_error(answers):
+    return any(line.startswith((b"ERROR", b"CLIENT_ERROR", b"SERVER_ERROR")) for line in answers.splitlines())
 
 
 def block_for(line):
@@ -99,18 +122,37 @@ def test_a_line_is_refused_for_its_reason(sent, why):
     assert reason_of(sent) == why
 
 
+@pytest.mark.parametrize(("sent", "why"), LENIENT_CASES)
+def test_a_line_is_refused_for_its_reason_where_lines_are_lenient(sent, why):
+    assert reason_of(sent, is_lenient=True) == why
+
+
+def with_ends(cases):
+    """What is sent, and a whole line after one whose end isn't seen as such."""
+    return [(sent, b"get z\r\n" if why == NO_RETURN else b"") for sent, why in cases]
+
+
 def test_the_program_refuses_the_same_lines(program, tmp_path):
-    streams = [(sent, b"get z\r\n" if why == NO_RETURN else b"") for sent, why in CASES]
-    assert refuses(program, streams, tmp_path) == [why is not None for _, why in CASES]
+    assert refuses(program, with_ends(CASES), tmp_path) == [why is not None for _, why in CASES]
 
 
-def test_the_program_refuses_the_same_of_random_lines(program, tmp_path):
+def test_the_program_refuses_the_same_lines_where_they_are_lenient(program, tmp_path):
+    refused = refuses(program, with_ends(LENIENT_CASES), tmp_path, "--lenient")
+    assert refused == [why is not None for _, why in LENIENT_CASES]
+
+
+def random_lines(count):
+    """Lines of random words, with the block that a good storage line asks for; after a bad one the session is closed."""
     chosen = random.Random(37)
-    lines = [b" ".join(chosen.choices(WORDS, k=chosen.randint(1, 7))) + b"\r\n" for _ in range(3_000)]
-    # With the block that a good storage line asks for; behind a bad one the session is closed.
-    streams = [(line, block_for(line)) for line in lines]
-    found = [reason_of(line + extra) is not None for line, extra in streams]
-    assert found == refuses(program, streams, tmp_path)
+    lines = [b" ".join(chosen.choices(WORDS, k=chosen.randint(1, 7))) + b"\r\n" for _ in range(count)]
+    return [(line, block_for(line)) for line in lines]
+
+
+@pytest.mark.parametrize("dialect", [[], ["--lenient"]], ids=["strict", "lenient"])
+def test_the_program_refuses_the_same_of_random_lines(program, tmp_path, dialect):
+    streams = random_lines(3_000)
+    found = [reason_of(line + extra, is_lenient=bool(dialect)) is not None for line, extra in streams]
+    assert found == refuses(program, streams, tmp_path, *dialect)
     assert 100 < sum(found) < 2_900
 
 

@@ -1,6 +1,6 @@
 """Scripts of 16 MB: what is printed, how long it takes, and how much memory.
 
-Each ends within SECONDS, which is many times what it takes on a quiet machine and far below what it takes where the
+Each ends within SECONDS, which is many times what it takes on a quiet machine and far below what it takes if the
 port walks over all events for each one. Sessions that are opened and say nothing take at most MEGABYTES.
 """
 import os
@@ -11,7 +11,7 @@ import pytest
 
 SIZE = 16_777_216
 SECONDS = 30
-MEGABYTES = 250
+MEGABYTES = 480
 GET = b"get a\r\n"
 QUIET_SET = b"set b 0 0 1 noreply\r\nx\r\n"
 

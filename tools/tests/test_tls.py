@@ -13,7 +13,7 @@ NAME = "cache.example"
 
 @pytest.fixture(scope="module")
 def stunnel():
-    """Debian's stunnel, where it is there or can be installed."""
+    """Debian's stunnel, if it is there or can be installed."""
     if subprocess.run(["dpkg", "-s", "stunnel4"], capture_output=True).returncode:
         install = ["apt-get", "install", "-y", "--no-install-recommends", "stunnel4"]
         if subprocess.run(install, capture_output=True).returncode:
@@ -46,5 +46,5 @@ def test_a_client_over_tls_is_answered(program, stunnel, tmp_path):
                 with context.wrap_socket(plain, server_hostname=NAME) as stream:
                     stream.sendall(b"set a 0 0 1\r\nx\r\nget a\r\nquit\r\n")
                     assert served.read_to_end(stream) == b"STORED\r\nVALUE a 0 1\r\nx\r\nEND\r\n"
-            # (the unit takes it as ended where it goes on in the background)
+            # (the unit takes it as ended if it goes on in the background)
             assert tunnel.process.poll() is None

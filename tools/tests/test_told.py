@@ -1,7 +1,9 @@
 """What docs/CLIENTS.md and docs/OPERATIONS.md say of a served program, sentence by sentence."""
+import os
 import signal
 import socket
 import subprocess
+import threading
 import time
 
 import pytest
@@ -130,6 +132,34 @@ def test_the_probe_says_whether_it_answers(program):
     assert subprocess.run(probe).returncode != 0
 
 
+READY = f"{served.TOP}/packaging/ready.sh"
+
+
+def is_ready(server, *words):
+    """How the script that the units wait for ends, which is given the options and the process."""
+    return subprocess.run([READY, *words], env={**os.environ, "MAINPID": str(server.process.pid)}, timeout=20).returncode == 0
+
+
+@pytest.mark.parametrize("listen", ["127.0.0.1", "0.0.0.0", "[::1]", "[::]"])
+def test_a_service_counts_as_started_once_it_answers(serve, listen):
+    server = serve(listen=f"{listen}:0")
+    address = f"{listen}:{server.port}"
+    assert is_ready(server, "--lenient", "--listen", address, "--workers", "2") and is_ready(server, f"--listen={address}")
+    server.process.send_signal(signal.SIGSTOP)
+    goes_on = threading.Timer(0.5, server.process.send_signal, [signal.SIGCONT])
+    goes_on.start()
+    began = time.monotonic()
+    assert is_ready(server, "--listen", address) and time.monotonic() - began > 0.4
+    goes_on.join()
+
+
+def test_a_service_that_has_ended_is_not_started_where_another_server_has_its_port(program, serve):
+    address = f"127.0.0.1:{serve().port}"
+    with served.Process([program, "serve", "--listen", address]) as second:
+        assert second.process.wait(10) == 1
+        assert not is_ready(second, "--listen", address)
+
+
 @pytest.mark.parametrize("number", [signal.SIGHUP, signal.SIGINT, signal.SIGTERM])
 def test_a_signal_ends_it_at_once(program, number):
     with served.Process([program, "serve", "--listen", "127.0.0.1:0"]) as server:
@@ -141,17 +171,3 @@ def test_a_signal_ends_it_at_once(program, number):
 def test_all_addresses_of_ipv6_are_those_of_ipv4_too(serve):
     with socket.create_connection(("127.0.0.1", serve(listen="[::]:0").port), 20) as stream:
         ask(stream, b"get a\r\n", b"END\r\n")
-
-
-def test_a_half_closed_session_is_closed_soon_behind_its_answers(serve, say):
-    took, server = [], serve("--workers", "1")
-    for _ in range(11):
-        with server.connect() as stream:
-            stream.sendall(b"get a\r\n")
-            stream.shutdown(socket.SHUT_WR)
-            assert stream.recv(5) == b"END\r\n"
-            began = time.monotonic()
-            assert stream.recv(1) == b""
-            took.append(time.monotonic() - began)
-    say(f"{sorted(took)[5] * 1e3:.0f} ms at the median, {max(took) * 1e3:.0f} at most")
-    assert max(took) < 3

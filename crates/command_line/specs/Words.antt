@@ -1,21 +1,31 @@
 -- What the words after the program's name may ask for.
-use Rattle.std.specs.Prelude.{◌≤◌, ⊤}
+use Rattle.std.specs.Prelude.{ℕ, ◌≤◌, ⊤, IfSome}
+use Rattle.command_line.specs.declared.number_option.NumberOption.{NumberOption}
 use Rattle.command_line.specs.declared.words.Options.{Options}
 use Rattle.command_line.specs.declared.words.ServeOptions.{ServeOptions}
 use Rattle.command_line.specs.declared.words.Job.{Job}
 use Rattle.command_line.specs.declared.words.Job.TheVariants.{Help, Replay, Serve}
 
--- 1 to 8 workers, segments of 4,096 to 1,048,576 bytes, 8 to 65,536 of them
+-- the number is one that the option may have
+abbrev pub IsInRange : NumberOption → ℕ → Type 0
+IsInRange option n = (option.least ≤ n) × (n ≤ option.most)
+
+-- 1 to 8 workers, segments of 4,096 to 1,048,576 bytes, 8 to 65,536 of them, and at most 65,536 bytes accepted at once
 pub record IsReplayInRange (o : Options) : Type 0 where
   pub workers : (1 ≤ o.workers) × (o.workers ≤ 8)
   pub segment_size : (4096 ≤ o.segment_size) × (o.segment_size ≤ 1048576)
   pub segments : (8 ≤ o.segments) × (o.segments ≤ 65536)
   pub accept : o.accept ≤ 65536
 
+-- the same of workers and segments; and if they are given, at least one session, 1 to 4,294,967,295 seconds of silence,
+-- and at most 1,000,000 microseconds
 pub record IsServeInRange (o : ServeOptions) : Type 0 where
   pub workers : (1 ≤ o.workers) × (o.workers ≤ 8)
   pub segment_size : (4096 ≤ o.segment_size) × (o.segment_size ≤ 1048576)
   pub segments : (8 ≤ o.segments) × (o.segments ≤ 65536)
+  pub sessions : IfSome o.sessions (λ n. 1 ≤ n)
+  pub idle : IfSome o.idle (λ n. (1 ≤ n) × (n ≤ 4294967295))
+  pub spin : IfSome o.spin (λ n. n ≤ 1000000)
 
 abbrev pub IsJob : Job → Type 0
 IsJob (Help text) = ⊤

@@ -2,7 +2,8 @@
 
 use std::alloc::{AllocError, Global};
 
-/// The text on one line: its line feeds and carriage returns are shown as in Rust's strings.
+/// The text on one line: its line feeds and carriage returns are shown as in Rust's strings. Fails only if memory is
+/// missing.
 pub fn on_one_line(alloc: Global, text: &str) -> Result<String, AllocError> {
     let mut line = String::new(alloc);
     for character in text.chars() {

@@ -5,7 +5,7 @@ ghost use Rattle.proto.specs.Sizes.{IsGeometry, sizes_of};
 
 use proto::Geometry;
 
-/// The sizes of a cache with segments of so many bytes, and so many of them. None where they are no sizes of a cache.
+/// The sizes of a cache with this many segments of this many bytes. None if no cache may have them.
 pub fn geometry_of(segment_size: u64, segments: u64) -> Option<Geometry>
     ensures { let asked = sizes_of segment_size segments in
         MatchOption result (¬ (IsGeometry asked)) (λ g. IsGeometry asked × (g ≡ asked)) }

@@ -1,24 +1,34 @@
 //! The words after the program's name.
 
-ghost use Rattle.std.specs.Prelude.{◌≡◌, ◌≤◌, IfOk, Err};
+ghost use Rattle.std.specs.Prelude.{◌≡◌, ◌≤◌, IfOk, IfSome, Err};
 ghost use Rattle.clap.specs.Values.{kind_of};
 ghost use Rattle.clap.specs.declared.error.ErrorKind.TheVariants as clap;
 ghost use Rattle.std.specs.IoError.{error_kind};
 ghost use Rattle.std.specs.declared.io.ErrorKind.TheVariants as io;
 ghost use Rattle.command_line.specs.declared.words.WordsFault.TheVariants as words;
-ghost use Rattle.command_line.specs.Words.{IsJob, IsReplayInRange, IsServeInRange};
+ghost use Rattle.command_line.specs.Words.{IsJob, IsReplayInRange, IsServeInRange, IsInRange};
 
+use crate::number_option::{
+    ACCEPT, FAIL_GIVE, IDLE, NOW, NumberOption, REPLAY_OPTIONS, SEGMENT_SIZE, SEGMENTS,
+    SERVE_OPTIONS, SESSIONS, SPIN, TICK, WORKERS,
+};
 use crate::version::VERSION;
 use clap::builder::ValueParser;
 use clap::error::ErrorKind;
 use clap::{Arg, ArgAction, ArgMatches, Command};
-use proto::{Dialect, MAX_SEGMENT_SIZE, MAX_SEGMENTS, MAX_WORKERS, MIN_SEGMENT_SIZE, MIN_SEGMENTS};
+use proto::Dialect;
 use std::alloc::{AllocError, Global};
 use std::io;
 use thiserror::Error;
 
-/// The most bytes that a port of a replay may be told to accept at once.
-const MAX_ACCEPTED: u64 = 65_536;
+/// The names of the options that have no number.
+const FILE: &str = "file";
+
+pub(crate) const LISTEN: &str = "listen";
+
+pub(crate) const LENIENT: &str = "lenient";
+
+pub(crate) const COUNTERS_IN_PLACE: &str = "counters-in-place";
 
 /// What `segcached replay` is told.
 #[derive(Drop)]
@@ -35,7 +45,7 @@ pub struct Options {
     pub now: u64,
     /// How many seconds more each further answer is.
     pub tick: u64,
-    /// How many bytes a port accepts at once, 1 to 65,536; 0 is any number.
+    /// The most bytes that a port accepts at once, 1 to 65,536; 0 is any number.
     pub accept: u64,
     /// Which give of each worker's port finds its peer gone, counted from 1; 0 is none.
     pub fail_give: u64,
@@ -49,15 +59,20 @@ pub struct ServeOptions {
     pub listen: String,
     /// How many workers run, 1 to 8.
     pub workers: u64,
-    /// So many streams are accepted; none is any number.
+    /// How many connections are accepted before serving ends; None is any number.
     pub sessions: Option<u64>,
-    /// A session that owes nothing is closed once nothing came from it for so many seconds; none is never.
+    /// After how many seconds a silent connection is closed, 1 to 4,294,967,295; None is never.
     pub idle: Option<u64>,
+    /// For how many microseconds a thread looks for work before it sleeps, 0 to 1,000,000; None leaves it to each
+    /// thread.
+    pub spin: Option<u32>,
     /// The bytes of a segment, 4,096 to 1,048,576. Whether it is a power of two is tested later.
     pub segment_size: u64,
     /// The number of segments, 8 to 65,536.
     pub segments: u64,
     pub dialect: Dialect,
+    /// Whether `incr` and `decr` change a number where it stands.
+    pub counters_in_place: bool,
 }
 
 /// What the words ask for.
@@ -87,8 +102,6 @@ impl From<AllocError> for WordsFault {
     }
 }
 
-const OUT_OF_RANGE: &str = "error: a number is out of its range\n";
-
 const REPLAY_HELP: &str = "A script has a line for each event, with single spaces between its words:
   open W S      session S begins at worker W
   send W S HEX  its bytes come, in hexadecimal
@@ -100,135 +113,42 @@ For each session that was opened, in order of worker and session, the line `W S 
 Exit status: 0 done, 1 a fault (one line on standard error), 2 bad words";
 
 const SERVE_HELP: &str =
-    "The first line on standard output is `listening on ADDR`, with the real port.
+    "The first line on standard output is `listening on ADDR`, with the real port. The first line on standard error has all options that are in force.
 
-Exit status: 0 done, 1 a fault (one line on standard error), 2 bad words";
-
-/// An option whose value is a number from `least` to `most`.
-#[derive(Drop)]
-struct NumberOption {
-    name: &'static str,
-    value_name: &'static str,
-    help: &'static str,
-    least: u64,
-    most: u64,
-    /// Its value where it isn't given; empty where it then has none.
-    default: &'static [&'static str],
-}
-
-/// How many workers run. Both jobs have this option, each with a default of its own.
-const WORKERS: NumberOption = NumberOption {
-    name: "workers",
-    value_name: "COUNT",
-    help: "Number of worker threads, 1 to 8",
-    least: 1,
-    most: MAX_WORKERS as u64,
-    default: &[],
-};
-
-const SEGMENT_SIZE: NumberOption = NumberOption {
-    name: "segment-size",
-    value_name: "BYTES",
-    help: "Bytes of a segment, a power of two from 4096 to 1048576",
-    least: MIN_SEGMENT_SIZE as u64,
-    most: MAX_SEGMENT_SIZE as u64,
-    default: &["65536"],
-};
-
-const SEGMENTS: NumberOption = NumberOption {
-    name: "segments",
-    value_name: "COUNT",
-    help: "Number of segments, 8 to 65536. Where no request sets a life, all is sure to stay while what was written takes no more than 7/8 of all segments but one",
-    least: MIN_SEGMENTS as u64,
-    most: MAX_SEGMENTS as u64,
-    default: &["64"],
-};
-
-/// The options of a replay: the workers, the segments, the clock, and the faults of the ports.
-static REPLAY_OPTIONS: [NumberOption; 7] = [
-    NumberOption {
-        default: &["1"],
-        ..WORKERS
-    },
-    SEGMENT_SIZE,
-    SEGMENTS,
-    NumberOption {
-        name: "now",
-        value_name: "SECONDS",
-        help: "The clock's first answer",
-        least: 0,
-        most: u64::MAX,
-        default: &["1000"],
-    },
-    NumberOption {
-        name: "tick",
-        value_name: "SECONDS",
-        help: "How much more each further answer of the clock is",
-        least: 0,
-        most: u64::MAX,
-        default: &["0"],
-    },
-    NumberOption {
-        name: "accept",
-        value_name: "BYTES",
-        help: "Each give accepts at most so many bytes, 1 to 65536",
-        least: 1,
-        most: MAX_ACCEPTED,
-        default: &[],
-    },
-    NumberOption {
-        name: "fail-give",
-        value_name: "N",
-        help: "At each worker the Nth give finds its peer gone",
-        least: 1,
-        most: u64::MAX,
-        default: &[],
-    },
-];
-
-/// The options of a server beside its address.
-static SERVE_OPTIONS: [NumberOption; 5] = [
-    NumberOption {
-        default: &["2"],
-        ..WORKERS
-    },
-    NumberOption {
-        name: "sessions",
-        value_name: "COUNT",
-        help: "Accept so many streams, and end when their sessions have ended",
-        least: 1,
-        most: u64::MAX,
-        default: &[],
-    },
-    NumberOption {
-        name: "idle",
-        value_name: "SECONDS",
-        help: "Close a session from which nothing came for so long and which owes nothing, 1 to 4294967295",
-        least: 1,
-        most: u32::MAX as u64,
-        default: &[],
-    },
-    SEGMENT_SIZE,
-    SEGMENTS,
-];
+Exit status: 0 done, 1 a fault (the last line on standard error), 2 bad words";
 
 fn number_option<'a>(alloc: Global, option: &NumberOption) -> Arg<'a> {
     Arg::new(alloc, option.name)
         .long(option.name)
         .value_name(option.value_name)
         .help(option.help)
-        .value_parser(ValueParser::unsigned(option.least, option.most))
+        .value_parser(ValueParser::unsigned(0, u64::MAX))
         .default_values(option.default)
+}
+
+/// An option that has no value.
+fn flag<'a>(alloc: Global, name: &'static str, help: &'static str) -> Arg<'a> {
+    Arg::new(alloc, name)
+        .long(name)
+        .action(ArgAction::SetTrue)
+        .help(help)
 }
 
 /// Both jobs have this option.
 fn lenient<'a>(alloc: Global) -> Arg<'a> {
-    Arg::new(alloc, "lenient")
-        .long("lenient")
-        .action(ArgAction::SetTrue)
-        .help(
-            "Spaces before a line's end don't count, and a line has at most 32768 bytes in place of 2048",
-        )
+    flag(
+        alloc,
+        LENIENT,
+        "Take what many clients send: spaces before a line's end, lines of up to 32768 bytes in place of 2048, delete with a time of 0, and append and prepend, which are answered ERROR",
+    )
+}
+
+fn counters_in_place<'a>(alloc: Global) -> Arg<'a> {
+    flag(
+        alloc,
+        COUNTERS_IN_PLACE,
+        "incr and decr change a number where it stands if the new one fits there, so that it keeps its TTL",
+    )
 }
 
 /// The command with these options and `--lenient`, where there was memory for it so far.
@@ -245,15 +165,15 @@ fn with_options<'a>(
 }
 
 fn file<'a>(alloc: Global) -> Arg<'a> {
-    Arg::new(alloc, "file")
+    Arg::new(alloc, FILE)
         .value_name("FILE")
         .help("The script")
         .required(true)
 }
 
 fn listen<'a>(alloc: Global) -> Arg<'a> {
-    Arg::new(alloc, "listen")
-        .long("listen")
+    Arg::new(alloc, LISTEN)
+        .long(LISTEN)
         .value_name("ADDR")
         .help("An IP address and a port; port 0 is any free one")
         .required(true)
@@ -272,7 +192,8 @@ fn serve_command<'a>(alloc: Global) -> Result<Command<'a>, AllocError> {
         .about("Listens on an address and serves")
         .override_usage("segcached serve [OPTIONS] --listen <ADDR>")
         .after_help(SERVE_HELP)
-        .arg(listen(alloc))
+        .arg(listen(alloc))?
+        .arg(counters_in_place(alloc))
 }
 
 /// The command with no job yet.
@@ -301,33 +222,68 @@ fn command<'a>(alloc: Global) -> Result<Command<'a>, AllocError> {
     with_job(with_job(Ok(bare_command(alloc)), replay), serve)
 }
 
-/// A number that the words give, or by default; 0 where there is neither.
-fn number(matches: &ArgMatches<'_>, id: &str) -> u64 {
-    matches.get_one::<u64>(id).unwrap_or(0)
+/// That a number is out of its option's range.
+fn out_of_range(alloc: Global, option: &NumberOption, found: u64) -> WordsFault {
+    let (name, value_name) = (option.name, option.value_name);
+    let (least, most) = (option.least, option.most);
+    match format!(in alloc;
+        "error: invalid value '{found}' for '--{name} <{value_name}>': {found} is not in {least}..={most}\n"
+    ) {
+        Ok(text) => WordsFault::BadWords(text),
+        Err(_) => WordsFault::NoMemory,
+    }
 }
 
-/// A number from `least` to `most`. The parser of the words refuses any other before.
-fn number_in(
-    alloc: Global,
-    matches: &ArgMatches<'_>,
-    id: &str,
-    least: u64,
-    most: u64,
-) -> Result<u64, WordsFault>
-    ensures { IfOk result (λ n. (least ≤ n) × (n ≤ most)) }
+/// The option's number, if it is in the option's range.
+fn in_range(alloc: Global, option: &NumberOption, found: u64) -> Result<u64, WordsFault>
+    ensures { IfOk result (IsInRange option.now) }
 {
-    let found = number(matches, id);
-    if found < least || most < found {
-        return Err(WordsFault::BadWords(String::from_str(alloc, OUT_OF_RANGE)?));
+    if found < option.least || option.most < found {
+        return Err(out_of_range(alloc, option, found));
     }
     Ok(found)
 }
 
+/// The option's number, which the words give or which is its default; None if there is neither.
+fn number_or_none(
+    alloc: Global,
+    matches: &ArgMatches<'_>,
+    option: &NumberOption,
+) -> Result<Option<u64>, WordsFault>
+    ensures { IfOk result (λ found. IfSome found (IsInRange option.now)) }
+{
+    match matches.get_one::<u64>(option.name) {
+        Some(found) => Ok(Some(in_range(alloc, option, found)?)),
+        None => Ok(None),
+    }
+}
+
+/// The number of an option that has a default.
+fn number(alloc: Global, matches: &ArgMatches<'_>, option: &NumberOption) -> Result<u64, WordsFault>
+    ensures { IfOk result (IsInRange option.now) }
+{
+    in_range(
+        alloc,
+        option,
+        matches.get_one::<u64>(option.name).unwrap_or(0),
+    )
+}
+
 fn dialect(matches: &ArgMatches<'_>) -> Dialect {
-    if matches.get_flag("lenient") {
+    if matches.get_flag(LENIENT) {
         Dialect::Lenient
     } else {
         Dialect::Strict
+    }
+}
+
+/// For how many microseconds a thread looks for work before it sleeps.
+fn spin(alloc: Global, matches: &ArgMatches<'_>) -> Result<Option<u32>, WordsFault>
+    ensures { IfOk result (λ found. IfSome found (λ micros. micros ≤ 1000000)) }
+{
+    match number_or_none(alloc, matches, &SPIN)? {
+        Some(micros) => Ok(Some(micros as u32)),
+        None => Ok(None),
     }
 }
 
@@ -335,27 +291,15 @@ fn replay_options(alloc: Global, matches: &ArgMatches<'_>) -> Result<Options, Wo
     ensures { IfOk result IsReplayInRange }
 {
     Ok(Options {
-        workers: number_in(alloc, matches, "workers", 1, MAX_WORKERS as u64)?,
-        segment_size: number_in(
-            alloc,
-            matches,
-            "segment-size",
-            MIN_SEGMENT_SIZE as u64,
-            MAX_SEGMENT_SIZE as u64,
-        )?,
-        segments: number_in(
-            alloc,
-            matches,
-            "segments",
-            MIN_SEGMENTS as u64,
-            MAX_SEGMENTS as u64,
-        )?,
-        now: number(matches, "now"),
-        tick: number(matches, "tick"),
-        accept: number_in(alloc, matches, "accept", 0, MAX_ACCEPTED)?,
-        fail_give: number(matches, "fail-give"),
+        workers: number(alloc, matches, &WORKERS)?,
+        segment_size: number(alloc, matches, &SEGMENT_SIZE)?,
+        segments: number(alloc, matches, &SEGMENTS)?,
+        now: number(alloc, matches, &NOW)?,
+        tick: number(alloc, matches, &TICK)?,
+        accept: number_or_none(alloc, matches, &ACCEPT)?.unwrap_or(0),
+        fail_give: number_or_none(alloc, matches, &FAIL_GIVE)?.unwrap_or(0),
         dialect: dialect(matches),
-        file: String::from_str(alloc, matches.get_str("file").unwrap_or(""))?,
+        file: String::from_str(alloc, matches.get_str(FILE).unwrap_or(""))?,
     })
 }
 
@@ -363,29 +307,19 @@ fn serve_options(alloc: Global, matches: &ArgMatches<'_>) -> Result<ServeOptions
     ensures { IfOk result IsServeInRange }
 {
     Ok(ServeOptions {
-        workers: number_in(alloc, matches, "workers", 1, MAX_WORKERS as u64)?,
-        sessions: matches.get_one::<u64>("sessions"),
-        idle: matches.get_one::<u64>("idle"),
-        segment_size: number_in(
-            alloc,
-            matches,
-            "segment-size",
-            MIN_SEGMENT_SIZE as u64,
-            MAX_SEGMENT_SIZE as u64,
-        )?,
-        segments: number_in(
-            alloc,
-            matches,
-            "segments",
-            MIN_SEGMENTS as u64,
-            MAX_SEGMENTS as u64,
-        )?,
+        workers: number(alloc, matches, &WORKERS)?,
+        sessions: number_or_none(alloc, matches, &SESSIONS)?,
+        idle: number_or_none(alloc, matches, &IDLE)?,
+        spin: spin(alloc, matches)?,
+        segment_size: number(alloc, matches, &SEGMENT_SIZE)?,
+        segments: number(alloc, matches, &SEGMENTS)?,
         dialect: dialect(matches),
-        listen: String::from_str(alloc, matches.get_str("listen").unwrap_or(""))?,
+        counters_in_place: matches.get_flag(COUNTERS_IN_PLACE),
+        listen: String::from_str(alloc, matches.get_str(LISTEN).unwrap_or(""))?,
     })
 }
 
-/// Why the parser of the words asks for nothing: to show a text, want of memory, or bad words.
+/// What an error of the words' parser means: a text to show, bad words, or no memory.
 fn parse_fault(alloc: Global, error: &clap::Error) -> Result<Job, WordsFault>
     ensures job { IfOk result IsJob }
     ensures memory { kind_of error.now ≡ clap.OutOfMemory → result ≡ Err words.NoMemory }
@@ -400,7 +334,7 @@ fn parse_fault(alloc: Global, error: &clap::Error) -> Result<Job, WordsFault>
     Ok(Job::Help(text))
 }
 
-/// Why the words after the program's name can't be had: want of memory, or a word that isn't UTF-8.
+/// Why the words after the program's name can't be read: memory is missing, or a word isn't UTF-8.
 pub fn unreadable_words(alloc: Global, error: &io::Error) -> WordsFault
     ensures { error_kind error.now ≡ io.OutOfMemory → result ≡ words.NoMemory }
 {
@@ -423,7 +357,12 @@ fn job_of(alloc: Global, matches: &ArgMatches<'_>) -> Result<Job, WordsFault>
     }
 }
 
-/// What the words after the program's name ask for. Words that are bad are answered with the text to print.
+/// What the words after the program's name ask for.
+///
+/// # Errors
+///
+/// BadWords, with the text to print, if the words ask for no job or give an option a value that it can't have; NoMemory if
+/// memory is missing.
 pub fn parse_words(alloc: Global, words: &[String]) -> Result<Job, WordsFault>
     ensures { IfOk result IsJob }
 {

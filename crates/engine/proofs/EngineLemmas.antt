@@ -41,11 +41,11 @@ written_exactly sizes t old key e new waits is =
 pub handled_by : {M P : Type 0} (m : MapOf M P) (old found : Engine M) (t : ℕ) (q : Request) (reply : Reply)
     (new : Engine M)
     → cache_in m.entries found ≡ found_at (cache_in m.entries old) t → m.sizes found.map ≡ m.sizes old.map
-    → m.moment found.map ≡ t
+    → m.moment found.map ≡ t → found.in_place ≡ old.in_place
     → m.alike old.map found.map → StaysKept m.keeps old.map found.map
     → Leaves m found new (act (item_limit (m.sizes found.map)) (cache_in m.entries found) (m.moment found.map) q) reply
     → IsHandled m old t q reply new
-handled_by m old found t q reply new cache same at alike kept leaves =
+handled_by m old found t q reply new cache same at option alike kept leaves =
     let same_outcome : act (item_limit (m.sizes found.map)) (cache_in m.entries found) (m.moment found.map) q
     ≡ outcome_at (m.sizes old.map)
     (cache_in m.entries old) t q =
@@ -55,6 +55,7 @@ handled_by m old found t q reply new cache same at alike kept leaves =
       found_is = cache;
       sizes_same = same;
       moment_is = at;
+      in_place_same = option;
       alike = alike;
       kept = kept;
       leaves = subst (λ (done : Outcome). Leaves m found new done reply) same_outcome leaves;
@@ -80,9 +81,9 @@ forgets_beside sizes old key e forgotten (inr h) =
     inr (key, refl, subst (λ (others : Entries). MayEvict sizes others forgotten) (sym (remove-insert old key e)) h)
 
 -- what an engine's map becomes is what a step may leave
-reached : {M P : Type 0} (m : MapOf M P) (old : M) (done : Outcome) (stored : Option (List ℕ)) (new : M)
-    → Changes m old done stored new → IsReached (m.sizes old) (m.moment old) done.entries stored (m.entries new)
-reached m old done None new is =
+reached : {M P : Type 0} (m : MapOf M P) (in_place : Bool) (old : M) (done : Outcome) (stored : Option (List ℕ)) (new : M)
+    → Changes m in_place old done stored new → IsReached (m.sizes old) (m.moment old) done.entries stored (m.entries new)
+reached m in_place old done None new is =
     record {
       dated = done.entries;
       is_dated = refl;
@@ -90,7 +91,7 @@ reached m old done None new is =
       may_forget = inl refl;
       entries = is.entries ∙ sym (without-nil done.entries);
     }
-reached m old done (Some key) new s =
+reached m in_place old done (Some key) new s =
     let w = s.written in
     let left : Entry = record s.entry { deadline = w.deadline } in
     let dated : Entries = map.insert (m.entries old) key left in
@@ -149,7 +150,7 @@ step_from_handled m old t q reply new h =
       | inl d ↦
           let r = moved (m.sizes h.found.map) (m.sizes old.map) (m.moment h.found.map) t done.entries done.stored
           (m.entries new.map) h.sizes_same h.moment_is
-          (reached m h.found.map done done.stored new.map d.changes) in
+          (reached m h.found.in_place h.found.map done done.stored new.map d.changes) in
           inl (record {
             reply_is = d.reply_is;
             last_cas = d.last_cas;

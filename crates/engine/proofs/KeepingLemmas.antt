@@ -1,5 +1,5 @@
 -- While little is stored, and nothing with a deadline, an engine forgets nothing that its map keeps.
-use Rattle.std.proofs.Common.{◌≡◌, ℕ, List, [], ◌++◌, Option, Some, None, refl, sym, ap, subst, ◌∙◌, inl, inr, append-nil}
+use Rattle.std.proofs.Common.{◌≡◌, ℕ, Bool, List, [], ◌++◌, Option, Some, None, refl, sym, ap, subst, ◌∙◌, inl, inr, append-nil}
 use Rattle.std.specs.Prelude.{if◌then◌else◌}
 use Rattle.std.specs.FinMap as map
 use Rattle.proto.specs.declared.message.Request.{Request}
@@ -44,12 +44,12 @@ record IsKept {M P : Type 0} (m : MapOf M P) (t : ℕ) (asked : Entries) (stored
   keeps : m.keeps new items
 
 -- a stored entry is kept with the others
-kept_entry : {M P : Type 0} (m : MapOf M P) (old : M) (key : List ℕ) (done : Outcome) (new : M)
+kept_entry : {M P : Type 0} (m : MapOf M P) (change : Bool) (old : M) (key : List ℕ) (done : Outcome) (new : M)
     (items : List StoredItem)
-    → IsStored m old key done.entries new → m.keeps old items → AddsNone (m.entries old) done.entries
+    → IsStored m change old key done.entries new → m.keeps old items → AddsNone (m.entries old) done.entries
     → IsWithinBound (m.sizes old) (items ++ item_stored (m.moment old) done (Some key))
     → IsKept m (m.moment old) done.entries (Some key) (items ++ item_stored (m.moment old) done (Some key)) new
-kept_entry m old key done new items s keeps none within =
+kept_entry m change old key done new items s keeps none within =
     let e = s.entry in
     let there : map.get done.entries key ≡ Some e =
     ap (λ (asked : Entries). map.get asked key) s.asked_is ∙ get-stored (m.entries old) key e in
@@ -77,15 +77,15 @@ kept_entry m old key done new items s keeps none within =
     }
 
 -- what was asked for is kept, whether an item was stored or not
-kept_change : {M P : Type 0} (m : MapOf M P) (old : M) (stored : Option (List ℕ)) (done : Outcome) (new : M)
+kept_change : {M P : Type 0} (m : MapOf M P) (in_place : Bool) (old : M) (stored : Option (List ℕ)) (done : Outcome) (new : M)
     (items : List StoredItem)
-    → Changes m old done stored new → m.keeps old items → AddsNone (m.entries old) done.entries
+    → Changes m in_place old done stored new → m.keeps old items → AddsNone (m.entries old) done.entries
     → IsWithinBound (m.sizes old) (items ++ item_stored (m.moment old) done stored)
     → IsKept m (m.moment old) done.entries stored (items ++ item_stored (m.moment old) done stored) new
-kept_change m old None done new items is keeps none within =
+kept_change m in_place old None done new items is keeps none within =
     record { dated = is.entries; keeps = subst (m.keeps new) (sym (append-nil items)) (is.kept items keeps) }
-kept_change m old (Some key) done new items is keeps none within =
-    kept_entry m old key done new items is keeps none within
+kept_change m in_place old (Some key) done new items is keeps none within =
+    kept_entry m _ old key done new items is keeps none within
 
 -- an engine keeps what its map keeps
 pub kept_from_handled : {M P : Type 0} (m : MapOf M P) (old : Engine M) (t : ℕ) (q : Request) (reply : Reply)
@@ -116,7 +116,7 @@ kept_from_handled m old t q reply new h items keeps sets within =
           (sym h.sizes_same)
           (subst (λ (at : ℕ). IsWithinBound sizes (items ++ item_stored at done done.stored)) (sym h.moment_is)
           (subst (IsWithinBound sizes) all within)) in
-          let kept = kept_change m h.found.map done.stored done new.map items d.changes found_keeps none bound in (
+          let kept = kept_change m h.found.in_place h.found.map done.stored done new.map items d.changes found_keeps none bound in (
             inr (subst (λ (at : ℕ). IsDated at done.entries done.stored (m.entries new.map)) h.moment_is kept.dated),
             subst (m.keeps new.map) (sym all)
                 (subst (λ (at : ℕ). m.keeps new.map (items ++ item_stored at done done.stored)) h.moment_is kept.keeps),

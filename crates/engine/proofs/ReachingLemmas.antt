@@ -4,10 +4,11 @@ use mathlib.Core.Logic.{dite}
 use mathlib.Core.List.{map-append}
 use native.Mathlib.Decide.{ℕ_discrete}
 use Rattle.proto.specs.declared.history.Answered.{Answered}
+use Rattle.proto.specs.ClockAnswers.{GivenAnswer}
 use Rattle.proto.specs.Sizes.{Sizes}
 use Rattle.proto.specs.Cache.{Cache, empty_cache}
 use Rattle.proto.specs.Steps.{Step}
-use Rattle.proto.specs.History.{max_moment, MomentsFrom, Chain, NumbersFrom, worker_share, Legal}
+use Rattle.proto.specs.History.{max_moment, MomentsFrom, answers_by, Chain, NumbersFrom, worker_share, Legal}
 use Rattle.engine.specs.Reaching.{moments_after, last_or, last_cache, Reaches}
 use Rattle.proto.proofs.CountLemmas.{share_mine, share_other}
 
@@ -44,12 +45,17 @@ moment_after last answer = max last (min answer max_moment)
 pub moments_more : (h : List Answered) (e : Answered) → moments (h ++ e ∷ []) ≡ moments h ++ e.moment ∷ []
 moments_more h e = map-append (λ (x : Answered). x.moment) h (e ∷ [])
 
--- moments that don't fall, and one more that isn't below the last of them
-rising_more : (t : ℕ) (h : List Answered) (e : Answered) → MomentsFrom t h → last_or t (moments h) ≤ e.moment
-    → e.moment ≤ max_moment
-    → MomentsFrom t (h ++ e ∷ [])
-rising_more t [] e r low high = (low, high, tt)
-rising_more t (b ∷ h) e r low high = (r.0, r.1, rising_more b.moment h e r.2 low high)
+-- the moments of a clock's answers, and one more
+timed_on : (told : List GivenAnswer) (t : ℕ) (h : List Answered) (e : Answered) (answer : GivenAnswer) → MomentsFrom told t h
+    → e.clock ≡ answers_by told h ++ answer ∷ [] → e.moment ≡ moment_after (last_or t (moments h)) answer.seconds
+    → MomentsFrom told t (h ++ e ∷ [])
+timed_on told t [] e answer r by at = (answer, by, at, tt)
+timed_on told t (b ∷ h) e answer r by at = (r.0, r.1, r.2, timed_on b.clock b.moment h e answer r.3 by at)
+
+-- the answers by which a history with one request more was timed
+pub answers_more : (told : List GivenAnswer) (h : List Answered) (e : Answered) → answers_by told (h ++ e ∷ []) ≡ e.clock
+answers_more told [] e = refl
+answers_more told (b ∷ h) e = answers_more b.clock h e
 
 -- numbers that count on by one, and the next one
 numbers_more : (n : ℕ) (h : List Answered) (e : Answered) → NumbersFrom n h → e.number ≡ n + length h
@@ -59,14 +65,16 @@ numbers_more n (b ∷ h) e r is = (r.0, numbers_more (n + 1) h e r.1 (is ∙ (om
 
 -- a history with one request more leads to the cache and the moment of that request
 pub reaches_more : (sizes : Sizes) (h : List Answered) (c after : Cache) (m : ℕ) (e : Answered) → Reaches sizes h c m
-    → Step sizes c e.moment e.request e.reply after → m ≤ e.moment → e.moment ≤ max_moment
+    → Step sizes c e.moment e.request e.reply after → e.moment ≤ max_moment
+    → (answer : GivenAnswer) → e.clock ≡ answers_by [] h ++ answer ∷ [] → e.moment ≡ moment_after m answer.seconds
     → e.number ≡ length (worker_share h e.worker) + 1 → Reaches sizes (h ++ e ∷ []) after e.moment
-reaches_more sizes h c after m e r s low high next = record {
+reaches_more sizes h c after m e r s high answer by at next = record {
   caches = r.caches ++ after ∷ [];
   chain = chain_more sizes (empty_cache 0) h r.caches e after r.chain
       (subst (λ (z : Cache). Step sizes z e.moment e.request e.reply after) (sym r.cache_is) s);
   cache_is = last_more (empty_cache 0) r.caches after;
-  moments_are = rising_more 0 h e r.moments_are (subst (λ (z : ℕ). z ≤ e.moment) (sym r.moment_is) low) high;
+  moments_are = timed_on [] 0 h e answer r.moments_are by
+      (at ∙ ap (λ (z : ℕ). moment_after z answer.seconds) (sym r.moment_is));
   moment_is = ap (last_or 0) (moments_more h e) ∙ last_number 0 (moments h) e.moment;
   small = high;
   numbers = λ w. dite (ℕ_discrete e.worker w)

@@ -1,5 +1,5 @@
 -- Keys that were found in a map, and where their entries stand.
-use Rattle.std.specs.Prelude.{◌≡◌, List, ℕ, map, IsSome, All}
+use Rattle.std.specs.Prelude.{◌≡◌, Bool, List, ℕ, map, IsSome, All}
 use Rattle.std.specs.FinMap as finite
 use Rattle.proto.specs.Commands.{hits_of}
 use Rattle.engine.specs.declared.hits.Found.{Found}
@@ -18,7 +18,7 @@ abbrev pub AreFound : {M P : Type 0} → MapOf M P → M → List (Found P) → 
 AreFound m entries found = All (IsFound m entries) found
 
 -- what was found is there, and has the hits of the keys
-pub record HasFound {M P : Type 0} (m : MapOf M P) (entries : M) (keys : List (List ℕ))
+pub record HasFound {M P : Type 0} (m : MapOf M P) (with_cas : Bool) (entries : M) (keys : List (List ℕ))
     (found : List (Found P)) : Type 0 where
   pub are_found : AreFound m entries found
-  pub hits : hits_of (m.entries entries) (keys_found found) ≡ hits_of (m.entries entries) keys
+  pub hits : hits_of with_cas (m.entries entries) (keys_found found) ≡ hits_of with_cas (m.entries entries) keys

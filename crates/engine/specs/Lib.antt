@@ -3,6 +3,7 @@ pub mod Change
 pub mod Shown
 pub mod Written
 pub mod Outcomes
+pub mod AnswerSizes
 pub mod Keeping
 pub mod Counting
 pub mod Members

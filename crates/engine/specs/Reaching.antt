@@ -5,10 +5,12 @@ use Rattle.proto.specs.Sizes.{Sizes}
 use Rattle.proto.specs.Cache.{Cache, empty_cache}
 use Rattle.proto.specs.History.{max_moment, MomentsFrom, Chain, NumbersFrom, worker_share}
 
--- the moments of requests: each is the clock's answer, up to the greatest moment, or the moment before where that is greater
+-- the moments of requests: each is the clock's answer, up to the greatest moment, or the moment before where that is
+-- greater
 abbrev pub moments_after : ℕ → List ℕ → List ℕ
 moments_after last [] = []
-moments_after last (answer ∷ answers) = let moment = max last (min answer max_moment) in moment ∷ moments_after moment answers
+moments_after last (answer ∷ answers) =
+    let moment = max last (min answer max_moment) in moment ∷ moments_after moment answers
 
 -- the last number of a list, or another one where it is empty
 abbrev pub last_or : ℕ → List ℕ → ℕ
@@ -25,7 +27,7 @@ pub record Reaches (sizes : Sizes) (history : List Answered) (cache : Cache) (mo
   pub caches : List Cache
   pub chain : Chain sizes (empty_cache 0) history caches
   pub cache_is : last_cache (empty_cache 0) caches ≡ cache
-  pub moments_are : MomentsFrom 0 history
+  pub moments_are : MomentsFrom [] 0 history
   pub moment_is : last_or 0 (map (λ e. e.moment) history) ≡ moment
   pub small : moment ≤ max_moment
   pub numbers : (worker : ℕ) → NumbersFrom 1 (worker_share history worker)

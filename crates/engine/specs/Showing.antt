@@ -1,18 +1,18 @@
 -- What is left of a map that shows the hits of keys.
-use Rattle.std.specs.Prelude.{◌≡◌, List, ℕ}
+use Rattle.std.specs.Prelude.{◌≡◌, Bool, List, ℕ}
 use Rattle.proto.specs.Commands.{hits_of}
 use Rattle.proto.specs.Hits.{Writing}
 use Rattle.engine.specs.Members.{MapOf}
 use Rattle.engine.specs.Keeping.{StaysKept}
 use Rattle.engine.specs.Counting.{CountsEach, keys_of}
 
--- What was written are the hits of the keys, without room that is left; a read of each was counted, one after the other, and
--- the map has what it had.
-pub record HasShown {M P : Type 0} (m : MapOf M P) (old : M) (keys : List (List ℕ)) (new : M)
+-- What was written are the hits of the keys, without room that is left; a read of each was counted, one after the
+-- other, and the map has what it had.
+pub record HasShown {M P : Type 0} (m : MapOf M P) (with_cas : Bool) (old : M) (keys : List (List ℕ)) (new : M)
     (written : Writing) : Type 0 where
-  pub hits : written.hits ≡ hits_of (m.entries old) keys
+  pub hits : written.hits ≡ hits_of with_cas (m.entries old) keys
   pub exact : written.room ≡ 0
-  pub counted : CountsEach m.reads old (keys_of (hits_of (m.entries old) keys)) new
+  pub counted : CountsEach m.reads old (keys_of (hits_of with_cas (m.entries old) keys)) new
   pub entries : m.entries new ≡ m.entries old
   pub sizes : m.sizes new ≡ m.sizes old
   pub moment : m.moment new ≡ m.moment old

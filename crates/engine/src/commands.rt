@@ -1,15 +1,16 @@
 //! The commands, over any map of live entries.
 
-ghost use Rattle.std.specs.Prelude.{◌≡◌, ◌≤◌, false};
+ghost use Rattle.std.specs.Prelude.{◌≡◌, ◌≤◌, ◌<◌, ◌&&◌, true, false};
 ghost use Rattle.std.specs.FinMap as map;
 ghost use Rattle.proto.specs.Cache.{found_at, has_arrived};
 ghost use Rattle.proto.specs.Commands.{write, put, change, is_too_large, leaving, hits_of, act};
 ghost use Rattle.proto.specs.Sizes.{item_limit};
 ghost use Rattle.proto.specs.History.{max_moment};
-ghost use Rattle.engine.specs.Written.{MayBeWritten};
+ghost use Rattle.engine.specs.Written.{MayBeWritten, IsChanged};
 ghost use Rattle.engine.specs.Shown.{entry_of};
 ghost use Rattle.engine.specs.Change.{changed_by};
 ghost use Rattle.engine.specs.Keeping.{StaysKept};
+ghost use Rattle.engine.specs.AnswerSizes.{shown_size, answer_size};
 
 use crate::deadline::{deadline_of, has_arrived};
 use crate::entry_ref::EntryRef;
@@ -18,7 +19,7 @@ use crate::live_map::LiveMap;
 use crate::number::{Change, number_of};
 use crate::size::is_too_large;
 use itoa::Buffer;
-use proto::{Keys, Put, Reply, Request};
+use proto::{Keys, MAX_ANSWER, Put, Reply, Request};
 
 /// A cache over a map of live entries.
 #[derive(Drop)]
@@ -26,12 +27,15 @@ pub struct Engine<M> {
     pub(crate) map: M,
     pub(crate) last_cas: u64,
     pub(crate) pending: Option<u64>,
+    /// Whether `incr` and `decr` change an entry where it stands, if its map can.
+    pub(crate) in_place: bool,
 }
 
 impl<M: LiveMap> Engine<M> {
-    ghost use Rattle.engine.specs.Engines.{cache_in, Leaves};
+    ghost use Rattle.engine.specs.Engines.{cache_in, Leaves, tells_number};
 
-    /// Stores an entry with the next cas number.
+    /// Stores an entry with the next cas number. NoCas if the greatest one was given out, NoMemory if memory is
+    /// refused.
     fn write(
         &mut self,
         key: &[u8],
@@ -42,6 +46,7 @@ impl<M: LiveMap> Engine<M> {
     ) -> Reply
         requires waits { has_arrived deadline (M.moment self.old.map) ≡ false }
         requires fits { MayBeWritten (M.sizes self.old.map) (M.entries self.old.map) key.now value.now }
+        requires anew { (tells_number reply && self.old.in_place) ≡ false }
         ensures { Leaves M.LiveMap self.old self.new (write (cache_in M.entries self.old) key.now
             (λ cas. record { value = value.now; flags = flags; deadline = deadline; cas = cas }) reply) result }
     {
@@ -62,11 +67,51 @@ impl<M: LiveMap> Engine<M> {
         reply
     }
 
-    /// A put that nothing stands against. Where its deadline has come already, its key is taken out.
+    /// Changes the entry of the key, which stands at the place and has these flags and this deadline, to this number
+    /// with the next cas number. It gives NoCas and NoMemory as `write` does.
+    fn rewrite(
+        &mut self,
+        key: &[u8],
+        place: M::Place,
+        value: &[u8],
+        flags: u32,
+        deadline: Option<u64>,
+        number: u64,
+    ) -> Reply
+        requires in_place { self.old.in_place ≡ true }
+        requires stands { M.stands self.old.map key.now place }
+        requires changed { IsChanged (map.get (M.entries self.old.map) key.now)
+            (record { value = value.now; flags = flags; deadline = deadline; cas = 0 }) }
+        requires waits { has_arrived deadline (M.moment self.old.map) ≡ false }
+        requires fits { MayBeWritten (M.sizes self.old.map) (M.entries self.old.map) key.now value.now }
+        ensures { Leaves M.LiveMap self.old self.new (write (cache_in M.entries self.old) key.now
+            (λ cas. record { value = value.now; flags = flags; deadline = deadline; cas = cas })
+            (Reply.Number number)) result }
+    {
+        let Some(cas) = self.last_cas.checked_add(1) else {
+            return Reply::NoCas;
+        };
+        let entry = EntryRef {
+            value,
+            flags,
+            deadline,
+            cas,
+        };
+        match self.map.rewrite(key, place, entry) {
+            Ok(()) => {
+                self.last_cas = cas;
+                Reply::Number(number)
+            }
+            Err(_) => Reply::NoMemory,
+        }
+    }
+
+    /// Stores the entry of a put, or takes its key out if its deadline has come already.
     fn put(&mut self, item: &Put) -> Reply
         requires in_range { M.moment self.old.map ≤ max_moment }
         requires small { is_too_large (item_limit (M.sizes self.old.map)) item.now ≡ false }
-        ensures { Leaves M.LiveMap self.old self.new (put (cache_in M.entries self.old) (M.moment self.old.map) item.now) result }
+        ensures { Leaves M.LiveMap self.old self.new
+            (put (cache_in M.entries self.old) (M.moment self.old.map) item.now) result }
     {
         let deadline = deadline_of(item.exptime, self.map.last_moment());
         if has_arrived(deadline, self.map.last_moment()) {
@@ -83,7 +128,9 @@ impl<M: LiveMap> Engine<M> {
     }
 
     fn delete(&mut self, key: &[u8]) -> Reply
-        ensures { Leaves M.LiveMap self.old self.new (act (item_limit (M.sizes self.old.map)) (cache_in M.entries self.old) (M.moment self.old.map) (Request.Delete key.now)) result }
+        ensures { Leaves M.LiveMap self.old self.new
+            (act (item_limit (M.sizes self.old.map)) (cache_in M.entries self.old) (M.moment self.old.map)
+            (Request.Delete key.now)) result }
     {
         if !self.map.contains_key(key) {
             return Reply::NotFound;
@@ -92,12 +139,13 @@ impl<M: LiveMap> Engine<M> {
         Reply::Deleted
     }
 
-    /// Changes the number at the key.
+    /// Changes the number at the key. NotFound if it has no entry, NotNumber if its value is no number.
     fn change(&mut self, key: &[u8], by: Change) -> Reply
         ensures { Leaves M.LiveMap self.old self.new
-            (change (changed_by by) (map.get (M.entries self.old.map) key.now) (cache_in M.entries self.old) key.now) result }
+            (change (changed_by by) (map.get (M.entries self.old.map) key.now)
+            (cache_in M.entries self.old) key.now) result }
     {
-        let Some((entry, _)) = self.map.get(key) else {
+        let Some((entry, place)) = self.map.get(key) else {
             return Reply::NotFound;
         };
         let Some(number) = number_of(entry.value) else {
@@ -107,18 +155,18 @@ impl<M: LiveMap> Engine<M> {
         let deadline = entry.deadline;
         let number = by.applied_to(number);
         let mut buffer = Buffer::new();
-        self.write(
-            key,
-            buffer.format(number).as_bytes(),
-            flags,
-            deadline,
-            Reply::Number(number),
-        )
+        let value = buffer.format(number).as_bytes();
+        if self.in_place {
+            return self.rewrite(key, place, value, flags, deadline, number);
+        }
+        self.write(key, value, flags, deadline, Reply::Number(number))
     }
 
     fn flush(&mut self, delay: u64) -> Reply
         requires { M.moment self.old.map ≤ max_moment }
-        ensures { Leaves M.LiveMap self.old self.new (act (item_limit (M.sizes self.old.map)) (cache_in M.entries self.old) (M.moment self.old.map) (Request.FlushAll delay)) result }
+        ensures { Leaves M.LiveMap self.old self.new
+            (act (item_limit (M.sizes self.old.map)) (cache_in M.entries self.old) (M.moment self.old.map)
+            (Request.FlushAll delay)) result }
     {
         if delay == 0 {
             self.map.clear();
@@ -129,13 +177,14 @@ impl<M: LiveMap> Engine<M> {
         Reply::Flushed
     }
 
-    /// Time goes on to this moment, at which a pending flush may have come.
+    /// Moves on to this moment, at which a pending flush may have come.
     pub(crate) fn advance(&mut self, now: u64)
         requires not_before { M.moment self.old.map ≤ now }
         requires in_range { now ≤ max_moment }
         ensures cache { cache_in M.entries self.new ≡ found_at (cache_in M.entries self.old) now }
         ensures sizes { M.sizes self.new.map ≡ M.sizes self.old.map }
         ensures moment { M.moment self.new.map ≡ now }
+        ensures in_place { self.new.in_place ≡ self.old.in_place }
         ensures alike { M.alike self.old.map self.new.map }
         ensures kept { StaysKept M.keeps self.old.map self.new.map }
     {
@@ -152,9 +201,13 @@ impl<M: LiveMap> Engine<M> {
         is_too_large(self.map.item_limit(), item)
     }
 
+    /// Shows the entries at the keys, whose hits are all dropped if they take more than `MAX_ANSWER` bytes.
     fn get(&mut self, keys: &mut Keys, with_cas: bool) -> Reply
+        ensures limit { MAX_ANSWER < shown_size (hits_of with_cas (M.entries self.old.map) keys.old)
+            → result ≡ Reply.NoMemory }
         ensures leaves { Leaves M.LiveMap self.old self.new
-            (leaving (cache_in M.entries self.old) (Reply.Values (hits_of (M.entries self.old.map) keys.old))) result }
+            (leaving (cache_in M.entries self.old)
+            (Reply.Values (hits_of with_cas (M.entries self.old.map) keys.old))) result }
         ensures same { keys.new ≡ keys.old }
     {
         match hits_of(&mut self.map, keys, with_cas) {
@@ -166,7 +219,8 @@ impl<M: LiveMap> Engine<M> {
     fn set(&mut self, item: &Put) -> Reply
         requires { M.moment self.old.map ≤ max_moment }
         ensures { Leaves M.LiveMap self.old self.new
-            (act (item_limit (M.sizes self.old.map)) (cache_in M.entries self.old) (M.moment self.old.map) (Request.Set item.now)) result }
+            (act (item_limit (M.sizes self.old.map)) (cache_in M.entries self.old) (M.moment self.old.map)
+            (Request.Set item.now)) result }
     {
         if self.is_too_large(item) {
             return Reply::TooLarge;
@@ -177,7 +231,8 @@ impl<M: LiveMap> Engine<M> {
     fn add(&mut self, item: &Put) -> Reply
         requires { M.moment self.old.map ≤ max_moment }
         ensures { Leaves M.LiveMap self.old self.new
-            (act (item_limit (M.sizes self.old.map)) (cache_in M.entries self.old) (M.moment self.old.map) (Request.Add item.now)) result }
+            (act (item_limit (M.sizes self.old.map)) (cache_in M.entries self.old) (M.moment self.old.map)
+            (Request.Add item.now)) result }
     {
         if self.is_too_large(item) {
             return Reply::TooLarge;
@@ -191,7 +246,8 @@ impl<M: LiveMap> Engine<M> {
     fn replace(&mut self, item: &Put) -> Reply
         requires { M.moment self.old.map ≤ max_moment }
         ensures { Leaves M.LiveMap self.old self.new
-            (act (item_limit (M.sizes self.old.map)) (cache_in M.entries self.old) (M.moment self.old.map) (Request.Replace item.now)) result }
+            (act (item_limit (M.sizes self.old.map)) (cache_in M.entries self.old) (M.moment self.old.map)
+            (Request.Replace item.now)) result }
     {
         if self.is_too_large(item) {
             return Reply::TooLarge;
@@ -205,7 +261,8 @@ impl<M: LiveMap> Engine<M> {
     fn cas(&mut self, item: &Put, unique: u64) -> Reply
         requires { M.moment self.old.map ≤ max_moment }
         ensures { Leaves M.LiveMap self.old self.new
-            (act (item_limit (M.sizes self.old.map)) (cache_in M.entries self.old) (M.moment self.old.map) (Request.Cas item.now unique)) result }
+            (act (item_limit (M.sizes self.old.map)) (cache_in M.entries self.old) (M.moment self.old.map)
+            (Request.Cas item.now unique)) result }
     {
         if self.is_too_large(item) {
             return Reply::TooLarge;
@@ -222,8 +279,10 @@ impl<M: LiveMap> Engine<M> {
     /// Executes the request at the last moment.
     pub(crate) fn execute(&mut self, request: &mut Request) -> Reply
         requires { M.moment self.old.map ≤ max_moment }
+        ensures limit { MAX_ANSWER < answer_size (M.entries self.old.map) request.old → result ≡ Reply.NoMemory }
         ensures leaves { Leaves M.LiveMap self.old self.new
-            (act (item_limit (M.sizes self.old.map)) (cache_in M.entries self.old) (M.moment self.old.map) request.old) result }
+            (act (item_limit (M.sizes self.old.map)) (cache_in M.entries self.old)
+            (M.moment self.old.map) request.old) result }
         ensures same { request.new ≡ request.old }
     {
         match request {

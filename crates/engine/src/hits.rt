@@ -1,28 +1,43 @@
 //! What a `get` shows.
 
-ghost use Rattle.std.specs.Prelude.{◌≡◌, ◌+◌, ◌<◌, ◌∷◌, [], length, sum_by, IfOk, IfSome, OnErr};
+ghost use Rattle.std.specs.Prelude.{◌≡◌, ◌+◌, ◌<◌, ◌≤◌, ◌^◌, ◌∷◌, [], length, sum_by, nat_lt, if◌then◌else◌, Some, None, IfOk, IfSome};
+ghost use Rattle.std.specs.Prelude.{OnOk, OnErr};
 ghost use Rattle.proto.specs.Commands.{hits_of};
-ghost use Rattle.proto.specs.Hits.{hit_room};
+ghost use Rattle.proto.specs.Hits.{hit_bytes, hit_room};
 ghost use Rattle.proto.specs.SeenHits.{seen_hit};
 ghost use Rattle.engine.specs.Shown.{entry_of};
 ghost use Rattle.engine.specs.Finding.{AreFound, HasFound, keys_found};
+ghost use Rattle.engine.specs.AnswerSizes.{shown_size};
 ghost use Rattle.engine.specs.Showing.{HasShown};
 
+use crate::answer_size::left_after;
 use crate::entry_ref::EntryRef;
 use crate::live_map::LiveMap;
-use proto::{HitRef, HitWriter, Keys, NoMemory};
+use proto::{HitRef, HitWriter, Keys, MAX_ANSWER, NoMemory};
 use std::hash::Hasher;
 
-/// The entry at the key, lent.
-fn hit_of<'a>(key: &'a [u8], entry: EntryRef<'a>) -> HitRef<'a>
-    ensures { let e = entry_of entry.entry in seen_hit result ≡ record { key = key.now; flags = e.flags; value = e.value; cas = e.cas } }
+/// A hit that shows its cas number or doesn't. Its room is enough for the bytes that show it.
+fn hit_with<'a>(key: &'a [u8], value: &'a [u8], flags: u32, cas: u64, with_cas: bool) -> HitRef<'a>
+    requires { length value.now < 2 ^ 64 }
+    ensures hit { seen_hit result
+        ≡ record { key = key.now; flags = flags; value = value.now; cas = if with_cas then Some cas else None } }
+    ensures room { length (hit_bytes (seen_hit result)) ≤ hit_room (seen_hit result) }
 {
     HitRef {
         key,
-        flags: entry.flags,
-        value: entry.value,
-        cas: entry.cas,
+        flags,
+        value,
+        cas: if with_cas { Some(cas) } else { None },
     }
+}
+
+/// The hit of the entry at the key.
+fn hit_of<'a>(key: &'a [u8], entry: EntryRef<'a>, with_cas: bool) -> HitRef<'a>
+    ensures hit { let e = entry_of entry.entry in seen_hit result
+        ≡ record { key = key.now; flags = e.flags; value = e.value; cas = if with_cas then Some e.cas else None } }
+    ensures room { length (hit_bytes (seen_hit result)) ≤ hit_room (seen_hit result) }
+{
+    hit_with(key, entry.value, entry.flags, entry.cas, with_cas)
 }
 
 /// A key that is there, and where its entry stands.
@@ -32,7 +47,7 @@ struct Found<'k, P> {
     place: P,
 }
 
-/// What was found of a key.
+/// A key with the place of its entry.
 fn found_at<'k, P: Copy>(key: &'k [u8], place: P) -> Found<'k, P>
     ensures key { result.key.now ≡ key.now }
     ensures place { result.place ≡ place }
@@ -40,28 +55,31 @@ fn found_at<'k, P: Copy>(key: &'k [u8], place: P) -> Found<'k, P>
     Found { key, place }
 }
 
-/// The room with that of one more hit; None where it is more than memory can have.
+/// The room with that of one more hit; None if it is more than memory can have.
 fn room_with(room: usize, hit: HitRef) -> Option<usize>
     ensures { IfSome result (λ n. n ≡ room + hit_room (seen_hit hit.entry)) }
 {
     room.checked_add(hit.room()?)
 }
 
-/// Looks each key up: those that are there, and the room that their hits take.
+/// Looks each key up: those that are there, and the room that their hits take. NoMemory if memory is refused, or the
+/// room is more than memory can have.
 fn find_keys<'k, M: LiveMap>(
     map: &M,
     keys: &'k Keys,
+    with_cas: bool,
 ) -> Result<(Vec<Found<'k, M::Place>>, usize), NoMemory>
-    ensures found { IfOk result (λ f. HasFound M.LiveMap map.now keys.now f.0.items) }
-    ensures room { IfOk result (λ f. f.1 ≡ sum_by hit_room (hits_of (M.entries map.now) keys.now)) }
-    ensures err { OnErr result (0 < length (hits_of (M.entries map.now) keys.now)) }
+    ensures found { IfOk result (λ f. HasFound M.LiveMap with_cas map.now keys.now f.0.items) }
+    ensures room { IfOk result (λ f. f.1 ≡ sum_by hit_room (hits_of with_cas (M.entries map.now) keys.now)) }
+    ensures enough { IfOk result (λ f. shown_size (hits_of with_cas (M.entries map.now) keys.now) ≤ f.1) }
+    ensures err { OnErr result (0 < length (hits_of with_cas (M.entries map.now) keys.now)) }
 {
     let mut found = Vec::new(keys.allocator());
     let mut room: usize = 0;
     let mut words = keys.iter();
     while let Some(key) = words.next() {
         if let Some((entry, place)) = map.get(key) {
-            room = room_with(room, hit_of(key, entry)).ok_or(NoMemory)?;
+            room = room_with(room, hit_of(key, entry, with_cas)).ok_or(NoMemory)?;
             // With the first key that is there, the list takes memory for all of them.
             let wanted = if found.is_empty() { keys.len() } else { 1 };
             found.reserve(wanted)?;
@@ -71,40 +89,74 @@ fn find_keys<'k, M: LiveMap>(
     Ok((found, room))
 }
 
-/// The hits of keys that were found, for which there is room; a read of each is counted. The writer is new.
-fn hits_found<M: LiveMap>(map: &mut M, found: &[Found<M::Place>], hits: HitWriter) -> HitWriter
+/// Whether the hits of keys that were found take more bytes than those of one answer may.
+fn are_too_long<M: LiveMap>(map: &M, found: &[Found<M::Place>], with_cas: bool) -> bool
+    requires { AreFound M.LiveMap map.now found.now }
+    ensures { result ≡ nat_lt MAX_ANSWER (shown_size (hits_of with_cas (M.entries map.now) (keys_found found.now))) }
+{
+    let mut left = MAX_ANSWER;
+    for i in 0..found.len() {
+        let key = found[i].key;
+        let place = found[i].place;
+        match left_after(left, hit_of(key, map.entry_at(key, place), with_cas)) {
+            Some(rest) => left = rest,
+            None => return true,
+        }
+    }
+    false
+}
+
+/// Writes the hits of keys that were found, for which there is room, and counts a read of each. The writer is new.
+fn hits_found<M: LiveMap>(
+    map: &mut M,
+    found: &[Found<M::Place>],
+    with_cas: bool,
+    hits: HitWriter,
+) -> HitWriter
     requires found { AreFound M.LiveMap map.old found.now }
-    requires hits { hits ≡ record { hits = []; room = sum_by hit_room (hits_of (M.entries map.old) (keys_found found.now)) } }
-    ensures { HasShown M.LiveMap map.old (keys_found found.now) map.new result }
+    requires hits { hits
+        ≡ record { hits = []; room = sum_by hit_room (hits_of with_cas (M.entries map.old) (keys_found found.now)) } }
+    ensures { HasShown M.LiveMap with_cas map.old (keys_found found.now) map.new result }
 {
     let mut hits = hits;
     for i in 0..found.len() {
         let key = found[i].key;
         let place = found[i].place;
-        hits.push(hit_of(key, map.entry_at(key, place)));
+        hits.push(hit_of(key, map.entry_at(key, place), with_cas));
         map.count_read(key, place);
     }
     hits
 }
 
-/// The hit of the only key, which is looked up once. The writer is new.
-fn hit_of_only<M: LiveMap>(map: &mut M, only: &[u8], hits: HitWriter) -> Result<HitWriter, NoMemory>
+/// Writes the hit of the only key, which is looked up once, and counts its read. NoMemory if the hit takes more than
+/// `MAX_ANSWER` bytes, or memory is refused. The writer is new.
+fn hit_of_only<M: LiveMap>(
+    map: &mut M,
+    only: &[u8],
+    with_cas: bool,
+    hits: HitWriter,
+) -> Result<HitWriter, NoMemory>
     requires { hits ≡ record { hits = []; room = 0 } }
-    ensures ok { IfOk result (λ written. HasShown M.LiveMap map.old (only.now ∷ []) map.new written) }
-    ensures err { OnErr result (0 < length (hits_of (M.entries map.old) (only.now ∷ []))) }
+    ensures ok { IfOk result (λ written. HasShown M.LiveMap with_cas map.old (only.now ∷ []) map.new written) }
+    ensures limit { OnOk result (shown_size (hits_of with_cas (M.entries map.old) (only.now ∷ [])) ≤ MAX_ANSWER) }
+    ensures err { OnErr result (0 < length (hits_of with_cas (M.entries map.old) (only.now ∷ []))) }
     ensures refused { OnErr result (map.new ≡ map.old) }
 {
     let mut hits = hits;
     if let Some((entry, place)) = map.get(only) {
-        let hit = hit_of(only, entry);
-        hits.reserve(hit.room().ok_or(NoMemory)?)?;
+        let hit = hit_of(only, entry, with_cas);
+        let wanted = room_with(0, hit).ok_or(NoMemory)?;
+        if wanted > MAX_ANSWER && left_after(MAX_ANSWER, hit).is_none() {
+            return Err(NoMemory);
+        }
+        hits.reserve(wanted)?;
         hits.push(hit);
         map.count_read(only, place);
     }
     Ok(hits)
 }
 
-/// What the search for these keys will read is read ahead, for several of them at the same time.
+/// Reads ahead what the search for these keys will read, for several of them at the same time.
 fn read_ahead<M: LiveMap>(map: &M, keys: &Keys) {
     let mut words = keys.iter();
     for _ in 0..keys.len() {
@@ -117,40 +169,48 @@ fn read_ahead<M: LiveMap>(map: &M, keys: &Keys) {
     }
 }
 
-/// The hits of the keys, each of which is looked up once. Memory is taken in two steps: for the list of the keys that
-/// are there, and then for all their hits, whose room the list's making has summed. The writer is new.
+/// Writes the hits of the keys, each of which is looked up once, and counts a read of each. Memory is taken in two
+/// steps: for the list of the keys that are there, and then for all their hits. NoMemory if the hits take more than
+/// `MAX_ANSWER` bytes, or memory is refused. The writer is new.
 fn hits_of_keys<M: LiveMap>(
     map: &mut M,
     keys: &Keys,
+    with_cas: bool,
     hits: HitWriter,
 ) -> Result<HitWriter, NoMemory>
     requires { hits ≡ record { hits = []; room = 0 } }
-    ensures ok { IfOk result (λ written. HasShown M.LiveMap map.old keys.now map.new written) }
-    ensures err { OnErr result (0 < length (hits_of (M.entries map.old) keys.now)) }
+    ensures ok { IfOk result (λ written. HasShown M.LiveMap with_cas map.old keys.now map.new written) }
+    ensures limit { OnOk result (shown_size (hits_of with_cas (M.entries map.old) keys.now) ≤ MAX_ANSWER) }
+    ensures err { OnErr result (0 < length (hits_of with_cas (M.entries map.old) keys.now)) }
     ensures refused { OnErr result (map.new ≡ map.old) }
 {
     let mut hits = hits;
     read_ahead(map, keys);
-    let (found, room) = find_keys(map, keys)?;
+    let (found, room) = find_keys(map, keys, with_cas)?;
+    if room > MAX_ANSWER && are_too_long(map, found.as_slice(), with_cas) {
+        return Err(NoMemory);
+    }
     hits.reserve(room)?;
-    Ok(hits_found(map, found.as_slice(), hits))
+    Ok(hits_found(map, found.as_slice(), with_cas, hits))
 }
 
-/// The hits of the keys, in the room that they were lent where that is large enough; a read of each is counted. Where
-/// none of the keys is there no memory is taken, and where memory is refused no read is counted.
+/// The hits of the keys, in the buffer that they were lent if that is large enough; a read of each is counted. If
+/// none of the keys is there, no memory is taken. NoMemory if the hits take more than `MAX_ANSWER` bytes, or memory
+/// is refused: then no read is counted.
 pub fn hits_of<M: LiveMap>(
     map: &mut M,
     keys: &mut Keys,
     with_cas: bool,
 ) -> Result<HitWriter, NoMemory>
     ensures same { keys.new ≡ keys.old }
-    ensures ok { IfOk result (λ written. HasShown M.LiveMap map.old keys.old map.new written) }
-    ensures err { OnErr result (0 < length (hits_of (M.entries map.old) keys.old)) }
+    ensures ok { IfOk result (λ written. HasShown M.LiveMap with_cas map.old keys.old map.new written) }
+    ensures limit { OnOk result (shown_size (hits_of with_cas (M.entries map.old) keys.old) ≤ MAX_ANSWER) }
+    ensures err { OnErr result (0 < length (hits_of with_cas (M.entries map.old) keys.old)) }
     ensures refused { OnErr result (map.new ≡ map.old) }
 {
-    let hits = HitWriter::in_buffer(keys.take_buffer(), with_cas);
+    let hits = HitWriter::in_buffer(keys.take_buffer());
     match keys.only() {
-        Some(only) => hit_of_only(map, only, hits),
-        None => hits_of_keys(map, keys, hits),
+        Some(only) => hit_of_only(map, only, with_cas, hits),
+        None => hits_of_keys(map, keys, with_cas, hits),
     }
 }

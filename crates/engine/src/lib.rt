@@ -2,7 +2,7 @@
 //! and the plain store, which forgets nothing and is there to be compared with.
 #![tactic(auto)]
 
-mod clock;
+mod answer_size;
 mod commands;
 mod deadline;
 mod entry_ref;
@@ -18,12 +18,12 @@ mod storage_engine;
 mod store;
 mod store_map;
 
-pub use clock::Clock;
 pub use commands::Engine;
 pub use deadline::has_arrived;
 pub use entry_ref::EntryRef;
 pub use laws::limits;
 pub use live_map::LiveMap;
 pub use plain_map::{PlainMap, PlainStore};
+pub use proto::Clock;
 pub use storage_engine::{MAX_MOMENT, StorageEngine};
 pub use store_map::StoreMap;

@@ -67,7 +67,7 @@ impl LiveEntries {
         self.get(key).is_some()
     }
 
-    /// Time goes on to this moment.
+    /// Moves on to this moment.
     pub fn advance(&mut self, now: u64)
         requires { self.old.moment ≤ now }
         ensures entries { self.new.entries ≡ live self.old.entries now }

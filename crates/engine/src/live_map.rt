@@ -8,7 +8,7 @@ ghost use Rattle.proto.specs.Cache.{Entry, Entries, no_entries, live, has_arrive
 ghost use Rattle.proto.specs.History.{max_moment};
 ghost use Rattle.proto.specs.Stored.{StoredItem};
 ghost use Rattle.engine.specs.Shown.{entry_of};
-ghost use Rattle.engine.specs.Written.{MayBeWritten, IsWritten};
+ghost use Rattle.engine.specs.Written.{MayBeWritten, IsWritten, IsChanged};
 ghost use Rattle.engine.specs.Keeping.{StaysKept, KeepsEntry};
 ghost use Rattle.engine.specs.Counting.{StaysAlike};
 
@@ -30,7 +30,7 @@ pub trait LiveMap {
     /// The last moment.
     ghost moment: { Self → ℕ };
 
-    /// Whether a write may want memory that is refused.
+    /// Whether a write may fail because memory is refused.
     ghost may_refuse: { Bool };
 
     /// The entry of the key stands at the place.
@@ -39,14 +39,17 @@ pub trait LiveMap {
     /// What a write does to this map, beyond what one does to any.
     ghost writes: { Self → List ℕ → Entry → Self → Type 0 };
 
+    /// What a change of the key's entry does to this map, beyond what a write does to any.
+    ghost changes: { Self → List ℕ → Entry → Self → Type 0 };
+
     /// What counting a read of the entry at the key does to this map.
     ghost reads: { Self → List ℕ → Self → Type 0 };
 
-    /// The other map has what this one has where this one has it, whatever of it is still live: what time that goes on and
-    /// entries that are taken out leave.
+    /// The other map has what this one has where this one has it, whatever of it is still live: what time that goes
+    /// on and entries that are taken out leave.
     ghost alike: { Self → Self → Type 0 };
 
-    /// These items were stored so far, none with a deadline, and nothing was forgotten for want of room.
+    /// These items were stored so far, none with a deadline, and no item was forgotten to make room.
     ghost keeps: { Self → List StoredItem → Type 0 };
 
     /// The largest size of an item.
@@ -60,11 +63,11 @@ pub trait LiveMap {
     /// What hashes the keys for `prefetch`.
     fn key_hasher(&self) -> FoldHasher;
 
-    /// Reads what the search for a key with this hash will read, so that the processor has it at hand. What it
-    /// reads is kept where no clause speaks of it.
+    /// Reads what the search for a key with this hash will read, so that it is in the processor's cache. No clause
+    /// speaks of what it reads.
     fn prefetch(&self, hash: u64);
 
-    /// Time goes on to this moment.
+    /// Moves on to this moment.
     fn advance(&mut self, now: u64)
         requires not_before { moment self.old ≤ now }
         requires in_range { now ≤ max_moment }
@@ -74,7 +77,7 @@ pub trait LiveMap {
         ensures alike { alike self.old self.new }
         ensures kept { StaysKept keeps self.old self.new };
 
-    /// The entry at the key, and where it stands.
+    /// The entry at the key, and where it stands; None if the key has none.
     fn get<'a>(&'a self, key: &[u8]) -> Option<(EntryRef<'a>, Self::Place)>
         ensures found { option_map (λ r. entry_of r.0) result ≡ map.get (entries self.now) key.now }
         ensures stands { IfSome result (λ r. stands self.now key.now r.1) }
@@ -93,19 +96,44 @@ pub trait LiveMap {
     fn count_read(&mut self, key: &[u8], place: Self::Place)
         requires { stands self.old key.now place }
         ensures counted { reads self.old key.now self.new }
-        ensures stands { (other : List ℕ) (there : Self.Place) → stands self.old other there → stands self.new other there }
+        ensures stands { (other : List ℕ) (there : Self.Place) → stands self.old other there
+            → stands self.new other there }
         ensures entries { entries self.new ≡ entries self.old }
         ensures sizes { sizes self.new ≡ sizes self.old }
         ensures moment { moment self.new ≡ moment self.old }
         ensures kept { StaysKept keeps self.old self.new };
 
-    /// Copies the entry into the map, in place of what the key has.
+    /// Copies the entry into the map, in place of what the key has. NoMemory if memory is refused; then no entry
+    /// changes.
     fn write(&mut self, key: &[u8], entry: EntryRef) -> Result<(), NoMemory>
         requires waits { has_arrived entry.deadline (moment self.old) ≡ false }
         requires fits { MayBeWritten (sizes self.old) (entries self.old) key.now entry.value.now }
-        ensures written { OnOk result (IsWritten (sizes self.old) (moment self.old) (entries self.old) key.now (entry_of entry.entry) (entries self.new)) }
+        ensures written { OnOk result
+            (IsWritten (sizes self.old) (moment self.old) (entries self.old) key.now (entry_of entry.entry)
+            (entries self.new)) }
         ensures exactly { OnOk result (writes self.old key.now (entry_of entry.entry) self.new) }
-        ensures kept { OnOk result (KeepsEntry sizes entries moment keeps self.old key.now (entry_of entry.entry) self.new) }
+        ensures kept { OnOk result
+            (KeepsEntry sizes entries moment keeps self.old key.now (entry_of entry.entry) self.new) }
+        ensures refused { OnErr result (IsTrue may_refuse) }
+        ensures err { OnErr result (entries self.new ≡ entries self.old) }
+        ensures err_alike { OnErr result (StaysAlike alike self.old self.new) }
+        ensures err_kept { OnErr result (StaysKept keeps self.old self.new) }
+        ensures sizes { sizes self.new ≡ sizes self.old }
+        ensures moment { moment self.new ≡ moment self.old };
+
+    /// Writes an entry that differs from the one of the key, which stands at the place, only by its value and its cas
+    /// number. A map may change it there. NoMemory as for `write`.
+    fn rewrite(&mut self, key: &[u8], place: Self::Place, entry: EntryRef) -> Result<(), NoMemory>
+        requires stands { stands self.old key.now place }
+        requires changed { IsChanged (map.get (entries self.old) key.now) (entry_of entry) }
+        requires waits { has_arrived entry.deadline (moment self.old) ≡ false }
+        requires fits { MayBeWritten (sizes self.old) (entries self.old) key.now entry.value.now }
+        ensures written { OnOk result
+            (IsWritten (sizes self.old) (moment self.old) (entries self.old) key.now (entry_of entry.entry)
+            (entries self.new)) }
+        ensures exactly { OnOk result (changes self.old key.now (entry_of entry.entry) self.new) }
+        ensures kept { OnOk result
+            (KeepsEntry sizes entries moment keeps self.old key.now (entry_of entry.entry) self.new) }
         ensures refused { OnErr result (IsTrue may_refuse) }
         ensures err { OnErr result (entries self.new ≡ entries self.old) }
         ensures err_alike { OnErr result (StaysAlike alike self.old self.new) }

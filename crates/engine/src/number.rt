@@ -8,14 +8,15 @@ ghost use Rattle.engine.specs.Change.{changed_by};
 /// The longest value that is read as a number, in bytes.
 pub const MAX_DIGITS: usize = 20;
 
-/// The number with one more digit behind it, where it fits.
+/// The number with one more digit; None if it is 2^64 or more.
 fn then_digit(n: u64, digit: u8) -> Option<u64>
     ensures { SomeIff result (n * 10 + digit < 2 ^ 64) (n * 10 + digit) }
 {
     n.checked_mul(10)?.checked_add(u64::from(digit))
 }
 
-/// The number that the value writes in 1 to 20 digits, also with zeros in front, if it is below 2^64.
+/// The number that the value writes in 1 to 20 digits, also with leading zeros. None if it is 2^64 or more, or the
+/// value is no number.
 pub fn number_of(value: &[u8]) -> Option<u64>
     ensures { result ≡ number_of value.now }
 {
@@ -35,7 +36,7 @@ pub fn number_of(value: &[u8]) -> Option<u64>
 /// What is done to a number.
 #[derive(Clone, Copy)]
 pub enum Change {
-    /// Adds, and begins again at 0 behind the greatest number.
+    /// Adds modulo 2^64.
     Add(u64),
     /// Subtracts, and stops at 0.
     Subtract(u64),

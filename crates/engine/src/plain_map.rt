@@ -51,6 +51,8 @@ impl LiveMap for PlainMap {
 
     ghost writes = { WritesPlainly };
 
+    ghost changes = { WritesPlainly };
+
     ghost reads = { ReadsPlainly };
 
     ghost alike = { λ m n. ⊤ };
@@ -98,6 +100,11 @@ impl LiveMap for PlainMap {
             key,
             Entry::new(value, entry.flags, entry.deadline, entry.cas),
         )
+    }
+
+    /// A plain map writes it anew.
+    fn rewrite(&mut self, key: &[u8], _place: (), entry: EntryRef) -> Result<(), NoMemory> {
+        self.write(key, entry)
     }
 
     fn remove(&mut self, key: &[u8]) {

@@ -27,7 +27,7 @@ pub trait StorageEngine {
     /// The moment of the last request, 0 before the first one.
     ghost moment: { Self → ℕ };
 
-    /// These items were stored so far, none with a deadline, and nothing was forgotten for want of room.
+    /// These items were stored so far, none with a deadline, and no item was forgotten to make room.
     ghost keeps: { Self → List StoredItem → Type 0 };
 
     /// The moment of the last request in seconds, 0 before the first one.
@@ -37,12 +37,12 @@ pub trait StorageEngine {
     /// What hashes the keys for `prefetch`.
     fn key_hasher(&self) -> FoldHasher;
 
-    /// Reads what a request with a key of this hash will look up, so that the processor has it at hand. What it
-    /// reads is kept where no clause speaks of it.
+    /// Reads what a request with a key of this hash will look up, so that it is in the processor's cache. No clause
+    /// speaks of what it reads.
     fn prefetch(&self, hash: u64);
 
-    /// Executes the request at this moment in seconds, which is at most `MAX_MOMENT`. The room that a `get` was lent may be
-    /// taken for its hits: of that no clause speaks.
+    /// Executes the request at this moment in seconds, which is at most `MAX_MOMENT`. The hits of a `get` may take the
+    /// buffer that its keys were lent; no clause speaks of that.
     fn handle(&mut self, now: u64, request: &mut Request) -> Reply
         requires not_before { moment self.old ≤ now }
         requires in_range { now ≤ max_moment }
@@ -51,7 +51,7 @@ pub trait StorageEngine {
         ensures sizes { sizes self.new ≡ sizes self.old }
         ensures moment { moment self.new ≡ now }
 
-        // want of memory is answered only where an item would be stored or a hit be shown
+        // NoMemory is answered only if an item would be stored or a hit be shown
         ensures succeeds { needs_memory true (outcome_at (sizes self.old) (cache self.old) now request.old) ≡ false
             → result ≢ Reply.NoMemory }
 

@@ -1,25 +1,26 @@
 //! An engine as a store: how it is made, and how it handles requests.
 
-ghost use Rattle.std.specs.Prelude.{◌≡◌, ◌≢◌, ◌≤◌, [], IfOk, false};
+ghost use Rattle.std.specs.Prelude.{◌≡◌, ◌≢◌, ◌≤◌, ◌<◌, [], IfOk, false};
 ghost use Rattle.proto.specs.Cache.{empty_cache, found_at};
 ghost use Rattle.proto.specs.Steps.{Step};
 ghost use Rattle.proto.specs.History.{max_moment};
 ghost use Rattle.engine.specs.declared.store.TheConstants.{SEED};
 ghost use Rattle.engine.specs.Keeping.{KeepsAll};
+ghost use Rattle.engine.specs.AnswerSizes.{answer_size};
 ghost use Rattle.engine.specs.Outcomes.{outcome_at, needs_memory};
 
 use crate::{Engine, LiveMap, StorageEngine, StoreMap};
-use proto::{Geometry, NoMemory, Reply, Request};
+use proto::{Geometry, MAX_ANSWER, NoMemory, Reply, Request};
 use std::alloc::Global;
 use std::hash::FoldHasher;
 
-/// What is hashed before each key where no seed is handed in.
+/// The seed if the caller gives none.
 const SEED: u64 = 0x9e37_79b9_7f4a_7c15;
 
 impl<M: StoreMap> Engine<M> {
     ghost use Rattle.engine.specs.Engines.{cache_in};
 
-    /// An empty cache, at the moment 0.
+    /// An empty cache, at the moment 0. NoMemory if memory is refused.
     pub fn new(alloc: Global, geometry: Geometry) -> Result<Self, NoMemory>
         ensures sizes { IfOk result (λ s. M.sizes s.map ≡ geometry) }
         ensures cache { IfOk result (λ s. cache_in M.entries s ≡ empty_cache 0) }
@@ -30,7 +31,7 @@ impl<M: StoreMap> Engine<M> {
         Engine::starting(alloc, geometry, 0)
     }
 
-    /// An empty cache that has given out this cas number last.
+    /// An empty cache that has given out this cas number last. NoMemory if memory is refused.
     pub fn starting(alloc: Global, geometry: Geometry, last_cas: u64) -> Result<Self, NoMemory>
         ensures sizes { IfOk result (λ s. M.sizes s.map ≡ geometry) }
         ensures cache { IfOk result (λ s. cache_in M.entries s ≡ empty_cache last_cas) }
@@ -38,26 +39,30 @@ impl<M: StoreMap> Engine<M> {
         ensures keeps { IfOk result (λ s. M.keeps s.map []) }
         ensures made { IfOk result (λ s. M.made geometry SEED s.map) }
     {
-        Engine::seeded(alloc, geometry, last_cas, SEED)
+        Engine::seeded(alloc, geometry, last_cas, SEED, false)
     }
 
-    /// An empty cache that has given out this cas number last, and hashes the seed before each key.
+    /// An empty cache that has given out this cas number last, and hashes the seed before each key. `incr` and `decr`
+    /// change numbers in place, if their map can, or write them anew. NoMemory if memory is refused.
     pub fn seeded(
         alloc: Global,
         geometry: Geometry,
         last_cas: u64,
         seed: u64,
+        in_place: bool,
     ) -> Result<Self, NoMemory>
         ensures sizes { IfOk result (λ s. M.sizes s.map ≡ geometry) }
         ensures cache { IfOk result (λ s. cache_in M.entries s ≡ empty_cache last_cas) }
         ensures moment { IfOk result (λ s. M.moment s.map ≡ 0) }
         ensures keeps { IfOk result (λ s. M.keeps s.map []) }
+        ensures in_place { IfOk result (λ s. s.in_place ≡ in_place) }
         ensures made { IfOk result (λ s. M.made geometry seed s.map) }
     {
         Ok(Engine {
             map: M::seeded(alloc, geometry, seed)?,
             last_cas,
             pending: None,
+            in_place,
         })
     }
 }
@@ -65,7 +70,7 @@ impl<M: StoreMap> Engine<M> {
 impl<M: LiveMap> Engine<M> {
     ghost use Rattle.engine.specs.Engines.{cache_in};
 
-    /// The moment of a flush that is still to come.
+    /// The moment of a flush that is pending.
     pub fn pending(&self) -> Option<u64>
         ensures { result ≡ (cache_in M.entries self.now).pending }
     {
@@ -96,7 +101,8 @@ impl<M: StoreMap> StorageEngine for Engine<M> {
         self.map.prefetch(hash);
     }
 
-    /// Executes the request at this moment, in seconds. The hits of a `get` stand in the room that it was lent.
+    /// Executes the request at this moment, in seconds. The hits of a `get` stand in the buffer that its keys were
+    /// lent. NoMemory if memory is refused, or the hits take more than `MAX_ANSWER` bytes.
     fn handle(&mut self, now: u64, request: &mut Request) -> Reply
         requires not_before { M.moment self.old.map ≤ now }
         requires in_range { now ≤ max_moment }
@@ -105,15 +111,22 @@ impl<M: StoreMap> StorageEngine for Engine<M> {
         // what the map does beyond what any map does: step by step, and as the map promises it of whole requests
         ensures handled { IsHandled M.LiveMap self.old now request.old result self.new }
         ensures promised { M.promises self.old now request.old result self.new }
-        ensures step { Step (M.sizes self.old.map) (cache_in M.entries self.old) now request.old result (cache_in M.entries self.new) }
+        ensures step { Step (M.sizes self.old.map) (cache_in M.entries self.old) now request.old result
+            (cache_in M.entries self.new) }
         ensures sizes { M.sizes self.new.map ≡ M.sizes self.old.map }
         ensures moment { M.moment self.new.map ≡ now }
 
-        // where memory was refused, what was found stays; and only what shows something needs any, or stores, where the map may refuse
-        ensures refused { result ≡ Reply.NoMemory → cache_in M.entries self.new ≡ found_at (cache_in M.entries self.old) now }
-        ensures succeeds { needs_memory M.may_refuse (outcome_at (M.sizes self.old.map) (cache_in M.entries self.old) now request.old) ≡ false
+        // where memory was refused, what was found stays; and only what shows something needs any, or stores, where
+        // the map may refuse
+        ensures refused { result ≡ Reply.NoMemory
+            → cache_in M.entries self.new ≡ found_at (cache_in M.entries self.old) now }
+        ensures succeeds { needs_memory M.may_refuse
+            (outcome_at (M.sizes self.old.map) (cache_in M.entries self.old) now request.old) ≡ false
             → result ≢ Reply.NoMemory }
 
+        // hits above the limit of one answer aren't shown
+        ensures limit { MAX_ANSWER < answer_size (found_at (cache_in M.entries self.old) now).entries request.old
+            → result ≡ Reply.NoMemory }
         // nothing is forgotten while little is stored, and nothing with a deadline
         ensures kept { KeepsAll (λ (engine : Engine M). M.sizes engine.map) (cache_in M.entries)
             (λ (engine : Engine M) items. M.keeps engine.map items) self.old now request.old result self.new }

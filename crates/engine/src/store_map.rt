@@ -20,7 +20,7 @@ pub trait StoreMap: LiveMap {
     /// What a request leaves of this map, beyond what one leaves of any.
     ghost promises: { Engine Self → ℕ → Request → Reply → Engine Self → Type 0 };
 
-    /// No entry, at the moment 0. Where keys are hashed, the seed is hashed before each.
+    /// No entry, at the moment 0. A map that hashes keys hashes the seed before each. NoMemory if memory is refused.
     fn seeded(alloc: Global, geometry: Geometry, seed: u64) -> Result<Self, NoMemory>
         ensures sizes { IfOk result (λ m. Self.sizes m ≡ geometry) }
         ensures entries { IfOk result (λ m. Self.entries m ≡ no_entries) }
@@ -28,7 +28,8 @@ pub trait StoreMap: LiveMap {
         ensures keeps { IfOk result (λ m. Self.keeps m []) }
         ensures made { IfOk result (λ m. made geometry seed m) };
 
-    /// A law, which each map proves: whatever an engine over it handles is as the map promises. There is nothing to run.
+    /// A law, which each map proves: whatever an engine over it handles is as the map promises. There is nothing to
+    /// run.
     fn keep_promises()
         ensures { (old : Engine Self) (t : ℕ) (q : Request) (reply : Reply) (new : Engine Self)
             → IsHandled Self.LiveMap old t q reply new → promises old t q reply new };

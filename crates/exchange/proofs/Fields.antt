@@ -1,5 +1,6 @@
 -- The fields of the two ends, after a step.
 use Rattle.std.proofs.Common.{take}
+use Rattle.proto.specs.declared.limits.TheConstants.{WINDOW}
 use Rattle.proto.specs.declared.history.Posted.{Posted}
 use Rattle.std.proofs.Common.{cond, eq-eqb, ne_eqb}
 use mathlib.Core.Option.{some-injective, some-ne-none}
@@ -20,6 +21,7 @@ use Rattle.exchange.specs.declared.views.WorkerState.{WorkerState}
 use Rattle.exchange.specs.declared.views.StorageState.{StorageState}
 use Rattle.exchange.specs.declared.views.LaneView.TheVariants.{Worker, Storage}
 use Rattle.exchange.specs.Beginnings.{StartsWith, posted_of}
+use Rattle.proto.proofs.HistoryLemmas.{legal_none}
 use Rattle.proto.specs.History.{worker_share}
 use Rattle.exchange.specs.Lanes.{SeatState, first_worker_state}
 use Rattle.exchange.specs.Steps.{Learnt, holding_slot, took_seen, put_on, all_sent, with_bye, replied, all_told, settled}
@@ -35,7 +37,7 @@ use Rattle.exchange.proofs.Known.{last_look_at}
 use Rattle.exchange.specs.Ends.{LastLook}
 use Rattle.exchange.proofs.Lists.{at_below, at_end, starts_more, starts_below, take_whole, take_front}
 use Rattle.atomic_table.specs.Seated.{TableId}
-use Rattle.proto.specs.Sizes.{Sizes}
+use Rattle.proto.specs.declared.terms.Terms.{Terms}
 use Rattle.proto.proofs.CountLemmas.{share_other}
 
 -- the answers that a worker is told of are no more than its requests
@@ -81,7 +83,7 @@ taken_more me me' w sent put back known known' d bye (Some a) r _ t seat least =
     at_below (worker_share t.0 c.worker) (length c.back) a at in
     let is = t.2.1 in let sent_is : length c.sent ≡ sent = r.sent_is in
     let back_is : length c.back ≡ back = r.back_is in let order = r.order in
-    let o0 : sent + put ≤ back + 64 = order.2 in let now = told_of_load c d sent known' t.0 t.1 sent_is least in
+    let o0 : sent + put ≤ back + WINDOW = order.2 in let now = told_of_load c d sent known' t.0 t.1 sent_is least in
     let known_is : length (worker_share t.0 c.worker) ≡ known' = now.1 in record {
       seated = seat;
       worker_is = ap (λ (z : WorkerState). z.worker) is ∙ r.worker_is;
@@ -94,10 +96,10 @@ taken_more me me' w sent put back known known' d bye (Some a) r _ t seat least =
         let g : back + 1 ≤ known' = omega arith in g,
         let g : known' ≤ sent = omega arith in
             g,
-        let g : sent + put ≤ back + 1 + 64 = omega arith in g,
+        let g : sent + put ≤ back + 1 + WINDOW = omega arith in g,
         order.3,
       );
-      quiet = λ y. let q : back ≡ sent = (r.quiet y).0 in absurd (omega arith);
+      all_back = λ y. let q : back ≡ sent = (r.all_back y).0 in absurd (omega arith);
       told = subst (λ (z : WorkerState). HasToldOf z known') (sym is) record {
         legal = t.1.legal;
         asked = now.0;
@@ -131,7 +133,7 @@ taken_none me me' w sent put back known known' d bye None r _ t seat least = let
       bye_is = ap (λ (z : WorkerState). z.said_bye) is ∙ r.bye_is;
       idle = ap (λ (z : WorkerState). z.slot_held) is ∙ r.idle;
       order = (let g : back ≤ known' = omega arith in g, let g : known' ≤ sent = omega arith in g, order.2, order.3);
-      quiet = r.quiet;
+      all_back = r.all_back;
       told = subst (λ (z : WorkerState). HasToldOf z known')
           (sym is) record { legal = t.1.legal; asked = now.0; known_is = now.1; back = t.1.back };
     }
@@ -145,7 +147,7 @@ pub taken_seen : (me me' : SeatState) (w sent put back known : ℕ) (bye : Bool)
     → WorkerAgrees me' w sent put (back + 1) known bye
 taken_seen me me' w sent put back known bye a r more at is = let c : WorkerState = worker_state_in me.0 in
     let back_is : length c.back ≡ back = r.back_is in
-    let order = r.order in let o0 : known ≤ sent = order.1 in let o1 : sent + put ≤ back + 64 = order.2 in
+    let order = r.order in let o0 : known ≤ sent = order.1 in let o1 : sent + put ≤ back + WINDOW = order.2 in
     subst (λ (z : SeatState). WorkerAgrees z w sent put (back + 1) known bye) (sym is) record {
       seated = refl;
       worker_is = r.worker_is;
@@ -157,11 +159,11 @@ taken_seen me me' w sent put back known bye a r more at is = let c : WorkerState
       order = (
         let g : back + 1 ≤ known = omega arith in g,
         order.1,
-        let g : sent + put ≤ back + 1 + 64 = omega arith in
+        let g : sent + put ≤ back + 1 + WINDOW = omega arith in
             g,
         order.3,
       );
-      quiet = λ y. let q : back ≡ sent = (r.quiet y).0 in absurd (omega arith);
+      all_back = λ y. let q : back ≡ sent = (r.all_back y).0 in absurd (omega arith);
       told = record {
         legal = r.told.legal;
         asked = r.told.asked;
@@ -173,7 +175,7 @@ taken_seen me me' w sent put back known bye a r more at is = let c : WorkerState
 
 -- with one more request put
 pub put_more : (me me' : SeatState) (w sent put back known : ℕ) (p : Posted)
-    → WorkerAgrees me w sent put back known false → sent + put < back + 64
+    → WorkerAgrees me w sent put back known false → sent + put < back + WINDOW
     → sent + put < max_posts → me' ≡ (Worker (put_on (worker_state_in me.0) p), [])
     → WorkerAgrees me' w sent (put + 1) back known false
 put_more me me' w sent put back known p r room room' is = let c : WorkerState = worker_state_in me.0 in
@@ -189,11 +191,11 @@ put_more me me' w sent put back known p r room room' is = let c : WorkerState = 
       order = (
         order.0,
         order.1,
-        let g : sent + (put + 1) ≤ back + 64 = omega arith in
+        let g : sent + (put + 1) ≤ back + WINDOW = omega arith in
             g,
         let g : sent + (put + 1) ≤ max_posts = omega arith in g,
       );
-      quiet = λ y. absurd (true≢false (sym y));
+      all_back = λ y. absurd (true≢false (sym y));
       told = record { legal = r.told.legal; asked = r.told.asked; known_is = r.told.known_is; back = r.told.back };
     }
 
@@ -204,7 +206,7 @@ pub sent_all : (me me' : SeatState) (w sent put back known number : ℕ) (bye : 
 sent_all me me' w sent put back known number bye r some_put number_is is = let c : WorkerState = worker_state_in me.0 in
     let put_is : length c.put ≡ put = r.put_is in let sent_is : length c.sent ≡ sent = r.sent_is in
     let order = r.order in let o : known ≤ sent = order.1 in
-    let o1 : sent + put ≤ back + 64 = order.2 in let o2 : sent + put ≤ max_posts = order.3 in
+    let o1 : sent + put ≤ back + WINDOW = order.2 in let o2 : sent + put ≤ max_posts = order.3 in
     subst (λ (z : SeatState). WorkerAgrees z w number 0 back known bye) (sym is) record {
       seated = refl;
       worker_is = r.worker_is;
@@ -216,11 +218,11 @@ sent_all me me' w sent put back known number bye r some_put number_is is = let c
       order = (
         order.0,
         let g : known ≤ number = omega arith in g,
-        let g : number + 0 ≤ back + 64 = omega arith in
+        let g : number + 0 ≤ back + WINDOW = omega arith in
             g,
         let g : number + 0 ≤ max_posts = omega arith in g,
       );
-      quiet = λ y. let q : put ≡ 0 = (r.quiet y).1 in absurd (omega arith);
+      all_back = λ y. let q : put ≡ 0 = (r.all_back y).1 in absurd (omega arith);
       told = record {
         legal = r.told.legal;
         asked = r.told.asked ∙ sym (take_front c.sent c.put known (let g : known ≤ length c.sent = omega arith in
@@ -244,12 +246,12 @@ bye_said me me' w sent put back known r none_put all is =
       bye_is = refl;
       idle = refl;
       order = r.order;
-      quiet = λ _. (all, none_put);
+      all_back = λ _. (all, none_put);
       told = record { legal = r.told.legal; asked = r.told.asked; known_is = r.told.known_is; back = r.told.back };
     }
 
 -- a worker's end as it is made
-pub new_agrees : (me : SeatState) (g : Sizes) (w : ℕ) → me ≡ (Worker (first_worker_state g w), [])
+pub new_agrees : (me : SeatState) (g : Terms) (w : ℕ) → me ≡ (Worker (first_worker_state g w), [])
     → WorkerAgrees me w 0 0 0 0 false
 new_agrees me g w is = subst (λ (z : SeatState). WorkerAgrees z w 0 0 0 0 false) (sym is) record {
   seated = refl;
@@ -262,13 +264,13 @@ new_agrees me g w is = subst (λ (z : SeatState). WorkerAgrees z w 0 0 0 0 false
   order = (
     let g : 0 ≤ 0 = omega arith in g,
     let g : 0 ≤ 0 = omega arith in g,
-    let g : 0 + 0 ≤ 0 + 64 = omega arith in
+    let g : 0 + 0 ≤ 0 + WINDOW = omega arith in
         g,
     let g : 0 + 0 ≤ max_posts = omega arith in g,
   );
-  quiet = λ _. (refl, refl);
+  all_back = λ _. (refl, refl);
   told = record {
-    legal = record { moments = tt; caches = []; chain = tt; numbers = λ w. tt };
+    legal = legal_none _;
     asked = refl;
     known_is = refl;
     back = ([], refl);
@@ -325,7 +327,7 @@ blank_words (suc n) zero = refl
 blank_words (suc n) (suc i) = blank_words n i
 
 -- one more end leaves all of them new
-pub one_more_end : (g : Sizes) (table : TableId) (ends : List WorkerView) (n : ℕ) (e : WorkerView) → length ends ≡ n
+pub one_more_end : (g : Terms) (table : TableId) (ends : List WorkerView) (n : ℕ) (e : WorkerView) → length ends ≡ n
     → AreNew table g ends
     → e ≡ new_worker_view table g n → AreNew table g (ends ++ e ∷ [])
 one_more_end g table ends n e long all is w u at = ⊎_elim (λ (h : get_elem? ends w ≡ some u). all w u h)
@@ -400,12 +402,12 @@ pub taken_next : (v v' : WorkerView) (result : Option Answered) → TakesAnswer 
     → IfSome result (λ a. a.number ≡ length v.back + 1)
 taken_next v v' None t = tt
 taken_next v v' (Some a) t = number_at (worker_share t.1 v.worker) 1 (length v.back) a
-    (t.2.legal.numbers v.worker) t.3.0 ∙ (omega arith)
+    (t.2.legal.legal.numbers v.worker) t.3.0 ∙ (omega arith)
 
 -- an answer that was seen is the next one by its number
 pub seen_next : (v : WorkerView) (a : Answered) → WasTold v
     → get_elem? (worker_share v.seen v.worker) (length v.back) ≡ some a → a.number ≡ length v.back + 1
-seen_next v a h at = number_at (worker_share v.seen v.worker) 1 (length v.back) a (h.legal.numbers v.worker) at
+seen_next v a h at = number_at (worker_share v.seen v.worker) 1 (length v.back) a (h.legal.legal.numbers v.worker) at
     ∙ (omega arith)
 
 -- what storage holds is its open request
@@ -435,12 +437,12 @@ idle_is (Some x) ask e = let p = ask x.0 x.1 refl in
     absurd (true≢false (ap is_some (sym (ap (lane_request x.0) p.1) ∙ e)))
 
 -- the ends of one call of make
-pub made_all : (ends : List WorkerView) (storage : StorageView) (n : ℕ) (z y : TableId) (g f : Sizes) → length ends ≡ n
+pub made_all : (ends : List WorkerView) (storage : StorageView) (n : ℕ) (z y : TableId) (g f : Terms) → length ends ≡ n
     → AreNew z g ends
     → storage ≡ new_storage_view y g n → y ≡ z → g ≡ f → AreMade n f ends storage
 made_all ends storage n z y g f long new is table sizes = (
   long,
-  subst (λ (a : TableId × Sizes). AreNew a.0 a.1 ends)
+  subst (λ (a : TableId × Terms). AreNew a.0 a.1 ends)
       (λ i. ((sym table ∙ ap (λ (s : StorageView). s.exchange) (sym is)) i, sizes i)) new,
   is ∙ (λ i. new_storage_view (sym (ap (λ (s : StorageView). s.exchange) is) i) (sizes i) n),
 )

@@ -2,7 +2,7 @@
 use Rattle.std.proofs.Common.{◌≡◌, ℕ, List, [], ◌∷◌, ◌++◌, length, false, refl, ap, ◌∙◌}
 use mathlib.Core.Option.{some}
 use lib.ListN.{get_elem?}
-use Rattle.proto.specs.Sizes.{Sizes}
+use Rattle.proto.specs.declared.terms.Terms.{Terms}
 use Rattle.exchange.specs.Ends.{WorkerView, StorageView, AreMade, new_worker_view}
 
 -- an element put behind a list stands at the place whose number is the list's length
@@ -11,7 +11,7 @@ last_at [] x = refl
 last_at (y ∷ xs) x = last_at xs x
 
 -- the last of the ends hasn't sent anything
-pub last_is_fresh : (n : ℕ) (g : Sizes) (storage : StorageView) (ends others : List WorkerView) (v : WorkerView)
+pub last_is_fresh : (n : ℕ) (g : Terms) (storage : StorageView) (ends others : List WorkerView) (v : WorkerView)
     → AreMade n g ends storage → ends ≡ others ++ v ∷ [] → (v.sent ≡ []) × (v.back ≡ []) × (v.said_bye ≡ false)
 last_is_fresh n g storage ends others v made is =
     let at : get_elem? ends (length others) ≡ some v =

@@ -6,6 +6,7 @@ use Rattle.atomic_table.proofs.Lists.{at_last}
 use Rattle.exchange.specs.Ends.{LastLook}
 use native.Mathlib.Nat.{add-mod_right}
 use Rattle.atomic_table.specs.Table.{step, rest, Allows}
+use Rattle.proto.specs.declared.limits.TheConstants.{WINDOW}
 use Rattle.proto.specs.declared.history.Posted.{Posted}
 use Rattle.proto.specs.declared.history.Answered.{Answered}
 use Rattle.exchange.specs.declared.messages.LaneMessage.{LaneMessage}
@@ -16,7 +17,7 @@ use Rattle.exchange.specs.declared.views.StorageState.{StorageState}
 use Rattle.exchange.specs.declared.views.LaneView.{LaneView}
 use Rattle.exchange.specs.declared.views.LaneView.TheVariants.{Worker, Storage}
 use Rattle.exchange.specs.Beginnings.{posted_of}
-use Rattle.proto.specs.History.{Legal, worker_share}
+use Rattle.proto.specs.History.{LegalBy, worker_share}
 use Rattle.exchange.specs.Lanes.{SeatState, lane_slot, LanesHold}
 use Rattle.exchange.specs.Steps.{placed, request_put, posted, bye_posted, done_loaded, slot_returned, settled, answered, told_done, settle_bye}
 use Rattle.exchange.proofs.WorkerSteps.{item_or, answer_or, puts_it, posts_it, posts_bye, loads_done, returns_it}
@@ -68,7 +69,7 @@ module _ (key : LaneKey) (n id : ℕ) (me : SeatState) where
   pub answers_as : (d : StorageState) (w : ℕ) (p : Posted) (a : Answered) (i : ℕ)
       → me ≡ (Storage d, (lane_slot w (settled d w), Some (Answer a)) ∷ [])
       → d.holding ≡ Some (w, Ask p) → a.worker ≡ w → posted_of a ≡ p → w < key.workers
-      → Legal d.geometry (d.history ++ a ∷ [])
+      → LegalBy d.terms (d.history ++ a ∷ [])
       → Allows (LanesHold key) n id me i (λ x. x) (answered (step n i 0 0 none) me)
   answers_as d w p a i is held mine for inside legal = subst (λ (z : SeatState). Allows (LanesHold key) n id z i
       (λ x. x) (answered (step n i 0 0 none) z)) (sym is)
@@ -124,6 +125,6 @@ pub alone : (now : SeatState) (v : LaneView) (q : ℕ) (x : Option LaneMessage) 
     → now ≡ (v, (q, x) ∷ [])
 alone now v q x cs e none_ = e ∙ (λ j. (v, (q, x) ∷ none_ j))
 
--- a slot serves again 64 messages later
-pub next_round : (w b : ℕ) → lane_slot w b ≡ lane_slot w (b + 64)
-next_round w b = ap (λ (z : ℕ). 64 * w + z) (sym (add-mod_right b 64))
+-- a slot serves again a window of messages later
+pub next_round : (w b : ℕ) → lane_slot w b ≡ lane_slot w (b + WINDOW)
+next_round w b = ap (λ (z : ℕ). WINDOW * w + z) (sym (add-mod_right b WINDOW))

@@ -8,6 +8,7 @@ use mathlib.Core.List.{map-append}
 use native.Mathlib.Decide.{ℕ_discrete, dec_le}
 use lib.ListN.{get_elem?, length-map}
 use Rattle.atomic_table.proofs.Lists.{at_longer, one_turn}
+use Rattle.proto.specs.declared.limits.TheConstants.{WINDOW}
 use Rattle.proto.specs.declared.history.Posted.{Posted}
 use Rattle.proto.specs.declared.history.Answered.{Answered}
 use Rattle.exchange.specs.declared.messages.LaneMessage.{LaneMessage}
@@ -23,14 +24,14 @@ use Rattle.std.proofs.lemmas.List.{append-nil}
 
 -- nothing but the slot of the message i changes
 abbrev pub Else : At → At → ℕ → Type 0
-Else at at' i = (k : ℕ) → k % 64 ≢ i % 64 → at' k ≡ at k
+Else at at' i = (k : ℕ) → k % WINDOW ≢ i % WINDOW → at' k ≡ at k
 
 -- two numbers of one window have different slots
-pub apart : (a b : ℕ) → a < b → b < a + 64 → a % 64 ≢ b % 64
-apart a b lt near e = let same : a ≡ b = one_turn a b 64 (omega arith) near e in omega arith
+pub apart : (a b : ℕ) → a < b → b < a + WINDOW → a % WINDOW ≢ b % WINDOW
+apart a b lt near e = let same : a ≡ b = one_turn a b WINDOW (omega arith) near e in omega arith
 
 -- the same, the other way round
-pub apart' : (a b : ℕ) → a < b → b < a + 64 → b % 64 ≢ a % 64
+pub apart' : (a b : ℕ) → a < b → b < a + WINDOW → b % WINDOW ≢ a % WINDOW
 apart' a b lt near e = apart a b lt near (sym e)
 
 -- the cases of a message
@@ -166,14 +167,14 @@ module _ (c : WorkerState) (mine told : List Answered) (byes : ℕ) (held : mayb
   told_below = starts_below mine told r.told_is
 
   -- the worker takes the slot of its next message
-  pub begins : (at' : At) → c.slot_held ≡ 0 → c.said_bye ≡ false → placed c < length c.back + 64
+  pub begins : (at' : At) → c.slot_held ≡ 0 → c.said_bye ≡ false → placed c < length c.back + WINDOW
       → Else at at' (placed c)
       → LaneOk (holding_slot c (suc (placed c))) mine told byes held posted done at'
   begins at' idle open_ room same = let n : ℕ = placed c in let b : ℕ = length c.back in let q : ℕ = length c.put in
       let n_is : n ≡ length c.sent + q = refl in
       let e : length (messages c) ≡ length c.sent = count c ∙ (omega (arith, ap bye_count open_)) in
       let low : b ≤ length mine = back_below in let high : length mine ≤ length c.sent = r.answered in
-      let room' : n < b + 64 = room in record {
+      let room' : n < b + WINDOW = room in record {
         posted_is = r.posted_is;
         done_is = r.done_is;
         told_is = r.told_is;
@@ -183,13 +184,13 @@ module _ (c : WorkerState) (mine told : List Answered) (byes : ℕ) (held : mayb
         known = r.known;
         numbered = r.numbered;
         leaves = r.leaves;
-        quiet = r.quiet;
+        all_back = r.all_back;
         behind = r.behind;
         open_is = r.open_is;
         slot_held_is = λ _. (
           let g : length (messages c) + q < suc n = omega arith in
               g,
-          let g : suc n ≤ b + 64 = omega arith in g,
+          let g : suc n ≤ b + WINDOW = omega arith in g,
         );
         within = r.within;
         answers = λ k a le is. let below : k < length mine = at_below mine k a is in
@@ -200,7 +201,7 @@ module _ (c : WorkerState) (mine told : List Answered) (byes : ℕ) (held : mayb
         waits = λ k p is. let below : k < q = at_below c.put k p is in
             same (length (messages c) + k) (apart (length (messages c) + k) n (omega arith) (omega arith))
             ∙ r.waits k p is;
-        frees = λ k le near other. let le' : length (messages c) + q ≤ k = le in let near' : k < b + 64 = near in
+        frees = λ k le near other. let le' : length (messages c) + q ≤ k = le in let near' : k < b + WINDOW = near in
             let ne : suc k ≢ suc n = other in
             same k (apart' n k (omega arith) (omega arith)) ∙ r.frees k le near (λ z. suc-ne-zero k (z ∙ idle));
       }
@@ -216,7 +217,7 @@ module _ (c : WorkerState) (mine told : List Answered) (byes : ℕ) (held : mayb
       let low : b ≤ length mine = back_below in let high : length mine ≤ length c.sent = r.answered in
       let slot_held : c.slot_held ≡ suc n = mineis in
       let hands = r.slot_held_is (let g : 0 < c.slot_held = omega arith in g) in
-      let room : c.slot_held ≤ b + 64 = hands.1 in
+      let room : c.slot_held ≤ b + WINDOW = hands.1 in
       let longer : length (c.put ++ p ∷ []) ≡ suc q = length-append c.put (p ∷ []) ∙ (omega arith) in
       let both : length (c.sent ++ c.put) ≡ n = length-append c.sent c.put in record {
         posted_is = r.posted_is;
@@ -232,11 +233,11 @@ module _ (c : WorkerState) (mine told : List Answered) (byes : ℕ) (held : mayb
             (at_end (c.sent ++ c.put) p k x
             (subst (λ (l : List Posted). get_elem? l k ≡ some x) (sym (append_assoc c.sent c.put (p ∷ []))) y));
         leaves = r.leaves;
-        quiet = r.quiet;
+        all_back = r.all_back;
         behind = r.behind;
         open_is = r.open_is;
         slot_held_is = λ (y : 0 < 0). absurd (omega arith);
-        within = let g : length (messages c) + length (c.put ++ p ∷ []) ≤ b + 64 = omega arith in g;
+        within = let g : length (messages c) + length (c.put ++ p ∷ []) ≤ b + WINDOW = omega arith in g;
         answers = λ k a le is. let below : k < length mine = at_below mine k a is in
             same k (apart k n (omega arith) (omega arith)) ∙ r.answers k a le is;
         requests = λ k m le is. let below : k < length (messages c) = at_below (messages c) k m is in
@@ -249,7 +250,7 @@ module _ (c : WorkerState) (mine told : List Answered) (byes : ℕ) (held : mayb
             let at_is : length (messages c) + k ≡ n = omega arith in
             ap at' at_is ∙ (here ∙ ap (λ (z : Posted). some (some (Some (Ask z)))) h.1)) (at_end c.put p k x is);
         frees = λ k le near other. let le' : length (messages c) + length (c.put ++ p ∷ []) ≤ k = le in
-            let near' : k < b + 64 = near in
+            let near' : k < b + WINDOW = near in
             same k (apart' n k (omega arith) (omega arith))
             ∙ r.frees k (let g : length (messages c) + q ≤ k = omega arith in
             g) near (λ z. let z' : suc k ≡ suc n = z ∙ mineis in let k' : n < k = omega arith in absurd (omega arith));
@@ -262,7 +263,7 @@ module _ (c : WorkerState) (mine told : List Answered) (byes : ℕ) (held : mayb
       let e : length (messages c) ≡ length c.sent = count c ∙ (omega (arith, ap bye_count open_)) in
       let low : b ≤ length mine = back_below in let high : length mine ≤ length c.sent = r.answered in
       let is = all_more c open_ in
-      let free : c.slot_held ≡ 0 = idle in let room : length (messages c) + q ≤ b + 64 = r.within in
+      let free : c.slot_held ≡ 0 = idle in let room : length (messages c) + q ≤ b + WINDOW = r.within in
       let long : length (messages (all_sent c)) ≡ n =
       ap length is ∙ (length-append (messages c) (map Ask c.put) ∙ (omega (arith, length-map c.put Ask))) in
       let longer : length (c.sent ++ c.put) ≡ n = length-append c.sent c.put in record {
@@ -273,7 +274,7 @@ module _ (c : WorkerState) (mine told : List Answered) (byes : ℕ) (held : mayb
           let o : done ≤ posted = r.order.0 in let p : posted ≡ length (messages c) = r.posted_is in
               let g : done ≤ n = omega arith in g,
           let d : done ≡ length told + byes = r.done_is in let low' : b ≤ length told = back_told in
-              let g : n ≤ done + 64 = omega arith in g,
+              let g : n ≤ done + WINDOW = omega arith in g,
         );
         asked_is = r.asked_is ∙ sym (take_front c.sent c.put (length mine) r.answered);
         answered = let g : length mine ≤ length (c.sent ++ c.put) = omega arith in g;
@@ -281,13 +282,13 @@ module _ (c : WorkerState) (mine told : List Answered) (byes : ℕ) (held : mayb
         numbered = λ k x y. r.numbered k x
             (subst (λ (l : List Posted). get_elem? l k ≡ some x) (append-nil (c.sent ++ c.put)) y);
         leaves = r.leaves;
-        quiet = λ y. absurd (true≢false (sym y ∙ open_));
+        all_back = λ y. absurd (true≢false (sym y ∙ open_));
         behind = let h : length mine + byes + count_of held ≤ length (messages c) = r.behind in
             let g : length mine + byes + count_of held ≤ length (messages (all_sent c)) = omega arith in g;
         open_is = λ m y. subst (λ (l : List LaneMessage). get_elem? l (length mine + byes) ≡ some m) (sym is)
             (at_longer (messages c) (map Ask c.put) (length mine + byes) m (r.open_is m y));
         slot_held_is = λ (y : 0 < c.slot_held). absurd (omega arith);
-        within = let g : length (messages (all_sent c)) + 0 ≤ b + 64 = omega arith in g;
+        within = let g : length (messages (all_sent c)) + 0 ≤ b + WINDOW = omega arith in g;
         answers = r.answers;
         requests = λ k m le y. ⊎_elim (λ (h : get_elem? (messages c) k ≡ some m). r.requests k m le h)
             (λ (h : (j : ℕ) × (k ≡ length (messages c) + j) × (get_elem? (map Ask c.put) j ≡ some m)). let x = ask_of
@@ -324,20 +325,20 @@ module _ (c : WorkerState) (mine told : List Answered) (byes : ℕ) (held : mayb
           let o : done ≤ posted = r.order.0 in let g : done ≤ suc posted = omega arith in g,
           let o : posted ≡ length (messages c) = r.posted_is in
               let d : done ≡ length told + byes = r.done_is in let low' : b ≤ length told = back_told in
-              let g : suc posted ≤ done + 64 = omega arith in g,
+              let g : suc posted ≤ done + WINDOW = omega arith in g,
         );
         asked_is = r.asked_is;
         answered = r.answered;
         known = r.known;
         numbered = r.numbered;
         leaves = λ _. refl;
-        quiet = λ _. all;
+        all_back = λ _. all;
         behind = let h : length mine + byes + count_of held ≤ length (messages c) = r.behind in
             let g : length mine + byes + count_of held ≤ length (messages (with_bye c)) = omega arith in g;
         open_is = λ m y. subst (λ (l : List LaneMessage). get_elem? l (length mine + byes) ≡ some m) (sym is)
             (at_longer (messages c) (Bye ∷ []) (length mine + byes) m (r.open_is m y));
         slot_held_is = λ (y : 0 < 0). absurd (omega arith);
-        within = let g : length (messages (with_bye c)) + q ≤ b + 64 = omega arith in g;
+        within = let g : length (messages (with_bye c)) + q ≤ b + WINDOW = omega arith in g;
         answers = λ k a le y. let below : k < length mine = at_below mine k a y in
             same k (apart k n (omega arith) (omega arith)) ∙ r.answers k a le y;
         requests = λ k m le y. let le' : length mine + byes + count_of held ≤ k = le in
@@ -349,7 +350,7 @@ module _ (c : WorkerState) (mine told : List Answered) (byes : ℕ) (held : mayb
             (at_end (messages c) Bye k m (subst (λ (l : List LaneMessage). get_elem? l k ≡ some m) is y));
         waits = λ k p y. absurd (some-ne-none p (sym (subst (λ (l : List Posted). get_elem? l k ≡ some p) none_put y)));
         frees = λ k le near other. let le' : length (messages (with_bye c)) + q ≤ k = le in
-            let near' : k < b + 64 = near in
+            let near' : k < b + WINDOW = near in
             same k (apart' n k (omega arith) (omega arith))
             ∙ r.frees k (let g : length (messages c) + q ≤ k = omega arith in g) near
             (λ z. let z' : suc k ≡ suc n = z ∙ mineis in let k' : n < k = omega arith in absurd (omega arith));
@@ -363,7 +364,7 @@ module _ (c : WorkerState) (mine told : List Answered) (byes : ℕ) (held : mayb
       let high : length mine ≤ length c.sent = r.answered in
       let low : b < length mine = at_below mine b a (starts_at mine told b a r.told_is is) in
       let longer : length (c.back ++ a ∷ []) ≡ suc b = length-append c.back (a ∷ []) ∙ (omega arith) in
-      let room : length (messages c) + q ≤ b + 64 = r.within in
+      let room : length (messages c) + q ≤ b + WINDOW = r.within in
       let behind' : length mine + byes + count_of held ≤ length (messages c) = r.behind in record {
         posted_is = r.posted_is;
         done_is = r.done_is;
@@ -374,15 +375,15 @@ module _ (c : WorkerState) (mine told : List Answered) (byes : ℕ) (held : mayb
         known = starts_more told c.back a r.known is;
         numbered = r.numbered;
         leaves = r.leaves;
-        quiet = λ y. let q : b ≡ length c.sent = r.quiet y in absurd (omega arith);
+        all_back = λ y. let q : b ≡ length c.sent = r.all_back y in absurd (omega arith);
         behind = r.behind;
         open_is = r.open_is;
         slot_held_is = λ _. (
-          let h : length (messages c) + q < suc (b + 64) = omega arith in
+          let h : length (messages c) + q < suc (b + WINDOW) = omega arith in
               h,
-          let h : suc (b + 64) ≤ length (c.back ++ a ∷ []) + 64 = omega arith in h,
+          let h : suc (b + WINDOW) ≤ length (c.back ++ a ∷ []) + WINDOW = omega arith in h,
         );
-        within = let h : length (messages c) + q ≤ length (c.back ++ a ∷ []) + 64 = omega arith in h;
+        within = let h : length (messages c) + q ≤ length (c.back ++ a ∷ []) + WINDOW = omega arith in h;
         answers = λ k x le y. let below : k < length mine = at_below mine k x y in
             let le' : length (c.back ++ a ∷ []) ≤ k = le in
             same k (apart' b k (omega arith) (omega arith)) ∙ r.answers k x (let h : b ≤ k = omega arith in h) y;
@@ -393,10 +394,10 @@ module _ (c : WorkerState) (mine told : List Answered) (byes : ℕ) (held : mayb
             same (length (messages c) + k) (apart' b (length (messages c) + k) (omega arith) (omega arith))
             ∙ r.waits k p y;
         frees = λ k le near other. let le' : length (messages c) + q ≤ k = le in
-            let near' : k < length (c.back ++ a ∷ []) + 64 = near in
-            let ne : suc k ≢ suc (b + 64) = other in
+            let near' : k < length (c.back ++ a ∷ []) + WINDOW = near in
+            let ne : suc k ≢ suc (b + WINDOW) = other in
             same k (apart' b k (omega arith) (omega arith))
-            ∙ r.frees k le (let h : k < b + 64 = omega arith in h) (λ z. suc-ne-zero k (z ∙ idle));
+            ∙ r.frees k le (let h : k < b + WINDOW = omega arith in h) (λ z. suc-ne-zero k (z ∙ idle));
       }
 
   -- the load of done, where nothing is taken
@@ -411,7 +412,7 @@ module _ (c : WorkerState) (mine told : List Answered) (byes : ℕ) (held : mayb
     known = r.known;
     numbered = r.numbered;
     leaves = r.leaves;
-    quiet = r.quiet;
+    all_back = r.all_back;
     behind = r.behind;
     open_is = r.open_is;
     slot_held_is = r.slot_held_is;
@@ -429,7 +430,7 @@ module _ (c : WorkerState) (mine told : List Answered) (byes : ℕ) (held : mayb
       let high : length mine ≤ length c.sent = r.answered in let low : b ≤ length mine = back_below in
       let hand' : c.slot_held ≡ suc i = slot_held in
       let hands = r.slot_held_is (let g : 0 < c.slot_held = omega arith in g) in
-      let above : length (messages c) + q < c.slot_held = hands.0 in let below_ : c.slot_held ≤ b + 64 = hands.1 in
+      let above : length (messages c) + q < c.slot_held = hands.0 in let below_ : c.slot_held ≤ b + WINDOW = hands.1 in
       let behind' : length mine + byes + count_of held ≤ length (messages c) = r.behind in record {
         posted_is = r.posted_is;
         done_is = r.done_is;
@@ -440,7 +441,7 @@ module _ (c : WorkerState) (mine told : List Answered) (byes : ℕ) (held : mayb
         known = r.known;
         numbered = r.numbered;
         leaves = r.leaves;
-        quiet = r.quiet;
+        all_back = r.all_back;
         behind = r.behind;
         open_is = r.open_is;
         slot_held_is = λ (y : 0 < 0). absurd (omega arith);
@@ -453,16 +454,16 @@ module _ (c : WorkerState) (mine told : List Answered) (byes : ℕ) (held : mayb
         waits = λ k p y. let below : k < q = at_below c.put k p y in
             same (length (messages c) + k) (apart (length (messages c) + k) i (omega arith) (omega arith))
             ∙ r.waits k p y;
-        frees = λ k le near _. let le' : length (messages c) + q ≤ k = le in let near' : k < b + 64 = near in
+        frees = λ k le near _. let le' : length (messages c) + q ≤ k = le in let near' : k < b + WINDOW = near in
             dite (ℕ_discrete k i) (λ e. ap at' e ∙ here)
             (λ ne. same k (λ e. ne (window k i (omega arith) (omega arith) e))
             ∙ r.frees k le near (λ z. let z' : suc k ≡ suc i = z ∙ slot_held in let e : k ≡ i = omega arith in
             absurd (ne e)));
       }
     where
-      window : (k i : ℕ) → k < i + 64 → i < k + 64 → k % 64 ≡ i % 64 → k ≡ i
-      window k i a z e = ⊎_elim (λ (l : k ≤ i). one_turn k i 64 l z e)
-          (λ (l : i ≤ k). sym (one_turn i k 64 l a (sym e))) (le_total k i)
+      window : (k i : ℕ) → k < i + WINDOW → i < k + WINDOW → k % WINDOW ≡ i % WINDOW → k ≡ i
+      window k i a z e = ⊎_elim (λ (l : k ≤ i). one_turn k i WINDOW l z e)
+          (λ (l : i ≤ k). sym (one_turn i k WINDOW l a (sym e))) (le_total k i)
         where
           le_total : (k i : ℕ) → (k ≤ i) ⊎ (i ≤ k)
           le_total k i = dite (dec_le k i) (λ l. inl l) (λ l. inr (omega arith))
@@ -476,7 +477,7 @@ module _ (c : WorkerState) (mine told : List Answered) (byes : ℕ) (held : mayb
   opens at' x none_ is same = let t : ℕ = length mine + byes in let b : ℕ = length c.back in
       let low : b ≤ length mine = back_below in
       let below_ : t < length (messages c) = at_below (messages c) t x is in
-      let room : length (messages c) + length c.put ≤ b + 64 = r.within in
+      let room : length (messages c) + length c.put ≤ b + WINDOW = r.within in
       let zero_ : count_of held ≡ 0 = ap count_of none_ in record {
         posted_is = r.posted_is;
         done_is = r.done_is;
@@ -487,7 +488,7 @@ module _ (c : WorkerState) (mine told : List Answered) (byes : ℕ) (held : mayb
         known = r.known;
         numbered = r.numbered;
         leaves = r.leaves;
-        quiet = r.quiet;
+        all_back = r.all_back;
         behind = let g : length mine + byes + 1 ≤ length (messages c) = omega arith in g;
         open_is = λ m y. is ∙ y;
         slot_held_is = r.slot_held_is;
@@ -501,7 +502,7 @@ module _ (c : WorkerState) (mine told : List Answered) (byes : ℕ) (held : mayb
             same (length (messages c) + k) (apart' t (length (messages c) + k) (omega arith) (omega arith))
             ∙ r.waits k p y;
         frees = λ k le near other. let le' : length (messages c) + length c.put ≤ k = le in
-            let near' : k < b + 64 = near in same k (apart' t k (omega arith) (omega arith)) ∙ r.frees k le near other;
+            let near' : k < b + WINDOW = near in same k (apart' t k (omega arith) (omega arith)) ∙ r.frees k le near other;
       }
 
   -- the store of done, with an answer
@@ -516,10 +517,10 @@ module _ (c : WorkerState) (mine told : List Answered) (byes : ℕ) (held : mayb
       let below_ : t < length (messages c) = at_below (messages c) t (Ask p) item in
       let item' : get_elem? c.sent t ≡ some p = ask_at c.sent c.said_bye t p item in
       let below' : t < length c.sent = at_below c.sent t p item' in
-      let room : length (messages c) + length c.put ≤ b + 64 = r.within in
+      let room : length (messages c) + length c.put ≤ b + WINDOW = r.within in
       let one_ : count_of held ≡ 1 = ap count_of held_ in
       let zero_ : byes ≡ 0 = dite (ℕ_discrete byes 0) (λ z. z)
-      (λ nz. let bye = r.leaves (let g : 0 < byes = omega arith in g) in let q : b ≡ length c.sent = r.quiet bye in
+      (λ nz. let bye = r.leaves (let g : 0 < byes = omega arith in g) in let q : b ≡ length c.sent = r.all_back bye in
       absurd (omega arith)) in
       let longer : length (mine ++ a ∷ []) ≡ suc n = length-append mine (a ∷ []) ∙ (omega arith) in
       let t_is : t ≡ n = omega arith in
@@ -536,7 +537,7 @@ module _ (c : WorkerState) (mine told : List Answered) (byes : ℕ) (held : mayb
         known = r.known;
         numbered = r.numbered;
         leaves = r.leaves;
-        quiet = r.quiet;
+        all_back = r.all_back;
         behind = let g : length (mine ++ a ∷ []) + byes + 0 ≤ length (messages c) = omega arith in g;
         open_is = λ m y. absurd (some-ne-none m (sym y));
         slot_held_is = r.slot_held_is;
@@ -555,7 +556,7 @@ module _ (c : WorkerState) (mine told : List Answered) (byes : ℕ) (held : mayb
             same (length (messages c) + k) (apart' t (length (messages c) + k) (omega arith) (omega arith))
             ∙ r.waits k p y;
         frees = λ k le near other. let le' : length (messages c) + length c.put ≤ k = le in
-            let near' : k < b + 64 = near in same k (apart' t k (omega arith) (omega arith)) ∙ r.frees k le near other;
+            let near' : k < b + WINDOW = near in same k (apart' t k (omega arith) (omega arith)) ∙ r.frees k le near other;
       }
 
   -- the store of done, for all answers of the lane
@@ -568,15 +569,15 @@ module _ (c : WorkerState) (mine told : List Answered) (byes : ℕ) (held : mayb
       let o : posted ≡ length (messages c) = r.posted_is in
           let h : length mine + byes + count_of held ≤ length (messages c) = r.behind in
           let g : length mine + byes ≤ posted = omega arith in g,
-      let o : posted ≤ done + 64 = r.order.1 in let d : done ≡ length told + byes = r.done_is in
-          let g : posted ≤ length mine + byes + 64 = omega arith in g,
+      let o : posted ≤ done + WINDOW = r.order.1 in let d : done ≡ length told + byes = r.done_is in
+          let g : posted ≤ length mine + byes + WINDOW = omega arith in g,
     );
     asked_is = r.asked_is;
     answered = r.answered;
     known = starts_trans mine told c.back r.told_is r.known;
     numbered = r.numbered;
     leaves = r.leaves;
-    quiet = r.quiet;
+    all_back = r.all_back;
     behind = r.behind;
     open_is = r.open_is;
     slot_held_is = r.slot_held_is;
@@ -594,10 +595,10 @@ module _ (c : WorkerState) (mine told : List Answered) (byes : ℕ) (held : mayb
       let low : b ≤ n = back_below in
       let item : get_elem? (messages c) t ≡ some Bye = r.open_is Bye held_ in
       let below_ : t < length (messages c) = at_below (messages c) t Bye item in
-      let last = bye_at c.sent c.said_bye t item in let all_back : b ≡ length c.sent = r.quiet last.0 in
+      let last = bye_at c.sent c.said_bye t item in let all_back : b ≡ length c.sent = r.all_back last.0 in
       let high : n ≤ length c.sent = r.answered in
       let low' : b ≤ length told = back_told in let told_low : length told ≤ n = told_below in
-      let room : length (messages c) + length c.put ≤ b + 64 = r.within in
+      let room : length (messages c) + length c.put ≤ b + WINDOW = r.within in
       let one_ : count_of held ≡ 1 = ap count_of held_ in record {
         posted_is = r.posted_is;
         done_is = let g : suc (n + byes) ≡ length told + suc byes = omega arith in g;
@@ -606,15 +607,15 @@ module _ (c : WorkerState) (mine told : List Answered) (byes : ℕ) (held : mayb
           let o : posted ≡ length (messages c) = r.posted_is in
               let h : length mine + byes + count_of held ≤ length (messages c) = r.behind in
               let g : suc (n + byes) ≤ posted = omega arith in g,
-          let o : posted ≤ done + 64 = r.order.1 in let d : done ≡ length told + byes = r.done_is in
-              let g : posted ≤ suc (n + byes) + 64 = omega arith in g,
+          let o : posted ≤ done + WINDOW = r.order.1 in let d : done ≡ length told + byes = r.done_is in
+              let g : posted ≤ suc (n + byes) + WINDOW = omega arith in g,
         );
         asked_is = r.asked_is;
         answered = r.answered;
         known = r.known;
         numbered = r.numbered;
         leaves = λ _. last.0;
-        quiet = r.quiet;
+        all_back = r.all_back;
         behind = let g : length mine + suc byes + 0 ≤ length (messages c) = omega arith in g;
         open_is = λ m y. absurd (some-ne-none m (sym y));
         slot_held_is = r.slot_held_is;
@@ -630,5 +631,5 @@ module _ (c : WorkerState) (mine told : List Answered) (byes : ℕ) (held : mayb
             same (length (messages c) + k) (apart' t (length (messages c) + k) (omega arith) (omega arith))
             ∙ r.waits k p y;
         frees = λ k le near other. let le' : length (messages c) + length c.put ≤ k = le in
-            let near' : k < b + 64 = near in same k (apart' t k (omega arith) (omega arith)) ∙ r.frees k le near other;
+            let near' : k < b + WINDOW = near in same k (apart' t k (omega arith) (omega arith)) ∙ r.frees k le near other;
       }

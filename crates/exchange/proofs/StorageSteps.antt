@@ -12,6 +12,7 @@ use lib.ListN.{get_elem?, length-map, length-replicate}
 use lib.Seq.{set-get_or}
 use Rattle.atomic_table.specs.Table.{step, keeps, takes, gives, Allows, Splits, Joins, opening}
 use Rattle.atomic_table.proofs.Lists.{at_set, set_else, at_longer}
+use Rattle.proto.specs.declared.limits.TheConstants.{WINDOW}
 use Rattle.proto.specs.declared.history.Posted.{Posted}
 use Rattle.proto.specs.declared.history.Answered.{Answered}
 use Rattle.exchange.specs.declared.messages.LaneMessage.{LaneMessage}
@@ -22,7 +23,8 @@ use Rattle.exchange.specs.declared.views.StorageState.{StorageState}
 use Rattle.exchange.specs.declared.views.LaneView.{LaneView}
 use Rattle.exchange.specs.declared.views.LaneView.TheVariants.{Nobody, Worker, Storage, Comparing}
 use Rattle.exchange.specs.Beginnings.{StartsWith, posted_of}
-use Rattle.proto.specs.History.{worker_share, Legal}
+use Rattle.proto.proofs.HistoryLemmas.{legal_none}
+use Rattle.proto.specs.History.{worker_share, LegalBy}
 use Rattle.exchange.specs.Lanes.{Homes, SeatState, messages, open_at, count_of, lane_slot, at_home, LaneIs, Agree, Fits, first_worker_state}
 use Rattle.exchange.specs.Lanes.{first_storage_state, LanesHold, opening_view}
 use Rattle.proto.specs.Counts.{times}
@@ -67,12 +69,12 @@ module _ (key : LaneKey) where
       (r.each_lane w inside)
 
   -- the history is legal
-  legal_of : (s : St) (r : LanesHold key s) (d : StorageState) → r.storage_state ≡ d → Legal key.geometry d.history
-  legal_of s r d is = subst (λ (z : StorageState). Legal key.geometry z.history) is r.legal
+  legal_of : (s : St) (r : LanesHold key s) (d : StorageState) → r.storage_state ≡ d → LegalBy key.terms d.history
+  legal_of s r d is = subst (λ (z : StorageState). LegalBy key.terms z.history) is r.legal
 
   -- what storage told of is legal
-  legal_told_of : (s : St) (r : LanesHold key s) (d : StorageState) → r.storage_state ≡ d → Legal key.geometry d.told
-  legal_told_of s r d is = subst (λ (z : StorageState). Legal key.geometry z.told) is r.legal_told
+  legal_told_of : (s : St) (r : LanesHold key s) (d : StorageState) → r.storage_state ≡ d → LegalBy key.terms d.told
+  legal_told_of s r d is = subst (λ (z : StorageState). LegalBy key.terms z.told) is r.legal_told
 
   -- what storage told of is a beginning of its history
   first_of : (s : St) (r : LanesHold key s) (d : StorageState) → r.storage_state ≡ d → StartsWith d.history d.told
@@ -93,7 +95,7 @@ module _ (key : LaneKey) where
       let below : n + byes < length c.sent = at_below c.sent (settled d w) p at in
       let low : length c.back ≤ n = back_low words homes c d w lane in
       let none_gone : byes ≡ 0 = dite (ℕ_discrete byes 0) (λ z. z)
-      (λ nz. let q : length c.back ≡ length c.sent = lane.quiet (lane.leaves (omega arith)) in
+      (λ nz. let q : length c.back ≡ length c.sent = lane.all_back (lane.leaves (omega arith)) in
       absurd (omega arith)) in
       lane.numbered (settled d w) p (at_longer c.sent c.put (settled d w) p at)
       ∙ (let g : suc (n + byes) ≡ suc n = omega arith in g)
@@ -105,7 +107,7 @@ module _ (key : LaneKey) where
   no_bye words homes c d w lane m at = let byes : ℕ = times w d.byes in let n : ℕ = length (worker_share d.history w) in
       let low : length c.back ≤ n = back_low words homes c d w lane in let high : n ≤ length c.sent = lane.answered in
       dite (ℕ_discrete byes 0) (λ z. z)
-      (λ nz. let q : length c.back ≡ length c.sent = lane.quiet (lane.leaves (omega arith)) in
+      (λ nz. let q : length c.back ≡ length c.sent = lane.all_back (lane.leaves (omega arith)) in
       ⊎_elim (λ (h : (p : Posted) × (m ≡ Ask p) × (get_elem? c.sent (settled d w) ≡ some p)).
       let below : n + byes < length c.sent = at_below c.sent (settled d w) h.0 h.2 in absurd (omega arith))
       (λ (h : (m ≡ Bye) × (c.said_bye ≡ true) × (settled d w ≡ length c.sent)). let e : n + byes
@@ -252,7 +254,7 @@ module _ (key : LaneKey) where
   -- the store of done, with an answer
   pub answers_it : (n id : ℕ) (d : StorageState) (w : ℕ) (p : Posted) (a : Answered) (i : ℕ)
       → d.holding ≡ Some (w, Ask p) → a.worker ≡ w → posted_of a ≡ p
-      → w < key.workers → Legal d.geometry (d.history ++ a ∷ [])
+      → w < key.workers → LegalBy d.terms (d.history ++ a ∷ [])
       → Allows (LanesHold key) n id (Storage d, (lane_slot w (settled d w), Some (Answer a)) ∷ []) i (λ x. x)
       (answered (step n i 0 0 none) (Storage d, (lane_slot w (settled d w), Some (Answer a)) ∷ []))
   answers_it n id d w p a i held mine for inside legal s r _ at _ = let t : ℕ = settled d w in
@@ -263,13 +265,13 @@ module _ (key : LaneKey) where
       let near : lane_slot w t < length s.homes =
       subst (λ (z : ℕ). lane_slot w t < z) (sym deep) (slot_below key.workers w t inside) in
       let homes' : Homes = set s.homes (lane_slot w t) (some v) in let words' : List ℕ = set s.words i x in
-      let judged : d.geometry ≡ key.geometry = ap (λ (z : StorageState). z.geometry) (sym f.1) ∙ r.judged in
+      let same_terms : d.terms ≡ key.terms = ap (λ (z : StorageState). z.terms) (sym f.1) ∙ r.same_terms in
       let open_is : open_at d.holding w ≡ some (Ask p) = ap (λ z. open_at z w) held ∙ open_mine w (Ask p) in (
         Storage d',
         gives,
         tt,
         storage_moves key s r id d d' w words' homes' at
-            refl refl (subst (λ z. Legal z (d.history ++ a ∷ [])) judged legal) (legal_told_of s r d f.1)
+            refl refl (subst (λ z. LegalBy z (d.history ++ a ∷ [])) same_terms legal) (legal_told_of s r d f.1)
             (starts_longer d.history d.told (a ∷ []) (first_of s r d f.1)) (starts_self d.told)
             (length-set s.words i x) (length-set s.homes (lane_slot w t) (some v))
             (λ j other. (
@@ -375,9 +377,9 @@ module _ (key : LaneKey) where
   makes id v d is room = subst (λ (z : LaneView). Splits (LanesHold key) id z (with_one_more z) (new_worker z)) (sym is)
       (λ s r at.
       let f = r.each_view id (Storage d) at in let d' : StorageState = record d { made = suc d.made } in
-      let c : WorkerState = first_worker_state d.geometry d.made in let w : LaneView = Storage d' in
+      let c : WorkerState = first_worker_state d.terms d.made in let w : LaneView = Storage d' in
       let is' : r.storage_state ≡ d = f.1 in
-      let judged : d.geometry ≡ key.geometry = ap (λ (z : StorageState). z.geometry) (sym is') ∙ r.judged in
+      let same_terms : d.terms ≡ key.terms = ap (λ (z : StorageState). z.terms) (sym is') ∙ r.same_terms in
       let long : length (set s.views id w) ≡ suc d.made =
       length-set s.views id w ∙ (r.count ∙ ap (λ (z : StorageState). suc z.made) is') in record {
         states = r.states;
@@ -385,7 +387,7 @@ module _ (key : LaneKey) where
         legal = legal_of s r d is';
         legal_told = legal_told_of s r d is';
         told_first = first_of s r d is';
-        judged = judged;
+        same_terms = same_terms;
         wide = r.wide;
         deep = r.deep;
         each_lane = λ j l. lane_at s r d j is' l;
@@ -402,7 +404,7 @@ module _ (key : LaneKey) where
             subst (λ (z : ℕ × LaneView). Fits key r.states d' z.0 z.1) (λ i. (sym (h.0 ∙ long) i, h.1 i)) (
               refl,
               r.later d.made (subst (λ (z : StorageState). z.made ≤ d.made) (sym is') (le_refl d.made))
-                  ∙ ap (λ z. first_worker_state z d.made) (sym judged),
+                  ∙ ap (λ z. first_worker_state z d.made) (sym same_terms),
               room,
             ))
             (at_end (set s.views id w) (Worker c) j u e);
@@ -436,18 +438,18 @@ module _ (key : LaneKey) where
       let seen = subst (λ (z : WorkerState). StartsWith d.history z.seen) g.1
       (starts_trans d.history d.told (r.states c.worker).seen (first_of s r d same)
       (subst (λ (z : StorageState). StartsWith z.told (r.states c.worker).seen) same (r.each_seen c.worker g.2).0)) in
-      let known = subst (λ (z : WorkerState). z.geometry ≡ key.geometry) g.1 (r.each_seen c.worker g.2).1 in
-      let judged : d.geometry ≡ key.geometry = ap (λ (z : StorageState). z.geometry) (sym same) ∙ r.judged in
+      let known = subst (λ (z : WorkerState). z.terms ≡ key.terms) g.1 (r.each_seen c.worker g.2).1 in
+      let same_terms : d.terms ≡ key.terms = ap (λ (z : StorageState). z.terms) (sym same) ∙ r.same_terms in
       let agree : Agree d c = record {
-        legal = subst (λ z. Legal z d.history) (sym judged) (legal_of s r d same);
-        judged = known ∙ sym judged;
+        legal = subst (λ z. LegalBy z d.history) (sym same_terms) (legal_of s r d same);
+        same_terms = known ∙ sym same_terms;
         told = seen;
         back = starts_trans (worker_share d.history c.worker)
             (worker_share d.told c.worker) c.back lane.told_is lane.known;
         sent = lane.asked_is;
         answered = lane.answered;
         held = λ p e. held_is s.words s.homes c d p lane e;
-        all_back = lane.quiet;
+        all_back = lane.all_back;
         leaves = lane.leaves;
       } in
       let at_w : (j : ℕ) (x : LaneView) → get_elem? vs j ≡ some x → Fits key r.states r.storage_state j x =
@@ -461,7 +463,7 @@ module _ (key : LaneKey) where
         legal = r.legal;
         legal_told = r.legal_told;
         told_first = r.told_first;
-        judged = r.judged;
+        same_terms = r.same_terms;
         wide = r.wide;
         deep = r.deep;
         each_lane = r.each_lane;
@@ -485,7 +487,7 @@ module _ (key : LaneKey) where
           let below : n + byes < length c.sent = at_below c.sent (n + byes) p item in
           let low : length c.back ≤ n = back_low words homes c d c.worker lane in
           let none_gone : byes ≡ 0 = dite (ℕ_discrete byes 0) (λ z. z)
-          (λ nz. let q : length c.back ≡ length c.sent = lane.quiet (lane.leaves (omega arith)) in
+          (λ nz. let q : length c.back ≡ length c.sent = lane.all_back (lane.leaves (omega arith)) in
           absurd (omega arith)) in
           subst (λ (z : ℕ). get_elem? c.sent z ≡ some p) (let g : n + byes ≡ n = omega arith in g) item
 
@@ -505,7 +507,7 @@ module _ (key : LaneKey) where
               legal = r.legal;
               legal_told = r.legal_told;
               told_first = r.told_first;
-              judged = r.judged;
+              same_terms = r.same_terms;
               wide = r.wide;
               deep = r.deep;
               each_lane = r.each_lane;
@@ -534,16 +536,16 @@ module _ (key : LaneKey) where
   all_vacant (suc n) (suc i) a h = all_vacant n i a (omega arith)
 
   -- the table at the start
-  pub starts : (words : List ℕ) (slots : ℕ) → length words ≡ 16 * key.workers → slots ≡ 64 * key.workers
+  pub starts : (words : List ℕ) (slots : ℕ) → length words ≡ 16 * key.workers → slots ≡ WINDOW * key.workers
       → ((i : ℕ) → get_or words i 0 ≡ 0)
       → LanesHold key (opening words (replicate slots None) (opening_view key))
   starts words slots wide deep blank = record {
-    states = first_worker_state key.geometry;
-    storage_state = first_storage_state key.geometry;
-    legal = record { moments = tt; caches = []; chain = tt; numbers = λ w. tt };
-    legal_told = record { moments = tt; caches = []; chain = tt; numbers = λ w. tt };
+    states = first_worker_state key.terms;
+    storage_state = first_storage_state key.terms;
+    legal = legal_none _;
+    legal_told = legal_none _;
     told_first = ([], refl);
-    judged = refl;
+    same_terms = refl;
     wide = wide;
     deep = length-map (replicate slots None) (λ (x : Option LaneMessage). some x)
         ∙ (length-replicate slots None ∙ deep);
@@ -554,7 +556,7 @@ module _ (key : LaneKey) where
         let a = blank (16 * w) in let b = blank (16 * w + 8) in
             let g : get_or words (16 * w + 8) 0 ≤ get_or words (16 * w) 0 = omega (arith, a, b) in g,
         let a = blank (16 * w) in let b = blank (16 * w + 8) in
-            let g : get_or words (16 * w) 0 ≤ get_or words (16 * w + 8) 0 + 64 = omega (arith, a, b) in g,
+            let g : get_or words (16 * w) 0 ≤ get_or words (16 * w + 8) 0 + WINDOW = omega (arith, a, b) in g,
       );
       asked_is = refl;
       answered = omega arith;
@@ -562,7 +564,7 @@ module _ (key : LaneKey) where
       known = ([], refl);
       numbered = λ k p y. absurd (some-ne-none p (sym y));
       leaves = λ (y : 0 < 0). absurd (omega arith);
-      quiet = λ _. refl;
+      all_back = λ _. refl;
       behind = omega arith;
       open_is = λ m y. absurd (some-ne-none m (sym y));
       slot_held_is = λ (y : 0 < 0). absurd (omega arith);
@@ -580,8 +582,8 @@ module _ (key : LaneKey) where
   }
     where
       first : (j : ℕ) (v : LaneView) → get_elem? (opening_view key ∷ []) j ≡ some v
-          → Fits key (first_worker_state key.geometry) (first_storage_state key.geometry) j v
-      first zero v e = subst (λ (z : LaneView). Fits key (first_worker_state key.geometry)
-          (first_storage_state key.geometry) 0 z)
+          → Fits key (first_worker_state key.terms) (first_storage_state key.terms) j v
+      first zero v e = subst (λ (z : LaneView). Fits key (first_worker_state key.terms)
+          (first_storage_state key.terms) 0 z)
           (some-injective (opening_view key) v e) (refl, refl)
       first (suc j) v e = absurd (some-ne-none v (sym e))

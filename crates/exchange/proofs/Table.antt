@@ -8,6 +8,7 @@ use native.Mathlib.Decide.{ℕ_discrete}
 use lib.ListN.{get_elem?}
 use Rattle.atomic_table.specs.Table.{State}
 use Rattle.atomic_table.proofs.Lists.{at_set, set_here, set_else}
+use Rattle.proto.specs.declared.limits.TheConstants.{WINDOW}
 use Rattle.proto.specs.declared.history.Answered.{Answered}
 use Rattle.exchange.specs.declared.messages.LaneMessage.{LaneMessage}
 use Rattle.exchange.specs.declared.messages.LaneKey.{LaneKey}
@@ -16,7 +17,7 @@ use Rattle.exchange.specs.declared.views.StorageState.{StorageState}
 use Rattle.exchange.specs.declared.views.LaneView.{LaneView}
 use Rattle.exchange.specs.declared.views.LaneView.TheVariants.{Nobody, Worker, Storage, Comparing}
 use Rattle.exchange.specs.Beginnings.{StartsWith}
-use Rattle.proto.specs.History.{worker_share, Legal}
+use Rattle.proto.specs.History.{worker_share, LegalBy}
 use Rattle.exchange.specs.Lanes.{Homes, messages, open_at, lane_slot, At, at_home, LaneOk, LaneIs, Fits, LanesHold}
 use Rattle.proto.specs.Counts.{times}
 use Rattle.exchange.proofs.Lists.{at_below, starts_trans}
@@ -52,22 +53,22 @@ module _ {A : Type 0} (f : ℕ → A) (i : ℕ) (c : A) where
 
 -- slots
 
--- a remainder is below 64
-pub below_64 : (k : ℕ) → k % 64 < 64
-below_64 k = mod-lt k (omega arith)
+-- a remainder is below the window
+pub below_window : (k : ℕ) → k % WINDOW < WINDOW
+below_window k = mod-lt k (omega arith)
 
 -- the slots of a lane are in the table
-pub slot_below : (n w k : ℕ) → w < n → lane_slot w k < 64 * n
-slot_below n w k h = let b = below_64 k in omega arith
+pub slot_below : (n w k : ℕ) → w < n → lane_slot w k < WINDOW * n
+slot_below n w k h = let b = below_window k in omega arith
 
 -- two lanes have no slot in common
 pub slots_apart : (w j k i : ℕ) → j ≢ w → lane_slot j k ≢ lane_slot w i
-slots_apart w j k i other e = let a = below_64 k in let b = below_64 i in
-    let e' : 64 * j + k % 64 ≡ 64 * w + i % 64 = e in other (omega arith)
+slots_apart w j k i other e = let a = below_window k in let b = below_window i in
+    let e' : WINDOW * j + k % WINDOW ≡ WINDOW * w + i % WINDOW = e in other (omega arith)
 
 -- two messages of one window have different slots
-pub slots_of_one : (w k i : ℕ) → k % 64 ≢ i % 64 → lane_slot w k ≢ lane_slot w i
-slots_of_one w k i other e = let e' : 64 * w + k % 64 ≡ 64 * w + i % 64 = e in other (omega arith)
+pub slots_of_one : (w k i : ℕ) → k % WINDOW ≢ i % WINDOW → lane_slot w k ≢ lane_slot w i
+slots_of_one w k i other e = let e' : WINDOW * w + k % WINDOW ≡ WINDOW * w + i % WINDOW = e in other (omega arith)
 
 module _ (homes : Homes) (w i : ℕ) (v : maybe.Option (Option LaneMessage)) where
   -- another message's slot stays
@@ -117,12 +118,12 @@ module _ (key : LaneKey) (s : St) (r : LanesHold key s) where
   -- a step of a worker
   pub worker_moves : (id : ℕ) (c c' : WorkerState) (words' : List ℕ) (homes' : Homes)
       → get_elem? s.views id ≡ some (Worker c) → c'.worker ≡ c.worker
-      → c'.geometry ≡ c.geometry → length (messages c) ≤ length (messages c') → length words' ≡ length s.words
+      → c'.terms ≡ c.terms → length (messages c) ≤ length (messages c') → length words' ≡ length s.words
       → length homes' ≡ length s.homes
       → ((j : ℕ) → j ≢ c.worker → Stands s words' homes' j) → LaneIs words' homes' r.storage_state c' c.worker
       → StartsWith r.storage_state.told c'.seen
       → LanesHold key record { words = words'; homes = homes'; views = set s.views id (Worker c') }
-  worker_moves id c c' words' homes' at same geometry more wide deep others lane seen =
+  worker_moves id c c' words' homes' at same terms more wide deep others lane seen =
       let f = r.each_view id (Worker c) at in let w : ℕ = c.worker in
       let states' : ℕ → WorkerState = put r.states w c' in let was = r.each_seen w f.2 in
       let below : id < length s.views = at_below s.views id (Worker c) at in let id_is : id ≡ suc w = f.0 in
@@ -132,7 +133,7 @@ module _ (key : LaneKey) (s : St) (r : LanesHold key s) where
         legal = r.legal;
         legal_told = r.legal_told;
         told_first = r.told_first;
-        judged = r.judged;
+        same_terms = r.same_terms;
         wide = wide ∙ r.wide;
         deep = deep ∙ r.deep;
         each_lane = λ j l. dite (ℕ_discrete j w)
@@ -144,10 +145,10 @@ module _ (key : LaneKey) (s : St) (r : LanesHold key s) where
             (at_home homes' j) refl refl refl refl st.0 st.1 st.2 (r.each_lane j l)));
         each_seen = λ j l. dite (ℕ_discrete j w)
             (λ e. subst (λ (z : ℕ × WorkerState). StartsWith r.storage_state.told z.1.seen
-            × (z.1.geometry ≡ key.geometry)
+            × (z.1.terms ≡ key.terms)
             × (z.1.worker ≡ z.0)) (λ i. (sym e i, (sym (put_here r.states w c') ∙ ap states' (sym e)) i))
-            (seen, geometry ∙ (ap (λ (z : WorkerState). z.geometry) (sym f.1) ∙ was.1), same))
-            (λ other. subst (λ (z : WorkerState). StartsWith r.storage_state.told z.seen × (z.geometry ≡ key.geometry)
+            (seen, terms ∙ (ap (λ (z : WorkerState). z.terms) (sym f.1) ∙ was.1), same))
+            (λ other. subst (λ (z : WorkerState). StartsWith r.storage_state.told z.seen × (z.terms ≡ key.terms)
             × (z.worker ≡ j)) (sym (put_else r.states w c' j other)) (r.each_seen j l));
         each_view = λ j v e. ⊎_elim
             (λ (x : (j ≡ id) × (Worker c' ≡ v)). subst (λ (z : ℕ × LaneView). Fits key states' r.storage_state z.0 z.1)
@@ -183,7 +184,7 @@ module _ (key : LaneKey) (s : St) (r : LanesHold key s) where
   -- a step of storage on the lane w
   pub storage_moves : (id : ℕ) (d d' : StorageState) (w : ℕ) (words' : List ℕ) (homes' : Homes)
       → get_elem? s.views id ≡ some (Storage d)
-      → d'.geometry ≡ d.geometry → d'.made ≡ d.made → Legal key.geometry d'.history → Legal key.geometry d'.told
+      → d'.terms ≡ d.terms → d'.made ≡ d.made → LegalBy key.terms d'.history → LegalBy key.terms d'.told
       → StartsWith d'.history d'.told → StartsWith d'.told d.told
       → length words' ≡ length s.words → length homes' ≡ length s.homes
       → ((j : ℕ) → j ≢ w → Stands s words' homes' j)
@@ -195,7 +196,7 @@ module _ (key : LaneKey) (s : St) (r : LanesHold key s) where
       → ((k j n : ℕ) → get_elem? d'.looks k ≡ some (j, n)
       → (get_elem? d.looks k ≡ some (j, n)) ⊎ (j < key.workers → n ≤ length (messages (r.states j))))
       → LanesHold key record { words = words'; homes = homes'; views = set s.views id (Storage d') }
-  storage_moves id d d' w words' homes' at geometry made legal legal_told first longer wide deep others apart
+  storage_moves id d d' w words' homes' at terms made legal legal_told first longer wide deep others apart
       lane looks =
       let f = r.each_view id (Storage d) at in let is : r.storage_state ≡ d = f.1 in record {
         states = r.states;
@@ -203,7 +204,7 @@ module _ (key : LaneKey) (s : St) (r : LanesHold key s) where
         legal = legal;
         legal_told = legal_told;
         told_first = first;
-        judged = geometry ∙ (ap (λ (z : StorageState). z.geometry) (sym is) ∙ r.judged);
+        same_terms = terms ∙ (ap (λ (z : StorageState). z.terms) (sym is) ∙ r.same_terms);
         wide = wide ∙ r.wide;
         deep = deep ∙ r.deep;
         each_lane = λ j l. dite (ℕ_discrete j w)

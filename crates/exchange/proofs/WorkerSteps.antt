@@ -8,6 +8,7 @@ use native.Mathlib.Decide.{ℕ_discrete, dec_le}
 use lib.ListN.{get_elem?}
 use lib.Seq.{set-get_or}
 use Rattle.atomic_table.specs.Table.{step, Act, keeps, takes, gives, stepped, Allows}
+use Rattle.proto.specs.declared.limits.TheConstants.{WINDOW}
 use Rattle.proto.specs.declared.history.Posted.{Posted}
 use Rattle.proto.specs.declared.history.Answered.{Answered}
 use Rattle.exchange.specs.declared.messages.LaneMessage.{LaneMessage}
@@ -18,7 +19,7 @@ use Rattle.exchange.specs.declared.views.StorageState.{StorageState}
 use Rattle.exchange.specs.declared.views.LaneView.{LaneView}
 use Rattle.exchange.specs.declared.views.LaneView.TheVariants.{Nobody, Worker, Storage, Comparing}
 use Rattle.exchange.specs.Beginnings.{StartsWith}
-use Rattle.proto.specs.History.{worker_share, Legal}
+use Rattle.proto.specs.History.{worker_share, LegalBy}
 use Rattle.exchange.specs.Lanes.{Homes, SeatState, messages, open_at, count_of, lane_slot, at_home, LaneIs, LanesHold}
 use Rattle.proto.specs.Counts.{times}
 use Rattle.exchange.specs.Steps.{holding_slot, placed, put_on, all_sent, with_bye, learnt_of, took_seen, took_out, begun, request_put, posted, bye_posted}
@@ -76,7 +77,7 @@ module _ (key : LaneKey) where
   -- a load of the word i by a worker, at which its lane's slots change
   worker_load : (s : St) (r : LanesHold key s) (i id : ℕ) (c c' : WorkerState) (homes' : Homes)
       → get_elem? s.views id ≡ some (Worker c) → c'.worker ≡ c.worker
-      → c'.geometry ≡ c.geometry → length (messages c) ≤ length (messages c') → length homes' ≡ length s.homes
+      → c'.terms ≡ c.terms → length (messages c) ≤ length (messages c') → length homes' ≡ length s.homes
       → ((j k : ℕ) → j ≢ c.worker → at_home homes' j k ≡ at_home s.homes j k)
       → LaneIs s.words homes' r.storage_state c' c.worker
       → StartsWith r.storage_state.told c'.seen
@@ -85,8 +86,8 @@ module _ (key : LaneKey) where
         homes = homes';
         views = set s.views id (Worker c');
       }
-  worker_load s r i id c c' homes' at same geometry more deep others lane seen =
-      worker_moves key s r id c c' (set s.words i (get_or s.words i 0)) homes' at same geometry more
+  worker_load s r i id c c' homes' at same terms more deep others lane seen =
+      worker_moves key s r id c c' (set s.words i (get_or s.words i 0)) homes' at same terms more
       (length-set s.words i (get_or s.words i 0)) deep
       (λ j other. (loaded s.words i (16 * j), loaded s.words i (16 * j + 8), λ k. others j k other))
       (lane_same c' _ _ _ _ _ _ _ _ _ _ _ _ (at_home homes' c.worker)
@@ -101,7 +102,7 @@ module _ (key : LaneKey) where
 
   -- the worker takes the slot of its next message
   pub begins_post : (n id : ℕ) (me : SeatState) (c : WorkerState) (i : ℕ) → me.0 ≡ Worker c → c.slot_held ≡ 0
-      → c.said_bye ≡ false → placed c < length c.back + 64
+      → c.said_bye ≡ false → placed c < length c.back + WINDOW
       → Allows (LanesHold key) n id me i (λ x. x) (begun (step n i 0 0 none) me)
   begins_post n id me c i is idle open_ room s r _ at _ = let w : ℕ = c.worker in let k : ℕ = placed c in
       let k_is : k ≡ length c.sent + length c.put = refl in
@@ -233,18 +234,18 @@ module _ (key : LaneKey) where
       let within : length mine ≤ length c.sent = omega arith in
       let at' : get_elem? s.views id ≡ some (Worker c) = at ∙ ap (λ (z : LaneView). some z) is in
       let low : b ≤ length mine = starts_below mine c.back lane.known in
-      let known = subst (λ (z : WorkerState). StartsWith g z.seen × (z.geometry ≡ key.geometry) × (z.worker ≡ w)) f.1
+      let known = subst (λ (z : WorkerState). StartsWith g z.seen × (z.terms ≡ key.terms) × (z.worker ≡ w)) f.1
       (r.each_seen w f.2) in
       let learnt : Learnt c x g = record {
-        legal = subst (λ z. Legal z g) (sym known.1) r.legal_told;
+        legal = subst (λ z. LegalBy z g) (sym known.1) r.legal_told;
         later = known.0;
         asks = asked_told c.sent all_mine mine lane.asked_is first ∙ dite (ℕ_discrete byes 0)
             (λ e. ap (λ (z : ℕ). take z c.sent) (let h : length mine ≡ x = omega arith in h))
-            (λ e. let q : b ≡ length c.sent = lane.quiet (lane.leaves (omega arith)) in
+            (λ e. let q : b ≡ length c.sent = lane.all_back (lane.leaves (omega arith)) in
             take_whole c.sent (length mine) (omega arith)
             ∙ sym (take_whole c.sent x (omega arith)));
         counted = dite (ℕ_discrete byes 0) (λ e. inl (let h : x ≡ length mine = omega arith in h))
-            (λ e. let bye = lane.leaves (omega arith) in let q : b ≡ length c.sent = lane.quiet bye in
+            (λ e. let bye = lane.leaves (omega arith) in let q : b ≡ length c.sent = lane.all_back bye in
             let few = at_most_one c.said_bye in
             let behind : length all_mine + byes + count_of (open_at r.storage_state.holding w) ≤ length (messages c) =
             lane.behind in let all = count c in
@@ -275,7 +276,7 @@ module _ (key : LaneKey) where
       dite (dec_le x b) (λ le. stays (inl le)) (λ gt. dite (dec_le (length c.sent) b) (λ le. stays (inr le)) (λ gt'.
       let more : b < length c.sent = omega arith in
       let none_gone : byes ≡ 0 = dite (ℕ_discrete byes 0) (λ z. z)
-      (λ e. let q : b ≡ length c.sent = lane.quiet (lane.leaves (omega arith)) in absurd (omega arith)) in
+      (λ e. let q : b ≡ length c.sent = lane.all_back (lane.leaves (omega arith)) in absurd (omega arith)) in
       let next = at_some mine b (let h : b < length mine = omega arith in h) in let a : Answered = next.0 in
       let c' : WorkerState = took_out c g x a in (
         Worker c',

@@ -5,36 +5,37 @@ use Rattle.std.specs.List.{filter, range_with_len}
 use mathlib.Core.Option.{some}
 use lib.ListN.{get_elem?}
 use Rattle.atomic_table.specs.Seated.{TableId}
-use Rattle.proto.specs.Sizes.{Sizes}
+use Rattle.proto.specs.declared.limits.TheConstants.{WINDOW}
+use Rattle.proto.specs.declared.terms.Terms.{Terms}
 use Rattle.proto.specs.declared.history.Posted.{Posted}
 use Rattle.proto.specs.declared.history.Answered.{Answered}
-use Rattle.proto.specs.History.{Legal, worker_share, asked_posted}
+use Rattle.proto.specs.History.{LegalBy, worker_share, asked_posted}
 use Rattle.exchange.specs.declared.messages.Taken.{Taken}
 use Rattle.exchange.specs.declared.messages.Taken.TheVariants.{Asked, Bye}
 use Rattle.proto.specs.Counts.{times}
 use Rattle.exchange.specs.Beginnings.{StartsWith}
 
--- What a worker knows: the exchange that its end belongs to, the sizes that histories are judged by, the
+-- What a worker knows: the exchange that its end belongs to, the terms by which histories are legal, the
 -- requests that it sent, whether it said bye, the answers that it took back, the history that it was told
 -- of last, and the counts of done messages that it read, one a `take`.
 pub record WorkerView : Type 0 where
   pub exchange : TableId
   pub worker : ℕ
-  pub geometry : Sizes
+  pub terms : Terms
   pub sent : List Posted
   pub said_bye : Bool
   pub back : List Answered
   pub seen : List Answered
   pub loads : List ℕ
 
--- What storage knows: the exchange, its number of workers, the sizes that histories are judged by, the
+-- What storage knows: the exchange, its number of workers, the terms by which histories are legal, the
 -- requests that it took, each with its worker, the one of them that isn't answered yet, the history of
 -- those that are, the workers whose bye was taken, the newest first, the lanes that it looked at, each with
 -- the count of posted messages that it read there, and the lane that it took from last.
 pub record StorageView : Type 0 where
   pub exchange : TableId
   pub workers : ℕ
-  pub geometry : Sizes
+  pub terms : Terms
   pub taken : List (ℕ × Posted)
   pub open_request : Option (ℕ × Posted)
   pub history : List Answered
@@ -57,12 +58,12 @@ pub record StorageBatchView : Type 0 where
 -- Making
 
 -- a worker's end as it is made
-abbrev pub new_worker_view : TableId → Sizes → ℕ → WorkerView
-new_worker_view exchange geometry worker =
+abbrev pub new_worker_view : TableId → Terms → ℕ → WorkerView
+new_worker_view exchange terms worker =
     record {
       exchange = exchange;
       worker = worker;
-      geometry = geometry;
+      terms = terms;
       sent = [];
       said_bye = false;
       back = [];
@@ -71,12 +72,12 @@ new_worker_view exchange geometry worker =
     }
 
 -- storage's end as it is made; the first lane comes after the last one
-abbrev pub new_storage_view : TableId → Sizes → ℕ → StorageView
-new_storage_view exchange geometry workers =
+abbrev pub new_storage_view : TableId → Terms → ℕ → StorageView
+new_storage_view exchange terms workers =
     record {
       exchange = exchange;
       workers = workers;
-      geometry = geometry;
+      terms = terms;
       taken = [];
       open_request = None;
       history = [];
@@ -86,14 +87,14 @@ new_storage_view exchange geometry workers =
     }
 
 -- an end for each worker, in their order
-abbrev pub AreNew : TableId → Sizes → List WorkerView → Type 0
-AreNew exchange geometry ends = (worker : ℕ) (view : WorkerView) → get_elem? ends worker ≡ some view
-    → view ≡ new_worker_view exchange geometry worker
+abbrev pub AreNew : TableId → Terms → List WorkerView → Type 0
+AreNew exchange terms ends = (worker : ℕ) (view : WorkerView) → get_elem? ends worker ≡ some view
+    → view ≡ new_worker_view exchange terms worker
 
 -- the ends as one call of `make` gives them
-abbrev pub AreMade : ℕ → Sizes → List WorkerView → StorageView → Type 0
-AreMade workers geometry ends storage = (length ends ≡ workers) × AreNew storage.exchange geometry ends
-    × (storage ≡ new_storage_view storage.exchange geometry workers)
+abbrev pub AreMade : ℕ → Terms → List WorkerView → StorageView → Type 0
+AreMade workers terms ends storage = (length ends ≡ workers) × AreNew storage.exchange terms ends
+    × (storage ≡ new_storage_view storage.exchange terms workers)
 
 abbrev pub IsCount : ℕ → Type 0
 IsCount workers = (1 ≤ workers) × (workers ≤ 8)
@@ -104,15 +105,15 @@ IsCount workers = (1 ≤ workers) × (workers ≤ 8)
 abbrev pub max_posts : ℕ
 max_posts = 2 ^ 62
 
--- fewer than 64 requests are outstanding, the worker hasn't said bye, and it hasn't sent its last request
+-- fewer than WINDOW requests are outstanding, the worker hasn't said bye, and it hasn't sent its last request
 abbrev pub CanPost : WorkerView → Type 0
-CanPost view = (length view.sent < length view.back + 64) × (view.said_bye ≡ false) × (length view.sent < max_posts)
+CanPost view = (length view.sent < length view.back + WINDOW) × (view.said_bye ≡ false) × (length view.sent < max_posts)
 
 -- What a worker is told where it reads how many of its messages are done: a legal history that begins with the
 -- one that it had seen, in which its requests are the first `done` of those that it sent, or all of them where
 -- its bye is one of the messages that are done.
 pub record IsToldDone (view : WorkerView) (done : ℕ) (told : List Answered) : Type 0 where
-  pub legal : Legal view.geometry told
+  pub legal : LegalBy view.terms told
   pub later : StartsWith told view.seen
   pub asked : asked_posted (worker_share told view.worker) ≡ take done view.sent
   pub counted : (done ≡ length (worker_share told view.worker))
@@ -142,7 +143,7 @@ TakesAnswer old result new = (done : ℕ) × (told : List Answered) × IsToldDon
 
 -- what is known of a history that a worker was told of
 pub record WasTold (view : WorkerView) : Type 0 where
-  pub legal : Legal view.geometry view.seen
+  pub legal : LegalBy view.terms view.seen
   pub asked : asked_posted (worker_share view.seen view.worker)
       ≡ take (length (worker_share view.seen view.worker)) view.sent
   pub back : StartsWith (worker_share view.seen view.worker) view.back
@@ -155,9 +156,9 @@ TakesSeen old result new = WasTold old × MatchOption result
     (λ answered. (get_elem? (worker_share old.seen old.worker) (length old.back) ≡ some answered)
     × (new ≡ record old { back = old.back ++ answered ∷ [] }))
 
--- fewer than 64 requests are outstanding or put, the worker hasn't said bye, and it hasn't put its last request
+-- fewer than WINDOW requests are outstanding or put, the worker hasn't said bye, and it hasn't put its last request
 abbrev pub CanPut : WorkerBatchView → Type 0
-CanPut view = (length view.end.sent + length view.put < length view.end.back + 64) × (view.end.said_bye ≡ false)
+CanPut view = (length view.end.sent + length view.put < length view.end.back + WINDOW) × (view.end.said_bye ≡ false)
     × (length view.end.sent + length view.put < max_posts)
 
 -- with all that was put sent, in order
@@ -266,8 +267,8 @@ open_of (Some open_now) worker = if open_now.0 == worker then open_now.1 ∷ [] 
 -- worker said.
 pub record AreCompared (storage : StorageView) (view : WorkerView) : Type 0 where
   pub inside : view.worker < storage.workers
-  pub geometry : view.geometry ≡ storage.geometry
-  pub legal : Legal storage.geometry storage.history
+  pub terms : view.terms ≡ storage.terms
+  pub legal : LegalBy storage.terms storage.history
   pub seen : StartsWith storage.history view.seen
   pub back : StartsWith (worker_share storage.history view.worker) view.back
   pub sent : StartsWith view.sent (asked_posted (worker_share storage.history view.worker)

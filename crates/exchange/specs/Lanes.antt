@@ -1,18 +1,19 @@
 -- The rule of the lanes, and what each step tells.
--- A lane has the words 16 * lane (posted) and 16 * lane + 8 (done), and the slots from 64 * lane on. The words that
+-- A lane has the words 16 * lane (posted) and 16 * lane + 8 (done), and the slots from WINDOW * lane on. The words that
 -- are used lie 64 bytes apart, so that no two share a cache line. A message uses the slot
--- 64 * lane + number % 64, where the numbers begin at 0.
+-- WINDOW * lane + number % WINDOW, where the numbers begin at 0.
 use Rattle.std.specs.Prelude.{◌≡◌, ◌≢◌, ℕ, suc, ◌+◌, ◌*◌, ◌%◌, ◌<◌, ◌≤◌, List, [], ◌∷◌, ◌++◌, map, length, take, slice_index, Option, Some, None, Bool}
 use Rattle.std.specs.Prelude.{true, false, ◌==◌, if◌then◌else◌}
 use mathlib.Core.Option.{none, some}
 use mathlib.Core.Option as maybe
 use lib.ListN.{get_elem?}
 use Rattle.atomic_table.specs.Table.{State, Me}
+use Rattle.proto.specs.declared.limits.TheConstants.{WINDOW}
 use Rattle.proto.specs.declared.history.Posted.{Posted}
 use Rattle.proto.specs.declared.history.Answered.{Answered}
 use Rattle.exchange.specs.declared.messages.LaneMessage.{LaneMessage}
 use Rattle.exchange.specs.declared.messages.LaneMessage.TheVariants.{Ask, Bye, Answer}
-use Rattle.proto.specs.Sizes.{Sizes}
+use Rattle.proto.specs.declared.terms.Terms.{Terms}
 use Rattle.exchange.specs.declared.messages.LaneKey.{LaneKey}
 use Rattle.exchange.specs.declared.views.WorkerState.{WorkerState}
 use Rattle.exchange.specs.declared.views.StorageState.{StorageState}
@@ -20,7 +21,7 @@ use Rattle.exchange.specs.declared.views.LaneView.{LaneView}
 use Rattle.exchange.specs.declared.views.LaneView.TheVariants.{Nobody, Worker, Storage, Comparing}
 use Rattle.proto.specs.Counts.{times}
 use Rattle.exchange.specs.Beginnings.{StartsWith}
-use Rattle.proto.specs.History.{worker_share, asked_posted, Legal}
+use Rattle.proto.specs.History.{worker_share, asked_posted, LegalBy}
 
 -- what stands in the slots that no seat holds
 abbrev pub Homes : Type 0
@@ -60,7 +61,7 @@ count_of (some message) = 1
 
 -- the slot of the message with this number of the lane
 abbrev pub lane_slot : ℕ → ℕ → ℕ
-lane_slot lane number = 64 * lane + number % 64
+lane_slot lane number = WINDOW * lane + number % WINDOW
 
 -- for each message number what stands in its slot, unless a seat holds that slot
 abbrev pub At : Type 0
@@ -72,7 +73,7 @@ at_home homes lane = λ number. get_elem? homes (lane_slot lane number)
 -- One lane at any moment, over what the worker knows, its share of what was answered, the first of that share that
 -- it can know of, how many byes of it were taken, the message that storage holds of it, its two words, and what
 -- stands in its slots. Posted counts the worker's messages, done the entries that it can know of and the bye, and at
--- most 64 lie between. The entries are the first of the requests, and the answers that were taken back are the first
+-- most WINDOW lie between. The entries are the first of the requests, and the answers that were taken back are the first
 -- of the entries. The answers that weren't taken back stand in their slots, and so do the messages that storage
 -- hasn't taken, and behind the messages the requests that the worker put and hasn't sent. All other slots of the
 -- window are empty, but for the one that the worker holds.
@@ -81,20 +82,20 @@ pub record LaneOk (worker : WorkerState) (mine told : List Answered) (byes : ℕ
   pub posted_is : posted ≡ length (messages worker)
   pub done_is : done ≡ length told + byes
   pub told_is : StartsWith mine told
-  pub order : (done ≤ posted) × (posted ≤ done + 64)
+  pub order : (done ≤ posted) × (posted ≤ done + WINDOW)
   pub asked_is : asked_posted mine ≡ take (length mine) worker.sent
   pub answered : length mine ≤ length worker.sent
   pub known : StartsWith told worker.back
   pub numbered : (number : ℕ) (request : Posted) → get_elem? (worker.sent ++ worker.put) number ≡ some request
       → request.number ≡ suc number
   pub leaves : 0 < byes → (worker.said_bye ≡ true)
-  pub quiet : worker.said_bye ≡ true → length worker.back ≡ length worker.sent
+  pub all_back : worker.said_bye ≡ true → length worker.back ≡ length worker.sent
   pub behind : length mine + byes + count_of held ≤ length (messages worker)
   pub open_is : (message : LaneMessage) → held ≡ some message
       → get_elem? (messages worker) (length mine + byes) ≡ some message
   pub slot_held_is : 0 < worker.slot_held → (length (messages worker) + length worker.put < worker.slot_held)
-      × (worker.slot_held ≤ length worker.back + 64)
-  pub within : length (messages worker) + length worker.put ≤ length worker.back + 64
+      × (worker.slot_held ≤ length worker.back + WINDOW)
+  pub within : length (messages worker) + length worker.put ≤ length worker.back + WINDOW
   pub answers : (number : ℕ) (answer : Answered) → length worker.back ≤ number → get_elem? mine number ≡ some answer
       → at number ≡ some (some (Some (Answer answer)))
   pub requests : (number : ℕ) (message : LaneMessage) → length mine + byes + count_of held ≤ number
@@ -102,7 +103,8 @@ pub record LaneOk (worker : WorkerState) (mine told : List Answered) (byes : ℕ
       → at number ≡ some (some (Some message))
   pub waits : (number : ℕ) (request : Posted) → get_elem? worker.put number ≡ some request
       → at (length (messages worker) + number) ≡ some (some (Some (Ask request)))
-  pub frees : (number : ℕ) → length (messages worker) + length worker.put ≤ number → number < length worker.back + 64
+  pub frees : (number : ℕ) → length (messages worker) + length worker.put ≤ number
+      → number < length worker.back + WINDOW
       → suc number ≢ worker.slot_held
       → at number ≡ some (some None)
 
@@ -115,8 +117,8 @@ LaneIs words homes storage worker lane =
 
 -- What storage and a worker find where their ends come together
 pub record Agree (storage : StorageState) (worker : WorkerState) : Type 0 where
-  pub legal : Legal storage.geometry storage.history
-  pub judged : worker.geometry ≡ storage.geometry
+  pub legal : LegalBy storage.terms storage.history
+  pub same_terms : worker.terms ≡ storage.terms
   pub told : StartsWith storage.history worker.seen
   pub back : StartsWith (worker_share storage.history worker.worker) worker.back
   pub sent : asked_posted (worker_share storage.history worker.worker)
@@ -137,10 +139,10 @@ module _ (key : LaneKey) (states : ℕ → WorkerState) (storage_state : Storage
   Fits seat (Comparing storage worker) = (seat ≡ 0) × (storage_state ≡ storage) × Agree storage worker
 
 -- what a worker knows at first
-abbrev pub first_worker_state : Sizes → ℕ → WorkerState
-first_worker_state geometry worker = record {
+abbrev pub first_worker_state : Terms → ℕ → WorkerState
+first_worker_state terms worker = record {
   worker = worker;
-  geometry = geometry;
+  terms = terms;
   sent = [];
   put = [];
   said_bye = false;
@@ -151,9 +153,9 @@ first_worker_state geometry worker = record {
 }
 
 -- what storage knows at first
-abbrev pub first_storage_state : Sizes → StorageState
-first_storage_state geometry = record {
-  geometry = geometry;
+abbrev pub first_storage_state : Terms → StorageState
+first_storage_state terms = record {
+  terms = terms;
   made = 0;
   taken = [];
   history = [];
@@ -168,23 +170,23 @@ first_storage_state geometry = record {
 pub record LanesHold (key : LaneKey) (table : State (Option LaneMessage) LaneView) : Type 0 where
   pub states : ℕ → WorkerState
   pub storage_state : StorageState
-  pub legal : Legal key.geometry storage_state.history
-  pub legal_told : Legal key.geometry storage_state.told
+  pub legal : LegalBy key.terms storage_state.history
+  pub legal_told : LegalBy key.terms storage_state.told
   pub told_first : StartsWith storage_state.history storage_state.told
-  pub judged : storage_state.geometry ≡ key.geometry
+  pub same_terms : storage_state.terms ≡ key.terms
   pub wide : length table.words ≡ 16 * key.workers
-  pub deep : length table.homes ≡ 64 * key.workers
+  pub deep : length table.homes ≡ WINDOW * key.workers
   pub each_lane : (lane : ℕ) → lane < key.workers → LaneIs table.words table.homes storage_state (states lane) lane
   pub each_seen : (lane : ℕ) → lane < key.workers
-      → StartsWith storage_state.told (states lane).seen × ((states lane).geometry ≡ key.geometry)
+      → StartsWith storage_state.told (states lane).seen × ((states lane).terms ≡ key.terms)
       × ((states lane).worker ≡ lane)
   pub each_view : (seat : ℕ) (view : LaneView) → get_elem? table.views seat ≡ some view
       → Fits key states storage_state seat view
   pub count : length table.views ≡ suc storage_state.made
   pub looked : (place lane posted : ℕ) → get_elem? storage_state.looks place ≡ some (lane, posted) → lane < key.workers
       → posted ≤ length (messages (states lane))
-  pub later : (lane : ℕ) → storage_state.made ≤ lane → states lane ≡ first_worker_state key.geometry lane
+  pub later : (lane : ℕ) → storage_state.made ≤ lane → states lane ≡ first_worker_state key.terms lane
 
 -- the view of the first seat
 abbrev pub opening_view : LaneKey → LaneView
-opening_view key = Storage (first_storage_state key.geometry)
+opening_view key = Storage (first_storage_state key.terms)

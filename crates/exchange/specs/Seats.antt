@@ -7,10 +7,11 @@ use lib.ListN.{get_elem?}
 use Rattle.atomic_table.specs.Seated.{TableId}
 use Rattle.atomic_table.specs.Table.{rest}
 use Rattle.atomic_table.specs.declared.shared.Seat.{Seat}
-use Rattle.proto.specs.Sizes.{Sizes}
+use Rattle.proto.specs.declared.limits.TheConstants.{WINDOW}
+use Rattle.proto.specs.declared.terms.Terms.{Terms}
 use Rattle.proto.specs.declared.history.Posted.{Posted}
 use Rattle.proto.specs.declared.history.Answered.{Answered}
-use Rattle.proto.specs.History.{worker_share, asked_posted, Legal}
+use Rattle.proto.specs.History.{worker_share, asked_posted, LegalBy}
 use Rattle.exchange.specs.Beginnings.{StartsWith}
 use Rattle.exchange.specs.declared.messages.LaneMessage.{LaneMessage}
 use Rattle.exchange.specs.declared.messages.LaneMessage.TheVariants.{Ask, Bye, Answer}
@@ -30,7 +31,7 @@ worker_view table worker =
     record {
       exchange = table;
       worker = worker.worker;
-      geometry = worker.geometry;
+      terms = worker.terms;
       sent = worker.sent;
       said_bye = worker.said_bye;
       back = worker.back;
@@ -59,7 +60,7 @@ storage_view table workers last storage =
     record {
       exchange = table;
       workers = workers;
-      geometry = storage.geometry;
+      terms = storage.terms;
       taken = storage.taken;
       open_request = open_in storage.holding;
       history = storage.history;
@@ -76,21 +77,21 @@ storage_batch_view table workers last storage = record {
 }
 
 -- some sizes, for views that aren't a worker's or storage's
-abbrev pub any_geometry : Sizes
-any_geometry = record { segment_size = 4096; segments = 8 }
+abbrev pub any_terms : Terms
+any_terms = record { geometry = record { segment_size = 4096; segments = 8 }; system_clock = false }
 
 -- what the view of a worker's seat says
 abbrev pub worker_state_in : LaneView → WorkerState
 worker_state_in (Worker worker) = worker
-worker_state_in Nobody = first_worker_state any_geometry 0
-worker_state_in (Storage storage) = first_worker_state any_geometry 0
+worker_state_in Nobody = first_worker_state any_terms 0
+worker_state_in (Storage storage) = first_worker_state any_terms 0
 worker_state_in (Comparing storage worker) = worker
 
 -- what the view of storage's seat says
 abbrev pub storage_state_in : LaneView → StorageState
 storage_state_in (Storage storage) = storage
-storage_state_in Nobody = first_storage_state any_geometry
-storage_state_in (Worker worker) = first_storage_state any_geometry
+storage_state_in Nobody = first_storage_state any_terms
+storage_state_in (Worker worker) = first_storage_state any_terms
 storage_state_in (Comparing storage worker) = storage
 
 -- what the worker knows whose seat this is
@@ -105,11 +106,11 @@ storage_at me = storage_state_in (known_by me)
 
 -- the table has the words and slots of a lane for each worker
 abbrev pub IsTableSized : TableId → ℕ → Type 0
-IsTableSized table workers = (table.words ≡ 16 * workers) × (table.slots ≡ 64 * workers)
+IsTableSized table workers = (table.words ≡ 16 * workers) × (table.slots ≡ WINDOW * workers)
 
 -- the words and slots of this worker's lane are in the table
 abbrev pub IsLane : TableId → ℕ → Type 0
-IsLane table lane = (16 * lane + 8 < table.words) × (64 * lane + 63 < table.slots) × (lane < 8)
+IsLane table lane = (16 * lane + 8 < table.words) × (WINDOW * lane + WINDOW ≤ table.slots) × (lane < 8)
 
 -- a seat at the table
 abbrev pub LaneSeat : Type 0
@@ -132,7 +133,7 @@ exchanged_to me slot content = (known_by me, (slot, content) ∷ rest (slots_of 
 -- The history that a worker saw: it is legal, its requests there are the first `known` of those that it
 -- sent, and the answers that it took back are the first of its entries there
 pub record HasToldOf (worker : WorkerState) (known : ℕ) : Type 0 where
-  pub legal : Legal worker.geometry worker.seen
+  pub legal : LegalBy worker.terms worker.seen
   pub asked : asked_posted (worker_share worker.seen worker.worker) ≡ take known worker.sent
   pub known_is : length (worker_share worker.seen worker.worker) ≡ known
   pub back : StartsWith (worker_share worker.seen worker.worker) worker.back
@@ -146,8 +147,8 @@ pub record WorkerAgrees (me : SeatState) (worker sent put back known : ℕ) (sai
   pub back_is : length (worker_at me).back ≡ back
   pub bye_is : (worker_at me).said_bye ≡ said_bye
   pub idle : (worker_at me).slot_held ≡ 0
-  pub order : (back ≤ known) × (known ≤ sent) × (sent + put ≤ back + 64) × (sent + put ≤ max_posts)
-  pub quiet : said_bye ≡ true → (back ≡ sent) × (put ≡ 0)
+  pub order : (back ≤ known) × (known ≤ sent) × (sent + put ≤ back + WINDOW) × (sent + put ≤ max_posts)
+  pub all_back : said_bye ≡ true → (back ≡ sent) × (put ≡ 0)
   pub told : HasToldOf (worker_at me) known
 
 -- the seat is this worker's, has sent or put this many requests, and may put one more message
@@ -155,7 +156,7 @@ abbrev pub MayPost : SeatState → ℕ → ℕ → Type 0
 MayPost me worker count = (me ≡ (Worker (worker_at me), [])) × ((worker_at me).worker ≡ worker)
     × (placed (worker_at me) ≡ count)
     × ((worker_at me).slot_held ≡ 0) × ((worker_at me).said_bye ≡ false)
-    × (placed (worker_at me) < length (worker_at me).back + 64) × (count < 2 ^ 63)
+    × (placed (worker_at me) < length (worker_at me).back + WINDOW) × (count < 2 ^ 63)
 
 -- the seat is this worker's, has sent or put `count` requests, and holds no slot
 abbrev pub MayPut : SeatState → ℕ → ℕ → Type 0
@@ -256,9 +257,9 @@ pub record StorageAgrees (me : SeatState) (workers last : ℕ) (counts : List �
       → (lane < workers) × (settled (storage_at me) lane + 1 < 2 ^ 64) × ((posted : Posted) × (message ≡ Ask posted))
 
 -- what storage knows once it has made `made` workers
-abbrev pub made_storage_state : Sizes → ℕ → StorageState
-made_storage_state geometry made = record {
-  geometry = geometry;
+abbrev pub made_storage_state : Terms → ℕ → StorageState
+made_storage_state terms made = record {
+  terms = terms;
   made = made;
   taken = [];
   history = [];

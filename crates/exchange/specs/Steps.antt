@@ -3,6 +3,7 @@ use Rattle.std.specs.Prelude.{◌≡◌, ◌⊎◌, ℕ, suc, ◌+◌, ◌*◌, 
 use mathlib.Core.Option.{some}
 use lib.ListN.{get_elem?}
 use Rattle.atomic_table.specs.Table.{Step, rest}
+use Rattle.proto.specs.declared.limits.TheConstants.{WINDOW}
 use Rattle.proto.specs.declared.history.Posted.{Posted}
 use Rattle.proto.specs.declared.history.Answered.{Answered}
 use Rattle.exchange.specs.declared.messages.LaneMessage.{LaneMessage}
@@ -13,7 +14,7 @@ use Rattle.exchange.specs.declared.views.LaneView.{LaneView}
 use Rattle.exchange.specs.declared.views.LaneView.TheVariants.{Nobody, Worker, Storage, Comparing}
 use Rattle.proto.specs.Counts.{times}
 use Rattle.exchange.specs.Beginnings.{StartsWith}
-use Rattle.proto.specs.History.{worker_share, asked_posted, Legal}
+use Rattle.proto.specs.History.{worker_share, asked_posted, LegalBy}
 use Rattle.exchange.specs.Lanes.{SeatState, known_by, slots_of, lane_slot, first_worker_state, Agree}
 
 -- what a step tells: the step, the seat before, the word that was found, and the seat after
@@ -50,12 +51,15 @@ took_out worker told done answer = record worker {
   seen = told;
   loads = worker.loads ++ done ∷ [];
   back = worker.back ++ answer ∷ [];
-  slot_held = suc (length worker.back + 64);
+  slot_held = suc (length worker.back + WINDOW);
 }
 
 -- holding the slot of the next answer of the history that it saw, which is a later message's slot too
 abbrev pub took_seen : WorkerState → Answered → WorkerState
-took_seen worker answer = record worker { back = worker.back ++ answer ∷ []; slot_held = suc (length worker.back + 64) }
+took_seen worker answer = record worker {
+  back = worker.back ++ answer ∷ [];
+  slot_held = suc (length worker.back + WINDOW);
+}
 
 -- the worker takes the slot of its next message
 abbrev pub begun : StepTells
@@ -93,7 +97,7 @@ bye_posted step before found after = (worker : WorkerState) (slot : ℕ)
 -- what a worker learns at the load of done: a legal history that begins with what it had seen, in which its requests
 -- are the first `done` of those sent
 pub record Learnt (worker : WorkerState) (done : ℕ) (told : List Answered) : Type 0 where
-  pub legal : Legal worker.geometry told
+  pub legal : LegalBy worker.terms told
   pub later : StartsWith told worker.seen
   pub asks : asked_posted (worker_share told worker.worker) ≡ take done worker.sent
   pub counted : (done ≡ length (worker_share told worker.worker))
@@ -222,7 +226,7 @@ with_one_more (Worker worker) = Worker worker
 with_one_more (Comparing storage worker) = Comparing storage worker
 
 abbrev pub new_worker : LaneView → LaneView
-new_worker (Storage storage) = Worker (first_worker_state storage.geometry storage.made)
+new_worker (Storage storage) = Worker (first_worker_state storage.terms storage.made)
 new_worker Nobody = Nobody
 new_worker (Worker worker) = Nobody
 new_worker (Comparing storage worker) = Nobody

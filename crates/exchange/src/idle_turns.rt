@@ -3,7 +3,7 @@
 use crate::ParkingWord;
 use std::hint;
 use std::sync::Wait;
-use std::time::Duration;
+use std::time::{Clock, Duration, Instant};
 
 /// How often an idle turn spins: with the look for work it takes some 200 nanoseconds.
 const SPINS_A_TURN: u32 = 4;
@@ -11,22 +11,28 @@ const SPINS_A_TURN: u32 = 4;
 /// How long a thread parks at most: one that was forgotten looks for work again then.
 const LONGEST_PARK_MILLIS: u64 = 100;
 
-/// Idle turns in a row: the thread spins in the first `most` of them, and then parks until it is unparked. So an idle thread costs
-/// nothing. It never yields: on a machine whose processors are all busy a thread that yields waits for its turn behind all
+/// Idle turns in a row: the thread spins in the first of them, and then parks until it is unparked. So an idle thread costs
+/// nothing. It never yields: on a machine whose processors are all busy a thread that yields waits for its turn after all
 /// others, while one that was woken goes before them.
 #[derive(Drop)]
 pub struct IdleTurns {
     most: u32,
+    spin: Option<Duration>,
     turns: u32,
+    /// When the first idle turn of the row was. Only where the thread spins for a time.
+    since: Option<Instant>,
     announced: bool,
 }
 
 impl IdleTurns {
-    /// The thread parks behind `most` turns that spin.
-    pub fn new(most: u32) -> IdleTurns {
+    /// The thread parks after `most` turns that spin, or, with `spin`, once that many microseconds have passed since the
+    /// first idle turn of the row. Only with `spin` the clock is read, and only at idle turns.
+    pub fn new(most: u32, spin: Option<u32>) -> IdleTurns {
         IdleTurns {
             most,
+            spin: spin.map(|micros| Duration::from_micros(micros as u64)),
             turns: 0,
+            since: None,
             announced: false,
         }
     }
@@ -38,22 +44,40 @@ impl IdleTurns {
             self.announced = false;
         }
         self.turns = 0;
+        self.since = None;
     }
 
     /// One idle turn. Work is looked for between two turns, also between the one that announces a park and the one that
     /// parks.
-    pub fn turn<R: Wait>(&mut self, rt: &R, parking: &ParkingWord) {
+    pub fn turn<R: Wait + Clock>(&mut self, rt: &R, parking: &ParkingWord) {
         if self.announced {
             parking.park(rt, Duration::from_millis(LONGEST_PARK_MILLIS));
             self.announced = false;
-        } else if self.turns >= self.most {
+        } else if self.has_spun(rt) {
             parking.announce();
             self.announced = true;
         } else {
-            self.turns += 1;
+            self.turns = self.turns.saturating_add(1);
             for _ in 0..SPINS_A_TURN {
                 hint::spin_loop();
             }
         }
+    }
+
+    /// Whether the thread has spun long enough in this row.
+    fn has_spun<R: Clock>(&mut self, rt: &R) -> bool {
+        match self.spin {
+            Some(spin) => self.has_spun_for(rt, spin),
+            None => self.turns >= self.most,
+        }
+    }
+
+    /// Whether the first idle turn of the row was that long ago. A thread that can't read the clock doesn't spin.
+    fn has_spun_for<R: Clock>(&mut self, rt: &R, spin: Duration) -> bool {
+        let Ok(now) = Instant::now(rt) else {
+            return true;
+        };
+        let since = *self.since.get_or_insert(now);
+        now.duration_since(since) >= spin
     }
 }

@@ -16,15 +16,22 @@ pub struct StorageSignals {
     workers: Vec<ParkingWord>,
     hasher: FoldHasher,
     hints: Vec<AtomicU64>,
+    spin: Option<u32>,
 }
 
 impl StorageSignals {
     /// The signals of a group of workers. A single worker leaves no hints, since hashing each key first takes it more time
-    /// than storage wins. The hasher is the one by which the store looks keys up.
+    /// than storage wins. The hasher is the one by which the store looks keys up. `spin` is how many microseconds the storage
+    /// thread and the workers look for work before they park; None is as few turns as each of them sees fit.
+    ///
+    /// # Errors
+    ///
+    /// AllocError where memory is refused.
     pub fn new(
         alloc: Global,
         hasher: FoldHasher,
         workers: usize,
+        spin: Option<u32>,
     ) -> Result<StorageSignals, AllocError> {
         let mut words = Vec::with_capacity(alloc, workers)?;
         for _ in 0..workers {
@@ -44,7 +51,13 @@ impl StorageSignals {
             workers: words,
             hasher,
             hints,
+            spin,
         })
+    }
+
+    /// How many microseconds a thread looks for work before it parks. None where it counts turns.
+    pub fn spin(&self) -> Option<u32> {
+        self.spin
     }
 
     /// The word that the storage thread parks on.
@@ -72,7 +85,7 @@ impl StorageSignals {
         !self.hints.is_empty()
     }
 
-    /// The hash that was left for the worker's message of this number, or for one 64, 128 .. before.
+    /// The hash that was left for the worker's message of this number, or for one a multiple of WINDOW before.
     pub fn hint(&self, worker: usize, number: u64) -> u64 {
         match self.hints.get(slot_at(worker % MAX_WORKERS, number)) {
             Some(hint) => hint.load(Ordering::Relaxed),

@@ -5,7 +5,7 @@ ghost use Rattle.exchange.specs.declared.views.LaneView.TheVariants.{Worker, Sto
 ghost use Rattle.exchange.specs.Beginnings.{posted_of};
 ghost use mathlib.Core.Option.{some};
 ghost use lib.ListN.{get_elem?};
-ghost use Rattle.proto.specs.History.{Legal, worker_share};
+ghost use Rattle.proto.specs.History.{LegalBy, worker_share};
 ghost use Rattle.exchange.specs.Lanes.{slots_of, lane_slot};
 ghost use Rattle.exchange.specs.Steps.{put_on, all_sent, holding_slot, took_seen, with_bye, replied, all_told};
 ghost use Rattle.exchange.specs.Steps.{bye_settled, reopened, settled, IsSent};
@@ -63,7 +63,7 @@ pub(crate) fn put_bye(lane_table: &LaneTable, seat: &mut LaneSeat, worker: usize
     requires table { (seat.old.table_id ≡ lane_table.now.shared.table_id) × IsLane seat.old.table_id worker }
     requires room { MayPost seat.old.me worker number }
     requires none_put { (worker_at seat.old.me).put ≡ [] }
-    requires quiet { length (worker_at seat.old.me).back ≡ length (worker_at seat.old.me).sent }
+    requires all_back { length (worker_at seat.old.me).back ≡ length (worker_at seat.old.me).sent }
     ensures table { SameSeat seat.old seat.new }
     ensures sent { seat.new.me ≡ (Worker (with_bye (worker_at seat.old.me)), []) }
 {
@@ -175,7 +175,7 @@ pub(crate) fn put_answer(
     requires table { (seat.old.table_id ≡ lane_table.now.shared.table_id) × IsLane seat.old.table_id answered.worker
         × (answered.worker < lane_table.now.shared.key.workers) }
     requires held { HoldsTaken seat.old.me answered.worker count (Ask (posted_of answered)) }
-    requires legal { Legal (storage_at seat.old.me).geometry ((storage_at seat.old.me).history ++ answered ∷ []) }
+    requires legal { LegalBy (storage_at seat.old.me).terms ((storage_at seat.old.me).history ++ answered ∷ []) }
     ensures table { SameSeat seat.old seat.new }
     ensures answered { seat.new.me ≡ (Storage (replied (storage_at seat.old.me) answered), []) }
 {

@@ -5,7 +5,7 @@ use crate::rule::{Compares, JoinsWorker, LaneSeat, LaneTable};
 use crate::steps::{put_answer, settle_bye, take_message, take_seen_message, tell_answers};
 use crate::storage::StorageEnd;
 use crate::worker::WorkerEnd;
-use proto::{Answered, MAX_WORKERS};
+use proto::{Answered, AskedClock, Clock, MAX_WORKERS};
 use std::alloc::Global;
 use std::marker::Model;
 use std::sync::Arc;
@@ -40,7 +40,8 @@ impl Model for StorageBatch {
 
     ghost Value = { StorageBatchView };
 
-    ghost view = { λ inside. storage_batch_view inside.seat.table_id inside.workers inside.last (storage_at inside.seat.me) };
+    ghost view = { λ inside. storage_batch_view inside.seat.table_id inside.workers inside.last
+        (storage_at inside.seat.me) };
 
     ghost invariant = { λ inside. (inside.seat.table_id ≡ (arc_value inside.lane_table).shared.table_id)
         × IsTableSized inside.seat.table_id inside.workers
@@ -55,8 +56,8 @@ impl StorageBatch {
     ghost use Rattle.std.specs.Prelude.{is_some, MatchOption, IsOk};
     ghost use Rattle.std.specs.Option.{IfNone};
     ghost use Rattle.std.specs.Arc.{arc_value};
-    ghost use Rattle.proto.specs.Sizes.{Sizes};
-    ghost use Rattle.proto.specs.History.{Legal, worker_share};
+    ghost use Rattle.proto.specs.declared.terms.Terms.{Terms};
+    ghost use Rattle.proto.specs.History.{answers_by, LegalBy, worker_share};
     ghost use Rattle.exchange.specs.declared.views.LaneView.TheVariants.{Storage};
     ghost use Rattle.exchange.specs.Beginnings.{posted_of};
     ghost use Rattle.exchange.specs.Ends.{IsCount, new_storage_view, LooksAt, FindsNone, FindsOne, LookedOnce};
@@ -71,9 +72,9 @@ impl StorageBatch {
         requires table { (seat.table_id ≡ (arc_value lane_table).shared.table_id)
             × IsTableSized seat.table_id workers × ((arc_value lane_table).shared.key.workers ≡ workers)
             × (0 < workers) × (workers ≤ 8) }
-        requires fresh { (geometry : Sizes) × (seat.me ≡ (Storage (made_storage_state geometry workers), [])) }
-        ensures { (geometry : Sizes) → seat.me ≡ (Storage (made_storage_state geometry workers), [])
-            → result ≡ record { end = new_storage_view seat.table_id geometry workers; told = [] } }
+        requires fresh { (terms : Terms) × (seat.me ≡ (Storage (made_storage_state terms workers), [])) }
+        ensures { (terms : Terms) → seat.me ≡ (Storage (made_storage_state terms workers), [])
+            → result ≡ record { end = new_storage_view seat.table_id terms workers; told = [] } }
     {
         StorageBatch {
             lane_table,
@@ -108,7 +109,7 @@ impl StorageBatch {
     /// another worker. Waits for nobody and takes no memory.
     pub fn answer_later(&mut self, answered: Answered)
         requires open_request { self.old.end.open_request ≡ Some (answered.worker, posted_of answered) }
-        requires legal { Legal self.old.end.geometry (self.old.end.history ++ answered ∷ []) }
+        requires legal { LegalBy self.old.end.terms (self.old.end.history ++ answered ∷ []) }
         ensures answered { self.new.end ≡ with_answer self.old.end answered }
         ensures told { (self.new.told ≡ self.old.told) ⊎ (self.new.told ≡ self.old.end.history) }
     {
@@ -130,11 +131,13 @@ impl StorageBatch {
     /// Answers the open request, where the answers that wait are of its lane.
     fn add_answer(&mut self, answered: Answered)
         requires open_request { self.old.end.open_request ≡ Some (answered.worker, posted_of answered) }
-        requires legal { Legal self.old.end.geometry (self.old.end.history ++ answered ∷ []) }
-        requires others { (j : ℕ) → j ≢ answered.worker → worker_share self.old.end.history j ≡ worker_share self.old.told j }
+        requires legal { LegalBy self.old.end.terms (self.old.end.history ++ answered ∷ []) }
+        requires others { (j : ℕ) → j ≢ answered.worker
+            → worker_share self.old.end.history j ≡ worker_share self.old.told j }
         ensures answered { self.new.end ≡ with_answer self.old.end answered }
         ensures told { self.new.told ≡ self.old.told }
     {
+        // This read is for the proof: with it is known that there are 8 workers at most, and so that the lane is an index.
         let _workers = self.workers;
         let lane = answered.worker;
         let count = self.counts[lane];
@@ -149,7 +152,6 @@ impl StorageBatch {
     pub fn flush_answers(&mut self)
         ensures { self.new ≡ record self.old { told = self.old.end.history } }
     {
-        let _workers = self.workers;
         if self.waiting {
             let lane = self.waiting_lane;
             let count = self.counts[lane];
@@ -164,6 +166,7 @@ impl StorageBatch {
         ensures looks { LooksAt self.old.end lane result self.new.end }
         ensures told { self.new.told ≡ self.old.told }
     {
+        // This read is for the proof: with it is known that there are 8 workers at most, and so that the lane is an index.
         let _workers = self.workers;
         let count = self.counts[lane];
         let (posted, taken) = take_message(&self.lane_table, &mut self.seat, lane, count);
@@ -190,11 +193,14 @@ impl StorageBatch {
     }
 
     /// The next message of some lane. The lanes are looked at in turn, beginning after the one that
-    /// was taken from last. Waits for nobody and takes no memory.
-    pub fn next(&mut self) -> Option<Taken>
-        requires { self.old.end.open_request ≡ None }
+    /// was taken from last. The clock has given one answer for each request that was answered, and no other: so the answer for
+    /// the request taken here is given after it was taken. Waits for nobody and takes no memory.
+    pub fn next<C: Clock>(&mut self, _clock: &AskedClock<C>) -> Option<Taken>
+        requires shut { self.old.end.open_request ≡ None }
+        requires fresh { _clock.now.answers ≡ answers_by [] self.old.end.history }
         ensures next { MatchOption result (FindsNone self.old.end self.new.end) (FindsOne self.old.end self.new.end) }
-        ensures every_lane { IfNone result ((w : ℕ) → w < self.old.end.workers → LookedOnce self.old.end self.new.end w) }
+        ensures every_lane { IfNone result ((w : ℕ) → w < self.old.end.workers
+            → LookedOnce self.old.end self.new.end w) }
         ensures told { self.new.told ≡ self.old.told }
     {
         let workers = self.workers;
@@ -213,13 +219,13 @@ impl StorageBatch {
     }
 
     /// The next message among those that the last look of `next` named, at the lane of that look. It doesn't look for
-    /// further ones. Waits for nobody and takes no memory.
-    pub fn next_seen(&mut self) -> Option<Taken>
-        requires { self.old.end.open_request ≡ None }
+    /// further ones. The clock is as for `next`. Waits for nobody and takes no memory.
+    pub fn next_seen<C: Clock>(&mut self, _clock: &AskedClock<C>) -> Option<Taken>
+        requires shut { self.old.end.open_request ≡ None }
+        requires fresh { _clock.now.answers ≡ answers_by [] self.old.end.history }
         ensures next { SeesNext self.old.end result self.new.end }
         ensures told { self.new.told ≡ self.old.told }
     {
-        let _workers = self.workers;
         let lane = self.looked_lane;
         let count = self.counts[lane];
         if self.named <= count {
@@ -254,7 +260,7 @@ impl StorageBatch {
 
     /// Brings a worker's end of this exchange and storage's together, and tells how many requests the
     /// worker sent and how many answers it took back.
-    pub(crate) fn compare(&mut self, end: WorkerEnd) -> (u64, u64)
+    pub(crate) fn join_worker(&mut self, end: WorkerEnd) -> (u64, u64)
         requires { end.exchange ≡ self.old.end.exchange }
         ensures same { self.new ≡ self.old }
         ensures compared { AreCompared self.old.end end }

@@ -1,12 +1,12 @@
 //! What the seats at the table know. No value of these is made.
 use crate::messages::LaneMessage;
-use proto::{Answered, Geometry, Posted};
+use proto::{Answered, Posted, Terms};
 use std::collections::LinkedList;
 
 /// What a worker knows.
 pub struct WorkerState {
     pub worker: u64,
-    pub geometry: Geometry,
+    pub terms: Terms,
     pub sent: LinkedList<Posted>,
     /// The requests that stand in their slots and weren't sent yet.
     pub put: LinkedList<Posted>,
@@ -22,7 +22,7 @@ pub struct WorkerState {
 
 /// What the storage thread knows.
 pub struct StorageState {
-    pub geometry: Geometry,
+    pub terms: Terms,
     /// How many workers it has made.
     pub made: u64,
     /// The requests that it took, each with its worker.

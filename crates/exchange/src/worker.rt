@@ -10,9 +10,9 @@ use std::sync::Arc;
 
 /// What a worker posts its requests with, and takes the answers back. One thread at a time uses it.
 ///
-/// A worker of the server goes on with its batch, and comes back for `bye`. The calls that post and take message by message
-/// serve tests and measurements alone: `post`, `take`, and `sent`, `outstanding` and `said_bye`, by which their callers know
-/// what they may do.
+/// A worker of the server uses the batch, and this end only for `bye`. `post` and `take`, and `sent`, `outstanding` and
+/// `said_bye`, by which their callers know what they may do, are the same calls a message at a time: only tests and
+/// measurements use them.
 #[derive(Drop)]
 pub struct WorkerEnd {
     batch: WorkerBatch,
@@ -33,7 +33,8 @@ impl WorkerEnd {
     ghost use Rattle.std.specs.Prelude.{◌≡◌, ℕ, ◌+◌, ◌*◌, ◌^◌, ◌<◌, ◌≤◌, ◌++◌, ◌∷◌, [], length, true, false};
     ghost use Rattle.std.specs.Prelude.{MatchResult, IfSome};
     ghost use Rattle.std.specs.Arc.{arc_value};
-    ghost use Rattle.proto.specs.Sizes.{Sizes};
+    ghost use Rattle.proto.specs.declared.terms.Terms.{Terms};
+    ghost use Rattle.proto.specs.declared.limits.TheConstants.{WINDOW};
     ghost use mathlib.Core.Option.{some};
     ghost use lib.ListN.{get_elem?};
     ghost use Rattle.proto.specs.History.{worker_share};
@@ -50,8 +51,8 @@ impl WorkerEnd {
         worker: usize,
     ) -> WorkerEnd
         requires table { (seat.table_id ≡ (arc_value lane_table).shared.table_id) × IsLane seat.table_id worker }
-        requires fresh { (g : Sizes) × (seat.me ≡ (Worker (first_worker_state g worker), [])) }
-        ensures { (g : Sizes) → seat.me ≡ (Worker (first_worker_state g worker), [])
+        requires fresh { (g : Terms) × (seat.me ≡ (Worker (first_worker_state g worker), [])) }
+        ensures { (g : Terms) → seat.me ≡ (Worker (first_worker_state g worker), [])
             → result ≡ new_worker_view seat.table_id g worker }
     {
         WorkerEnd {
@@ -107,7 +108,7 @@ impl WorkerEnd {
     /// How many requests were sent and not taken back.
     pub fn outstanding(&self) -> u64
         ensures value { result + length self.now.back ≡ length self.now.sent }
-        ensures range { result ≤ 64 }
+        ensures range { result ≤ WINDOW }
     {
         self.batch.outstanding()
     }

@@ -43,7 +43,7 @@ impl WorkerBatch {
     ghost use Rattle.std.specs.Prelude.{◌≡◌, ℕ, ◌+◌, ◌*◌, ◌^◌, ◌<◌, ◌≤◌, ◌++◌, ◌∷◌, [], length, true, false};
     ghost use Rattle.std.specs.Prelude.{MatchResult, IfSome};
     ghost use Rattle.std.specs.Arc.{arc_value};
-    ghost use Rattle.proto.specs.Sizes.{Sizes};
+    ghost use Rattle.proto.specs.declared.terms.Terms.{Terms};
     ghost use mathlib.Core.Option.{some};
     ghost use lib.ListN.{get_elem?};
     ghost use Rattle.proto.specs.History.{worker_share};
@@ -60,9 +60,9 @@ impl WorkerBatch {
         worker: usize,
     ) -> WorkerBatch
         requires table { (seat.table_id ≡ (arc_value lane_table).shared.table_id) × IsLane seat.table_id worker }
-        requires fresh { (geometry : Sizes) × (seat.me ≡ (Worker (first_worker_state geometry worker), [])) }
-        ensures { (geometry : Sizes) → seat.me ≡ (Worker (first_worker_state geometry worker), [])
-            → result ≡ record { end = new_worker_view seat.table_id geometry worker; put = [] } }
+        requires fresh { (terms : Terms) × (seat.me ≡ (Worker (first_worker_state terms worker), [])) }
+        ensures { (terms : Terms) → seat.me ≡ (Worker (first_worker_state terms worker), [])
+            → result ≡ record { end = new_worker_view seat.table_id terms worker; put = [] } }
     {
         WorkerBatch {
             lane_table,
@@ -78,7 +78,8 @@ impl WorkerBatch {
 
     /// The seat, and the numbers of requests and of answers.
     pub(crate) fn into_seat(self) -> (LaneSeat, u64, u64)
-        ensures seated { (c : WorkerState) × (result.0.me ≡ (Worker c, [])) × (self.end ≡ worker_view result.0.table_id c) }
+        ensures seated { (c : WorkerState) × (result.0.me ≡ (Worker c, []))
+            × (self.end ≡ worker_view result.0.table_id c) }
         ensures lane { IsLane result.0.table_id self.end.worker }
         ensures counts { (result.1 ≡ length self.end.sent) × (result.2 ≡ length self.end.back) }
     {
@@ -120,7 +121,7 @@ impl WorkerBatch {
     /// How many requests were put and not flushed.
     pub fn waiting(&self) -> u64
         ensures value { result ≡ length self.now.put }
-        ensures range { result ≤ 64 }
+        ensures range { result ≤ WINDOW }
     {
         self.put
     }
@@ -128,7 +129,7 @@ impl WorkerBatch {
     /// How many requests were sent or put, and not taken back.
     pub fn outstanding(&self) -> u64
         ensures value { result + length self.now.end.back ≡ length self.now.end.sent + length self.now.put }
-        ensures range { result ≤ 64 }
+        ensures range { result ≤ WINDOW }
     {
         self.sent + self.put - self.back
     }
@@ -211,7 +212,7 @@ impl WorkerBatch {
 
     /// Says that no request comes any more. Waits for nobody and takes no memory.
     pub fn bye(&mut self)
-        requires quiet { (self.old.end.said_bye ≡ false) × (length self.old.end.back ≡ length self.old.end.sent) }
+        requires all_back { (self.old.end.said_bye ≡ false) × (length self.old.end.back ≡ length self.old.end.sent) }
         requires flushed { self.old.put ≡ [] }
         ensures { self.new ≡ record self.old { end = record self.old.end { said_bye = true } } }
     {

@@ -5,7 +5,7 @@ use Rattle.std.proofs.lemmas.List.{length-map}
 use mathlib.Core.Option.{some}
 use lib.ListN.{get_elem?}
 use Rattle.proto.specs.declared.dialect.Dialect.{Dialect}
-use Rattle.proto.specs.Sizes.{Sizes}
+use Rattle.proto.specs.declared.terms.Terms.{Terms}
 use Rattle.proto.specs.declared.history.Posted.{Posted}
 use Rattle.proto.specs.declared.history.Answered.{Answered}
 use Rattle.proto.specs.History.{worker_share, asked_posted}
@@ -24,11 +24,11 @@ use Rattle.group.proofs.Places.{at_map, at_mapped}
 use Rattle.storage_thread.proofs.Callers.{or_at}
 
 module _ {P : Type 0} (told : P → Option PortStory) (leads_to : P → P → Type 0) where
-  module _ (sizes : Sizes) (storage : StorageView) (ports : List P) (reports : List (WorkerReport P))
-      (joined : AreJoined told leads_to sizes storage ports reports) where
+  module _ (terms : Terms) (storage : StorageView) (ports : List P) (reports : List (WorkerReport P))
+      (joined : AreJoined told leads_to terms storage ports reports) where
     -- the report at a place, and the port there
     kept_at : (w : ℕ) (r : WorkerReport P) → get_elem? reports w ≡ some r → (port : P)
-        × KeepsWorker told leads_to port (new_worker_view storage.exchange sizes w) r
+        × KeepsWorker told leads_to port (new_worker_view storage.exchange terms w) r
     kept_at w r at =
         let low : w < length reports = at_below reports w r at in
         let there = at_some ports w (subst (λ n. w < n) joined.one_each low) in
@@ -45,7 +45,7 @@ module _ {P : Type 0} (told : P → Option PortStory) (leads_to : P → P → Ty
     }
 
   -- the reports of threads that were given the ports and the ends as they were made
-  pub joined : {H : Type 0} (port_of : H → P) (end_of : H → WorkerView) (n : ℕ) (g : Sizes) (ends : List WorkerView)
+  pub joined : {H : Type 0} (port_of : H → P) (end_of : H → WorkerView) (n : ℕ) (g : Terms) (ends : List WorkerView)
       (s t : StorageView) → AreMade n g ends s → t.exchange ≡ s.exchange
       → (ports : List P) (handles : List H) (reports : List (WorkerReport P)) → map port_of handles ≡ ports
       → map end_of handles ≡ ends
@@ -61,11 +61,11 @@ module _ {P : Type 0} (told : P → Option PortStory) (leads_to : P → P → Ty
         (λ i. (h.2 i, (is ∙ (λ j. new_worker_view (sym same j) g w)) i)) (kept.1 w h.0 report h.1 at);
   }
 
-  pub worker_holds : (sizes : Sizes) (s : StorageView) (g : Gathered) (port : P) (w : ℕ) (r : WorkerReport P)
-      → KeepsWorker told leads_to port (new_worker_view s.exchange sizes w) r
+  pub worker_holds : (terms : Terms) (s : StorageView) (g : Gathered) (port : P) (w : ℕ) (r : WorkerReport P)
+      → KeepsWorker told leads_to port (new_worker_view s.exchange terms w) r
       → AreCounted s r.worker_end (slice_index g.sent r.worker_end.worker) (slice_index g.back r.worker_end.worker)
       → IsWorkerOf told leads_to s.history g port w (worker_of r)
-  worker_holds sizes s g port w r kept counted =
+  worker_holds terms s g port w r kept counted =
       let is : r.worker_end.worker ≡ w = kept.over.worker in
       let all = counted.compared.all kept.over.said_bye in
       let sent : asked_posted (worker_share s.history r.worker_end.worker) ≡ r.worker_end.sent = all.1 in record {
@@ -94,7 +94,7 @@ module _ {P : Type 0} (told : P → Option PortStory) (leads_to : P → P → Ty
 
   -- the report of a storage thread that was given the clock and the end as it was made
   pub stored : {C : Type 0} (clock_told : C → Option (List ℕ)) (clock_leads : C → C → Type 0) (keeps : Type 0) (n : ℕ)
-      (g : Sizes)
+      (g : Terms)
       (ends : List WorkerView) (s : StorageView) → AreMade n g ends s → (ports : List P) → n ≡ length ports
       → (clock c₀ : C) (e₀ : StorageView) (report : StorageReport C) → c₀ ≡ clock → e₀ ≡ s
       → KeepsStorage clock_told clock_leads keeps c₀ e₀ report
@@ -107,35 +107,35 @@ module _ {P : Type 0} (told : P → Option PortStory) (leads_to : P → P → Ty
       (made.2 ∙ (λ i. new_storage_view (sym k.same.0 i) g (count i))) k
 
   pub run : {C : Type 0} (clock_told : C → Option (List ℕ)) (clock_leads : C → C → Type 0) (keeps : Type 0)
-      (sizes : Sizes)
+      (terms : Terms)
       (ports : List P) (clock : C) (reports : List (WorkerReport P)) (storage : StorageReport C)
       (report : GroupReport P C)
-      → IsLeftByStorage clock_told clock_leads keeps sizes ports clock storage
-      → AreJoined told leads_to sizes storage.storage_end ports reports
+      → IsLeftByStorage clock_told clock_leads keeps terms ports clock storage
+      → AreJoined told leads_to terms storage.storage_end ports reports
       → report.workers.items ≡ workers_of reports → report.clock ≡ storage.clock → report.executed ≡ storage.executed
       → ((i : ℕ) (v : WorkerView) → get_elem? (ends_of reports) i ≡ some v
       → AreCounted storage.storage_end v (slice_index report.gathered.sent v.worker)
       (slice_index report.gathered.back v.worker))
       → ((w : ℕ) → storage.storage_end.workers ≤ w
       → (slice_index report.gathered.sent w ≡ 0) × (slice_index report.gathered.back w ≡ 0))
-      → IsRun told leads_to clock_told clock_leads keeps sizes ports clock report
-  run {C} clock_told clock_leads keeps sizes ports clock reports storage report stored joined workers_are clock_is
+      → IsRun told leads_to clock_told clock_leads keeps terms.geometry ports clock report
+  run {C} clock_told clock_leads keeps terms ports clock reports storage report stored joined workers_are clock_is
       executed_is counted beyond = record {
         history = storage.storage_end.history;
-        made = subst (λ (y : C × ℕ). IsHistoryOf clock_told clock_leads sizes (length ports) clock y.0 y.1
+        made = subst (λ (y : C × ℕ). IsHistoryOf clock_told clock_leads terms.geometry (length ports) clock y.0 y.1
             storage.storage_end.history) (λ i. (sym clock_is i, sym executed_is i)) stored.made;
         one_each = ap length workers_are ∙ length-map reports worker_of ∙ joined.one_each;
         each = λ w port worker there at.
             let q = at_mapped worker_of reports w worker (subst (λ l. get_elem? l w ≡ some worker) workers_are at) in
             subst (IsWorkerOf told leads_to storage.storage_end.history report.gathered port w) q.2
-            (worker_holds sizes storage.storage_end report.gathered port w q.0 (joined.each w port q.0 there q.1)
+            (worker_holds terms storage.storage_end report.gathered port w q.0 (joined.each w port q.0 there q.1)
             (counted w q.0.worker_end (at_map (λ (r : WorkerReport P). r.worker_end) reports w q.0 q.1)));
         none_beyond = λ w le. beyond w (subst (λ n. n ≤ w) (sym stored.same.1) le);
         bounded = stored.bounded;
       }
 
 -- the ports are those of the ends, as they were made
-pub ports_at : {P : Type 0} (told : P → Option PortStory) (n : ℕ) (g : Sizes) (d : Dialect) (ports : List P) (ends : List WorkerView)
+pub ports_at : {P : Type 0} (told : P → Option PortStory) (n : ℕ) (g : Terms) (d : Dialect) (ports : List P) (ends : List WorkerView)
     (s : StorageView) → AreMade n g ends s → length ports ≡ n → ArePortsOf told g d ports
     → AreEach (IsPortAt told d) ports ends
 ports_at told n g d ports ends s made long h = (
@@ -144,7 +144,7 @@ ports_at told n g d ports ends s made long h = (
     silent = λ story e. (h w port at story e).3;
     whose = λ story e. let k = h w port at story e in record {
       worker_is = k.0;
-      sizes_are = k.1;
+      terms_are = k.1;
       later = ([], sym k.4 ∙ sym (append-nil story.history));
     };
     spelled = λ story e. (h w port at story e).2;
@@ -152,7 +152,7 @@ ports_at told n g d ports ends s made long h = (
 )
 
 -- ends as they are made have sent nothing
-pub fresh_ends : (n : ℕ) (g : Sizes) (ends : List WorkerView) (s : StorageView) → AreMade n g ends s
+pub fresh_ends : (n : ℕ) (g : Terms) (ends : List WorkerView) (s : StorageView) → AreMade n g ends s
     → All HasSentNothing ends
 fresh_ends n g ends s made k d low = subst HasSentNothing
     (sym (made.1 k (slice_index_or ends k d) (or_at ends k d low))) (refl, refl, refl, refl)

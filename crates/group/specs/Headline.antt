@@ -19,8 +19,8 @@ use Rattle.group.specs.declared.report.GroupWorker.{GroupWorker}
 use Rattle.group.specs.declared.report.GroupReport.{GroupReport}
 
 -- so many workers made this legal history, at the moments of this clock; the count stays at the greatest number
-pub record IsHistoryOf {C : Type 0} (told : C → Option (List ℕ)) (leads_to : C → C → Type 0) (sizes : Sizes) (workers : ℕ)
-    (clock after : C) (executed : ℕ) (history : List Answered) : Type 0 where
+pub record IsHistoryOf {C : Type 0} (told : C → Option (List ℕ)) (leads_to : C → C → Type 0) (sizes : Sizes)
+    (workers : ℕ) (clock after : C) (executed : ℕ) (history : List Answered) : Type 0 where
   pub legal : Legal sizes history
   pub inside : All (λ (e : Answered). e.worker < workers) history
   pub counted : executed ≡ min (length history) (2 ^ 64 - 1)
@@ -39,8 +39,9 @@ pub record IsWorkerOf {P : Type 0} (told : P → Option PortStory) (leads_to : P
   pub listed : (story : PortStory) → told worker.port ≡ Some story
       → AreListed story.events worker.sent worker.sessions.items worker.unopened
   pub answered : (story : PortStory) → told worker.port ≡ Some story
-      → (s : ℕ) (cause : EndCause) (messages : List Message) (rest : List ℕ) → cause_of worker.sessions.items s ≡ Some cause
-      → Reads story.dialect (fed s story.events) messages rest → IsSessionAnswered story.events history w s cause messages
+      → (s : ℕ) (cause : EndCause) (messages : List Message) (rest : List ℕ)
+      → cause_of worker.sessions.items s ≡ Some cause → Reads story.dialect (fed s story.events) messages rest
+      → IsSessionAnswered story.events history w s cause messages
   pub spelled : (first story : PortStory) → told port ≡ Some first → told worker.port ≡ Some story
       → story.dialect ≡ first.dialect
   pub given_by : (story : PortStory) → told worker.port ≡ Some story → StartsWith history story.history

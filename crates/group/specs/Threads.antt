@@ -3,7 +3,7 @@ use Rattle.std.specs.Prelude.{◌≡◌, ℕ, true, false, List, [], length, map
 use mathlib.Core.Option.{some}
 use lib.ListN.{get_elem?}
 use Rattle.proto.specs.declared.dialect.Dialect.{Dialect}
-use Rattle.proto.specs.Sizes.{Sizes}
+use Rattle.proto.specs.declared.terms.Terms.{Terms}
 use Rattle.exchange.specs.Ends.{WorkerView, StorageView, new_worker_view, new_storage_view}
 use Rattle.storage_thread.specs.Keeping.{MayForgetNothing}
 use Rattle.storage_thread.specs.Serving.{IsSameExchange}
@@ -37,8 +37,9 @@ pub record KeepsStorage {C : Type 0} (told : C → Option (List ℕ)) (leads_to 
     (end : StorageView) (report : StorageReport C) : Type 0 where
   pub same : IsSameExchange end report.storage_end
   pub none_open : report.storage_end.open_request ≡ None
-  pub made : IsHistoryOf told leads_to end.geometry end.workers clock report.clock report.executed report.storage_end.history
-  pub bounded : keeps → MayForgetNothing end.geometry report.storage_end.history
+  pub made : IsHistoryOf told leads_to end.terms.geometry end.workers clock report.clock report.executed
+      report.storage_end.history
+  pub bounded : keeps → MayForgetNothing end.terms.geometry report.storage_end.history
 
 -- what a thread leaves that waited for the start `id`: it ran if it was told to begin, and what it left is kept
 pub record IsFinished {T : Type 0} (id : ℕ) (keeps : T → Type 0) (finished : Finished T) : Type 0 where
@@ -50,14 +51,15 @@ pub record IsFinished {T : Type 0} (id : ℕ) (keeps : T → Type 0) (finished :
 abbrev pub HasSentNothing : WorkerView → Type 0
 HasSentNothing end = (end.sent ≡ []) × (end.back ≡ []) × (end.said_bye ≡ false) × (end.seen ≡ [])
 
--- the ports of workers 0, 1 and so on, over a store of these sizes and in this dialect, at which nothing has happened yet
-abbrev pub ArePortsOf : {P : Type 0} → (P → Option PortStory) → Sizes → Dialect → List P → Type 0
-ArePortsOf {P} told sizes d ports =
+-- the ports of workers 0, 1 and so on, by these terms and in this dialect, at which nothing has happened yet
+abbrev pub ArePortsOf : {P : Type 0} → (P → Option PortStory) → Terms → Dialect → List P → Type 0
+ArePortsOf {P} told terms d ports =
     (w : ℕ) (port : P) → get_elem? ports w ≡ some port → (story : PortStory) → told port ≡ Some story
-    → (story.worker ≡ w) × (story.sizes ≡ sizes) × (story.dialect ≡ d) × (story.events ≡ []) × (story.history ≡ [])
+    → (story.worker ≡ w) × (story.terms ≡ terms) × (story.dialect ≡ d) × (story.events ≡ []) × (story.history ≡ [])
 
 -- the port of this end's worker, at which nothing has happened yet, read in this dialect
-pub record IsPortAt {P : Type 0} (told : P → Option PortStory) (d : Dialect) (port : P) (end : WorkerView) : Type 0 where
+pub record IsPortAt {P : Type 0} (told : P → Option PortStory) (d : Dialect) (port : P)
+    (end : WorkerView) : Type 0 where
   pub silent : (story : PortStory) → told port ≡ Some story → story.events ≡ []
   pub whose : (story : PortStory) → told port ≡ Some story → IsStoryOf story end
   pub spelled : (story : PortStory) → told port ≡ Some story → story.dialect ≡ d
@@ -85,16 +87,16 @@ abbrev pub workers_of : {P : Type 0} → List (WorkerReport P) → List (GroupWo
 workers_of reports = map worker_of reports
 
 -- What all workers' threads left, which were given these ports and the ends of storage's exchange.
-pub record AreJoined {P : Type 0} (told : P → Option PortStory) (leads_to : P → P → Type 0) (sizes : Sizes)
+pub record AreJoined {P : Type 0} (told : P → Option PortStory) (leads_to : P → P → Type 0) (terms : Terms)
     (storage : StorageView)
     (ports : List P) (reports : List (WorkerReport P)) : Type 0 where
   pub one_each : length reports ≡ length ports
   pub each : (w : ℕ) (port : P) (report : WorkerReport P) → get_elem? ports w ≡ some port
       → get_elem? reports w ≡ some report
-      → KeepsWorker told leads_to port (new_worker_view storage.exchange sizes w) report
+      → KeepsWorker told leads_to port (new_worker_view storage.exchange terms w) report
 
 -- what the storage thread left, which was given this clock and its end of the exchange that was made for these ports
-abbrev pub IsLeftByStorage : {P C : Type 0} → (C → Option (List ℕ)) → (C → C → Type 0) → Type 0 → Sizes → List P → C
+abbrev pub IsLeftByStorage : {P C : Type 0} → (C → Option (List ℕ)) → (C → C → Type 0) → Type 0 → Terms → List P → C
     → StorageReport C → Type 0
-IsLeftByStorage told leads_to keeps sizes ports clock report =
-    KeepsStorage told leads_to keeps clock (new_storage_view report.storage_end.exchange sizes (length ports)) report
+IsLeftByStorage told leads_to keeps terms ports clock report =
+    KeepsStorage told leads_to keeps clock (new_storage_view report.storage_end.exchange terms (length ports)) report

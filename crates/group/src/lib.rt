@@ -2,6 +2,7 @@
 //! gathered.
 #![tactic(auto)]
 
+mod context;
 mod fault;
 mod report;
 mod run;

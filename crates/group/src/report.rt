@@ -1,18 +1,18 @@
 //! What a group is given, and what it leaves.
 
 use exchange::{Gathered, SentList};
-use proto::{Dialect, Geometry};
+use proto::{Dialect, Terms};
 use worker::SessionList;
 
 /// What a group runs for.
 #[derive(Clone, Copy)]
 pub struct Config {
-    /// The sizes of the store that the storage thread owns.
-    pub geometry: Geometry,
+    /// The sizes of the store that the storage thread owns, and whether its clock is the system's.
+    pub terms: Terms,
     /// How lines are written that sessions send.
     pub dialect: Dialect,
-    /// Whether the report's lists of sessions are stored. Who serves without end has no use for them.
-    pub stores_sessions: bool,
+    /// How many microseconds each thread looks for work before it sleeps. None is as few as each of them sees fit.
+    pub spin: Option<u32>,
 }
 
 /// What a group leaves of one worker.

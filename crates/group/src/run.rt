@@ -1,12 +1,13 @@
 //! A whole run of a group.
-ghost use Rattle.std.specs.Prelude.{◌≡◌, ℕ, ◌≤◌, ◌≢◌, ◌⊎◌, List, [], IfOk, IfErr, MatchResult, vec_len, vec_capacity};
-ghost use Rattle.proto.specs.Sizes.{Sizes};
+ghost use Rattle.std.specs.Prelude.{◌≡◌, ℕ, Some, IsSome, ◌≤◌, ◌≢◌, ◌⊎◌, List, [], IfOk, IfErr, MatchResult, vec_len, vec_capacity, true};
+ghost use Rattle.proto.specs.declared.terms.Terms.{Terms};
 ghost use Rattle.proto.specs.Cache.{empty_cache};
 ghost use Rattle.exchange.specs.Ends.{AreTogether, IsCount};
 ghost use Rattle.group.specs.declared.fault.GroupFault.TheVariants.{BadConfig, NoMemory};
 ghost use Rattle.group.specs.Threads.{ArePortsOf, AreJoined, IsLeftByStorage, ends_of, workers_of};
 ghost use Rattle.group.specs.Headline.{IsRun};
 
+use crate::context::GroupContext;
 use crate::fault::GroupFault;
 use crate::report::{Config, GroupReport, GroupWorker};
 use crate::start::announce_start;
@@ -16,14 +17,14 @@ use exchange::{StorageSignals, WorkerEnd, gather, make};
 use proto::MAX_WORKERS;
 use std::alloc::Global;
 use std::sync::{OnceLock, Wait};
-use std::thread;
 use std::thread::{Scope, Threads};
+use std::{thread, time};
 use storage_thread::StorageReport;
 use worker::{Gate, WorkerReport};
 use worker_port::Port;
 
-/// Parts the reports: what the group says of each worker, and the ends. The lists have room for them.
-fn part<P: Port>(
+/// Splits the reports into what the group says of each worker, and the ends. The lists have room for them.
+fn split_reports<P: Port>(
     reports: Vec<WorkerReport<P>>,
     mut workers: Vec<GroupWorker<P>>,
     mut ends: Vec<WorkerEnd>,
@@ -54,7 +55,7 @@ fn part<P: Port>(
 }
 
 /// Gathers the ends, which are of one exchange. The lists have room for what is left.
-fn finish<P: Port, E: StorageEngine, C: Clock>(
+fn gather_report<P: Port, E: StorageEngine, C: Clock>(
     reports: Vec<WorkerReport<P>>,
     storage: StorageReport<C>,
     workers: Vec<GroupWorker<P>>,
@@ -63,12 +64,12 @@ fn finish<P: Port, E: StorageEngine, C: Clock>(
     requires workers { (workers.items ≡ []) × (vec_len reports ≤ vec_capacity workers) }
     requires ends { (ends.items ≡ []) × (vec_len reports ≤ vec_capacity ends) }
     requires together { AreTogether (ends_of reports.items) storage.storage_end }
-    ensures { (store : E) (sizes : Sizes) (ports : List P) (clock : C)
-        → IsLeftByStorage C.told C.leads_to (E.keeps store []) sizes ports clock storage
-        → AreJoined P.told P.leads_to sizes storage.storage_end ports reports.items
-        → IsRun P.told P.leads_to C.told C.leads_to (E.keeps store []) sizes ports clock result }
+    ensures { (store : E) (terms : Terms) (ports : List P) (clock : C)
+        → IsLeftByStorage C.told C.leads_to (E.keeps store []) terms ports clock storage
+        → AreJoined P.told P.leads_to terms storage.storage_end ports reports.items
+        → IsRun P.told P.leads_to C.told C.leads_to (E.keeps store []) terms.geometry ports clock result }
 {
-    let (workers, ends) = part(reports, workers, ends);
+    let (workers, ends) = split_reports(reports, workers, ends);
     let StorageReport {
         clock,
         storage_end,
@@ -113,55 +114,43 @@ fn run_in<
     E: StorageEngine + Drop + Send + 's,
     C: Clock + Send + 's,
     G: Gate + Sync,
-    R: Threads + Wait + Sync,
+    R: Threads + Wait + time::Clock + Sync,
 >(
     rt: &'s R,
-    alloc: Global,
     scope: &'s Scope<'s, &'e ()>,
-    start: &'s OnceLock<bool>,
-    signals: &'s StorageSignals,
+    context: &'s GroupContext<'s, G>,
     ports: Vec<P>,
-    config: Config,
     store: E,
     clock: C,
-    gate: &'s G,
 ) -> Result<GroupReport<P, C>, GroupFault>
-    requires ports { ArePortsOf P.told config.geometry config.dialect ports.items }
+    requires ports { ArePortsOf P.told context.now.config.terms context.now.config.dialect ports.items }
     requires empty { (E.cache store ≡ empty_cache 0) × (E.moment store ≡ 0) }
-    requires sizes { E.sizes store ≡ config.geometry }
+    requires sizes { E.sizes store ≡ context.now.config.terms.geometry }
+    requires system_clock { context.now.config.terms.system_clock ≡ true → IsSome (C.start clock) }
+    requires unasked { IsSome (C.start clock) → C.told clock ≡ Some [] }
     requires count { IsCount (vec_len ports) }
-    ensures run { IfOk result (λ report. IsRun P.told P.leads_to C.told C.leads_to (E.keeps store []) (E.sizes store) ports.items clock report) }
+    ensures run { IfOk result (λ report. IsRun P.told P.leads_to C.told C.leads_to (E.keeps store []) (E.sizes store)
+        ports.items clock report) }
     ensures fault { IfErr result (λ fault. fault ≢ BadConfig) }
 {
     let count = ports.len();
-    let (ends, storage_end) = make(alloc, count, config.geometry)?;
-    let handles = Vec::with_capacity(alloc, count)?;
-    let room = make_room(alloc, count)?;
-    let storage = start_storage(rt, scope, start, store, clock, storage_end, signals)?;
-    match start_workers(
-        rt,
-        alloc,
-        scope,
-        start,
-        ports,
-        ends,
-        config.stores_sessions,
-        config.dialect,
-        gate,
-        signals,
-        handles,
-    ) {
+    let (ends, storage_end) = make(context.alloc, count, context.config.terms)?;
+    let handles = Vec::with_capacity(context.alloc, count)?;
+    let room = make_room(context.alloc, count)?;
+    let storage = start_storage(rt, scope, context, store, clock, storage_end)?;
+    match start_workers(rt, scope, context, ports, ends, handles) {
         Ok(handles) => {
-            let told = announce_start(rt, start, true);
-            if !*start.value(&told) {
+            let told = announce_start(rt, context.start, true);
+            if !*context.start.value(&told) {
                 return Err(GroupFault::NoThread);
             }
             let reports = join_workers(rt, &told, handles, room.reports);
             let storage = join_storage(rt, &told, storage);
-            Ok(finish::<P, E, C>(reports, storage, room.workers, room.ends))
+            let report = gather_report::<P, E, C>(reports, storage, room.workers, room.ends);
+            Ok(report)
         }
         Err(fault) => {
-            announce_start(rt, start, false);
+            announce_start(rt, context.start, false);
             Err(fault)
         }
     }
@@ -181,7 +170,7 @@ pub fn run_group<
     E: StorageEngine + Drop + Send,
     C: Clock + Send,
     G: Gate + Sync,
-    R: Threads + Wait + Sync,
+    R: Threads + Wait + time::Clock + Sync,
 >(
     rt: &R,
     alloc: Global,
@@ -191,33 +180,43 @@ pub fn run_group<
     clock: C,
     gate: &G,
 ) -> Result<GroupReport<P, C>, GroupFault>
-    requires ports { ArePortsOf P.told config.geometry config.dialect ports.items }
+    requires ports { ArePortsOf P.told config.terms config.dialect ports.items }
     requires empty { (E.cache store ≡ empty_cache 0) × (E.moment store ≡ 0) }
-    requires sizes { E.sizes store ≡ config.geometry }
-    ensures run { IfOk result (λ report. IsRun P.told P.leads_to C.told C.leads_to (E.keeps store []) (E.sizes store) ports.items clock report) }
-    ensures count { MatchResult result (λ _. IsCount (vec_len ports)) (λ fault. (IsCount (vec_len ports) × (fault ≢ BadConfig))
+    requires sizes { E.sizes store ≡ config.terms.geometry }
+    requires system_clock { config.terms.system_clock ≡ true → IsSome (C.start clock) }
+    requires unasked { IsSome (C.start clock) → C.told clock ≡ Some [] }
+    ensures run { IfOk result (λ report. IsRun P.told P.leads_to C.told C.leads_to (E.keeps store []) (E.sizes store)
+        ports.items clock report) }
+    ensures count { MatchResult result (λ _. IsCount (vec_len ports))
+        (λ fault. (IsCount (vec_len ports) × (fault ≢ BadConfig))
         ⊎ ((¬ (IsCount (vec_len ports))) × (fault ≡ BadConfig))) }
 {
     if ports.is_empty() || ports.len() > MAX_WORKERS {
         return Err(GroupFault::BadConfig);
     }
-    let lock = OnceLock::new();
-    let start = &lock;
-    let whole = StorageSignals::new(alloc, store.key_hasher(), ports.len())?;
-    let signals = &whole;
+    let start = OnceLock::new();
+    let signals = StorageSignals::new(alloc, store.key_hasher(), ports.len(), config.spin)?;
+    let group = GroupContext {
+        alloc,
+        start: &start,
+        config,
+        gate,
+        signals: &signals,
+    };
+    let context = &group;
     thread::scope(
         thread::scope_env(),
         rt,
         move |scope| -> Result<GroupReport<P, C>, GroupFault>
             requires count { IsCount (vec_len ports) }
-            requires ports { ArePortsOf P.told config.geometry config.dialect ports.items }
-            requires store { (E.cache store ≡ empty_cache 0) × (E.moment store ≡ 0) × (E.sizes store ≡ config.geometry) }
-            ensures run { IfOk result (λ report. IsRun P.told P.leads_to C.told C.leads_to (E.keeps store []) (E.sizes store) ports.items clock report) }
+            requires ports { ArePortsOf P.told context.now.config.terms context.now.config.dialect ports.items }
+            requires store { (E.cache store ≡ empty_cache 0) × (E.moment store ≡ 0)
+                × (E.sizes store ≡ context.now.config.terms.geometry) }
+            requires system_clock { context.now.config.terms.system_clock ≡ true → IsSome (C.start clock) }
+            requires unasked { IsSome (C.start clock) → C.told clock ≡ Some [] }
+            ensures run { IfOk result (λ report. IsRun P.told P.leads_to C.told C.leads_to (E.keeps store [])
+                (E.sizes store) ports.items clock report) }
             ensures fault { IfErr result (λ fault. fault ≢ BadConfig) }
-        {
-            run_in(
-                rt, alloc, scope, start, signals, ports, config, store, clock, gate,
-            )
-        },
+        { run_in(rt, scope, context, ports, store, clock) },
     )
 }

@@ -1,5 +1,5 @@
 //! The threads of a group: each waits for the start, and promises what it leaves.
-ghost use Rattle.std.specs.Prelude.{◌≡◌, ℕ, ◌≤◌, [], true, None, All, IfOk, IfErr, map, length, vec_len, vec_capacity};
+ghost use Rattle.std.specs.Prelude.{◌≡◌, ℕ, Some, IsSome, ◌<◌, ◌≤◌, [], true, None, All, IfOk, IfErr, map, length, vec_len, vec_capacity};
 ghost use Rattle.proto.specs.Cache.{empty_cache};
 ghost use Rattle.worker.specs.declared.report.WorkerReport.{WorkerReport};
 ghost use Rattle.storage_thread.specs.Serving.{IsUnused};
@@ -7,17 +7,18 @@ ghost use Rattle.exchange.specs.Ends.{WorkerView};
 ghost use Rattle.group.specs.declared.fault.GroupFault.TheVariants.{NoThread};
 ghost use Rattle.group.specs.Threads.{IsFinished, HasSentNothing, IsPortAt, KeepsWorker, KeepsStorage, AreEach};
 
+use crate::context::GroupContext;
 use crate::fault::GroupFault;
 use crate::start::{Finished, wait_for_start};
 use engine::{Clock, StorageEngine};
-use exchange::{StorageEnd, StorageSignals, WorkerEnd};
-use proto::Dialect;
-use std::alloc::Global;
+use exchange::{StorageEnd, WorkerEnd};
+use os::set_thread_name;
 use std::snapshot::Snapshot;
 use std::sync::{OnceLock, OnceToken, Wait};
 use std::thread::{Promise, PromisedHandle, Scope, Threads};
+use std::time;
 use storage_thread::{StorageReport, run_storage};
-use worker::{Gate, SessionList, WorkerReport, run_worker};
+use worker::{Gate, WorkerReport, run_worker};
 use worker_port::Port;
 
 /// What a worker's thread promises: what it leaves of the port and the end that it was given, if it was told to begin.
@@ -48,7 +49,8 @@ impl<'a, E: StorageEngine, C: Clock> Promise<Finished<'a, StorageReport<C>>>
     ghost use Rattle.std.specs.Prelude.{[]};
     ghost use Rattle.group.specs.Threads.{IsFinished, KeepsStorage};
 
-    ghost kept_by = { λ p r. IsFinished p.start.now.id (KeepsStorage C.told C.leads_to (E.keeps p.store.value []) p.clock.value p.end.value) r };
+    ghost kept_by = { λ p r. IsFinished p.start.now.id (KeepsStorage C.told C.leads_to (E.keeps p.store.value [])
+        p.clock.value p.end.value) r };
 }
 
 pub type WorkerHandle<'a, P> = PromisedHandle<Finished<'a, WorkerReport<P>>, WorkerPromise<'a, P>>;
@@ -58,60 +60,65 @@ pub type StorageHandle<'a, E, C> = PromisedHandle<
     StoragePromise<'a, E, C>,
 >;
 
-/// A worker's list of sessions, before there are any.
-fn session_list(alloc: Global, is_stored: bool) -> SessionList
-    ensures { result.items ≡ [] }
+/// The name of a worker's thread, as the system's tools show it: `worker 0` to `worker 7`.
+fn thread_name(worker: usize) -> [u8; 8]
+    requires { worker < 8 }
 {
-    if is_stored {
-        SessionList::stored(alloc)
-    } else {
-        SessionList::unstored()
-    }
+    let mut name = *b"worker 0";
+    name[7] += worker as u8;
+    name
 }
 
-/// Runs a worker once it is told to begin.
-fn work<'a, P: Port, G: Gate, R: Wait>(
+/// Names the thread, and runs a worker in it once it is told to begin.
+fn worker_thread<'a, P: Port, G: Gate, R: Wait + time::Clock>(
     rt: &R,
-    alloc: Global,
-    start: &'a OnceLock<bool>,
+    context: &GroupContext<'a, G>,
     port: P,
     end: WorkerEnd,
-    stores_sessions: bool,
-    dialect: Dialect,
-    gate: &G,
-    signals: &StorageSignals,
 ) -> Finished<'a, WorkerReport<P>>
-    requires port { IsPortAt P.told dialect port end }
+    requires port { IsPortAt P.told context.now.config.dialect port end }
     requires fresh { HasSentNothing end }
-    ensures { IsFinished start.now.id (KeepsWorker P.told P.leads_to port end) result }
+    ensures { IsFinished context.now.start.now.id (KeepsWorker P.told P.leads_to port end) result }
 {
-    let told = wait_for_start(rt, start);
-    let ran = if *start.value(&told) {
-        let sessions = session_list(alloc, stores_sessions);
-        Some(run_worker(rt, alloc, port, end, sessions, dialect, gate, signals))
+    // Names are for the operator: where the system takes none, the thread runs as well.
+    let _ = set_thread_name(&thread_name(end.worker()));
+    let told = wait_for_start(rt, context.start);
+    let ran = if *context.start.value(&told) {
+        let dialect = context.config.dialect;
+        Some(run_worker(
+            rt,
+            context.alloc,
+            port,
+            end,
+            dialect,
+            context.gate,
+            context.signals,
+        ))
     } else {
         None
     };
     Finished { told, ran }
 }
 
-/// Runs the storage loop once it is told to begin.
-fn serve<'a, E: StorageEngine + Drop, C: Clock, R: Wait>(
+/// Names the thread, and runs the storage loop in it once it is told to begin.
+fn run_storage_thread<'a, E: StorageEngine + Drop, C: Clock, G, R: Wait + time::Clock>(
     rt: &R,
-    start: &'a OnceLock<bool>,
+    context: &GroupContext<'a, G>,
     store: E,
     clock: C,
     end: StorageEnd,
-    signals: &StorageSignals,
 ) -> Finished<'a, StorageReport<C>>
     requires empty { (E.cache store ≡ empty_cache 0) × (E.moment store ≡ 0) }
-    requires sizes { E.sizes store ≡ end.geometry }
+    requires sizes { E.sizes store ≡ end.terms.geometry }
+    requires system_clock { end.terms.system_clock ≡ true → IsSome (C.start clock) }
+    requires unasked { IsSome (C.start clock) → C.told clock ≡ Some [] }
     requires unused { IsUnused end }
-    ensures { IsFinished start.now.id (KeepsStorage C.told C.leads_to (E.keeps store []) clock end) result }
+    ensures { IsFinished context.now.start.now.id (KeepsStorage C.told C.leads_to (E.keeps store []) clock end) result }
 {
-    let told = wait_for_start(rt, start);
-    let ran = if *start.value(&told) {
-        Some(run_storage(rt, store, clock, end, signals))
+    let _ = set_thread_name(b"storage");
+    let told = wait_for_start(rt, context.start);
+    let ran = if *context.start.value(&told) {
+        Some(run_storage(rt, store, clock, end, context.signals))
     } else {
         None
     };
@@ -119,38 +126,44 @@ fn serve<'a, E: StorageEngine + Drop, C: Clock, R: Wait>(
 }
 
 /// Starts the storage thread.
+///
+/// # Errors
+///
+/// NoThread where the system starts no thread.
 pub fn start_storage<
     's,
     'e,
     E: StorageEngine + Drop + Send + 's,
     C: Clock + Send + 's,
-    R: Threads + Wait + Sync,
+    G: Sync,
+    R: Threads + Wait + time::Clock + Sync,
 >(
     rt: &'s R,
     scope: &'s Scope<'s, &'e ()>,
-    start: &'s OnceLock<bool>,
+    context: &'s GroupContext<'s, G>,
     store: E,
     clock: C,
     end: StorageEnd,
-    signals: &'s StorageSignals,
 ) -> Result<StorageHandle<'s, E, C>, GroupFault>
     requires empty { (E.cache store ≡ empty_cache 0) × (E.moment store ≡ 0) }
-    requires sizes { E.sizes store ≡ end.geometry }
+    requires sizes { E.sizes store ≡ end.terms.geometry }
+    requires system_clock { end.terms.system_clock ≡ true → IsSome (C.start clock) }
+    requires unasked { IsSome (C.start clock) → C.told clock ≡ Some [] }
     requires unused { IsUnused end }
     ensures fault { IfErr result (λ fault. fault ≡ NoThread) }
-    ensures start { IfOk result (λ h. h.promise.start.now.id ≡ start.now.id) }
+    ensures start { IfOk result (λ h. h.promise.start.now.id ≡ context.now.start.now.id) }
     ensures given { IfOk result (λ h. (h.promise.store.value ≡ store) × (h.promise.clock.value ≡ clock)
         × (h.promise.end.value ≡ end)) }
 {
     let promise = StoragePromise {
-        start,
+        start: context.start,
         store: Snapshot::of(&store),
         clock: Snapshot::of(&clock),
         end: Snapshot::of(&end),
     };
     match scope.spawn_with(
         promise,
-        move || serve(rt, start, store, clock, end, signals),
+        move || run_storage_thread(rt, context, store, clock, end),
     ) {
         Ok(handle) => Ok(handle),
         Err(_) => Err(GroupFault::NoThread),
@@ -158,67 +171,61 @@ pub fn start_storage<
 }
 
 /// Starts the thread of one worker.
-fn start_worker<'s, 'e, P: Port + Send + 's, G: Gate + Sync, R: Threads + Wait + Sync>(
+fn start_worker<
+    's,
+    'e,
+    P: Port + Send + 's,
+    G: Gate + Sync,
+    R: Threads + Wait + time::Clock + Sync,
+>(
     rt: &'s R,
-    alloc: Global,
     scope: &'s Scope<'s, &'e ()>,
-    start: &'s OnceLock<bool>,
+    context: &'s GroupContext<'s, G>,
     port: P,
     end: WorkerEnd,
-    stores_sessions: bool,
-    dialect: Dialect,
-    gate: &'s G,
-    signals: &'s StorageSignals,
 ) -> Result<WorkerHandle<'s, P>, GroupFault>
-    requires port { IsPortAt P.told dialect port end }
+    requires port { IsPortAt P.told context.now.config.dialect port end }
     requires fresh { HasSentNothing end }
     ensures fault { IfErr result (λ fault. fault ≡ NoThread) }
-    ensures start { IfOk result (λ h. h.promise.start.now.id ≡ start.now.id) }
+    ensures start { IfOk result (λ h. h.promise.start.now.id ≡ context.now.start.now.id) }
     ensures given { IfOk result (λ h. (h.promise.port.value ≡ port) × (h.promise.end.value ≡ end)) }
 {
     let promise = WorkerPromise {
-        start,
+        start: context.start,
         port: Snapshot::of(&port),
         end: Snapshot::of(&end),
     };
-    match scope.spawn_with(promise, move || {
-        work(
-            rt,
-            alloc,
-            start,
-            port,
-            end,
-            stores_sessions,
-            dialect,
-            gate,
-            signals,
-        )
-    }) {
+    match scope.spawn_with(promise, move || worker_thread(rt, context, port, end)) {
         Ok(handle) => Ok(handle),
         Err(_) => Err(GroupFault::NoThread),
     }
 }
 
 /// Starts a thread for each port, with the end at its place. The list of handles has room for them.
-pub fn start_workers<'s, 'e, P: Port + Send + 's, G: Gate + Sync, R: Threads + Wait + Sync>(
+///
+/// # Errors
+///
+/// NoThread where the system starts no thread. Those that were started wait for the start.
+pub fn start_workers<
+    's,
+    'e,
+    P: Port + Send + 's,
+    G: Gate + Sync,
+    R: Threads + Wait + time::Clock + Sync,
+>(
     rt: &'s R,
-    alloc: Global,
     scope: &'s Scope<'s, &'e ()>,
-    start: &'s OnceLock<bool>,
+    context: &'s GroupContext<'s, G>,
     ports: Vec<P>,
     ends: Vec<WorkerEnd>,
-    stores_sessions: bool,
-    dialect: Dialect,
-    gate: &'s G,
-    signals: &'s StorageSignals,
     mut handles: Vec<WorkerHandle<'s, P>>,
 ) -> Result<Vec<WorkerHandle<'s, P>>, GroupFault>
-    requires ports { AreEach (IsPortAt P.told dialect) ports.items ends.items }
+    requires ports { AreEach (IsPortAt P.told context.now.config.dialect) ports.items ends.items }
     requires ends { All HasSentNothing ends.items }
     requires lengths { vec_len ports ≡ vec_len ends }
     requires room { (handles.items ≡ []) × (vec_len ends ≤ vec_capacity handles) }
     ensures fault { IfErr result (λ fault. fault ≡ NoThread) }
-    ensures start { IfOk result (λ v. All (λ h. h.promise.start.now.id ≡ start.now.id) v.items) }
+    ensures start { IfOk result (λ v. All (λ h. h.promise.start.now.id ≡ context.now.start.now.id) v.items) }
     ensures ports { IfOk result (λ v. map (λ h. h.promise.port.value) v.items ≡ ports.items) }
     ensures ends { IfOk result (λ v. map (λ h. h.promise.end.value) v.items ≡ ends.items) }
 {
@@ -227,18 +234,7 @@ pub fn start_workers<'s, 'e, P: Port + Send + 's, G: Gate + Sync, R: Threads + W
         let Some(port) = ports.next() else {
             unreachable!()
         };
-        let handle = start_worker(
-            rt,
-            alloc,
-            scope,
-            start,
-            port,
-            end,
-            stores_sessions,
-            dialect,
-            gate,
-            signals,
-        )?;
+        let handle = start_worker(rt, scope, context, port, end)?;
         handles.push_reserved(handle);
     }
     Ok(handles)
@@ -282,7 +278,8 @@ pub fn join_workers<'s, P: Port, R: Threads>(
 ) -> Vec<WorkerReport<P>>
     requires began { All (λ h. told.now.of ≡ h.promise.start.now.id) handles.items × (told.now.value ≡ true) }
     requires room { (reports.items ≡ []) × (vec_len handles ≤ vec_capacity reports) }
-    ensures { AreEach (λ h r. KeepsWorker P.told P.leads_to h.promise.port.value h.promise.end.value r) handles.entry.items result.items }
+    ensures { AreEach (λ h r. KeepsWorker P.told P.leads_to h.promise.port.value h.promise.end.value r)
+        handles.entry.items result.items }
 {
     for handle in handles {
         let report = join_worker(rt, told, handle);

@@ -1,7 +1,7 @@
 -- the contract of `home_of`: homes where a row has one slot more
 pub mod SplitHomes
 -- the contracts of `Layout`, and what `Slots::set` requires
-pub mod SlotWords
+pub mod PackedSlots
 -- what `Index::insert` requires of a place, and `relocate` of its targets
 pub mod PlacesInLayout
 -- the contracts of `Slots` that change a slot

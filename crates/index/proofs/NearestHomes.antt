@@ -1,8 +1,7 @@
 -- The home of a key that is found, by the lowest bits of its hash: those of the home itself.
 use Rattle.std.proofs.Common.{◌≡◌, ◌⊎◌, ℕ, ◌+◌, ◌-◌, ◌*◌, ◌/◌, ◌%◌, ◌^◌, ◌<◌, ◌≤◌, List, length, sym, ap, ◌∙◌, inl, inr, arith}
-use Rattle.std.specs.Prelude.{bit_and}
 use Rattle.std.proofs.Math.Nat.{add-mul-mod_self_left}
-use Rattle.std.proofs.lemmas.Nat.{mod_below, div-add-mod', mul-le, pow_pos, one_shl}
+use Rattle.std.proofs.lemmas.Nat.{mod_below, div-add-mod', mul-le, pow_pos}
 use Rattle.std.proofs.lemmas.Bool.Decides.{leb_tells}
 use Rattle.index.specs.declared.slot.Slot.{Slot}
 use Rattle.index.specs.Keys.{KeysOf}
@@ -10,7 +9,6 @@ use Rattle.index.specs.Slots.{distance}
 use Rattle.index.specs.Searches.{HasGap}
 use Rattle.index.specs.Table.{Hashing, IsSlotFound}
 use Rattle.index.proofs.RowDistances.{distance_cases}
-use Rattle.index.proofs.SlotWords.{low_bits}
 use Rattle.index.proofs.ShiftedSlots.{true_false}
 
 -- how far the nearest slot with the remainder of a home is, and how far the home is
@@ -59,23 +57,16 @@ nearest n at home m back x some a h is room from_on before =
 
 -- where the lowest bits of a key's home are known, and one of the slots from the next such slot on is empty, the nearest
 -- such slot is the home
-pub home_near : (h : Hashing) (keys : KeysOf) (slots : List Slot) (at : ℕ) (key : List ℕ) (b apart low back : ℕ)
-    → at < length slots → h.home key < length slots → IsSlotFound h keys slots at key → b < 64
-    → apart ≡ 1 * 2 ^ b % 2 ^ 64 → low ≡ h.home key % 2 ^ b
-    → back ≡ bit_and (bit_and at (apart - 1) + apart - low) (apart - 1) → back + apart ≤ at
-    → HasGap slots (at - back - apart) (at - back) → h.home key ≡ at - back
-home_near h keys slots at key b apart low back a r f few apart_is low_is back_is room gap =
+pub home_near : (h : Hashing) (keys : KeysOf) (slots : List Slot) (at : ℕ) (key : List ℕ) (b low back next : ℕ)
+    → at < length slots → h.home key < length slots → IsSlotFound h keys slots at key
+    → low ≡ h.home key % 2 ^ b → back ≡ (at % 2 ^ b + 2 ^ b - low) % 2 ^ b → next ≡ back + 2 ^ b → next ≤ at
+    → HasGap slots (at - next) (at - back) → h.home key ≡ at - back
+home_near h keys slots at key b low back next a r f low_is back_is next_is room gap =
     let m : ℕ = 2 ^ b in
-    let power : apart ≡ m = apart_is ∙ one_shl b 64 few in
-    let mask : (n : ℕ) → bit_and n (apart - 1) ≡ n % m = λ n. ap (λ i. bit_and n (i - 1)) apart_is ∙ low_bits n b few in
-    let is : back ≡ (at % m + m - h.home key % m) % m =
-    back_is ∙ mask (bit_and at (apart - 1) + apart - low)
-    ∙ ap (λ i. (i + apart - low) % m) (mask at)
-    ∙ ap (λ i. (at % m + i - low) % m) power
-    ∙ ap (λ i. (at % m + m - i) % m) low_is in
+    let is : back ≡ (at % m + m - h.home key % m) % m = back_is ∙ ap (λ i. (at % m + m - i) % m) low_is in
     let from_on = gap.from_on in
-    elim (nearest (length slots) at (h.home key) m back gap.at (pow_pos b) a r is (omega (arith, room, power))
-    (omega (arith, from_on, power)) gap.before) [
+    elim (nearest (length slots) at (h.home key) m back gap.at (pow_pos b) a r is (omega (arith, room, next_is))
+    (omega (arith, from_on, next_is)) gap.before) [
       | inl near ↦ near
       | inr lt ↦
           let before = gap.before in

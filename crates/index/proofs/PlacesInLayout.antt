@@ -5,7 +5,8 @@ use Rattle.std.proofs.lemmas.Nat.{mul-le}
 use Rattle.segments.specs.declared.place.Place.{Place}
 use Rattle.segments.specs.Items.{Item, size_of_item, item_at}
 use Rattle.segments.specs.Pools.{PoolState, IsPool, items_of, segment_at, item_in}
-use Rattle.segments.proofs.Places.{at_within, at_behind, item_ends, item_large, item_storable, mark_within}
+use Rattle.segments.proofs.ItemChanges.{at_within, at_behind}
+use Rattle.segments.proofs.Places.{item_ends, item_large, item_storable, mark_within}
 use Rattle.segments.specs.Places.{IsAppended}
 use Rattle.segments.proofs.MovedPlaces.{same_place_itself}
 use Rattle.proto.specs.Sizes.{item_limit}

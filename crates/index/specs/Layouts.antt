@@ -1,4 +1,4 @@
--- How a slot is kept in one number.
+-- How a slot is packed into one number.
 use Rattle.std.specs.Prelude.{◌≡◌, ℕ, ◌+◌, ◌-◌, ◌*◌, ◌/◌, ◌%◌, ◌^◌, ◌<◌, ◌≤◌, List, map, nat_le, min, ◌==◌, if◌then◌else◌}
 use Rattle.proto.specs.Sizes.{Sizes}
 use Rattle.segments.specs.declared.place.Place.{Place}
@@ -12,9 +12,9 @@ pub record IsLayout (l : Layout) : Type 0 where
   pub some : 1 ≤ l.place_bits
   pub places : l.place_bits ≤ 33
 
--- the numbers of slots have four bytes where the places leave room in them, and else eight
-abbrev pub word_limit : Layout → ℕ
-word_limit l = if nat_le l.place_bits 32 then 2 ^ 32 else 2 ^ 64
+-- a packed slot has four bytes if a place leaves room in them, and else eight
+abbrev pub packed_limit : Layout → ℕ
+packed_limit l = if nat_le l.place_bits 32 then 2 ^ 32 else 2 ^ 64
 
 -- how many of a hash's upper 32 bits don't go into the bits beside a place
 abbrev pub tag_shift : Layout → ℕ
@@ -32,31 +32,32 @@ tag_of l hash = hash / 2 ^ 32 / 2 ^ (tag_shift l + home_bits l) * 2 ^ home_bits 
 unfoldable pub low_in : Layout → ℕ → ℕ
 low_in l tag = (tag - 1) % 2 ^ home_bits l
 
--- the slot that a number stands for: 0 for an empty one, else the tag, the segment, and the offset in steps of eight bytes
+-- the slot that was packed: 0 is an empty one, and else there are the tag, the segment, and the offset in steps of
+-- eight bytes
 unfoldable pub slot_of : Layout → ℕ → Slot
-slot_of l word =
-    if word == 0 then empty_slot
+slot_of l packed =
+    if packed == 0 then empty_slot
     else record {
-      tag = word / 2 ^ l.place_bits + 1;
-      segment = (word % 2 ^ l.place_bits - 1) / 2 ^ l.offset_bits % 2 ^ 16;
-      offset = 8 * ((word % 2 ^ l.place_bits - 1) % 2 ^ l.offset_bits);
+      tag = packed / 2 ^ l.place_bits + 1;
+      segment = (packed % 2 ^ l.place_bits - 1) / 2 ^ l.offset_bits % 2 ^ 16;
+      offset = 8 * ((packed % 2 ^ l.place_bits - 1) % 2 ^ l.offset_bits);
     }
 
-unfoldable pub word_of : Layout → Slot → ℕ
-word_of l s = (s.tag - 1) * 2 ^ l.place_bits + (s.segment * 2 ^ l.offset_bits + s.offset / 8 + 1)
+unfoldable pub packed_of : Layout → Slot → ℕ
+packed_of l s = (s.tag - 1) * 2 ^ l.place_bits + (s.segment * 2 ^ l.offset_bits + s.offset / 8 + 1)
 
--- the place is one that a number can say
+-- the place can be packed
 pub record IsInLayout (l : Layout) (place : Place) : Type 0 where
   pub segment : place.segment < 2 ^ 16
   pub aligned : 8 * (place.offset / 8) ≡ place.offset
   pub offset : place.offset / 8 < 2 ^ l.offset_bits
   pub number : place.segment * 2 ^ l.offset_bits + place.offset / 8 + 1 < 2 ^ l.place_bits
 
--- the slot is one that a number stands for
+-- the slot can be packed
 pub record CanHold (l : Layout) (s : Slot) : Type 0 where
   pub place : IsInLayout l (place_of s)
   pub some : 1 ≤ s.tag
-  pub tag : (s.tag - 1) * 2 ^ l.place_bits + 2 ^ l.place_bits ≤ word_limit l
+  pub tag : (s.tag - 1) * 2 ^ l.place_bits + 2 ^ l.place_bits ≤ packed_limit l
 
 -- the places of a pool of these sizes are in the layout
 pub record IsLayoutOf (sizes : Sizes) (l : Layout) : Type 0 where
@@ -64,13 +65,13 @@ pub record IsLayoutOf (sizes : Sizes) (l : Layout) : Type 0 where
   pub places : sizes.segments * 2 ^ l.offset_bits ≤ 2 ^ l.place_bits
 
 -- slots, how they are kept, and how many of them there is room for
-pub record Row : Type 0 where
+pub record SlotArray : Type 0 where
   pub slots : List Slot
   pub layout : Layout
   pub room : ℕ
 
-abbrev pub slots_in_row : Layout → List ℕ → List ℕ → ℕ → ℕ → Row
-slots_in_row l narrow wide narrow_room wide_room = record {
+abbrev pub slot_array_of : Layout → List ℕ → List ℕ → ℕ → ℕ → SlotArray
+slot_array_of l narrow wide narrow_room wide_room = record {
   slots = map (slot_of l) (if nat_le l.place_bits 32 then narrow else wide);
   layout = l;
   room = if nat_le l.place_bits 32 then narrow_room else wide_room;

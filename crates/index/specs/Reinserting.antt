@@ -14,7 +14,8 @@ pub record IsNear (h : Hashing) (keys : KeysOf) (slots : List Slot) (from i : �
 
 -- each slot with a place is found from its key's home or from a certain slot, and no two of them have one key
 pub record AreNear (h : Hashing) (keys : KeysOf) (slots : List Slot) (from : ℕ) : Type 0 where
-  pub each : (i : ℕ) → i < length slots → is_used (slot_at slots i) ≡ true → (key : List ℕ) × IsNear h keys slots from i key
+  pub each : (i : ℕ) → i < length slots → is_used (slot_at slots i) ≡ true
+      → (key : List ℕ) × IsNear h keys slots from i key
   pub once : (i j : ℕ) → i < length slots → j < length slots → is_used (slot_at slots i) ≡ true
       → is_used (slot_at slots j) ≡ true
       → keys (place_of (slot_at slots i)) ≡ keys (place_of (slot_at slots j)) → i ≡ j

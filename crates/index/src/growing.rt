@@ -11,19 +11,21 @@ use crate::slots::Slots;
 use segments::Pool;
 use std::hash::FoldHasher;
 
-/// How many slots a row gets at most where a key is added: more than two, so that it is always at most half full.
+/// The most slots that are added for one new key: more than two, so that at most half of the slots are ever used.
 const MOST_AT_ONCE: usize = 3;
 
-/// Up to how many slots for each key a row grows.
+/// The most slots for each key.
 const SLOTS_FOR_EACH: usize = 3;
 
-/// Gives a row one slot more. The keys move that had gone over the end, which was used then, and those of one home that
-/// have another one now.
+/// Adds a slot. The keys move that had gone over the end, because the last slot was used, and those of the home that is
+/// split whose home is the new slot.
 fn grow(slots: &mut Slots, hasher: FoldHasher, pool: &Pool)
     requires room { length slots.old.slots < slots.old.room }
     requires gap { used_in slots.old.slots < length slots.old.slots }
-    requires indexed { AreIndexed (hashing (length slots.old.slots) slots.old.layout hasher) (key_at pool.now) slots.old.slots }
-    ensures indexed { AreIndexed (hashing (length slots.new.slots) slots.old.layout hasher) (key_at pool.now) slots.new.slots }
+    requires indexed { AreIndexed (hashing (length slots.old.slots) slots.old.layout hasher)
+        (key_at pool.now) slots.old.slots }
+    ensures indexed { AreIndexed (hashing (length slots.new.slots) slots.old.layout hasher)
+        (key_at pool.now) slots.new.slots }
     ensures places { places_in (key_at pool.now) slots.new.slots ≡ places_in (key_at pool.now) slots.old.slots }
     ensures used { used_in slots.new.slots ≡ used_in slots.old.slots }
     ensures layout { slots.new.layout ≡ slots.old.layout }
@@ -42,18 +44,20 @@ fn grow(slots: &mut Slots, hasher: FoldHasher, pool: &Pool)
     reinsert(slots, split_home(count), more, hasher, pool);
 }
 
-/// Makes a row longer for `keys` keys, while it has fewer slots than they ask for and than there is room for.
+/// Adds slots for `keys` keys, up to three, while there are fewer than three for each key and there is room.
 pub fn grow_for(slots: &mut Slots, keys: usize, hasher: FoldHasher, pool: &Pool)
     requires room { 2 * keys ≤ slots.old.room }
     requires half { 2 * keys ≤ length slots.old.slots + 2 }
     requires within { length slots.old.slots ≤ slots.old.room }
     requires keys { used_in slots.old.slots + 1 ≡ keys }
-    requires indexed { AreIndexed (hashing (length slots.old.slots) slots.old.layout hasher) (key_at pool.now) slots.old.slots }
+    requires indexed { AreIndexed (hashing (length slots.old.slots) slots.old.layout hasher)
+        (key_at pool.now) slots.old.slots }
     requires gap { used_in slots.old.slots < length slots.old.slots }
     ensures half { 2 * keys ≤ length slots.new.slots }
     ensures within { length slots.new.slots ≤ slots.new.room }
     ensures few { (length slots.new.slots ≡ length slots.old.slots) ⊎ (length slots.new.slots ≤ 3 * keys) }
-    ensures indexed { AreIndexed (hashing (length slots.new.slots) slots.old.layout hasher) (key_at pool.now) slots.new.slots }
+    ensures indexed { AreIndexed (hashing (length slots.new.slots) slots.old.layout hasher)
+        (key_at pool.now) slots.new.slots }
     ensures places { places_in (key_at pool.now) slots.new.slots ≡ places_in (key_at pool.now) slots.old.slots }
     ensures used { used_in slots.new.slots ≡ used_in slots.old.slots }
     ensures layout { slots.new.layout ≡ slots.old.layout }

@@ -25,7 +25,7 @@ use std::hash::FoldHasher;
 use std::marker::Model;
 use std::sync::atomic::{AtomicU64, Ordering};
 
-/// The places of items by their keys, in a table whose memory was taken once. Its used part grows with the keys, and is
+/// The places of items by their keys, in a table whose memory is taken once. Its used part grows with the keys, and is
 /// never more than half full.
 #[derive(Drop)]
 pub struct Index {
@@ -33,7 +33,7 @@ pub struct Index {
     hasher: FoldHasher,
     /// How many slots have a place.
     used: usize,
-    /// Some of what was read ahead, so that the reads aren't left out.
+    /// Some of what was read ahead, so that a compiler doesn't leave the reads out.
     read_ahead: AtomicU64,
 }
 
@@ -58,8 +58,8 @@ impl Model for Index {
 }
 
 impl Index {
-    /// A table without a key, with room for `count` slots. The seed is hashed before each key, so that who doesn't
-    /// know it can't choose keys that meet in few slots.
+    /// A table without a key, with memory for `count` slots. The seed is hashed before each key, so that clients who
+    /// don't know it can't choose keys that meet in few slots. NoMemory if memory is refused.
     pub fn new(alloc: Global, count: usize, layout: Layout, seed: u64) -> Result<Index, NoMemory>
         requires some { 1 ≤ count }
         requires layout { IsLayout layout }
@@ -83,7 +83,7 @@ impl Index {
     }
 
     /// Reads what a look-up of a key with this hash reads first: the slot where it begins, and what stands at that
-    /// slot's place, where that may be the key's. It answers some of what it read.
+    /// slot's place, if it may be the key's. It gives some of what it read.
     pub fn prefetch(&self, pool: &Pool, hash: u64) -> u64 {
         let home = home_of(self.slots.len(), hash);
         let slot = self.slots.get(home);
@@ -104,7 +104,7 @@ impl Index {
         self.read_ahead.store(read, Ordering::Relaxed);
     }
 
-    /// The place of the key.
+    /// The place of the key; None if the index doesn't have it.
     pub fn look_up(&self, pool: &Pool, key: &[u8]) -> Option<Place>
         requires { IsIndex (key_at pool.now) self.now }
         ensures place { result ≡ place_at (key_at pool.now) self.now key.now }
@@ -120,7 +120,7 @@ impl Index {
         }
     }
 
-    /// Gives the key this place in place of the one that it had, by one search. Where it had none, the used part of the
+    /// Gives the key this place, and returns the one that it had, by one search. If it had none, the used part of the
     /// table grows first, up to three slots for each key.
     pub fn insert(&mut self, pool: &Pool, key: &[u8], place: Place) -> Option<Place>
         requires index { IsIndex (key_at pool.now) self.old }
@@ -130,7 +130,8 @@ impl Index {
         ensures had { result ≡ place_at (key_at pool.now) self.old key.now }
         ensures map { IsMap (key_at pool.now) self.new (map.insert (places (key_at pool.now) self.old) key.now place) }
         ensures size { IsSameSize self.old self.new }
-        ensures few { (length self.new.slots ≡ length self.old.slots) ⊎ (length self.new.slots ≤ 3 * used_in self.new.slots) }
+        ensures few { (length self.new.slots ≡ length self.old.slots)
+            ⊎ (length self.new.slots ≤ 3 * used_in self.new.slots) }
         ensures half { IsTable self.new }
     {
         let hash = hash_of(self.hasher, key);
@@ -186,7 +187,7 @@ impl Index {
         self.used -= 1;
     }
 
-    /// Takes a key out where this is its place.
+    /// Takes a key out if this is its place.
     pub(crate) fn take_out(&mut self, pool: &Pool, key: &[u8], place: Place)
         requires index { IsIndex (key_at pool.now) self.old }
         requires key { key_at pool.now place ≡ Some key.now }
@@ -200,7 +201,7 @@ impl Index {
         }
     }
 
-    /// Takes all keys out, and leaves one slot in use.
+    /// Takes all keys out, and keeps one slot.
     pub fn clear(&mut self)
         ensures map { (keys : KeysOf) → IsMap keys self.new map.empty }
         ensures size { IsSameSize self.old self.new }

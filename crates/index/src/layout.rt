@@ -1,13 +1,14 @@
-//! How a slot is kept in one number.
+//! How a slot is packed into one number.
 
 ghost use Rattle.std.specs.Prelude.{◌≡◌, ◌<◌, ◌≤◌, ◌^◌, nat_le};
-ghost use Rattle.index.specs.Layouts.{IsLayout, IsLayoutOf, CanHold, word_limit, tag_shift, home_bits, tag_of, low_in, slot_of, word_of};
+ghost use Rattle.index.specs.Layouts.{IsLayout, IsLayoutOf, CanHold, packed_limit, tag_shift, home_bits, tag_of, low_in};
+ghost use Rattle.index.specs.Layouts.{slot_of, packed_of};
 
 use crate::slot::{EMPTY, Slot};
 use proto::Geometry;
 
-/// How many bits an offset takes, counted in eight bytes, and how many a place takes. What these leave of a number's
-/// four bytes is the tag's; where they leave less than nothing, numbers have eight bytes.
+/// How many bits an offset takes, counted in eight bytes, and how many a place takes. A packed slot has four bytes, of
+/// which the tag has the bits that a place leaves; if a place takes more than 32 bits, it has eight bytes.
 #[derive(Clone, Copy)]
 pub struct Layout {
     pub offset_bits: u32,
@@ -17,7 +18,7 @@ pub struct Layout {
 /// The most segments of a pool.
 const MAX_SEGMENTS: u64 = 65_536;
 
-/// The least number of bits, at least one, in which the numbers below `count` go.
+/// The fewest bits, at least one, that hold each number below `count`.
 fn bits_for(count: u64, most: u32) -> u32
     requires count { count ≤ 2 ^ most }
     requires some { 1 ≤ most }
@@ -47,7 +48,7 @@ pub fn layout_for(geometry: Geometry) -> Layout
 }
 
 impl Layout {
-    /// Whether a number has four bytes.
+    /// Whether a packed slot has four bytes.
     pub fn is_narrow(self) -> bool
         ensures { result ≡ nat_le self.place_bits 32 }
     {
@@ -66,9 +67,9 @@ impl Layout {
         }
     }
 
-    /// How many of a hash's lowest bits stand in a slot. They say most of what the key's home is: so keys of other
-    /// homes are told apart, and a backward shift mostly looks at no keys. The other bits tell apart keys of one
-    /// home.
+    /// How many of a hash's lowest bits stand in a slot. They say most of what the key's home is: they tell keys of
+    /// different homes apart, and by them a backward shift mostly needs no keys. The other bits tell keys of one home
+    /// apart.
     pub fn home_bits(self) -> u32
         requires { IsLayout self }
         ensures value { result ≡ home_bits self }
@@ -102,40 +103,40 @@ impl Layout {
         (tag - 1) & ((1u64 << self.home_bits()) - 1)
     }
 
-    /// The tag of the slot that a number stands for, 0 where that is empty.
-    pub fn tag_in(self, word: u64) -> u64
+    /// The tag of a packed slot, 0 if the slot is empty.
+    pub fn tag_in(self, packed: u64) -> u64
         requires { IsLayout self }
-        ensures { result ≡ (slot_of self word).tag }
+        ensures { result ≡ (slot_of self packed).tag }
     {
-        if word == 0 {
+        if packed == 0 {
             0
         } else {
-            (word >> self.place_bits) + 1
+            (packed >> self.place_bits) + 1
         }
     }
 
-    /// The slot that a number stands for.
-    pub fn slot_of(self, word: u64) -> Slot
+    /// The slot that was packed.
+    pub fn slot_of(self, packed: u64) -> Slot
         requires { IsLayout self }
-        ensures { result ≡ slot_of self word }
+        ensures { result ≡ slot_of self packed }
     {
-        if word == 0 {
+        if packed == 0 {
             return EMPTY;
         }
-        let number = (word & ((1u64 << self.place_bits) - 1)).saturating_sub(1);
+        let number = (packed & ((1u64 << self.place_bits) - 1)).saturating_sub(1);
         Slot {
-            tag: (word >> self.place_bits) + 1,
+            tag: (packed >> self.place_bits) + 1,
             segment: ((number >> self.offset_bits) % MAX_SEGMENTS) as u32,
             offset: 8 * (number & ((1u64 << self.offset_bits) - 1)) as u32,
         }
     }
 
-    /// The number that stands for a slot.
-    pub fn word_of(self, slot: Slot) -> u64
+    /// The slot, packed.
+    pub fn packed_of(self, slot: Slot) -> u64
         requires layout { IsLayout self }
         requires slot { CanHold self slot }
-        ensures value { result ≡ word_of self slot }
-        ensures limit { result < word_limit self }
+        ensures value { result ≡ packed_of self slot }
+        ensures limit { result < packed_limit self }
     {
         let number = ((slot.segment as u64) << self.offset_bits) + slot.offset as u64 / 8 + 1;
         ((slot.tag - 1) << self.place_bits) + number

@@ -1,4 +1,4 @@
-//! Keys put where their searches find them, along a cluster: used slots in a row.
+//! Moves keys to where their searches find them, along a cluster, which is a run of used slots.
 
 ghost use Rattle.std.specs.Prelude.{◌≡◌, ◌<◌, ◌≤◌, length};
 ghost use Rattle.index.specs.Keys.{key_at};
@@ -13,14 +13,14 @@ use crate::slots::Slots;
 use segments::Pool;
 use std::hash::FoldHasher;
 
-/// Slots that are known to be used: from the first one on, up to the end, which itself may be empty.
+/// Slots that are known to be used: from the first one up to the end, which itself may be empty.
 #[derive(Clone, Copy)]
 struct Stretch {
     first: usize,
     end: usize,
 }
 
-/// The first empty slot of the search from a home, or another slot that comes before it, as the end of a stretch. Where
+/// The first empty slot of the search from a home, or another slot that comes before it, as the end of a stretch. If
 /// the home is in a stretch that is known, and that doesn't go past the other slot, the search goes on from its end.
 fn search(slots: &Slots, known: Stretch, home: usize, at: usize) -> Stretch
     requires known { IsStretch slots.now.slots known }

@@ -12,12 +12,12 @@ use crate::hash::hash_of;
 use crate::index::Index;
 use segments::{Move, Pool};
 
-/// How many moves' slots are read ahead at once.
+/// The number of moves whose slots are read ahead at once.
 const MOVES_AHEAD: usize = 16;
 
 impl Index {
-    /// Reads the slots at which the searches for the keys of some moves begin: of those that keep their items, or of
-    /// those that don't. They come from memory at the same time.
+    /// Reads the slots at which the searches for the keys of the next moves begin: of those that keep their items, or
+    /// of those that don't. The slots come from memory at the same time.
     fn read_ahead(&self, pool: &Pool, moves: &[Move], from: usize, kept: bool)
         requires sources { All (λ m. IsSome (item_in pool.now m.source)) moves.now }
     {
@@ -60,7 +60,8 @@ impl Index {
         requires sources { All (λ m. IsSome (item_in pool.now m.source)) moves.now }
         requires can { CanRelocate (key_at pool.now) (keys_behind pool.now) self.old moves.now }
         requires lost { All (λ m. m.target ≡ None → ¬ (HasPlace self.old m.source)) moves.now }
-        ensures relocated { IsRelocated (key_at pool.now) (keys_behind pool.now) (moved_by moves.now) self.old self.new }
+        ensures relocated { IsRelocated (key_at pool.now) (keys_behind pool.now)
+            (moved_by moves.now) self.old self.new }
         ensures size { IsSameSize self.old self.new }
     {
         let mut number: usize = 0;
@@ -81,7 +82,8 @@ impl Index {
     pub fn relocate(&mut self, pool: &Pool)
         requires index { IsIndex (key_at pool.now) self.old }
         requires can { CanRelocate (key_at pool.now) (keys_behind pool.now) self.old (planned_moves pool.now.plan) }
-        ensures relocated { IsRelocated (key_at pool.now) (keys_behind pool.now) (moved_by (planned_moves pool.now.plan)) self.old self.new }
+        ensures relocated { IsRelocated (key_at pool.now) (keys_behind pool.now)
+            (moved_by (planned_moves pool.now.plan)) self.old self.new }
         ensures size { IsSameSize self.old self.new }
     {
         let moves = pool.moves();

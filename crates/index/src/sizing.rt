@@ -6,7 +6,7 @@ ghost use Rattle.index.specs.Sizing.{most_items};
 
 use proto::{Geometry, MIN_ITEM_SIZE};
 
-/// How many slots the index of a pool of these sizes has, of which the items of a full pool use half at most.
+/// The slots of the index for a pool of these sizes. The items of a full pool use at most half of them.
 pub fn slots_for(geometry: Geometry) -> usize
     ensures { IsNextPowerOfTwo (2 * most_items geometry) result }
 {

@@ -1,8 +1,8 @@
-//! The slots of a table, each kept in one number.
+//! The slots of a table, each packed into one number.
 
 ghost use Rattle.std.specs.Prelude.{◌≡◌, ◌<◌, ◌≤◌, ◌∷◌, [], ◌++◌, IfOk, length, slice_set};
 ghost use Rattle.index.specs.Slots.{empty_slot, slot_at};
-ghost use Rattle.index.specs.Layouts.{IsLayout, CanHold, slot_of, word_limit};
+ghost use Rattle.index.specs.Layouts.{IsLayout, CanHold, slot_of, packed_limit};
 
 use crate::layout::Layout;
 use crate::slot::Slot;
@@ -21,17 +21,18 @@ pub struct Slots {
 
 impl Model for Slots {
     ghost use Rattle.std.specs.Prelude.{vec_capacity};
-    ghost use Rattle.index.specs.Layouts.{Row, slots_in_row, IsLayout};
+    ghost use Rattle.index.specs.Layouts.{SlotArray, slot_array_of, IsLayout};
 
-    ghost Value = { Row };
+    ghost Value = { SlotArray };
 
-    ghost view = { λ a. slots_in_row a.layout a.narrow.items a.wide.items (vec_capacity a.narrow) (vec_capacity a.wide) };
+    ghost view = { λ a. slot_array_of a.layout a.narrow.items a.wide.items (vec_capacity a.narrow)
+        (vec_capacity a.wide) };
 
     ghost invariant = { λ a. IsLayout a.layout };
 }
 
 impl Slots {
-    /// One empty slot, with room for `count`.
+    /// One empty slot, with memory for `count`. NoMemory if memory is refused.
     pub fn new(alloc: Global, count: usize, layout: Layout) -> Result<Slots, NoMemory>
         requires some { 1 ≤ count }
         requires layout { IsLayout layout }
@@ -77,11 +78,11 @@ impl Slots {
         }
     }
 
-    /// The number of a slot.
-    fn word(&self, at: usize) -> u64
+    /// A slot as it is packed.
+    fn packed(&self, at: usize) -> u64
         requires { at < length self.now.slots }
         ensures slot { slot_of self.now.layout result ≡ slot_at self.now.slots at }
-        ensures limit { result < word_limit self.now.layout }
+        ensures limit { result < packed_limit self.now.layout }
     {
         if self.layout.is_narrow() {
             self.narrow[at] as u64
@@ -90,16 +91,16 @@ impl Slots {
         }
     }
 
-    /// Gives a slot another number.
-    fn set_word(&mut self, at: usize, word: u64)
+    /// Stores a packed slot.
+    fn set_packed(&mut self, at: usize, packed: u64)
         requires at { at < length self.old.slots }
-        requires limit { word < word_limit self.old.layout }
-        ensures { self.new ≡ record self.old { slots = slice_set self.old.slots at (slot_of self.old.layout word) } }
+        requires limit { packed < packed_limit self.old.layout }
+        ensures { self.new ≡ record self.old { slots = slice_set self.old.slots at (slot_of self.old.layout packed) } }
     {
         if self.layout.is_narrow() {
-            self.narrow[at] = word as u32;
+            self.narrow[at] = packed as u32;
         } else {
-            self.wide[at] = word;
+            self.wide[at] = packed;
         }
     }
 
@@ -107,20 +108,20 @@ impl Slots {
         requires { at < length self.now.slots }
         ensures { result ≡ slot_at self.now.slots at }
     {
-        self.layout.slot_of(self.word(at))
+        self.layout.slot_of(self.packed(at))
     }
 
-    /// The tag of a slot, 0 where it is empty.
+    /// The tag of a slot, 0 if it is empty.
     pub fn tag(&self, at: usize) -> u64
         requires { at < length self.now.slots }
         ensures { result ≡ (slot_at self.now.slots at).tag }
     {
-        self.layout.tag_in(self.word(at))
+        self.layout.tag_in(self.packed(at))
     }
 
-    /// The number of a slot, or 0 where there is none.
+    /// A slot as it is packed, or 0 if there is none.
     pub fn peek(&self, at: usize) -> u64 {
-        if at < self.len() { self.word(at) } else { 0 }
+        if at < self.len() { self.packed(at) } else { 0 }
     }
 
     pub fn set(&mut self, at: usize, slot: Slot)
@@ -128,8 +129,8 @@ impl Slots {
         requires slot { CanHold self.old.layout slot }
         ensures { self.new ≡ record self.old { slots = slice_set self.old.slots at slot } }
     {
-        let word = self.layout.word_of(slot);
-        self.set_word(at, word);
+        let packed = self.layout.packed_of(slot);
+        self.set_packed(at, packed);
     }
 
     /// Empties a slot.
@@ -137,20 +138,21 @@ impl Slots {
         requires { at < length self.old.slots }
         ensures { self.new ≡ record self.old { slots = slice_set self.old.slots at empty_slot } }
     {
-        self.set_word(at, 0);
+        self.set_packed(at, 0);
     }
 
-    /// Puts into a slot what stands in another one.
+    /// Copies a slot to another one.
     pub fn copy(&mut self, source: usize, target: usize)
         requires source { source < length self.old.slots }
         requires target { target < length self.old.slots }
-        ensures { self.new ≡ record self.old { slots = slice_set self.old.slots target (slot_at self.old.slots source) } }
+        ensures { self.new
+            ≡ record self.old { slots = slice_set self.old.slots target (slot_at self.old.slots source) } }
     {
-        let word = self.word(source);
-        self.set_word(target, word);
+        let packed = self.packed(source);
+        self.set_packed(target, packed);
     }
 
-    /// Adds an empty slot behind the others.
+    /// Appends an empty slot.
     pub fn push(&mut self)
         requires { length self.old.slots < self.old.room }
         ensures { self.new ≡ record self.old { slots = self.old.slots ++ empty_slot ∷ [] } }
@@ -162,7 +164,7 @@ impl Slots {
         }
     }
 
-    /// Leaves one slot, which is empty.
+    /// Keeps one slot, which is empty.
     pub fn clear(&mut self)
         requires { 1 ≤ self.old.room }
         ensures { self.new ≡ record self.old { slots = empty_slot ∷ [] } }

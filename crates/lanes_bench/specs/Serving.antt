@@ -1,5 +1,5 @@
 -- What the storage loops keep of their ends.
-use Rattle.std.specs.Prelude.{◌≡◌, [], None}
+use Rattle.std.specs.Prelude.{◌≡◌, [], None, false}
 use Rattle.proto.specs.Sizes.{Sizes}
 use Rattle.proto.specs.Cache.{empty_cache}
 use Rattle.engine.specs.PlainState.{plain_sizes, plain_cache, plain_moment}
@@ -21,7 +21,7 @@ HasTakenNothing s = (s.taken ≡ []) × (s.open_request ≡ None) × (s.history 
 
 -- the same of an end of either exchange, for these sizes
 abbrev pub IsUnusedEnd : Sizes → ServedEnd → Type 0
-IsUnusedEnd sizes (Lanes end) = IsUnused end × (end.geometry ≡ sizes)
+IsUnusedEnd sizes (Lanes end) = IsUnused end × (end.terms.geometry ≡ sizes) × (end.terms.system_clock ≡ false)
 IsUnusedEnd sizes (Queues end) = HasTakenNothing end × (end.geometry ≡ sizes)
 
 -- and an empty store of its sizes

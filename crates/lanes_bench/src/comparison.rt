@@ -3,6 +3,7 @@
 use crate::checks::Checks;
 use crate::player::{Player, Workload};
 use crate::runs::{Way, run_load};
+use proto::WINDOW;
 use std::alloc::Global;
 use std::sync::Wait;
 use std::thread::Threads;
@@ -57,7 +58,7 @@ pub(crate) fn compare<R: Threads + Wait + Clock + Sync>(
         checks.workers = workers;
         let load = Workload {
             each: REQUESTS / workers as u64,
-            window: 64,
+            window: WINDOW,
             kept: true,
             pause: Duration::ZERO,
         };

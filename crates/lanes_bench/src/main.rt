@@ -1,7 +1,8 @@
 //! Requests a second through the lanes, singly and in batches, and through the exchange by queues, each to the plain
 //! store and back. The figures go to standard error, since they differ from run to run. `lanes_bench N` hands over N requests a run;
 //! `lanes_bench idle N` lets the storage thread wait N seconds for nothing, to be timed from outside. With no word it first
-//! tries a window of the queues, and whether lanes and queues give the same answers to the same requests.
+//! tries how long an idle thread spins, a window of the queues, and whether lanes and queues give the same answers to the
+//! same requests.
 #![tactic(auto)]
 
 mod checks;
@@ -10,6 +11,8 @@ mod ends;
 mod player;
 mod runs;
 mod serving;
+mod spinning;
+mod stopped;
 mod window;
 
 ghost use Rattle.std.specs.Prelude.{◌<◌};
@@ -18,6 +21,7 @@ use crate::checks::Checks;
 use crate::comparison::compare;
 use crate::player::Workload;
 use crate::runs::{Way, run_load};
+use crate::spinning::check_spinning;
 use crate::window::check_window;
 use std::env;
 use std::io::Eprint;
@@ -112,6 +116,7 @@ fn is_same<R: Threads + Wait + Clock + Sync + AllocGlobal + Eprint>(rt: &R) -> b
         workers: 1,
         failed: None,
     };
+    check_spinning(rt, &mut checks);
     check_window(rt, rt.alloc(), &mut checks);
     if checks.failed.is_none() {
         compare(rt, rt.alloc(), &mut checks);

@@ -98,7 +98,7 @@ impl Player {
 
     /// Keeps the bytes of an answer. Where memory is wanting those kept so far are dropped.
     fn keep(&mut self, reply: &mut Reply) {
-        if show_reply(false, reply, &mut self.answers).is_err() {
+        if show_reply(reply, &mut self.answers).is_err() {
             self.answers.clear();
         }
     }

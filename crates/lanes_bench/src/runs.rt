@@ -6,9 +6,10 @@ ghost use Rattle.lanes_bench.specs.Serving.{IsUnusedEnd, IsFresh};
 use crate::ends::CallingEnd;
 use crate::player::{Player, Workload};
 use crate::serving::serve_queues;
-use engine::{Clock, PlainStore};
+use crate::stopped::Stopped;
+use engine::PlainStore;
 use exchange::StorageSignals;
-use proto::Geometry;
+use proto::{AskedClock, Geometry, Terms};
 use std::alloc::{AllocError, Global};
 use std::hash::FoldHasher;
 use std::sync::Wait;
@@ -16,26 +17,6 @@ use std::thread::Threads;
 use std::time::{Duration, Instant};
 use std::{thread, time};
 use storage_thread::run_storage;
-
-/// A clock that stands still: it answers 0 always.
-#[derive(Drop)]
-struct Stopped;
-
-impl Clock for Stopped {
-    ghost use Rattle.std.specs.Prelude.{⊤, None};
-
-    ghost told = { λ _. None };
-
-    ghost leads_to = { λ _ _. ⊤ };
-
-    ghost leads_reflexive = { λ _. tt };
-
-    ghost leads_transitive = { λ _ _ _ _ _. tt };
-
-    fn now(&mut self) -> u64 {
-        0
-    }
-}
 
 /// What the requests go through: the lanes, singly or in batches, or the queues.
 #[derive(Clone, Copy)]
@@ -104,7 +85,11 @@ fn over_lanes(
 ) -> Option<(Vec<Player>, ServedEnd)>
     ensures { IfSome result (λ r. IsUnusedEnd geometry r.1) }
 {
-    let (ends, storage) = exchange::make(alloc, workers, geometry).ok()?;
+    let terms = Terms {
+        geometry,
+        system_clock: false,
+    };
+    let (ends, storage) = exchange::make(alloc, workers, terms).ok()?;
     let players = lane_players(alloc, ends, are_batched, load).ok()?;
     Some((players, ServedEnd::Lanes(storage)))
 }
@@ -141,7 +126,12 @@ fn opened(
 }
 
 // Serves until each worker has said bye.
-fn serve<R: Wait>(rt: &R, store: PlainStore, storage: ServedEnd, signals: &StorageSignals)
+fn serve<R: Wait + time::Clock>(
+    rt: &R,
+    store: PlainStore,
+    storage: ServedEnd,
+    signals: &StorageSignals,
+)
     requires { IsFresh store storage }
 {
     match storage {
@@ -149,7 +139,7 @@ fn serve<R: Wait>(rt: &R, store: PlainStore, storage: ServedEnd, signals: &Stora
             run_storage(rt, store, Stopped, end, signals);
         }
         ServedEnd::Queues(end) => {
-            serve_queues(rt, store, end);
+            serve_queues(rt, store, AskedClock::new(Stopped), end);
         }
     }
 }
@@ -205,7 +195,7 @@ pub(crate) fn run_load<R: Threads + Wait + time::Clock + Sync>(
     load: Workload,
 ) -> Option<Run> {
     let geometry = Geometry::new(4096, 8).ok()?;
-    let signals = StorageSignals::new(alloc, FoldHasher::default(), workers).ok()?;
+    let signals = StorageSignals::new(alloc, FoldHasher::default(), workers, None).ok()?;
     let store = PlainStore::new(alloc, geometry).ok()?;
     let (players, storage) = opened(alloc, way, workers, geometry, load)?;
     Some(timed(rt, store, &signals, storage, players))

@@ -1,6 +1,6 @@
 //! A full window of the queues, of which one request is answered, and what `gather` counts then.
 
-ghost use Rattle.std.specs.Prelude.{◌≡◌, None, IfSome};
+ghost use Rattle.std.specs.Prelude.{◌≡◌, IfSome};
 ghost use Rattle.proto.specs.Cache.{empty_cache};
 ghost use Rattle.engine.specs.PlainState.{plain_sizes, plain_cache, plain_moment};
 ghost use Rattle.engine.specs.Reaching.{Reaches};
@@ -10,8 +10,9 @@ ghost use Rattle.lanes_bench.specs.Window.{StaysAsItWas};
 
 use crate::checks::Checks;
 use crate::serving::{Served, serve_next};
+use crate::stopped::Stopped;
 use engine::PlainStore;
-use proto::{Geometry, Posted, Request};
+use proto::{AskedClock, Geometry, Posted, Request, WINDOW};
 use queue_exchange::{Gathered, StorageEnd, WorkerEnd, gather, make};
 use std::alloc::{AllocError, Global};
 use std::sync::Wait;
@@ -34,11 +35,14 @@ fn made(alloc: Global) -> Option<(WorkerEnd, StorageEnd, PlainStore)>
     Some((end, storage, store))
 }
 
+/// More requests than a window has.
+const TRIES: u64 = 2 * WINDOW;
+
 /// Posts requests until one is handed back, and says how many were sent.
 fn fill<R: Wait>(rt: &R, end: &mut WorkerEnd) -> u64
     ensures { StaysAsItWas end.old end.new }
 {
-    for sent in 0..70 {
+    for sent in 0..TRIES {
         let posted = Posted {
             session: 7,
             number: end.sent() + 1,
@@ -49,7 +53,7 @@ fn fill<R: Wait>(rt: &R, end: &mut WorkerEnd) -> u64
             return sent;
         }
     }
-    70
+    TRIES
 }
 
 /// The number of the next answer, or 0 where there is none.
@@ -66,7 +70,7 @@ fn number<R: Wait>(rt: &R, end: &mut WorkerEnd) -> u64
     }
 }
 
-/// A window has room for 64 requests, and for one more once one was answered.
+/// A window has room for WINDOW requests, and for one more once one was answered.
 fn fill_window<R: Wait>(
     rt: &R,
     checks: &mut Checks,
@@ -74,16 +78,18 @@ fn fill_window<R: Wait>(
     storage: &mut StorageEnd,
     store: &mut PlainStore,
 )
-    requires reaches { Reaches storage.old.geometry storage.old.history (plain_cache store.old) (plain_moment store.old) }
+    requires reaches { Reaches storage.old.geometry storage.old.history (plain_cache store.old)
+        (plain_moment store.old) }
     requires sizes { plain_sizes store.old ≡ storage.old.geometry }
-    requires shut { storage.old.open_request ≡ None }
+    requires unused { HasTakenNothing storage.old }
     ensures end { StaysAsItWas end.old end.new }
     ensures storage { IsSameQueues storage.old storage.new }
 {
     checks.check("workers", storage.workers() == 1);
-    checks.check("requests sent", fill(rt, end) == 64);
+    checks.check("requests sent", fill(rt, end) == WINDOW);
     checks.check("no answer before storage's turn", number(rt, end) == 0);
-    let served = serve_next(rt, store, storage);
+    let mut clock = AskedClock::new(Stopped);
+    let served = serve_next(rt, store, &mut clock, storage);
     checks.check("a request taken", matches!(served, Served::Request));
     checks.check("no request open", !storage.is_open());
     checks.check("the answer", number(rt, end) == 1);
@@ -100,14 +106,14 @@ fn gathered(alloc: Global, end: WorkerEnd, storage: StorageEnd) -> Result<Gather
     Ok(gather(ends, storage))
 }
 
-/// What is counted of the one worker: 65 requests and an answer.
+/// What is counted of the one worker: a request more than the window has, and an answer.
 fn check_gathered(checks: &mut Checks, gathered: Result<Gathered, AllocError>) {
     let Ok(gathered) = gathered else {
         return checks.check("memory to gather", false);
     };
     checks.check(
         "gathered requests",
-        gathered.sent == [65, 0, 0, 0, 0, 0, 0, 0],
+        gathered.sent == [WINDOW + 1, 0, 0, 0, 0, 0, 0, 0],
     );
     checks.check(
         "gathered answers",

@@ -2,7 +2,7 @@
 
 use anyhow::{Result, bail};
 use bytes::Bytes;
-use proto::{Answered, Dialect, Hits, Reply, Request};
+use proto::{Answered, ClockAnswers, Dialect, Hits, Reply, Request};
 use session_book::{Book, Received, Settled};
 use std::alloc::Global;
 use std::fmt;
@@ -44,12 +44,13 @@ fn send(book: &mut Book, session: u64, piece: Bytes) -> Result<()> {
 /// Settles a request with no hit, gives the output, and answers how many bytes that is.
 fn answer(alloc: Global, book: &mut Book, session: u64, asked: (Request, u64)) -> Result<usize> {
     let (request, number) = asked;
-    let settled = book.settle(&mut Answered {
+    let settled = book.settle(Answered {
         worker: 0,
         session,
         number,
         request,
         moment: 0,
+        clock: ClockAnswers::none(),
         reply: Reply::Values(Hits::new(alloc)),
     });
     if settled != Settled::Kept {

@@ -1,12 +1,12 @@
-//! How long the layers of the cache take, each measured alone. What was done goes to the standard output, the times to the
-//! standard error. `layers_bench LAYER ..` measures one layer:
+//! How long the layers of the cache take, each measured alone. What was done goes to the standard output, the times
+//! to the standard error. `layers_bench LAYER ..` measures one layer:
 //!
 //! - `book`: each part of a book's work, once and then with four times the work;
 //! - `segments N`: appends N times what a pool has room for;
 //! - `index N`: N look-ups of each kind;
 //! - `segcache N`: N requests of each kind to the segmented store, and to the plain one;
 //! - `segcache N B S V`: sets N keys with values of V bytes in a segmented store of S segments of B bytes, then N more,
-//!   and flushes it; and so in the plain one, which keeps them all.
+//! and flushes it; and so in the plain one, which keeps them all.
 //!
 //! With no number each is a short run, and with no word all four are, one after the other.
 #![tactic(auto)]

@@ -2,7 +2,9 @@
 
 use crate::same::check_same;
 use bytes::Bytes;
-use proto::{Answered, Dialect, HitRef, HitWriter, NoMemory, Reply, Request, SpareBuffer};
+use proto::{
+    Answered, ClockAnswers, Dialect, HitRef, HitWriter, NoMemory, Reply, Request, SpareBuffer,
+};
 use session_book::{Book, Received, Settled};
 use std::alloc::Global;
 use std::process::Abort;
@@ -76,15 +78,16 @@ fn ask(book: &mut Book, session: u64) -> Result<Option<u64>, Fail> {
 /// Settles a request of session 1 with a value of this length.
 fn answer(alloc: Global, book: &mut Book, number: u64, length: usize) -> Result<Settled, Fail> {
     let reply = value_of(alloc, length)?;
-    let mut answered = Answered {
+    let answered = Answered {
         worker: 0,
         session: 1,
         number,
         request: Request::FlushAll { delay: 0 },
         moment: 1000,
+        clock: ClockAnswers::none(),
         reply,
     };
-    Ok(book.settle(&mut answered))
+    Ok(book.settle(answered))
 }
 
 fn push_hit(hits: &mut HitWriter, value: &[u8]) -> Result<(), NoMemory> {
@@ -92,7 +95,7 @@ fn push_hit(hits: &mut HitWriter, value: &[u8]) -> Result<(), NoMemory> {
         key: b"a",
         flags: 0,
         value,
-        cas: 1,
+        cas: None,
     };
     hits.reserve(hit.room().ok_or(NoMemory)?)?;
     hits.push(hit);
@@ -101,7 +104,7 @@ fn push_hit(hits: &mut HitWriter, value: &[u8]) -> Result<(), NoMemory> {
 
 fn value_of(alloc: Global, length: usize) -> Result<Reply, Fail> {
     let value = vec![in alloc; b'v'; length]?;
-    let mut hits = HitWriter::in_buffer(SpareBuffer::new(alloc), false);
+    let mut hits = HitWriter::in_buffer(SpareBuffer::new(alloc));
     push_hit(&mut hits, value.as_slice())?;
     Ok(Reply::Values(hits.finish()))
 }

@@ -2,9 +2,9 @@
 //! saw is found out.
 
 use bytes::Bytes;
-use engine::{Clock as Moments, PlainStore};
+use engine::PlainStore;
 use group::{Config, run_group};
-use proto::{Dialect, Geometry};
+use proto::{Clock as Moments, ClockAnswer, Dialect, Geometry, Terms};
 use std::alloc::Global;
 use std::collections::VecDeque;
 use std::process::Abort;
@@ -70,16 +70,18 @@ impl<R: Clock + Drop> Moments for WaitingClock<'_, R> {
 
     ghost leads_to = { λ _ _. ⊤ };
 
+    ghost start = { λ _. None };
+
     ghost leads_reflexive = { λ _. tt };
 
     ghost leads_transitive = { λ _ _ _ _ _. tt };
 
-    fn now(&mut self) -> u64 {
+    fn now(&mut self) -> ClockAnswer {
         if self.asked % TOLD_TOGETHER == 0 {
             self.answers.wait_for(&self.rt, self.asked);
         }
         self.asked = self.asked.saturating_add(1);
-        1000
+        ClockAnswer::given(1000)
     }
 }
 
@@ -154,9 +156,12 @@ fn each_eighth_answer_is_told(rt: HostRuntime) {
         alloc,
         ports,
         Config {
-            geometry,
+            terms: Terms {
+                geometry,
+                system_clock: false,
+            },
             dialect: Dialect::Strict,
-            stores_sessions: false,
+            spin: None,
         },
         store,
         clock,

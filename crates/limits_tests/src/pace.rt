@@ -3,9 +3,9 @@
 
 use crate::runs::SteadyClock;
 use bytes::Bytes;
-use engine::{Clock as Moments, PlainStore};
+use engine::PlainStore;
 use group::{Config, run_group};
-use proto::{Dialect, Geometry};
+use proto::{Clock as Moments, ClockAnswer, Dialect, Geometry, Terms};
 use std::alloc::Global;
 use std::process::Abort;
 use std::sync::Wait;
@@ -40,13 +40,15 @@ impl<R: Clock + Drop> Moments for SlowClock<R> {
 
     ghost leads_to = { λ _ _. ⊤ };
 
+    ghost start = { λ _. None };
+
     ghost leads_reflexive = { λ _. tt };
 
     ghost leads_transitive = { λ _ _ _ _ _. tt };
 
-    fn now(&mut self) -> u64 {
+    fn now(&mut self) -> ClockAnswer {
         thread::sleep(&self.rt, Duration::from_millis(PAUSE_MILLIS));
-        1000
+        ClockAnswer::given(1000)
     }
 }
 
@@ -117,9 +119,12 @@ where
     };
     let geometry = Geometry::new(65_536, 64).expect(rt, "a geometry");
     let config = Config {
-        geometry,
+        terms: Terms {
+            geometry,
+            system_clock: false,
+        },
         dialect: Dialect::Strict,
-        stores_sessions: false,
+        spin: None,
     };
     let store = PlainStore::new(alloc, geometry).expect(rt, "memory");
     let mut ports = Vec::new(alloc);

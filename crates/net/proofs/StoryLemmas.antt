@@ -1,15 +1,15 @@
 -- What is told when the streams of a port change.
 use Rattle.std.proofs.Common.{◌≡◌, ℕ, ◌+◌, ◌<◌, ◌≤◌, ◌==◌, Bool, true, false, not, ◌||◌, cond}
 use Rattle.std.proofs.Common.{List, [], ◌∷◌, ◌++◌, length, refl, sym, ap, ◌∙◌, append-nil, arith, ⊎_elim}
-use Rattle.std.specs.Prelude.{Option, None, Some, is_some}
+use Rattle.std.specs.Prelude.{ℤ, Option, None, Some, is_some}
 use Rattle.std.specs.Option.{option_map}
 use Rattle.std.specs.Bool.{nat_eq}
 use Rattle.std.proofs.lemmas.Bool.{both_ways, eqb-true, eq-eqb, ne_eqb, cases_lt, and_left}
 use Rattle.worker_port.specs.declared.events.PortRecord.{PortRecord}
-use Rattle.worker_port.specs.declared.events.PortRecord.TheVariants.{Opened, Data, Gone, Accepted, Shut}
+use Rattle.worker_port.specs.declared.events.PortRecord.TheVariants.{Opened, Data, EndOfInput, Gone, Accepted, Shut}
 use Rattle.worker_port.specs.declared.events.PortEvent.TheVariants as event
 use Rattle.worker_port.specs.Ports.{PortStory, then_told, with_pause, is_in, is_open}
-use Rattle.net.specs.Seen.{Seen, IsSet, fresh, then_received, then_sent, then_paused, is_paused}
+use Rattle.net.specs.Seen.{Seen, IsSet, fresh, then_received, then_sent, then_over, then_paused, is_paused, is_over}
 use Rattle.net.specs.Ties.{Ties}
 use Rattle.net.specs.Stories.{Whose, story, Tells}
 use Rattle.proto.specs.declared.history.Answered.{Answered}
@@ -39,6 +39,10 @@ sent_pause : (n : Option Seen) (b : List ℕ) → is_paused (option_map (then_se
 sent_pause None b = refl
 sent_pause (Some x) b = refl
 
+over_pause : (n : Option Seen) → is_paused (option_map then_over n) ≡ is_paused n
+over_pause None = refl
+over_pause (Some x) = refl
+
 set_pause : (n : Option Seen) (b : Bool) → is_some n ≡ true → is_paused (option_map (then_paused b) n) ≡ b
 set_pause None b h = absurd (both_ways false refl h)
 set_pause (Some x) b h = refl
@@ -62,12 +66,12 @@ module _ (w : Whose) (streams next : ℕ → Option Seen) (s : ℕ) (now : Optio
   kept set same o = kept_case o (set o) same (nat_eq s o) refl
 
 module _ (w : Whose) (streams next : ℕ → Option Seen) (last : ℕ) (l : List PortRecord) (s : ℕ) (t : Ties streams last l false) where
-  pub tells_opened : s ≡ last + 1 → IsSet s (Some fresh) streams next → Tells (story w streams l) (event.Opened s) (story w next (l ++ Opened s ∷ []))
-  tells_opened n set =
+  pub tells_opened : (socket : ℤ) → s ≡ last + 1 → IsSet s (Some (fresh socket)) streams next → Tells (story w streams l) (event.Opened s) (story w next (l ++ Opened s ∷ []))
+  tells_opened socket n set =
       let behind = t.2 s (omega arith) in
       let closed : is_some (streams s) ≡ false = sym (t.0 s) ∙ and_left (is_in (Opened s) l) (not (is_in (Gone s) l || is_in (Shut s) l)) behind.0 in
       record {
-        told = told_by w streams next l (Opened s ∷ []) (kept w streams next s (Some fresh) set (sym (not_open (streams s) closed)));
+        told = told_by w streams next l (Opened s ∷ []) (kept w streams next s (Some (fresh socket)) set (sym (not_open (streams s) closed)));
         may = (
           omega arith,
           (λ k was. ⊎_elim (λ (b : last < k). absurd (both_ways (is_in (Opened k) l) (t.2 k b).0 was)) (λ (b : k ≤ last). omega arith) (cases_lt last k)),
@@ -76,12 +80,25 @@ module _ (w : Whose) (streams next : ℕ → Option Seen) (last : ℕ) (l : List
         orders = omega (arith, t.4);
       }
 
-  pub tells_fed : (b : List ℕ) → is_open s l ≡ true → is_paused (streams s) ≡ false → 0 < length b → length b ≤ 16384
+  -- no end of input was told of an open session of whose stream more may come
+  not_over : is_open s l ≡ true → is_over (streams s) ≡ false → is_in (EndOfInput s) l ≡ false
+  not_over is_open_now more = (t.1 s (sym (t.0 s) ∙ is_open_now)).2 ∙ more
+
+  pub tells_fed : (b : List ℕ) → is_open s l ≡ true → is_paused (streams s) ≡ false → is_over (streams s) ≡ false → 0 < length b → length b ≤ 16384
       → IsSet s (option_map (then_received b) (streams s)) streams next → Tells (story w streams l) (event.Data s b) (story w next (l ++ Data s b ∷ []))
-  tells_fed b is_open_now ready some fits set = record {
+  tells_fed b is_open_now ready more some fits set = record {
     told = told_by w streams next l (Data s b ∷ []) (kept w streams next s (option_map (then_received b) (streams s)) set (received_pause (streams s) b));
-    may = (is_open_now, ready, fits, t.3);
+    may = ((is_open_now, ready, not_over is_open_now more, t.3), fits);
     orders = some;
+  }
+
+  pub tells_over : is_open s l ≡ true → is_paused (streams s) ≡ false → is_over (streams s) ≡ false
+      → IsSet s (option_map then_over (streams s)) streams next
+      → Tells (story w streams l) (event.EndOfInput s) (story w next (l ++ EndOfInput s ∷ []))
+  tells_over is_open_now ready more set = record {
+    told = told_by w streams next l (EndOfInput s ∷ []) (kept w streams next s (option_map then_over (streams s)) set (over_pause (streams s)));
+    may = (is_open_now, ready, not_over is_open_now more, t.3);
+    orders = tt;
   }
 
   pub tells_gone : is_open s l ≡ true → IsSet s None streams next → Tells (story w streams l) (event.Gone s) (story w next (l ++ Gone s ∷ []))
@@ -99,6 +116,29 @@ module _ (w : Whose) (streams next : ℕ → Option Seen) (l : List PortRecord) 
 
   pub tells_lost : IsSet s None streams next → story w next (l ++ Gone s ∷ []) ≡ then_told (Gone s ∷ []) (story w streams l)
   tells_lost set = told_by w streams next l (Gone s ∷ []) (λ o. gone_pause (nat_eq s o) (next o) (streams o) (set o))
+
+  lost_at : (o : ℕ) → next o ≡ cond (nat_eq s o) None (streams o) → (c : Bool) → nat_eq s o ≡ c
+      → is_paused (next o) ≡ cond (o == s) false (is_paused (streams o))
+  lost_at o set true is =
+      ap is_paused (set ∙ ap (λ c. cond c None (streams o)) is)
+      ∙ sym (ap (λ c. cond c false (is_paused (streams o))) (eq-eqb o s (sym (eqb-true s o is))))
+  lost_at o set false is =
+      ap is_paused (set ∙ ap (λ c. cond c None (streams o)) is)
+      ∙ sym (ap (λ c. cond c false (is_paused (streams o))) (ne_eqb o s (λ e. both_ways (nat_eq s o) is (eq-eqb s o (sym e)))))
+
+  -- at a write it is found to have gone
+  pub gave_lost : (history : List Answered) → IsSet s None streams next
+      → story (record w { history = history }) next (l ++ Gone s ∷ [])
+      ≡ record (story w streams l) {
+        events = l ++ Gone s ∷ [];
+        paused = λ o. cond (o == s) false (is_paused (streams o));
+        history = history;
+      }
+  gave_lost history set = λ i. record (story w streams l) {
+    events = l ++ Gone s ∷ [];
+    paused = λ o. lost_at o (set o) (nat_eq s o) refl i;
+    history = history;
+  }
 
   -- the same, by a history
   pub gave_by : (xs : List PortRecord) (history : List Answered) → story w next (l ++ xs) ≡ then_told xs (story w streams l)
@@ -126,7 +166,7 @@ module _ (w : Whose) (streams next : ℕ → Option Seen) (l : List PortRecord) 
   -- a stream that took no bytes is as it was
   sent_none : (n : Option Seen) → option_map (then_sent []) n ≡ n
   sent_none None = refl
-  sent_none (Some x) = λ i. Some (record { paused = x.paused; received = x.received; sent = append-nil x.sent i })
+  sent_none (Some x) = λ i. Some (record x { sent = append-nil x.sent i })
 
   same_case : (o : ℕ) → next o ≡ cond (nat_eq s o) (option_map (then_sent []) (streams s)) (streams o) → (c : Bool) → nat_eq s o ≡ c → next o ≡ streams o
   same_case o set true is = set ∙ ap (λ c. cond c (option_map (then_sent []) (streams s)) (streams o)) is ∙ sent_none (streams s)

@@ -1,20 +1,17 @@
 -- How what a port told goes on agreeing with its open streams.
 use Rattle.std.proofs.Common.{◌≡◌, ℕ, ◌+◌, ◌<◌, ◌≤◌, Bool, true, false, not, ◌&&◌, ◌||◌, cond}
 use Rattle.std.proofs.Common.{List, [], ◌∷◌, ◌++◌, refl, sym, ap, ◌∙◌, subst, arith}
-use Rattle.std.specs.Prelude.{Option, None, Some, is_some}
+use Rattle.std.specs.Prelude.{ℤ, Option, None, Some, is_some}
 use Rattle.std.specs.Option.{option_map}
 use Rattle.std.specs.Bool.{nat_eq}
 use Rattle.std.proofs.lemmas.Bool.{both_ways, eqb-true, and_parts}
 use Rattle.worker_port.specs.declared.events.PortRecord.{PortRecord}
-use Rattle.worker_port.specs.declared.events.PortRecord.TheVariants.{Opened, Data, Gone, Ended, Accepted, Shut}
+use Rattle.worker_port.specs.declared.events.PortRecord.TheVariants.{Opened, Data, EndOfInput, Gone, Ended, Accepted, Shut}
 use Rattle.worker_port.specs.Ports.{is_in, is_open, opened_count}
 use Rattle.worker_port.specs.PortFacts.{PortFacts, port_facts}
-use Rattle.worker_port.proofs.Facts.{about, elsewhere, facts_are, opened_here, fed_here, gone_here, shut_here, accepted_here}
+use Rattle.worker_port.proofs.Facts.{about, elsewhere, facts_are, opened_here, fed_here, over_here, gone_here, shut_here, accepted_here}
 use Rattle.worker_port.proofs.Lists.{ended_same, ended_now, count_same, count_more}
-use Rattle.net.specs.Seen.{Seen, IsSet, fresh, then_received, then_sent, then_paused, received_of, sent_of}
-use Rattle.net.specs.declared.served.Served.{Served}
-use Rattle.net.specs.declared.streams.Streams.{Streams}
-use Rattle.net.specs.Shown.{shown, Keeps, Sets, Opens}
+use Rattle.net.specs.Seen.{Seen, IsSet, fresh, then_received, then_sent, then_over, then_paused, is_over, received_of, sent_of}
 use Rattle.net.specs.Ties.{Ties, NoneBehind}
 
 -- what the list says of a session, against its stream
@@ -22,23 +19,25 @@ pub record At (now : Option Seen) (f : PortFacts) : Type 0 where
   pub opens : (f.opened && not (f.gone || f.shut)) ≡ is_some now
   pub fed : is_some now ≡ true → f.fed ≡ received_of now
   pub given : is_some now ≡ true → f.given ≡ sent_of now
+  pub over : is_some now ≡ true → f.over ≡ is_over now
 
 abbrev no_facts : PortFacts
-no_facts = record { opened = false; gone = false; shut = false; fed = []; given = [] }
+no_facts = record { opened = false; over = false; gone = false; shut = false; fed = []; given = [] }
 
 at_each : (streams : ℕ → Option Seen) (last : ℕ) (l : List PortRecord) (e : Bool) → Ties streams last l e → (s : ℕ) → At (streams s) (port_facts l s)
-at_each streams last l e t s = record { opens = t.0 s; fed = λ h. (t.1 s h).0; given = λ h. (t.1 s h).1 }
+at_each streams last l e t s = record { opens = t.0 s; fed = λ h. (t.1 s h).0; given = λ h. (t.1 s h).1; over = λ h. (t.1 s h).2 }
 
 behind_facts : (last : ℕ) (l : List PortRecord) → NoneBehind last l → (s : ℕ) → last < s → port_facts l s ≡ no_facts
-behind_facts last l n s h = let b = n s h in facts_are l s no_facts b.0 b.1 b.2 b.3 b.4
+behind_facts last l n s h = let b = n s h in facts_are l s no_facts b.0 b.1 b.2 b.3 b.4 b.5
 
 ties_from : (streams : ℕ → Option Seen) (last : ℕ) (l : List PortRecord) (e : Bool) → ((s : ℕ) → At (streams s) (port_facts l s))
     → ((s : ℕ) → last < s → port_facts l s ≡ no_facts) → is_in Ended l ≡ e → opened_count l ≡ last → Ties streams last l e
 ties_from streams last l e a n h count = (
   (λ s. (a s).opens),
-  (λ s o. ((a s).fed o, (a s).given o)),
+  (λ s o. ((a s).fed o, (a s).given o, (a s).over o)),
   (λ s b. let f = n s b in (
     ap (λ (x : PortFacts). x.opened) f,
+    ap (λ (x : PortFacts). x.over) f,
     ap (λ (x : PortFacts). x.gone) f,
     ap (λ (x : PortFacts). x.shut) f,
     ap (λ (x : PortFacts). x.fed) f,
@@ -88,24 +87,29 @@ module _ (streams next : ℕ → Option Seen) (last : ℕ) (l : List PortRecord)
 
 -- ---- what the entry says of its own session
 
-at_opened : (f : PortFacts) → f ≡ no_facts → At (Some fresh) (record f { opened = true })
-at_opened f n = record {
+at_opened : (socket : ℤ) (f : PortFacts) → f ≡ no_facts → At (Some (fresh socket)) (record f { opened = true })
+at_opened socket f n = record {
   opens = subst (λ (g : PortFacts). (true && not (g.gone || g.shut)) ≡ true) (sym n) refl;
   fed = λ _. ap (λ (g : PortFacts). g.fed) n;
   given = λ _. ap (λ (g : PortFacts). g.given) n;
+  over = λ _. ap (λ (g : PortFacts). g.over) n;
 }
 
 at_fed : (now : Option Seen) (f : PortFacts) (b : List ℕ) → At now f → At (option_map (then_received b) now) (record f { fed = f.fed ++ b })
-at_fed None f b a = record { opens = a.opens; fed = λ h. absurd (both_ways false refl h); given = λ h. absurd (both_ways false refl h) }
-at_fed (Some x) f b a = record { opens = a.opens; fed = λ h. ap (λ (y : List ℕ). y ++ b) (a.fed h); given = a.given }
+at_fed None f b a = record { opens = a.opens; fed = λ h. absurd (both_ways false refl h); given = λ h. absurd (both_ways false refl h); over = λ h. absurd (both_ways false refl h) }
+at_fed (Some x) f b a = record { opens = a.opens; fed = λ h. ap (λ (y : List ℕ). y ++ b) (a.fed h); given = a.given; over = a.over }
 
 at_given : (now : Option Seen) (f : PortFacts) (b : List ℕ) → At now f → At (option_map (then_sent b) now) (record f { given = f.given ++ b })
-at_given None f b a = record { opens = a.opens; fed = λ h. absurd (both_ways false refl h); given = λ h. absurd (both_ways false refl h) }
-at_given (Some x) f b a = record { opens = a.opens; fed = a.fed; given = λ h. ap (λ (y : List ℕ). y ++ b) (a.given h) }
+at_given None f b a = record { opens = a.opens; fed = λ h. absurd (both_ways false refl h); given = λ h. absurd (both_ways false refl h); over = λ h. absurd (both_ways false refl h) }
+at_given (Some x) f b a = record { opens = a.opens; fed = a.fed; given = λ h. ap (λ (y : List ℕ). y ++ b) (a.given h); over = a.over }
+
+at_over : (now : Option Seen) (f : PortFacts) → At now f → At (option_map then_over now) (record f { over = true })
+at_over None f a = record { opens = a.opens; fed = λ h. absurd (both_ways false refl h); given = λ h. absurd (both_ways false refl h); over = λ h. absurd (both_ways false refl h) }
+at_over (Some x) f a = record { opens = a.opens; fed = a.fed; given = a.given; over = λ h. refl }
 
 pub at_paused : (now : Option Seen) (f : PortFacts) (b : Bool) → At now f → At (option_map (then_paused b) now) f
 at_paused None f b a = a
-at_paused (Some x) f b a = record { opens = a.opens; fed = a.fed; given = a.given }
+at_paused (Some x) f b a = record { opens = a.opens; fed = a.fed; given = a.given; over = a.over }
 
 and_none : (b : Bool) → (b && false) ≡ false
 and_none true = refl
@@ -116,23 +120,24 @@ or_all true = refl
 or_all false = refl
 
 at_gone : (f : PortFacts) → At None (record f { gone = true })
-at_gone f = record { opens = and_none f.opened; fed = λ h. absurd (both_ways false refl h); given = λ h. absurd (both_ways false refl h) }
+at_gone f = record { opens = and_none f.opened; fed = λ h. absurd (both_ways false refl h); given = λ h. absurd (both_ways false refl h); over = λ h. absurd (both_ways false refl h) }
 
 at_shut : (f : PortFacts) → At None (record f { shut = true })
 at_shut f = record {
   opens = ap (λ (b : Bool). f.opened && not b) (or_all f.gone) ∙ and_none f.opened;
   fed = λ h. absurd (both_ways false refl h);
   given = λ h. absurd (both_ways false refl h);
+  over = λ h. absurd (both_ways false refl h);
 }
 
 -- ---- each entry
 
 module _ (streams next : ℕ → Option Seen) (last after : ℕ) (l : List PortRecord) (e : Bool) (s : ℕ) (t : Ties streams last l e) where
-  pub ties_opened : s ≡ last + 1 → after ≡ s → IsSet s (Some fresh) streams next → Ties next after (l ++ Opened s ∷ []) e
-  ties_opened n a set =
-      ties_more streams next last l e s (Some fresh) (Opened s) after set (λ o h. h) (omega arith) (λ h. absurd (omega arith))
+  pub ties_opened : (socket : ℤ) → s ≡ last + 1 → after ≡ s → IsSet s (Some (fresh socket)) streams next → Ties next after (l ++ Opened s ∷ []) e
+  ties_opened socket n a set =
+      ties_more streams next last l e s (Some (fresh socket)) (Opened s) after set (λ o h. h) (omega arith) (λ h. absurd (omega arith))
       (ended_same l (Opened s) refl ∙ t.3) (omega (arith, count_more l s))
-      (subst (λ (f : PortFacts). At (Some fresh) f) (sym (opened_here l s)) (at_opened (port_facts l s) (behind_facts last l t.2 s (omega arith)))) e t
+      (subst (λ (f : PortFacts). At (Some (fresh socket)) f) (sym (opened_here l s)) (at_opened socket (port_facts l s) (behind_facts last l t.2 s (omega arith)))) e t
 
   pub ties_fed : (b : List ℕ) → is_open s l ≡ true → after ≡ last → IsSet s (option_map (then_received b) (streams s)) streams next
       → Ties next after (l ++ Data s b ∷ []) e
@@ -151,6 +156,15 @@ module _ (streams next : ℕ → Option Seen) (last after : ℕ) (l : List PortR
       (ended_same l (Accepted s b) refl ∙ t.3) (count_same l (Accepted s b) refl ∙ t.4 ∙ sym a)
       (subst (λ (f : PortFacts). At (option_map (then_sent b) (streams s)) f) (sym (accepted_here l s b))
       (at_given (streams s) (port_facts l s) b (at_each streams last l e t s))) e t
+
+  pub ties_over : is_open s l ≡ true → after ≡ last → IsSet s (option_map then_over (streams s)) streams next
+      → Ties next after (l ++ EndOfInput s ∷ []) e
+  ties_over is_open_now a set =
+      ties_more streams next last l e s (option_map then_over (streams s)) (EndOfInput s) after set (λ o h. h) (omega arith)
+      (λ h. not_behind streams last l e t s is_open_now (omega arith))
+      (ended_same l (EndOfInput s) refl ∙ t.3) (count_same l (EndOfInput s) refl ∙ t.4 ∙ sym a)
+      (subst (λ (f : PortFacts). At (option_map then_over (streams s)) f) (sym (over_here l s))
+      (at_over (streams s) (port_facts l s) (at_each streams last l e t s))) e t
 
   pub ties_gone : is_open s l ≡ true → after ≡ last → IsSet s None streams next → Ties next after (l ++ Gone s ∷ []) e
   ties_gone is_open_now a set =
@@ -190,41 +204,5 @@ pub ties_none : (streams : ℕ → Option Seen) → ((s : ℕ) → streams s ≡
 ties_none streams none last zero =
     ties_from streams last [] false
     (λ s. subst (λ (n : Option Seen). At n no_facts) (sym (none s))
-    (record { opens = refl; fed = λ h. absurd (both_ways false refl h); given = λ h. absurd (both_ways false refl h) }))
+    (record { opens = refl; fed = λ h. absurd (both_ways false refl h); given = λ h. absurd (both_ways false refl h); over = λ h. absurd (both_ways false refl h) }))
     (λ s b. refl) refl (sym zero)
-
--- ---- the same of a port's streams
-
-module _ (served : Served) (next : Streams) where
-  abbrev old : Streams
-  old = served.streams
-
-  abbrev told : List PortRecord
-  told = served.told.items
-
-  abbrev pub Tie : List PortRecord → Type 0
-  Tie events = Ties (shown next) next.last events served.is_over
-
-  pub tie_kept : Keeps old next → Tie told
-  tie_kept k = ties_same (shown old) (shown next) old.last next.last told served.is_over k.last k.same served.ties
-
-  module _ (s : ℕ) where
-    pub tie_paused : (b : Bool) → Sets s (option_map (then_paused b) (shown old s)) old next → Tie told
-    tie_paused b k = ties_paused (shown old) (shown next) old.last next.last told served.is_over s served.ties b k.last k.set
-
-    pub tie_opened : Opens s old next → Tie (told ++ Opened s ∷ [])
-    tie_opened k = ties_opened (shown old) (shown next) old.last next.last told served.is_over s served.ties k.number k.last k.set
-
-    pub tie_fed : (b : List ℕ) → is_open s told ≡ true → Sets s (option_map (then_received b) (shown old s)) old next
-        → Tie (told ++ Data s b ∷ [])
-    tie_fed b now k = ties_fed (shown old) (shown next) old.last next.last told served.is_over s served.ties b now k.last k.set
-
-    pub tie_given : (b : List ℕ) → is_open s told ≡ true → Sets s (option_map (then_sent b) (shown old s)) old next
-        → Tie (told ++ Accepted s b ∷ [])
-    tie_given b now k = ties_given (shown old) (shown next) old.last next.last told served.is_over s served.ties b now k.last k.set
-
-    pub tie_gone : is_open s told ≡ true → Sets s None old next → Tie (told ++ Gone s ∷ [])
-    tie_gone now k = ties_gone (shown old) (shown next) old.last next.last told served.is_over s served.ties now k.last k.set
-
-    pub tie_shut : is_open s told ≡ true → Sets s None old next → Tie (told ++ Shut s ∷ [])
-    tie_shut now k = ties_shut (shown old) (shown next) old.last next.last told served.is_over s served.ties now k.last k.set

@@ -2,5 +2,6 @@ pub mod Listening
 pub mod Notes
 pub mod Seen
 pub mod Shown
+pub mod Sockets
 pub mod Stories
 pub mod Ties

@@ -1,15 +1,18 @@
 -- What clauses see of one open stream.
-use Rattle.std.specs.Prelude.{◌≡◌, Bool, false, cond, ℕ, List, [], ◌++◌, Option, None, Some}
+use Rattle.std.specs.Prelude.{◌≡◌, Bool, true, false, cond, ℕ, ℤ, List, [], ◌++◌, Option, None, Some}
+use Rattle.std.specs.Option.{option_map}
 use Rattle.std.specs.Bool.{nat_eq}
 
 pub record Seen : Type 0 where
+  pub socket : ℤ
   pub paused : Bool
+  pub over : Bool
   pub received : List ℕ
   pub sent : List ℕ
 
--- a stream that was just opened
-abbrev pub fresh : Seen
-fresh = record { paused = false; received = []; sent = [] }
+-- a stream over this socket that was just opened
+abbrev pub fresh : ℤ → Seen
+fresh socket = record { socket = socket; paused = false; over = false; received = []; sent = [] }
 
 -- these bytes were read from it, or it took them
 abbrev pub then_received : List ℕ → Seen → Seen
@@ -17,6 +20,10 @@ then_received bytes x = record x { received = x.received ++ bytes }
 
 abbrev pub then_sent : List ℕ → Seen → Seen
 then_sent bytes x = record x { sent = x.sent ++ bytes }
+
+-- a read of no bytes came of it
+abbrev pub then_over : Seen → Seen
+then_over x = record x { over = true }
 
 -- it is paused from now on, or no longer
 abbrev pub then_paused : Bool → Seen → Seen
@@ -27,6 +34,11 @@ abbrev pub is_paused : Option Seen → Bool
 is_paused None = false
 is_paused (Some x) = x.paused
 
+-- whether it is open and no more comes of it
+abbrev pub is_over : Option Seen → Bool
+is_over None = false
+is_over (Some x) = x.over
+
 -- what was read from it, and what it took
 abbrev pub received_of : Option Seen → List ℕ
 received_of None = []
@@ -35,6 +47,10 @@ received_of (Some x) = x.received
 abbrev pub sent_of : Option Seen → List ℕ
 sent_of None = []
 sent_of (Some x) = x.sent
+
+-- its socket, where it is open
+abbrev pub socket_of : Option Seen → Option ℤ
+socket_of x = option_map (λ (y : Seen). y.socket) x
 
 -- of the open streams, the one of this number is now this one, or closed, and no other changes
 abbrev pub IsSet : ℕ → Option Seen → (ℕ → Option Seen) → (ℕ → Option Seen) → Type 0

@@ -1,33 +1,34 @@
 -- What a port over sockets tells.
-use Rattle.std.specs.Prelude.{◌≡◌, ⊤, ℕ, ◌+◌, ◌<◌, true, false, List, [], length, Option, None, Some}
+use Rattle.std.specs.Prelude.{◌≡◌, ⊤, ℕ, ◌+◌, ◌<◌, true, false, List, [], length, Option}
 use Rattle.proto.specs.declared.dialect.Dialect.{Dialect}
 use Rattle.proto.specs.Sizes.{Sizes}
+use Rattle.proto.specs.declared.terms.Terms.{Terms}
 use Rattle.proto.specs.declared.history.Answered.{Answered}
 use Rattle.worker_port.specs.declared.events.PortRecord.{PortRecord}
 use Rattle.worker_port.specs.declared.events.PortEvent.{PortEvent}
 use Rattle.worker_port.specs.declared.events.PortEvent.TheVariants as event
 use Rattle.worker_port.specs.declared.events.PortRecord.TheVariants as was
+use Rattle.exchange.specs.Beginnings.{StartsWith}
+use Rattle.worker_port.specs.Giving.{by_system_clock}
 use Rattle.worker_port.specs.Ports.{PortStory, event_records, then_told, MayCome, is_open, is_in, opened_count}
-use Rattle.net.specs.declared.streams.Reading.{Reading}
-use Rattle.net.specs.declared.streams.Reading.TheVariants as read
-use Rattle.net.specs.declared.served.Served.{Served}
+use Rattle.net.specs.declared.streams.Streams.{Streams}
 use Rattle.net.specs.Shown.{shown}
 use Rattle.net.specs.Seen.{Seen, is_paused}
 
 -- whose port it is, and the history by which bytes were given last
 pub record Whose : Type 0 where
-  pub sizes : Sizes
+  pub terms : Terms
   pub dialect : Dialect
   pub worker : ℕ
   pub history : List Answered
 
-abbrev pub whose_of : Served → Whose
-whose_of served =
+abbrev pub whose_of : Streams → Whose
+whose_of streams =
     record {
-      sizes = served.owner.geometry;
-      dialect = served.owner.dialect;
-      worker = served.owner.worker;
-      history = served.history.items;
+      terms = by_system_clock streams.owner.geometry;
+      dialect = streams.owner.dialect;
+      worker = streams.owner.worker;
+      history = streams.history.items;
     }
 
 -- the story of these streams and this list
@@ -36,19 +37,19 @@ story whose streams events =
     record {
       events = events;
       paused = λ s. is_paused (streams s);
-      sizes = whose.sizes;
+      terms = whose.terms;
       dialect = whose.dialect;
       worker = whose.worker;
       history = whose.history;
     }
 
-abbrev pub story_of : Served → PortStory
-story_of served = story (whose_of served) (shown served.streams) served.told.items
+abbrev pub story_of : Streams → PortStory
+story_of streams = story (whose_of streams) (shown streams.open.entries) streams.told.items
 
 -- the port of this worker, of which nothing was told
 pub record IsNew (sizes : Sizes) (d : Dialect) (worker : ℕ) (story : PortStory) : Type 0 where
   pub none : story.events ≡ []
-  pub sizes_are : story.sizes ≡ sizes
+  pub terms_are : story.terms ≡ by_system_clock sizes
   pub dialect_is : story.dialect ≡ d
   pub worker_is : story.worker ≡ worker
   pub untold : story.history ≡ []
@@ -73,6 +74,7 @@ HasNoneOpen story = (s : ℕ) → is_open s story.events ≡ false
 abbrev pub IsInOrder : PortStory → PortEvent → Type 0
 IsInOrder before (event.Opened s) = s ≡ opened_count before.events + 1
 IsInOrder before (event.Data s bytes) = 0 < length bytes
+IsInOrder before (event.EndOfInput s) = ⊤
 IsInOrder before (event.Gone s) = ⊤
 IsInOrder before event.Idle = ⊤
 IsInOrder before event.Ended = HasNoneOpen before
@@ -83,9 +85,10 @@ pub record Tells (before : PortStory) (e : PortEvent) (after : PortStory) : Type
   pub may : MayCome before e
   pub orders : IsInOrder before e
 
--- what a read of a session tells
-abbrev pub ReadTells : ℕ → PortStory → Reading → PortStory → Type 0
-ReadTells s before (read.Bytes bytes) after = Tells before (event.Data s bytes) after
-ReadTells s before read.Nothing after = after ≡ before
-ReadTells s before read.Ended after = (after ≡ before) × HasOpen s before
-ReadTells s before read.Gone after = Tells before (event.Gone s) after
+-- no session was opened
+abbrev pub KeepsSockets : Streams → Streams → Type 0
+KeepsSockets before after = after.sockets.items ≡ before.sockets.items
+
+-- the sessions keep their sockets; behind them stand those of the sessions that were opened meanwhile
+abbrev pub AddsSockets : Streams → Streams → Type 0
+AddsSockets before after = StartsWith after.sockets.items before.sockets.items

@@ -1,24 +1,24 @@
 //! Sockets: a listener that hands streams to workers, and a worker's port over such streams.
 #![tactic(auto)]
 
-mod ceasing;
 mod fault;
 mod hand;
+mod idle;
 mod lingering;
 mod listener;
-mod logged_stream;
 mod notices;
+mod open_stream;
 mod owner;
 mod port;
 mod port_note;
 mod report;
-mod served;
-mod silent;
+mod sockets;
+mod spin;
 mod streams;
 mod waiting;
 
 pub use fault::NetFault;
-pub use hand::Hand;
+pub use hand::{Hand, StreamSender};
 pub use listener::Listener;
 pub use notices::Notices;
 pub use owner::Owner;

@@ -1,29 +1,28 @@
 //! Streams that were shut, and are read a little longer. A stream that is closed while input waits unread is reset, and its
-//! peer may lose the last answer; so its sending half is ended, and what still comes is dropped.
+//! peer may lose the last answer; so its sending half is ended first, and what still comes is dropped.
 
-use mio::net::TcpStream;
+use crate::sockets::EndedStream;
 use std::alloc::{AllocError, Global};
 use std::collections::VecDeque;
-use std::io::{ErrorKind, Read};
-use std::net::Shutdown;
+use std::io::ErrorKind;
 use std::time::{Clock, Duration, Instant};
 
-/// So many such streams a port has at most; of more the oldest is closed.
+/// The most such streams of a port; of more the oldest is closed.
 const MOST_LINGERING: usize = 64;
 
-/// So long a stream is read, in milliseconds, and so much of it.
+/// How long a stream is read, in milliseconds, and how many bytes of it at most.
 const LINGER_MILLIS: u64 = 2000;
 
 const LINGER_BYTES: usize = 16 * 1024 * 1024;
 
-/// So often one is read in a row.
+/// The most reads of one in a row.
 const READS: usize = 64;
 
 #[derive(Drop)]
 struct LingeringStream {
-    stream: TcpStream,
+    stream: EndedStream,
     since: Instant,
-    // So many more bytes are read.
+    // How many more bytes are read at most.
     left: usize,
 }
 
@@ -39,7 +38,7 @@ enum Drained {
 impl LingeringStream {
     fn drain(&mut self, scratch: &mut [u8]) -> Drained {
         for _ in 0..READS {
-            match (&self.stream).read(scratch) {
+            match self.stream.drain(scratch) {
                 Ok(0) => return Drained::Over,
                 Ok(count) => self.left = self.left.saturating_sub(count),
                 Err(error) if error.kind() == ErrorKind::WouldBlock => return Drained::Empty,
@@ -52,7 +51,8 @@ impl LingeringStream {
         Drained::More
     }
 
-    fn is_over<R: Clock>(&self, rt: &R) -> bool {
+    // Whether it was read for long enough.
+    fn has_expired<R: Clock>(&self, rt: &R) -> bool {
         match self.since.elapsed(rt) {
             Ok(read) => read >= Duration::from_millis(LINGER_MILLIS),
             Err(_) => true,
@@ -89,11 +89,8 @@ impl LingeringStreams {
         self.is_ready = true;
     }
 
-    // A stream whose sending half can't be ended is closed.
-    pub(crate) fn add<R: Clock>(&mut self, rt: &R, stream: TcpStream) {
-        if stream.shutdown(Shutdown::Write).is_err() {
-            return;
-        }
+    // If the clock can't be read, the stream is closed.
+    pub(crate) fn add<R: Clock>(&mut self, rt: &R, stream: EndedStream) {
         let Ok(since) = Instant::now(rt) else {
             return;
         };
@@ -108,7 +105,7 @@ impl LingeringStreams {
         self.is_ready = true;
     }
 
-    // Drops what came, and closes the streams that are over.
+    // Drops what came, and closes the streams that have ended or expired.
     pub(crate) fn drain<R: Clock>(&mut self, rt: &R, scratch: &mut [u8]) {
         let was_ready = self.is_ready;
         self.is_ready = false;
@@ -123,7 +120,7 @@ impl LingeringStreams {
                     Drained::Empty => {}
                 }
             }
-            if !lingering.is_over(rt) {
+            if !lingering.has_expired(rt) {
                 let _ = self.streams.push_back(lingering);
             }
         }

@@ -4,21 +4,11 @@ use std::time::{Clock, Duration, Instant};
 
 /// Hears what is amiss while a listener runs, of each kind at most once a minute.
 pub trait Notices {
-    /// No worker has room: so many streams wait, and so many were closed so far.
+    /// No worker has room: this many streams wait, and this many were closed so far.
     fn workers_are_full(&mut self, waiting: usize, closed: u64);
 
-    /// Streams can't be accepted, as descriptors or memory are missing: so often so far.
+    /// Streams can't be accepted, as descriptors or memory are missing: this often so far.
     fn accepts_fail(&mut self, failed: u64);
-}
-
-/// Where nobody hears.
-#[derive(Clone, Copy)]
-pub(crate) struct Unheard;
-
-impl Notices for Unheard {
-    fn workers_are_full(&mut self, _waiting: usize, _closed: u64) {}
-
-    fn accepts_fail(&mut self, _failed: u64) {}
 }
 
 /// When something was last said.

@@ -5,17 +5,16 @@ ghost use Rattle.std.specs.Prelude.{◌≡◌, ◌≤◌, [], ◌∷◌, true, f
 ghost use Rattle.std.specs.Option.{option_map};
 ghost use Rattle.worker_port.specs.declared.events.PortRecord.TheVariants.{Shut};
 ghost use Rattle.worker_port.specs.Ports.{PortStory, then_told, with_pause, event_records, then_gave, is_open, MayCome};
-ghost use Rattle.net.specs.Stories.{story_of, IsNew, GoesOn, Tells, PausesAgree};
+ghost use Rattle.net.specs.Stories.{story_of, IsNew, GoesOn, Tells, PausesAgree, KeepsSockets, AddsSockets};
 ghost use Rattle.net.specs.Shown.{shown};
-ghost use Rattle.net.specs.Ties.{OpenAgrees, BytesAgree};
+ghost use Rattle.net.specs.Ties.{OpenAgrees, BytesAgree, SocketsAgree};
 
-use crate::ceasing::CeasingSessions;
 use crate::fault::NetFault;
 use crate::hand::{Hand, WAKER};
+use crate::idle::IdleLooks;
 use crate::owner::Owner;
-use crate::served::Served;
-use crate::silent::SilentSessions;
-use crate::streams::Reading;
+use crate::spin::Spin;
+use crate::streams::Streams;
 use mio::{Events, Poll};
 use std::alloc::Global;
 use std::net::Net;
@@ -26,19 +25,19 @@ use worker_port::{Gone, Port, PortEvent, ToldHistory};
 /// Events of one poll.
 const EVENTS: usize = 256;
 
-/// While the worker may not wait, the sockets are looked at only at the last of each so many idle calls, so that a lone
+/// While the worker may not wait, the sockets are looked at only at each fourth idle call, so that a lone
 /// request may be answered before the first of these looks.
 const CALLS_EACH_POLL: u32 = 4;
 
-/// So many idle calls in a row are taken not to end: the worker has output for peers that take none. From then on each
+/// This many idle calls in a row are taken not to end: the worker has output for peers that take none. From then on each
 /// waits a little.
 const STALLED_CALLS: u32 = 8192;
 
 /// How long a port waits, in milliseconds: a new stream wakes it.
 const WAIT_MILLIS: u64 = 100;
 
-/// How long it waits while a session's answers are about to cease.
-const CEASING_WAIT_MILLIS: u64 = 5;
+/// How long it waits while sessions that were shut are read.
+const DRAINING_WAIT_MILLIS: u64 = 5;
 
 /// How long it waits for peers that take no output.
 const STALLED_WAIT_MILLIS: u64 = 1;
@@ -50,11 +49,13 @@ pub struct MioPort<R: Drop> {
     hand: Hand,
     poll: Poll,
     events: Events,
-    served: Served,
-    ceasing: CeasingSessions,
-    silent: SilentSessions,
+    served: Streams,
+    idle_looks: IdleLooks,
+    // Some sessions may have been idle for long enough at the last look.
+    has_idle: bool,
+    spin: Spin,
     // Idle calls in a row.
-    quiet: u32,
+    idle_calls: u32,
 }
 
 impl<R: Wait + Clock + Net + Drop> MioPort<R> {
@@ -77,21 +78,24 @@ impl<R: Wait + Clock + Net + Drop> MioPort<R> {
             hand,
             poll,
             events: Events::with_capacity(alloc, EVENTS)?,
-            served: Served::new(alloc, owner)?,
-            ceasing: CeasingSessions::new(alloc),
-            silent: SilentSessions::new(alloc),
-            quiet: 0,
+            served: Streams::new(alloc, owner)?,
+            idle_looks: IdleLooks::new(),
+            has_idle: false,
+            spin: Spin::new(),
+            idle_calls: 0,
         })
     }
 }
 
 impl<R: Wait + Clock + Drop> MioPort<R> {
-    /// What the port told agrees with its streams: the open sessions are those with a stream, the data of each is what was
-    /// read from its stream, joined, and what was accepted for it is what its stream took.
+    /// What the port told agrees with its streams: the open sessions are those with a stream, each with the socket that it
+    /// was opened with; the data of each is what was read from its stream, joined, and what was accepted for it is what its
+    /// stream took.
     pub fn agrees(&self)
-        ensures open { OpenAgrees (shown self.now.served.streams) (story_of self.now.served).events }
-        ensures bytes { BytesAgree (shown self.now.served.streams) (story_of self.now.served).events }
-        ensures paused { PausesAgree (shown self.now.served.streams) (story_of self.now.served) }
+        ensures open { OpenAgrees (shown self.now.served.open.entries) (story_of self.now.served).events }
+        ensures bytes { BytesAgree (shown self.now.served.open.entries) (story_of self.now.served).events }
+        ensures sockets { SocketsAgree (shown self.now.served.open.entries) self.now.served.sockets.items }
+        ensures paused { PausesAgree (shown self.now.served.open.entries) (story_of self.now.served) }
     {
         self.served.agrees();
     }
@@ -103,30 +107,41 @@ impl<R: Wait + Clock + Drop> MioPort<R> {
         self.served.is_open(session)
     }
 
-    /// A session that opens from now on is ended, as one whose peer has gone, once nothing came from it for so many
-    /// seconds, and an eighth of that longer at most, while nothing is to be given to it.
+    /// Has the port end idle sessions, as those whose peer has gone: a session that is owed nothing once it sent nothing for
+    /// this many seconds, and one that is owed output once it took none of it for that long; each an eighth later at most.
     pub fn set_idle_limit(&mut self, seconds: u64)
-        ensures { story_of self.new.served ≡ story_of self.old.served }
+        ensures told { story_of self.new.served ≡ story_of self.old.served }
+        ensures sockets { KeepsSockets self.old.served self.new.served }
     {
-        self.silent.set_limit(seconds);
+        self.idle_looks.set_limit(seconds);
+    }
+
+    /// Has the port look on for this many microseconds after an event, before it waits for the next one: until then its polls
+    /// don't wait.
+    pub fn set_spin(&mut self, micros: u32)
+        ensures told { story_of self.new.served ≡ story_of self.old.served }
+        ensures sockets { KeepsSockets self.old.served self.new.served }
+    {
+        self.spin.set_limit(micros);
     }
 
     /// The next event. Sessions are numbered from 1, and no number is given twice.
     pub fn next_event(&mut self, may_wait: bool) -> PortEvent
-        ensures { Tells (story_of self.old.served) result (story_of self.new.served) }
+        ensures told { Tells (story_of self.old.served) result (story_of self.new.served) }
+        ensures sockets { AddsSockets self.old.served self.new.served }
     {
-        if self.served.is_over() {
+        if self.served.has_ended() {
             return PortEvent::Idle;
         }
-        if let Some(event) = self.known_event(may_wait) {
+        if let Some(event) = self.known_event() {
             return event;
         }
-        let has_all = self.hand.is_over() && !self.served.has_lingering();
+        let has_all = self.hand.is_drained() && !self.served.has_lingering();
         if self.served.is_empty() && has_all {
             self.served.end();
             return PortEvent::Ended;
         }
-        if !may_wait && self.quiet % CALLS_EACH_POLL < CALLS_EACH_POLL - 1 {
+        if !may_wait && self.idle_calls % CALLS_EACH_POLL < CALLS_EACH_POLL - 1 {
             return PortEvent::Idle;
         }
         match self.looked_event(may_wait) {
@@ -135,102 +150,103 @@ impl<R: Wait + Clock + Drop> MioPort<R> {
         }
     }
 
+    // Something came or went: idle calls are counted from here.
+    fn restart(&mut self)
+        ensures told { story_of self.new.served ≡ story_of self.old.served }
+        ensures sockets { KeepsSockets self.old.served self.new.served }
+    {
+        self.idle_calls = 0;
+        self.spin.restart();
+    }
+
     // How long the next look at the sockets may wait.
-    fn wait_millis(&self, may_wait: bool) -> u64 {
-        match may_wait {
-            true if self.ceasing.is_empty() && !self.served.is_draining() => WAIT_MILLIS,
-            true => CEASING_WAIT_MILLIS,
-            false if self.quiet < STALLED_CALLS => 0,
-            false => STALLED_WAIT_MILLIS,
+    fn wait_millis(&mut self, may_wait: bool) -> u64
+        ensures told { story_of self.new.served ≡ story_of self.old.served }
+        ensures sockets { KeepsSockets self.old.served self.new.served }
+    {
+        if !may_wait {
+            return if self.idle_calls < STALLED_CALLS {
+                0
+            } else {
+                STALLED_WAIT_MILLIS
+            };
+        }
+        if self.spin.goes_on(&self.rt) {
+            0
+        } else if self.served.is_draining() {
+            DRAINING_WAIT_MILLIS
+        } else {
+            WAIT_MILLIS
         }
     }
 
-    // An event that a look at the sockets brings: a session that was silent for long enough, of which nothing is to be
-    // read, comes before what can be read.
+    // An event that a look at the sockets brings: a session that was idle for long enough, of which nothing is to be read,
+    // comes before what can be read.
     fn looked_event(&mut self, may_wait: bool) -> Option<PortEvent>
         requires { GoesOn (story_of self.old.served) }
-        ensures { MatchOption result (story_of self.new.served ≡ story_of self.old.served)
+        ensures told { MatchOption result (story_of self.new.served ≡ story_of self.old.served)
             (λ event. Tells (story_of self.old.served) event (story_of self.new.served)) }
+        ensures sockets { AddsSockets self.old.served self.new.served }
     {
         let millis = self.wait_millis(may_wait);
         self.look(millis);
-        if let Some(session) = self.silent.next_silent(&self.rt, &mut self.served) {
-            self.served.end_session(session);
-            return Some(PortEvent::Gone(session));
+        if self.idle_looks.take(&self.rt) {
+            self.served.count_look();
+            self.has_idle = true;
         }
-        self.known_event(may_wait)
+        if self.has_idle {
+            if let Some(event) = self.served.end_idle() {
+                return Some(event);
+            }
+            self.has_idle = false;
+        }
+        self.known_event()
     }
 
     // An event that needs no poll: streams that wait in the hand come before what can be read.
-    fn known_event(&mut self, may_wait: bool) -> Option<PortEvent>
+    fn known_event(&mut self) -> Option<PortEvent>
         requires { GoesOn (story_of self.old.served) }
-        ensures { MatchOption result (story_of self.new.served ≡ story_of self.old.served)
+        ensures told { MatchOption result (story_of self.new.served ≡ story_of self.old.served)
             (λ event. Tells (story_of self.old.served) event (story_of self.new.served)) }
+        ensures sockets { AddsSockets self.old.served self.new.served }
     {
         if let Some(event) = self.open_next() {
             return Some(event);
         }
-        if let Some(session) = self
-            .ceasing
-            .next_ceased(&self.rt, &mut self.served, may_wait)
-        {
-            self.served.end_session(session);
-            return Some(PortEvent::Gone(session));
-        }
-        self.read_ready()
+        self.served.next_input()
     }
 
     // Looks which streams are ready, and waits so long for one.
     fn look(&mut self, millis: u64)
-        ensures { story_of self.new.served ≡ story_of self.old.served }
+        ensures told { story_of self.new.served ≡ story_of self.old.served }
+        ensures sockets { KeepsSockets self.old.served self.new.served }
     {
         let limit = Some(Duration::from_millis(millis));
         if self.poll.poll(&mut self.events, limit).is_ok() {
             if self.events.iter().any(|event| event.token() == WAKER) {
                 self.hand.clear_wakes();
             }
-            if self.served.mark(&self.events) {
-                self.quiet = 0;
+            if self.served.hear_all(&self.events) {
+                self.idle_calls = 0;
             }
         }
         self.served.drain(&self.rt);
-        self.hand.tell_held(self.served.len());
+        self.hand.report_closed(self.served.len());
     }
 
     fn open_next(&mut self) -> Option<PortEvent>
         requires { GoesOn (story_of self.old.served) }
-        ensures { MatchOption result (story_of self.new.served ≡ story_of self.old.served)
+        ensures told { MatchOption result (story_of self.new.served ≡ story_of self.old.served)
             (λ event. Tells (story_of self.old.served) event (story_of self.new.served)) }
+        ensures sockets { AddsSockets self.old.served self.new.served }
     {
         for _ in 0..EVENTS {
             if self.served.is_full() {
                 return None;
             }
             let stream = self.hand.take(&self.rt)?;
-            if let Some(number) = self.served.open(&self.poll, stream) {
-                self.silent.add(&self.rt, number);
-                return Some(PortEvent::Opened(number));
-            }
-        }
-        None
-    }
-
-    fn read_ready(&mut self) -> Option<PortEvent>
-        requires { GoesOn (story_of self.old.served) }
-        ensures { MatchOption result (story_of self.new.served ≡ story_of self.old.served)
-            (λ event. Tells (story_of self.old.served) event (story_of self.new.served)) }
-    {
-        for _ in 0..EVENTS {
-            let number = self.served.next_ready()?;
-            match self.served.read(number) {
-                Reading::Bytes(piece) => return Some(PortEvent::Data(number, piece)),
-                Reading::Nothing => {}
-                Reading::Ended if self.ceasing.add(&self.rt, number) => {}
-                Reading::Ended => {
-                    self.served.end_session(number);
-                    return Some(PortEvent::Gone(number));
-                }
-                Reading::Gone => return Some(PortEvent::Gone(number)),
+            if let Some(session) = self.served.open(&self.poll, stream) {
+                return Some(PortEvent::Opened(session));
             }
         }
         None
@@ -252,8 +268,8 @@ impl<R: Wait + Clock + Drop> Port for MioPort<R> {
     fn next(&mut self, may_wait: bool) -> PortEvent {
         let event = self.next_event(may_wait);
         match &event {
-            PortEvent::Idle => self.quiet = self.quiet.saturating_add(1),
-            _ => self.quiet = 0,
+            PortEvent::Idle => self.idle_calls = self.idle_calls.saturating_add(1),
+            _ => self.restart(),
         }
         event
     }
@@ -261,8 +277,7 @@ impl<R: Wait + Clock + Drop> Port for MioPort<R> {
     fn give(&mut self, session: u64, bytes: &[u8], history: ToldHistory) -> Result<usize, Gone> {
         let accepted = self.served.write(session, bytes, history)?;
         if accepted > 0 {
-            self.quiet = 0;
-            self.ceasing.count_give();
+            self.restart();
         }
         Ok(accepted)
     }

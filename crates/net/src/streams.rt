@@ -1,58 +1,31 @@
-//! The open streams of a port, by their sessions' numbers.
+//! The open streams of a port, by their sessions' numbers, and what was told of them.
 
-ghost use Rattle.std.specs.Prelude.{◌≡◌, ◌≤◌, ℕ, true, false, length, take, is_some, None, IsTrue, IfOk, IfSome, OnErr, MatchOption, MatchResult, vec_len};
-ghost use Rattle.std.specs.Option.{option_map};
-ghost use Rattle.net.specs.Seen.{is_paused, then_sent, then_paused, received_of, sent_of};
-ghost use Rattle.worker_port.specs.Giving.{MayBeSent};
+ghost use Rattle.std.specs.Prelude.{◌≡◌, ◌≤◌, ℕ, true, false, [], ◌∷◌, ◌++◌, length, vec_len, IsTrue, IfOk, MatchOption};
+ghost use Rattle.worker_port.specs.declared.events.PortEvent.TheVariants.{Opened, Gone as Left, Ended};
+ghost use Rattle.worker_port.specs.declared.events.PortRecord.TheVariants.{Shut};
+ghost use Rattle.worker_port.specs.Ports.{then_told, then_gave, with_pause, is_open};
+ghost use Rattle.worker_port.specs.Giving.{MayBeGiven};
+ghost use Rattle.net.specs.Shown.{shown};
+ghost use Rattle.net.specs.Ties.{Ties, OpenAgrees, BytesAgree, SocketsAgree, SocketTies};
 
 use crate::lingering::LingeringStreams;
-use crate::logged_stream::LoggedStream;
+use crate::open_stream::{OpenStream, Reading};
 use crate::owner::Owner;
-use bytes::Bytes;
-use mio::net::TcpStream;
-use mio::{Events, Interest, Poll, Token};
+use crate::port_note::{PortNote, SocketNote, given_by};
+use crate::sockets::NewStream;
+use mio::event::Event;
+use mio::{Events, Poll};
+use proto::{Answered, Trace};
 use std::alloc::{AllocError, Global};
 use std::collections::{HashMap, VecDeque};
-use std::io::ErrorKind;
+use std::snapshot::Snapshot;
 use std::time::Clock;
-use worker_port::{Gone, MAX_PIECE, ToldHistory};
+use worker_port::{Gone, MAX_PIECE, PortEvent, PortRecord, ToldHistory};
 
 /// The most sessions of a port that are open at a time, with those that were shut and are read still.
 pub(crate) const OPEN_SESSIONS: usize = 1024;
 
-/// One open stream.
-#[derive(Drop)]
-pub(crate) struct OpenStream {
-    pub(crate) stream: LoggedStream,
-    pub(crate) is_paused: bool,
-    // Stands in the list of what is ready.
-    is_queued: bool,
-    // The peer sends no more, or the stream failed: it is read until a read says so.
-    has_closed: bool,
-    // Some input came: answers may be owed.
-    has_input: bool,
-    // A read of no bytes came: the stream isn't read any more.
-    has_ended: bool,
-    // The last write was short, and no room was told since.
-    is_blocked: bool,
-    // Output was offered, or room for it was told, since the end of the input was last looked at.
-    was_offered: bool,
-    // The last write was short, and none was whole since.
-    owes_output: bool,
-    // Input came since this was last looked at.
-    was_heard: bool,
-}
-
-/// What a read came to.
-pub(crate) enum Reading {
-    Bytes(Bytes),
-    Nothing,
-    /// The peer sends no more. It may still read.
-    Ended,
-    Gone,
-}
-
-/// The streams, and the list of those that may have something to read.
+/// The open streams, the list of those that may have something to read, and what was told.
 #[derive(Drop)]
 pub(crate) struct Streams {
     alloc: Global,
@@ -60,16 +33,29 @@ pub(crate) struct Streams {
     ready: VecDeque<u64>,
     lingering: LingeringStreams,
     scratch: Vec<u8>,
-    // The number of the session that was opened last.
+    /// The number of the session that was opened last.
     pub(crate) last: u64,
+    // How often idle sessions were looked for.
+    looks: u64,
+    pub(crate) told: Trace<PortRecord>,
+    /// The end was told.
+    pub(crate) has_ended: bool,
+    pub(crate) owner: Owner,
+    /// By which bytes were given last.
+    pub(crate) history: Trace<Answered>,
+    /// The sockets with which the sessions were opened, in their order.
+    pub(crate) sockets: Trace<i32>,
     ghost room: { vec_len scratch ≡ 16384 },
+    ghost ties: { Ties (shown open.entries) last told.items has_ended },
+    ghost kept: { SocketTies (shown open.entries) last sockets.items },
 }
 
 impl Streams {
-    ghost use Rattle.net.specs.Shown.{shown, HasServedNone, Keeps, Sets, Opens, Reads};
+    ghost use Rattle.net.specs.Stories.{story_of, IsNew, GoesOn, HasOpen, HasNoneOpen, Tells, KeepsSockets};
+    ghost use Rattle.net.specs.Sockets.{socket_of};
 
-    pub(crate) fn new(alloc: Global) -> Result<Streams, AllocError>
-        ensures { IfOk result HasServedNone }
+    pub(crate) fn new(alloc: Global, owner: Owner) -> Result<Streams, AllocError>
+        ensures { IfOk result (λ streams. IsNew owner.geometry owner.dialect owner.worker (story_of streams)) }
     {
         Ok(Streams {
             alloc,
@@ -78,11 +64,25 @@ impl Streams {
             lingering: LingeringStreams::new(alloc)?,
             scratch: Vec::from_elem(alloc, 0u8, MAX_PIECE)?,
             last: 0,
+            looks: 0,
+            told: Trace::new(),
+            has_ended: false,
+            owner,
+            history: Trace::new(),
+            sockets: Trace::new(),
         })
     }
 
+    pub(crate) fn agrees(&self)
+        ensures open { OpenAgrees (shown self.now.open.entries) self.now.told.items }
+        ensures bytes { BytesAgree (shown self.now.open.entries) self.now.told.items }
+        ensures sockets { SocketsAgree (shown self.now.open.entries) self.now.sockets.items }
+    {
+        let _has_ended = self.has_ended;
+    }
+
     pub(crate) fn is_empty(&self) -> bool
-        ensures { IsTrue result → (session : ℕ) → shown self.now session ≡ None }
+        ensures { IsTrue result → HasNoneOpen (story_of self.now) }
     {
         self.open.is_empty()
     }
@@ -107,228 +107,226 @@ impl Streams {
     }
 
     pub(crate) fn is_open(&self, session: u64) -> bool
-        ensures { is_some (shown self.now session) ≡ result }
+        ensures { is_open session (story_of self.now).events ≡ result }
     {
         self.open.get(&session).is_some()
     }
 
-    // The number of the new session. None where the stream can't be served; it is closed.
-    pub(crate) fn open(&mut self, poll: &Poll, mut stream: TcpStream) -> Option<u64>
-        ensures { MatchOption result (Keeps self.old self.new) (λ n. Opens n self.old self.new) }
+    /// Whether the end was told.
+    pub(crate) fn has_ended(&self) -> bool
+        ensures { result ≡ false → GoesOn (story_of self.now) }
     {
-        let number = self.last.checked_add(1)?;
-        stream.set_nodelay(true).ok()?;
+        self.has_ended
+    }
+
+    /// Opens a session for a stream, and tells of it. None if the stream can't be served; it is closed then.
+    pub(crate) fn open(&mut self, poll: &Poll, stream: NewStream) -> Option<u64>
+        requires { GoesOn (story_of self.old) }
+        ensures told { MatchOption result (story_of self.new ≡ story_of self.old)
+            (λ n. Tells (story_of self.old) (Opened n) (story_of self.new)) }
+        ensures sockets { MatchOption result (KeepsSockets self.old self.new)
+            (λ _. self.new.sockets.items ≡ self.old.sockets.items ++ socket_of stream ∷ []) }
+    {
+        let session = self.last.checked_add(1)?;
         self.ready.reserve(OPEN_SESSIONS).ok()?;
-        let both = Interest::READABLE | Interest::WRITABLE;
-        poll.registry()
-            .register(&mut stream, Token(number as usize), both)
-            .ok()?;
-        let open = OpenStream {
-            stream: LoggedStream::new(stream),
-            is_paused: false,
-            is_queued: false,
-            has_closed: false,
-            has_input: false,
-            has_ended: false,
-            is_blocked: false,
-            was_offered: false,
-            owes_output: false,
-            was_heard: true,
+        let stream = stream.serve(poll, session)?;
+        let served = Snapshot::of(&stream);
+        let open = OpenStream::new(stream, self.looks);
+        self.open.insert(session, open).ok()?;
+        self.last = session;
+        self.sockets.note_as(&SocketNote { served: &served });
+        self.told.note_as(&PortNote::Opened(session));
+        Some(session)
+    }
+
+    // Takes note of what an event tells of a stream. True if one has room that had none.
+    fn hear(&mut self, event: &Event) -> bool
+        ensures told { story_of self.new ≡ story_of self.old }
+        ensures sockets { KeepsSockets self.old self.new }
+    {
+        let session = event.token().0 as u64;
+        let Some(open) = self.open.get_mut(&session) else {
+            self.lingering.mark();
+            return false;
         };
-        self.open.insert(number, open).ok()?;
-        self.last = number;
-        Some(number)
+        open.hear(event, session, &mut self.ready)
     }
 
-    pub(crate) fn close(&mut self, session: u64)
-        ensures { Sets session None self.old self.new }
+    // The same of all that a poll brought.
+    pub(crate) fn hear_all(&mut self, events: &Events) -> bool
+        ensures told { story_of self.new ≡ story_of self.old }
+        ensures sockets { KeepsSockets self.old self.new }
     {
-        let _ = self.open.remove(&session);
-    }
-
-    // Ends a session, whose stream is read a little longer, so that its peer sees what it was given.
-    pub(crate) fn shut<R: Clock>(&mut self, rt: &R, session: u64)
-        ensures { Sets session None self.old self.new }
-    {
-        if let Some(open) = self.open.remove(&session) {
-            self.lingering.add(rt, open.stream.into_stream());
+        let mut has_room = false;
+        for event in events {
+            has_room |= self.hear(event);
         }
+        has_room
     }
 
     // Reads those that were shut, and closes those that were read for long enough.
     pub(crate) fn drain<R: Clock>(&mut self, rt: &R)
-        ensures { Keeps self.old self.new }
+        ensures told { story_of self.new ≡ story_of self.old }
+        ensures sockets { KeepsSockets self.old self.new }
     {
         if self.has_lingering() {
             self.lingering.drain(rt, self.scratch.as_mut_slice());
         }
     }
 
-    // Notes which streams have something to read or room to write. True where one has room that had none.
-    pub(crate) fn mark(&mut self, events: &Events) -> bool
-        ensures { Keeps self.old self.new }
-    {
-        let mut has_room = false;
-        for event in events {
-            let number = event.token().0 as u64;
-            let Some(open) = self.open.get_mut(&number) else {
-                self.lingering.mark();
-                continue;
-            };
-            if event.is_writable() && open.is_blocked {
-                open.is_blocked = false;
-                open.was_offered = true;
-                has_room = true;
-            }
-            if event.is_read_closed() || event.is_error() {
-                open.has_closed = true;
-            }
-            if (event.is_readable() || open.has_closed) && !open.is_queued {
-                open.is_queued = self.ready.push_back(number).is_ok();
-            }
-        }
-        has_room
-    }
-
-    // A session that may have something to read. A paused one is queued again when it is resumed.
-    pub(crate) fn next_ready(&mut self) -> Option<u64>
-        ensures keeps { Keeps self.old self.new }
-        ensures ready { IfSome result (λ n. is_paused (shown self.new n) ≡ false) }
+    /// Reads from the streams that may have something, until there is an event to tell.
+    pub(crate) fn next_input(&mut self) -> Option<PortEvent>
+        requires { GoesOn (story_of self.old) }
+        ensures told { MatchOption result (story_of self.new ≡ story_of self.old)
+            (λ event. Tells (story_of self.old) event (story_of self.new)) }
+        ensures sockets { KeepsSockets self.old self.new }
     {
         for _ in 0..self.ready.len() {
-            let number = self.ready.pop_front()?;
-            if let Some(open) = self.open.get_mut(&number) {
-                open.is_queued = false;
-                if !open.is_paused {
-                    return Some(number);
-                }
+            let session = self.ready.pop_front()?;
+            if let Some(event) = self.read(session) {
+                return Some(event);
             }
         }
         None
     }
 
-    // Reads once. A full read, or one of a peer that has closed, is followed by another.
-    pub(crate) fn read(&mut self, session: u64) -> Reading
-        ensures { Reads session self.old result self.new }
+    // Reads once from the stream of a session that was listed, and tells what came.
+    fn read(&mut self, session: u64) -> Option<PortEvent>
+        requires { GoesOn (story_of self.old) }
+        ensures told { MatchOption result (story_of self.new ≡ story_of self.old)
+            (λ event. Tells (story_of self.old) event (story_of self.new)) }
+        ensures sockets { KeepsSockets self.old self.new }
     {
-        let Some(open) = self.open.get_mut(&session) else {
-            return Reading::Nothing;
-        };
-        match open.stream.read(self.scratch.as_mut_slice()) {
-            Ok(0) if open.has_ended => Reading::Nothing,
-            Ok(0) if !open.has_input => {
-                self.close(session);
-                Reading::Gone
-            },
-            Ok(0) => {
-                open.has_ended = true;
-                open.was_offered = false;
-                Reading::Ended
+        let open = self.open.get_mut(&session)?;
+        if !open.is_listed() {
+            open.unlist();
+            return None;
+        }
+        let reading = open.read(self.alloc, self.scratch.as_mut_slice(), self.looks);
+        open.relist(session, &mut self.ready);
+        match reading {
+            Reading::Bytes(piece) => {
+                self.told
+                    .note_as(&PortNote::Data(session, piece.as_slice()));
+                Some(PortEvent::Data(session, piece))
             }
-            Ok(count) => {
-                open.has_input = true;
-                open.was_heard = true;
-                if count == self.scratch.len() || open.has_closed {
-                    open.is_queued = self.ready.push_back(session).is_ok();
-                }
-                match Bytes::copy_from_slice(self.alloc, &self.scratch[..count]) {
-                    Ok(piece) => Reading::Bytes(piece),
-                    Err(_) => {
-                        self.close(session);
-                        Reading::Gone
-                    },
-                }
+            Reading::Nothing => None,
+            Reading::Ended => {
+                self.told.note_as(&PortNote::EndOfInput(session));
+                Some(PortEvent::EndOfInput(session))
             }
-            Err(error) if error.kind() == ErrorKind::WouldBlock => Reading::Nothing,
-            Err(_) => {
-                self.close(session);
-                Reading::Gone
-            },
+            Reading::Gone => {
+                let _ = self.open.remove(&session);
+                self.told.note_as(&PortNote::Gone(session));
+                Some(PortEvent::Gone(session))
+            }
         }
     }
 
-    // Whether the session has answers still: its last write was short, or output was offered since this was last asked.
-    // None where it isn't open any more.
-    pub(crate) fn has_answers(&mut self, session: u64) -> Option<bool>
-        ensures keeps { Keeps self.old self.new }
-        ensures open { IfSome result (λ _. is_some (shown self.old session) ≡ true) }
+    /// Counts a look for idle sessions.
+    pub(crate) fn count_look(&mut self)
+        ensures told { story_of self.new ≡ story_of self.old }
+        ensures sockets { KeepsSockets self.old self.new }
     {
-        let open = self.open.get_mut(&session)?;
-        let has_answers = open.was_offered || open.is_blocked;
-        open.was_offered = false;
-        Some(has_answers)
+        self.looks = self.looks.saturating_add(1);
     }
 
-    // Whether nothing came from the session since this was last asked, and nothing of it is to be read or given. None where
-    // it isn't open any more.
-    pub(crate) fn is_silent(&mut self, session: u64) -> Option<bool>
-        ensures keeps { Keeps self.old self.new }
-        ensures open { IfSome result (λ _. is_some (shown self.old session) ≡ true) }
-    {
-        let open = self.open.get_mut(&session)?;
-        let has_work = open.is_queued || open.is_paused || open.owes_output;
-        let is_silent = !open.was_heard && !has_work;
-        open.was_heard = false;
-        Some(is_silent)
+    // A session that was idle for long enough.
+    fn idle_session(&self) -> Option<u64> {
+        for (session, open) in self.open.iter() {
+            if open.is_idle(self.looks) {
+                return Some(*session);
+            }
+        }
+        None
     }
 
-    // Writes once, unless the stream is known to have no room.
+    /// Closes a session that was idle for long enough, and tells that its peer has gone.
+    pub(crate) fn end_idle(&mut self) -> Option<PortEvent>
+        requires { GoesOn (story_of self.old) }
+        ensures told { MatchOption result (story_of self.new ≡ story_of self.old)
+            (λ event. Tells (story_of self.old) event (story_of self.new)) }
+        ensures sockets { KeepsSockets self.old self.new }
+    {
+        let session = self.idle_session()?;
+        let _ = self.open.remove(&session)?;
+        self.told.note_as(&PortNote::Gone(session));
+        Some(PortEvent::Gone(session))
+    }
+
+    /// Tells the end.
+    pub(crate) fn end(&mut self)
+        requires goes_on { GoesOn (story_of self.old) }
+        requires none { HasNoneOpen (story_of self.old) }
+        ensures told { Tells (story_of self.old) Ended (story_of self.new) }
+        ensures sockets { KeepsSockets self.old self.new }
+    {
+        self.has_ended = true;
+        self.told.note_as(&PortNote::Ended);
+    }
+
+    /// Gives bytes to a session, and tells how many its stream took.
     pub(crate) fn write(
         &mut self,
-        owner: Owner,
         session: u64,
         bytes: &[u8],
-        history: &ToldHistory,
+        history: ToldHistory,
     ) -> Result<usize, Gone>
-        requires { MayBeSent owner.geometry owner.dialect owner.worker history.now session
-            (received_of (shown self.old session)) (sent_of (shown self.old session)) bytes.now }
+        requires open { HasOpen session (story_of self.old) }
+        requires said { MayBeGiven (story_of self.old) history session bytes.now }
         ensures within { IfOk result (λ n. n ≤ length bytes.now) }
-        ensures sends { IfOk result (λ n.
-            Sets session (option_map (then_sent (take n bytes.now)) (shown self.old session)) self.old self.new) }
-        ensures ends { OnErr result (Sets session None self.old self.new) }
+        ensures told { story_of self.new ≡ then_gave session bytes.now result history (story_of self.old) }
+        ensures sockets { KeepsSockets self.old self.new }
     {
         let Some(open) = self.open.get_mut(&session) else {
             return Err(Gone);
         };
-        open.was_offered = true;
-        if open.is_blocked || bytes.is_empty() {
-            return Ok(0);
-        }
-        match open.stream.write(owner, session, bytes, history) {
-            Ok(count) => {
-                open.is_blocked = count < bytes.len();
-                open.owes_output = open.is_blocked;
-                Ok(count)
+        let answer = open.write(self.owner, session, bytes, &history, self.looks);
+        self.history = given_by(history);
+        match answer {
+            Ok(count) if 0 < count => {
+                self.told
+                    .note_as(&PortNote::Accepted(session, &bytes[..count]));
             }
-            Err(error) if error.kind() == ErrorKind::WouldBlock => {
-                open.is_blocked = true;
-                open.owes_output = true;
-                Ok(0)
-            }
+            Ok(_) => {}
             Err(_) => {
-                self.close(session);
-                Err(Gone)
+                let _ = self.open.remove(&session);
+                self.told.note_as(&PortNote::Gone(session));
             }
         }
+        answer
     }
 
     pub(crate) fn pause(&mut self, session: u64)
-        ensures { Sets session (option_map (then_paused true) (shown self.old session)) self.old self.new }
+        requires { HasOpen session (story_of self.old) }
+        ensures told { story_of self.new ≡ with_pause session true (story_of self.old) }
+        ensures sockets { KeepsSockets self.old self.new }
     {
         if let Some(open) = self.open.get_mut(&session) {
-            open.is_paused = true;
+            open.pause();
         }
     }
 
-    // What came meanwhile may not be told again, so the session is read from.
     pub(crate) fn resume(&mut self, session: u64)
-        ensures { Sets session (option_map (then_paused false) (shown self.old session)) self.old self.new }
+        requires { HasOpen session (story_of self.old) }
+        ensures told { story_of self.new ≡ with_pause session false (story_of self.old) }
+        ensures sockets { KeepsSockets self.old self.new }
     {
         if let Some(open) = self.open.get_mut(&session) {
-            open.is_paused = false;
-            if !open.is_queued {
-                open.is_queued = self.ready.push_back(session).is_ok();
-            }
+            open.resume(session, &mut self.ready);
         }
+    }
+
+    /// Ends a session for good. Its stream is read a little longer, so that its peer sees what it was given, unless all of
+    /// its input was read.
+    pub(crate) fn shut<R: Clock>(&mut self, rt: &R, session: u64)
+        requires { HasOpen session (story_of self.old) }
+        ensures told { story_of self.new ≡ then_told (Shut session ∷ []) (story_of self.old) }
+        ensures sockets { KeepsSockets self.old self.new }
+    {
+        if let Some(ended) = self.open.remove(&session).and_then(OpenStream::into_ended) {
+            self.lingering.add(rt, ended);
+        }
+        self.told.note_as(&PortNote::Shut(session));
     }
 }

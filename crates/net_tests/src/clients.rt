@@ -1,5 +1,6 @@
 //! Clients of a socket.
 
+use net::Notices;
 use std::alloc::Global;
 use std::io::{Read, Write};
 use std::net::{Net, TcpStream};
@@ -61,4 +62,14 @@ pub(crate) fn ask<R: Net<Stream = TcpStream> + Abort>(
     let stream = connect(rt, alloc, port);
     send(rt, &stream, request);
     read_all(rt, alloc, &stream)
+}
+
+/// Hears nothing of what is amiss.
+#[derive(Clone, Copy)]
+pub(crate) struct Unheard;
+
+impl Notices for Unheard {
+    fn workers_are_full(&mut self, _waiting: usize, _closed: u64) {}
+
+    fn accepts_fail(&mut self, _failed: u64) {}
 }

@@ -5,7 +5,7 @@ use command_line::ServeOptions;
 use net::Listener;
 use proto::{Dialect, Geometry};
 use std::alloc::Global;
-use std::io::Eprint;
+use std::io::{self, Eprint, Read};
 use std::net::{Net, Shutdown, TcpStream};
 use std::process::Abort;
 use std::sync::Wait;
@@ -24,11 +24,21 @@ fn serve_some<R>(rt: R, alloc: Global, port: u16, sessions: u64)
 where
     R: Threads + Wait + Net + Clock + Eprint + Abort + Copy + Drop + Send + Sync + 'static,
 {
+    serve_with(rt, alloc, port, sessions, None);
+}
+
+/// The same, where idle sessions are ended after so many seconds.
+fn serve_with<R>(rt: R, alloc: Global, port: u16, sessions: u64, idle: Option<u64>)
+where
+    R: Threads + Wait + Net + Clock + Eprint + Abort + Copy + Drop + Send + Sync + 'static,
+{
     let options = ServeOptions {
         listen: format!(in alloc; "127.0.0.1:{port}").expect(&rt, "memory"),
         workers: 2,
         sessions: Some(sessions),
-        idle: None,
+        idle,
+        counters_in_place: false,
+        spin: None,
         segment_size: 65_536,
         segments: 64,
         dialect: Dialect::Strict,
@@ -154,4 +164,95 @@ fn a_client_that_sends_too_much_sees_why_it_is_shut(rt: HostRuntime) {
     );
     serve_some(rt, alloc, port, 21);
     assert!(rt; clients.join(&rt) == 20);
+}
+
+/// The bytes of the value that many answers carry, and how many answers those are: 20 MB.
+const LARGE: usize = 8_000;
+
+const ANSWERS: usize = 2_500;
+
+/// Stores the value, and asks for it again and again.
+fn ask_for_much<R>(rt: &R, alloc: Global, port: u16) -> TcpStream
+where
+    R: Net<Stream = TcpStream> + Abort,
+{
+    let value = Vec::from_elem(alloc, b'x', LARGE).expect(rt, "memory");
+    let stream = connect(rt, alloc, port);
+    send(rt, &stream, b"set a 0 0 8000\r\n");
+    send(rt, &stream, value.as_slice());
+    send(rt, &stream, b"\r\n");
+    for _ in 0..ANSWERS {
+        send(rt, &stream, b"get a\r\n");
+    }
+    stream
+}
+
+/// How many bytes a client reads that takes two megabytes, or fewer, each so many milliseconds, until the end.
+fn read_slowly<R: Clock>(
+    rt: &R,
+    alloc: Global,
+    stream: &TcpStream,
+    millis: u64,
+) -> io::Result<usize> {
+    let mut part = Vec::from_elem(alloc, 0u8, 65_536)?;
+    let mut reader: &TcpStream = stream;
+    let mut all: usize = 0;
+    for _ in 0..1000 {
+        thread::sleep(rt, Duration::from_millis(millis));
+        for _ in 0..32 {
+            let count = reader.read(part.as_mut_slice())?;
+            if count == 0 {
+                return Ok(all);
+            }
+            all = all.saturating_add(count);
+        }
+    }
+    Ok(all)
+}
+
+/// A client that sends no more and reads slowly gets all that it is owed, for more than three times its limit.
+fn read_all_slowly<R>(rt: &R, alloc: Global, port: u16) -> usize
+where
+    R: Net<Stream = TcpStream> + Clock + Abort,
+{
+    await_listener(rt, alloc, port);
+    let stream = ask_for_much(rt, alloc, port);
+    stream.shutdown(Shutdown::Write).expect(rt, "a closed half");
+    read_slowly(rt, alloc, &stream, 350).expect(rt, "bytes read")
+}
+
+#[test]
+fn a_slow_reader_gets_all_that_it_is_owed(rt: HostRuntime) {
+    let alloc: Global = rt.alloc();
+    let port = free_port(&rt, alloc);
+    let clients = thread::spawn(&rt, move || read_all_slowly(&rt, alloc, port)).expect(
+        &rt, "a thread",
+    );
+    serve_with(rt, alloc, port, 2, Some(1));
+    let all = clients.join(&rt);
+    let answer = b"VALUE a 0 8000\r\n\r\nEND\r\n".len() + LARGE;
+    assert!(rt;
+        all == b"STORED\r\n".len() + ANSWERS * answer,
+        "{all} bytes came"
+    );
+}
+
+/// How much of it a client gets that reads nothing for more than its limit.
+fn read_late<R>(rt: &R, alloc: Global, port: u16) -> usize
+where
+    R: Net<Stream = TcpStream> + Clock + Abort,
+{
+    await_listener(rt, alloc, port);
+    let stream = ask_for_much(rt, alloc, port);
+    thread::sleep(rt, Duration::from_millis(6000));
+    read_slowly(rt, alloc, &stream, 0).unwrap_or(0)
+}
+
+#[test]
+fn a_client_that_takes_nothing_of_what_it_is_owed_is_idle(rt: HostRuntime) {
+    let alloc: Global = rt.alloc();
+    let port = free_port(&rt, alloc);
+    let clients = thread::spawn(&rt, move || read_late(&rt, alloc, port)).expect(&rt, "a thread");
+    serve_with(rt, alloc, port, 2, Some(1));
+    assert!(rt; clients.join(&rt) < ANSWERS * LARGE);
 }

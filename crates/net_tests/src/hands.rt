@@ -1,7 +1,7 @@
 //! Hands that are full, or used up.
 
-use crate::clients::{connect_all, read_all};
-use net::{Hand, Listener, MioPort, Notices, Owner};
+use crate::clients::{Unheard, connect_all, read_all};
+use net::{Hand, Listener, MioPort, Notices, Owner, StreamSender};
 use proto::{Dialect, Geometry};
 use std::alloc::Global;
 use std::net::{Net, TcpStream};
@@ -33,7 +33,7 @@ fn a_full_hand_has_64_streams_and_the_next_is_closed(rt: HostRuntime) {
     )
     .expect(&rt, "a thread");
     let (of_listener, of_port) = Hand::pair(&rt, alloc, 100).expect(&rt, "a hand");
-    let report = listener.run(&rt, &mut [of_listener], Some(65));
+    let report = listener.run_heard(&rt, &mut [of_listener], Some(65), &mut Unheard);
     assert!(rt; clients.join(&rt) == 0);
     assert!(rt; report.accepted == 65 && report.closed == 1 && report.failed == 0);
     drop(of_port);
@@ -46,7 +46,7 @@ fn streams_that_no_hand_takes_are_closed_within_a_second_or_so(rt: HostRuntime) 
     let clients = connect_all(&rt, alloc, listener.port(), 264);
     let since = Instant::now(&rt).expect(&rt, "a clock");
     let (of_listener, of_port) = Hand::pair(&rt, alloc, 1000).expect(&rt, "a hand");
-    let report = listener.run(&rt, &mut [of_listener], Some(264));
+    let report = listener.run_heard(&rt, &mut [of_listener], Some(264), &mut Unheard);
     assert!(rt; since.elapsed(&rt).expect(&rt, "a clock") < Duration::from_millis(1100));
     assert!(rt; report.accepted == 264 && report.closed == 200 && report.failed == 0);
     drop((of_port, clients));
@@ -83,7 +83,7 @@ where
 {
     let (small, of_small) = Hand::pair(rt, alloc, 1).expect(rt, "a hand");
     let (large, of_large) = Hand::pair(rt, alloc, 2).expect(rt, "a hand");
-    let report = listener.run(rt, &mut [small, large], None);
+    let report = listener.run_heard(rt, &mut [small, large], None, &mut Unheard);
     assert!(*rt; report.accepted == 4 && report.closed == 1 && report.failed == 0);
     (of_small, of_large)
 }
@@ -99,12 +99,20 @@ fn a_listener_ends_once_all_hands_are_used_up(rt: HostRuntime) {
     assert!(rt; sessions_of(rt, alloc, of_large) == Some(2));
 }
 
+/// Ends a session whose peer sends no more, as a worker does that owes it nothing.
+fn end_session<R: Wait + Clock + Drop>(port: &mut MioPort<R>, session: u64) {
+    if port.is_open(session) {
+        port.shut(session);
+    }
+}
+
 /// How many sessions a port opens until it has ended, if it does.
 fn sessions_opened<R: Wait + Clock + Drop>(port: &mut MioPort<R>) -> Option<u64> {
     let mut opened = 0;
     for _ in 0..CALLS {
         match port.next(true) {
             PortEvent::Opened(number) => opened = number,
+            PortEvent::EndOfInput(session) => end_session(port, session),
             PortEvent::Ended => return Some(opened),
             _ => {}
         }
@@ -128,6 +136,10 @@ where
         match port.next(true) {
             PortEvent::Opened(_) => left.0 = left.0.saturating_sub(1),
             PortEvent::Gone(_) => left.1 = left.1.saturating_sub(1),
+            PortEvent::EndOfInput(session) => {
+                end_session(port, session);
+                left.1 = left.1.saturating_sub(1);
+            }
             _ => {}
         }
     }
@@ -139,7 +151,7 @@ fn share_of_first<R>(
     rt: &R,
     alloc: Global,
     listener: &mut Listener,
-    hands: &mut [Hand],
+    hands: &mut [StreamSender],
     ports: (&mut MioPort<R>, &mut MioPort<R>),
     count: u64,
 ) -> u64
@@ -147,7 +159,7 @@ where
     R: Wait + Clock + Net<Stream = TcpStream> + Abort + Drop,
 {
     let clients = connect_all(rt, alloc, listener.port(), count);
-    let report = listener.run(rt, hands, Some(count));
+    let report = listener.run_heard(rt, hands, Some(count), &mut Unheard);
     assert!(*rt; report.accepted == count && report.closed == 0);
     let first = opened_now(ports.0);
     let second = opened_now(ports.1);
@@ -173,7 +185,7 @@ fn opened_now<R: Wait + Clock + Drop>(port: &mut MioPort<R>) -> u64 {
 #[derive(Drop)]
 struct FullWorker<R: Drop> {
     listener: Listener,
-    hands: Vec<Hand>,
+    hands: Vec<StreamSender>,
     port: MioPort<R>,
     clients: Vec<TcpStream>,
 }
@@ -188,7 +200,7 @@ where
     let clients = connect_all(&rt, alloc, listener.port(), SESSIONS);
     let listening = thread::spawn(&rt, move || {
         let mut hands = vec![in alloc; of_listener].expect(&rt, "memory");
-        let report = listener.run(&rt, hands.as_mut_slice(), Some(SESSIONS));
+        let report = listener.run_heard(&rt, hands.as_mut_slice(), Some(SESSIONS), &mut Unheard);
         assert!(rt; report.closed == 0);
         (listener, hands)
     })

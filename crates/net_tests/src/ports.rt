@@ -1,15 +1,15 @@
 //! One port, asked by the tests in place of a worker.
 
-use crate::clients::{connect_all, read_all, send};
+use crate::clients::{Unheard, connect_all, read_all, send};
 use net::{Hand, Listener, MioPort, Owner};
 use proto::{Dialect, Geometry};
 use std::alloc::Global;
-use std::net::{Net, TcpStream};
+use std::net::{Net, Shutdown, TcpStream};
 use std::process::Abort;
 use std::sync::Wait;
 use std::thread;
 use std::time::{Clock, Duration, Instant};
-use worker_port::{Port, PortEvent};
+use worker_port::{MAX_PIECE, Port, PortEvent};
 
 /// So often a port is asked for an event that has to come.
 const CALLS: usize = 100_000_000;
@@ -22,6 +22,7 @@ const FEW_CALLS: usize = 10_000;
 enum Came {
     Opened(u64),
     Data(u64, usize),
+    EndOfInput(u64),
     Gone(u64),
     Ended,
     Nothing,
@@ -33,6 +34,7 @@ fn next<R: Wait + Clock + Drop>(port: &mut MioPort<R>, calls: usize) -> Came {
         match port.next(false) {
             PortEvent::Opened(session) => return Came::Opened(session),
             PortEvent::Data(session, bytes) => return Came::Data(session, bytes.len()),
+            PortEvent::EndOfInput(session) => return Came::EndOfInput(session),
             PortEvent::Gone(session) => return Came::Gone(session),
             PortEvent::Ended => return Came::Ended,
             PortEvent::Idle => {}
@@ -49,7 +51,7 @@ where
     let mut listener = Listener::bind(&rt, alloc, "127.0.0.1:0").expect(&rt, "a listener");
     let clients = connect_all(&rt, alloc, listener.port(), count);
     let (of_listener, of_port) = Hand::pair(&rt, alloc, count).expect(&rt, "a hand");
-    let report = listener.run(&rt, &mut [of_listener], Some(count));
+    let report = listener.run_heard(&rt, &mut [of_listener], Some(count), &mut Unheard);
     assert!(rt; report.accepted == count && report.closed == 0);
     let owner = Owner {
         geometry: Geometry::new(65_536, 64).expect(&rt, "a geometry"),
@@ -185,4 +187,123 @@ fn a_silent_session_is_gone_after_its_time(rt: HostRuntime) {
     assert!(rt; is_about_a_second(time_of_first_end(&rt, &mut port, second)));
     check_next(&rt, &mut port, CALLS, Came::Data(2, 7), "a request");
     assert!(rt; is_about_a_second(time_until(&rt, &mut port, Came::Gone(2), "the other one")));
+}
+
+/// So many bytes come of session 1, in whole pieces, and then nothing: the session goes on.
+fn check_pieces<R>(rt: &R, alloc: Global, port: &mut MioPort<R>, client: &TcpStream, pieces: usize)
+where
+    R: Wait + Clock + Abort + Drop,
+{
+    for _ in 0..pieces {
+        let bytes = Vec::from_elem(alloc, b'x', MAX_PIECE).expect(rt, "memory");
+        send(rt, client, bytes.as_slice());
+    }
+    thread::sleep(rt, Duration::from_millis(50));
+    for _ in 0..pieces {
+        check_next(rt, port, CALLS, Came::Data(1, MAX_PIECE), "a whole piece");
+    }
+    check_next(rt, port, FEW_CALLS, Came::Nothing, "while nothing comes");
+    assert!(*rt; port.is_open(1));
+}
+
+#[test]
+fn a_pipeline_of_whole_pieces_goes_on(rt: HostRuntime) {
+    let alloc: Global = rt.alloc();
+    let (mut port, client) = port_with_one(rt, alloc);
+    check_next(&rt, &mut port, CALLS, Came::Opened(1), "the session opens");
+    check_pieces(&rt, alloc, &mut port, &client, 1);
+    check_pieces(&rt, alloc, &mut port, &client, 2);
+    send(&rt, &client, b"get a\r\n");
+    check_next(&rt, &mut port, CALLS, Came::Data(1, 7), "a request");
+}
+
+#[test]
+fn the_end_of_input_comes_once_and_after_all_input(rt: HostRuntime) {
+    let (mut port, client) = port_with_one(rt, rt.alloc());
+    check_next(&rt, &mut port, CALLS, Came::Opened(1), "the session opens");
+    assert!(rt; port.is_open(1));
+    port.pause(1);
+    send(&rt, &client, b"get a\r\n");
+    client
+        .shutdown(Shutdown::Write)
+        .expect(&rt, "a closed half");
+    check_next(
+        &rt,
+        &mut port,
+        FEW_CALLS,
+        Came::Nothing,
+        "while it is paused",
+    );
+    assert!(rt; port.is_open(1));
+    port.resume(1);
+    check_next(&rt, &mut port, CALLS, Came::Data(1, 7), "its request");
+    check_next(
+        &rt,
+        &mut port,
+        CALLS,
+        Came::EndOfInput(1),
+        "the end of its input",
+    );
+    check_next(&rt, &mut port, FEW_CALLS, Came::Nothing, "while it is open");
+    assert!(rt; port.is_open(1));
+}
+
+/// Whether nothing but bytes comes of a port's session for so many milliseconds.
+fn has_only_input<R: Wait + Clock + Abort + Drop>(
+    rt: &R,
+    port: &mut MioPort<R>,
+    millis: u64,
+) -> bool {
+    let since = Instant::now(rt).expect(rt, "a clock");
+    for _ in 0..CALLS {
+        match port.next(true) {
+            PortEvent::Idle | PortEvent::Data(_, _) => {}
+            _ => return false,
+        }
+        if since.elapsed(rt).expect(rt, "a clock") > Duration::from_millis(millis) {
+            return true;
+        }
+    }
+    false
+}
+
+/// A session that speaks again and again, always sooner than its limit of so many seconds, goes on.
+fn check_speaking<R>(rt: R, alloc: Global, limit: u64, pauses: &[u64])
+where
+    R: Wait + Clock + Net<Stream = TcpStream> + Abort + Copy + Drop,
+{
+    let (mut port, client) = port_with_one(rt, alloc);
+    port.set_idle_limit(limit);
+    check_next(&rt, &mut port, CALLS, Came::Opened(1), "the session opens");
+    for millis in pauses {
+        send(&rt, &client, b"get a\r\n");
+        assert!(rt;
+            has_only_input(&rt, &mut port, *millis),
+            "it speaks every {millis} ms"
+        );
+    }
+}
+
+#[test]
+fn a_session_that_speaks_is_never_idle(rt: HostRuntime) {
+    let alloc: Global = rt.alloc();
+    check_speaking(rt, alloc, 1, &[450, 950, 700, 950, 550, 900]);
+    check_speaking(rt, alloc, 3, &[950, 700, 950, 450, 900]);
+}
+
+#[test]
+fn a_port_that_spins_does_not_wait(rt: HostRuntime) {
+    let (mut port, client) = port_with_one(rt, rt.alloc());
+    port.set_spin(100_000);
+    check_next(&rt, &mut port, CALLS, Came::Opened(1), "the session opens");
+    let since = Instant::now(&rt).expect(&rt, "a clock");
+    for _ in 0..20 {
+        assert!(rt; matches!(port.next(true), PortEvent::Idle));
+    }
+    assert!(rt; since.elapsed(&rt).expect(&rt, "a clock") < Duration::from_millis(50));
+    thread::sleep(&rt, Duration::from_millis(150));
+    let since = Instant::now(&rt).expect(&rt, "a clock");
+    assert!(rt; matches!(port.next(true), PortEvent::Idle));
+    assert!(rt; since.elapsed(&rt).expect(&rt, "a clock") > Duration::from_millis(90));
+    drop(client);
 }

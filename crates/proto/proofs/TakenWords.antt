@@ -1,7 +1,8 @@
 -- The words behind a storage line's command word, one after the other.
 use Rattle.std.proofs.Common.{◌≡◌, ℕ, ℤ, ◌^◌, Bool, List, [], ◌∷◌, Option, Some, refl, sym, ap, ◌∙◌}
 use Rattle.proto.specs.Lines.{is_key}
-use Rattle.proto.specs.PlainReader.{StorageCommand, key_in, taken, number_in, signed_in, TailReader, line_with, storage_in}
+use Rattle.proto.specs.declared.storage_line.StoreMode.{StoreMode}
+use Rattle.proto.specs.PlainReader.{key_in, taken, number_in, signed_in, TailReader, line_with, storage_in}
 use Rattle.proto.proofs.Options.{bind_some, guarded_some, some_is}
 
 -- a word that was taken, what it is read as, and the words behind it
@@ -27,7 +28,7 @@ is_taken {A} read (word ∷ words) rest a e =
 
 -- a storage line whose words are taken one after the other
 pub storage_taken : (tail : TailReader) (words w1 w2 w3 w4 : List (List ℕ)) (key : List ℕ) (f : ℕ) (e : ℤ) (n : ℕ)
-    (t : StorageCommand × Bool)
+    (t : StoreMode × Bool)
     → Some (key, w1) ≡ taken key_in words → Some (f, w2) ≡ taken (number_in (2 ^ 32)) w1
     → Some (e, w3) ≡ taken (signed_in (10 ^ 10)) w2 → Some (n, w4) ≡ taken (number_in (10 ^ 10)) w3
     → Some t ≡ tail w4 → Some (line_with key f e n t) ≡ storage_in tail words

@@ -1,6 +1,6 @@
 -- Worked examples, whose theorems stand in proofs/. Each is the contract of a function of the module
 -- `examples`.
-use Rattle.std.specs.Prelude.{◌≡◌, ℕ, ℤ, pos, negsuc, true, false, List, [], ◌∷◌, ◌++◌, codes, replicate, Option, Some, None}
+use Rattle.std.specs.Prelude.{◌≡◌, ℕ, ℤ, pos, negsuc, true, false, List, [], ◌∷◌, ◌++◌, codes, replicate, map, Option, Some, None}
 use Rattle.std.specs.List.{AllByRecursion}
 use Rattle.std.specs.FinMap as finite
 use Rattle.proto.specs.declared.dialect.Dialect.TheVariants.{Strict, Lenient}
@@ -22,6 +22,7 @@ use Rattle.proto.specs.Needs.{IsUnfinished}
 use Rattle.proto.specs.Cache.{Entry, Entries, no_entries, Cache, empty_cache, live, found_at, deadline_of, has_arrived}
 use Rattle.proto.specs.Commands.{Outcome, act}
 use Rattle.proto.specs.declared.history.Answered.{Answered}
+use Rattle.proto.specs.ClockAnswers.{GivenAnswer}
 use Rattle.proto.specs.History.{Legal, session_share, had, asked}
 use Rattle.proto.specs.Buckets.{bucket_of, width_of, life_width, lower_end, shared_deadline, MayLive}
 
@@ -109,6 +110,10 @@ faults =
     ∷ (codes "set a 0 0 9999999999\r\n", Fatal fatal.TooLarge)
     ∷ (codes "set a 0 0 2\r\nxyz\r", Fatal fatal.BadChunk)
     ∷ (codes "set a 0 0 1\r\nx\ry", Fatal fatal.BadChunk)
+    ∷ (codes "append a 0 0 1\r\n", Wrong wrong.Unknown)
+    ∷ (codes "prepend a 0 0 1 noreply\r\n", Wrong wrong.Unknown)
+    ∷ (codes "delete a 0\r\n", Wrong wrong.BadLine)
+    ∷ (128 ∷ line_break, Wrong wrong.Unknown)
     ∷ []
 
 -- lines at the limit: with its end one may have 2,048 bytes, and what is longer isn't read to its end
@@ -142,6 +147,32 @@ lenient_lines =
     ∷ (codes "set a 00 0 1 \r\n", Fatal fatal.BadLine)
     ∷ []
 
+-- `append` and `prepend` are refused with their data, a `delete` may have a zero behind its key, and the binary protocol is
+-- refused by its first byte.
+abbrev pub lenient_refusals : List Example
+lenient_refusals =
+    (codes "append a 0 0 1\r\nx\r\n", Wrong wrong.Unknown)
+    ∷ (codes "prepend a 0 0 7\r\nget b\r\n\r\n", Wrong wrong.Unknown)
+    ∷ (codes "append a 0 0 0 \r\n\r\n", Wrong wrong.Unknown)
+    ∷ (codes "append a 0 0 1 noreply\r\nx\r\n", Wrong wrong.Silent)
+    ∷ (codes "append\r\n", Fatal fatal.BadLine)
+    ∷ (codes "append a 0 0\r\n", Fatal fatal.BadLine)
+    ∷ (codes "prepend a 0 0 1 1\r\n", Fatal fatal.BadLine)
+    ∷ (codes "append a 0 0 131073\r\n", Fatal fatal.TooLarge)
+    ∷ (codes "append a 0 0 1\r\nxyz", Fatal fatal.BadChunk)
+    ∷ (codes "appendix a 0 0 1\r\n", Wrong wrong.Unknown)
+    ∷ (codes "delete a 0\r\n", Ask (Delete a) false)
+    ∷ (codes "delete a 0 noreply\r\n", Ask (Delete a) true)
+    ∷ (codes "delete 0\r\n", Ask (Delete (codes "0")) false)
+    ∷ (codes "delete 0 0 \r\n", Ask (Delete (codes "0")) false)
+    ∷ (codes "delete a 0 0\r\n", Wrong wrong.BadLine)
+    ∷ (codes "delete a 00\r\n", Wrong wrong.BadLine)
+    ∷ (codes "delete a 1\r\n", Wrong wrong.BadLine)
+    ∷ (codes "delete a  0\r\n", Wrong wrong.BadLine)
+    ∷ (codes "delete a noreply 0\r\n", Wrong wrong.BadLine)
+    ∷ (128 ∷ [], Fatal fatal.Binary)
+    ∷ []
+
 -- and with its end a line may have 32,768 bytes, its spaces counted
 abbrev pub lenient_long_lines : List Example
 lenient_long_lines =
@@ -169,16 +200,16 @@ needs =
 
 -- ---- answers
 
-abbrev pub hit_with : List ℕ → ℕ → List ℕ → ℕ → Hit
+abbrev pub hit_with : List ℕ → ℕ → List ℕ → Option ℕ → Hit
 hit_with key flags value cas = record { key = key; flags = flags; value = value; cas = cas }
 
 abbrev pub AnswersAre : Type 0
 AnswersAre =
     (answer (Ask (Set (put_with a 0 (pos 0) (codes "x"))) false) (Some reply.Stored) ≡ codes "STORED\r\n")
     × (answer (Ask (Set (put_with a 0 (pos 0) (codes "x"))) true) (Some reply.NoMemory) ≡ [])
-    × (answer (Ask (Get (a ∷ []) false) false) (Some (reply.Values (hit_with a 0 (codes "x") 1 ∷ [])))
+    × (answer (Ask (Get (a ∷ []) false) false) (Some (reply.Values (hit_with a 0 (codes "x") None ∷ [])))
     ≡ codes "VALUE a 0 1\r\nx\r\nEND\r\n")
-    × (answer (Ask (Get (a ∷ []) true) false) (Some (reply.Values (hit_with a 0 [] 1 ∷ [])))
+    × (answer (Ask (Get (a ∷ []) true) false) (Some (reply.Values (hit_with a 0 [] (Some 1) ∷ [])))
     ≡ codes "VALUE a 0 0 1\r\n\r\nEND\r\n")
     × (answer (Ask (Get (b ∷ []) false) false) (Some (reply.Values [])) ≡ codes "END\r\n")
     × (answer (Ask (Incr a 1) false) (Some (reply.Number 0)) ≡ codes "0\r\n")
@@ -251,7 +282,8 @@ CommandsDo =
 abbrev pub RepliesAre : Type 0
 RepliesAre =
     ((after_a (codes "x") (Get (a ∷ b ∷ a ∷ []) false)).reply
-    ≡ reply.Values (hit_with a 0 (codes "x") 1 ∷ hit_with a 0 (codes "x") 1 ∷ []))
+    ≡ reply.Values (hit_with a 0 (codes "x") None ∷ hit_with a 0 (codes "x") None ∷ []))
+    × ((after_a (codes "x") (Get (a ∷ []) true)).reply ≡ reply.Values (hit_with a 0 (codes "x") (Some 1) ∷ []))
     × ((after_a (codes "x") (Add (put_with a 0 (pos 0) []))).reply ≡ reply.NotStored)
     × ((after_a (codes "x") (Replace (put_with b 0 (pos 0) []))).reply ≡ reply.NotStored)
     × ((after_a (codes "x") (Cas (put_with a 0 (pos 0) []) 1)).reply ≡ reply.Stored)
@@ -295,16 +327,21 @@ session_input = codes "set a 0 0 1\r\nx\r\nget a\r\n"
 abbrev pub session_messages : List Message
 session_messages = Ask (set_a (pos 0)) false ∷ Ask (Get (a ∷ []) false) false ∷ []
 
+-- these answers of a clock other than the system's
+abbrev pub answers_of : List ℕ → List GivenAnswer
+answers_of seconds = map (λ (n : ℕ). record { seconds = n; read = [] }) seconds
+
 abbrev pub session_history : List Answered
 session_history =
-    record { worker = 0; session = 1; number = 1; request = set_a (pos 0); moment = 1000; reply = reply.Stored }
+    record { worker = 0; session = 1; number = 1; request = set_a (pos 0); moment = 1000; clock = answers_of (1000 ∷ []); reply = reply.Stored }
     ∷ record {
       worker = 0;
       session = 1;
       number = 2;
       request = Get (a ∷ []) false;
       moment = 1000;
-      reply = reply.Values (hit_with a 0 (codes "x") 1 ∷ []);
+      clock = answers_of (1000 ∷ 1000 ∷ []);
+      reply = reply.Values (hit_with a 0 (codes "x") None ∷ []);
     }
     ∷ []
 
@@ -331,23 +368,25 @@ pub record QuitIs : Type 0 where
 
 -- ---- a flush that comes while a session goes on
 
-abbrev pub get_a_again : ℕ → ℕ → List Hit → Answered
-get_a_again number moment hits =
+abbrev pub get_a_again : ℕ → ℕ → List ℕ → List Hit → Answered
+get_a_again number moment clock hits =
     record {
       worker = 0;
       session = 1;
       number = number;
       request = Get (a ∷ []) false;
       moment = moment;
+      clock = answers_of clock;
       reply = reply.Values hits;
     }
 
 -- `a` is set at 1000, a flush is to come at 1015, and `a` is read before it and then
 abbrev pub flush_history : List Answered
 flush_history =
-    record { worker = 0; session = 1; number = 1; request = set_a (pos 0); moment = 1000; reply = reply.Stored }
-    ∷ record { worker = 0; session = 1; number = 2; request = FlushAll 10; moment = 1005; reply = reply.Flushed }
-    ∷ get_a_again 3 1010 (hit_with a 0 (codes "x") 1 ∷ []) ∷ get_a_again 4 1015 [] ∷ []
+    record { worker = 0; session = 1; number = 1; request = set_a (pos 0); moment = 1000; clock = answers_of (1000 ∷ []); reply = reply.Stored }
+    ∷ record { worker = 0; session = 1; number = 2; request = FlushAll 10; moment = 1005; clock = answers_of (1000 ∷ 1005 ∷ []); reply = reply.Flushed }
+    ∷ get_a_again 3 1010 (1000 ∷ 1005 ∷ 1010 ∷ []) (hit_with a 0 (codes "x") None ∷ [])
+    ∷ get_a_again 4 1015 (1000 ∷ 1005 ∷ 1010 ∷ 1015 ∷ []) [] ∷ []
 
 abbrev pub FlushIs : Type 0
 FlushIs = Legal (sizes_of 65536 64) flush_history

@@ -1,9 +1,12 @@
 -- Histories: lists of executed requests, and which are legal.
-use Rattle.std.specs.Prelude.{◌≡◌, ℕ, ◌+◌, ◌^◌, ◌≤◌, ⊤, ◌&&◌, List, [], ◌∷◌, map, filter, ◌==◌}
+use Rattle.std.specs.Prelude.{◌≡◌, ℕ, ◌+◌, ◌^◌, max, min, ⊤, ◌&&◌, List, [], ◌∷◌, ◌++◌, true, All, map, filter, ◌==◌}
 use Rattle.proto.specs.declared.message.Request.{Request}
 use Rattle.proto.specs.declared.message.Reply.{Reply}
 use Rattle.proto.specs.declared.history.Posted.{Posted}
 use Rattle.proto.specs.declared.history.Answered.{Answered}
+use Rattle.proto.specs.declared.terms.Terms.{Terms}
+use Rattle.proto.specs.declared.logged_clock.ClockStart.{ClockStart}
+use Rattle.proto.specs.ClockAnswers.{GivenAnswer, IsRead}
 use Rattle.proto.specs.Sizes.{Sizes}
 use Rattle.proto.specs.Cache.{Cache, empty_cache}
 use Rattle.proto.specs.Steps.{Step}
@@ -11,10 +14,18 @@ use Rattle.proto.specs.Steps.{Step}
 abbrev pub max_moment : ℕ
 max_moment = 2 ^ 62
 
--- from this moment on the moments never fall, and none is above the greatest
-abbrev pub MomentsFrom : ℕ → List Answered → Type 0
-MomentsFrom t [] = ⊤
-MomentsFrom t (e ∷ history) = (t ≤ e.moment) × (e.moment ≤ max_moment) × MomentsFrom e.moment history
+-- After these answers of the clock, and this moment, each request has one answer more, and its moment: that answer, up to the
+-- greatest moment, or the moment before where that is greater. So moments never fall.
+abbrev pub MomentsFrom : List GivenAnswer → ℕ → List Answered → Type 0
+MomentsFrom told t [] = ⊤
+MomentsFrom told t (e ∷ history) =
+    (answer : GivenAnswer) × (e.clock ≡ told ++ answer ∷ []) × (e.moment ≡ max t (min answer.seconds max_moment))
+    × MomentsFrom e.clock e.moment history
+
+-- the clock's answers that gave a history its moments, behind these
+abbrev pub answers_by : List GivenAnswer → List Answered → List GivenAnswer
+answers_by told [] = told
+answers_by told (e ∷ history) = answers_by e.clock history
 
 -- the requests are steps, one after the other, from the cache before, and these are the caches that they leave
 abbrev pub Chain : Sizes → Cache → List Answered → List Cache → Type 0
@@ -43,7 +54,13 @@ abbrev pub asked : List Answered → List Request
 asked history = map (λ e. e.request) history
 
 pub record Legal (sizes : Sizes) (history : List Answered) : Type 0 where
-  pub moments : MomentsFrom 0 history
+  pub moments : MomentsFrom [] 0 history
   pub caches : List Cache
   pub chain : Chain sizes (empty_cache 0) history caches
   pub numbers : (worker : ℕ) → NumbersFrom 1 (worker_share history worker)
+
+-- a history that is legal for these sizes, and whose moments are read off the system's clock, one reading an entry, all counted
+-- from one start, where the terms say so
+pub record LegalBy (terms : Terms) (history : List Answered) : Type 0 where
+  pub legal : Legal terms.geometry history
+  pub read : terms.system_clock ≡ true → (start : ClockStart) × All (IsRead start) (answers_by [] history)

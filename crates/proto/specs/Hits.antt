@@ -1,12 +1,13 @@
 -- A live entry that a `get` or `gets` shows: its text, and the room for it.
-use Rattle.std.specs.Prelude.{ℕ, ◌+◌, Bool, List, [], ◌++◌, length, codes, decimal, if◌then◌else◌}
+use Rattle.std.specs.Prelude.{ℕ, ◌+◌, List, [], ◌++◌, length, codes, decimal}
+use Rattle.std.specs.Option.{option_map_or}
 use Rattle.proto.specs.declared.hits.Hit.{Hit}
 use Rattle.proto.specs.Lines.{line_end}
 
-abbrev pub hit_bytes : Bool → Hit → List ℕ
-hit_bytes with_cas h =
+abbrev pub hit_bytes : Hit → List ℕ
+hit_bytes h =
     ((codes "VALUE " ++ h.key ++ codes " " ++ decimal h.flags ++ codes " " ++ decimal (length h.value)
-    ++ (if with_cas then codes " " ++ decimal h.cas else [])) ++ line_end) ++ h.value ++ line_end
+    ++ option_map_or (λ cas. codes " " ++ decimal cas) h.cas []) ++ line_end) ++ h.value ++ line_end
 
 -- how much room is reserved for the text of a hit: key and value, and at most 73 bytes of words, numbers and line ends
 abbrev pub hit_room : Hit → ℕ

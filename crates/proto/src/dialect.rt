@@ -10,18 +10,21 @@ use crate::limits::{MAX_LENIENT_LINE, MAX_LINE};
 pub enum Dialect {
     /// All of a line counts, and with its end it has at most 2,048 bytes.
     Strict,
-    /// Spaces before a line's end don't count, and with its end a line has at most 32,768 bytes.
+    /// Spaces before a line's end don't count, nor does a zero after the key of a `delete`, and with its end a line has at
+    /// most 32,768 bytes. `append` and `prepend` are refused with their data, and so is the binary protocol, by its first byte.
     Lenient,
 }
 
 impl Dialect {
-    /// The longest line in bytes, with its end.
-    pub fn longest_line(self) -> usize
-        ensures { result ≡ longest_line self }
+    /// The longest line in bytes, with its end, among those that begin so; 0 where none does.
+    pub fn longest_line(self, input: &[u8]) -> usize
+        ensures { result ≡ longest_line self input.now }
     {
-        match self {
-            Dialect::Strict => MAX_LINE,
-            Dialect::Lenient => MAX_LENIENT_LINE,
+        match (self, input.split_first()) {
+            (Dialect::Lenient, Some((first, _))) => {
+                if *first == 128 { 0 } else { MAX_LENIENT_LINE }
+            }
+            _ => MAX_LINE,
         }
     }
 }

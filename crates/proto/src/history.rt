@@ -1,5 +1,6 @@
 //! What goes between the workers and the storage thread. A history is a list of `Answered`.
 
+use crate::clock::ClockAnswers;
 use crate::message::{Reply, Request};
 
 /// A request that a worker posts for one of its sessions.
@@ -11,7 +12,7 @@ pub struct Posted {
     pub request: Request,
 }
 
-/// A request that was executed, with its moment in seconds and its reply.
+/// A request that was executed, with its moment in seconds, the clock's answers up to the one that gave it, and its reply.
 #[derive(Drop)]
 pub struct Answered {
     pub worker: usize,
@@ -19,5 +20,6 @@ pub struct Answered {
     pub number: u64,
     pub request: Request,
     pub moment: u64,
+    pub clock: ClockAnswers,
     pub reply: Reply,
 }

@@ -1,8 +1,7 @@
 //! The hits of an answer as they are shown, in one piece of memory.
 
 ghost use Rattle.std.specs.Prelude.{◌≡◌, ◌≤◌, ◌<◌, ◌+◌, ◌-◌, ◌++◌, ◌∷◌, ◌↔◌, [], codes, IfOk, IfSome, IsTrue, OnErr, OnOk};
-ghost use Rattle.std.specs.Prelude.{flat_map, List};
-ghost use Rattle.proto.specs.declared.hits.Hit.{Hit as Shown};
+ghost use Rattle.std.specs.Prelude.{flat_map};
 ghost use Rattle.proto.specs.Hits.{hit_bytes, hit_room};
 ghost use Rattle.proto.specs.Lines.{line_end};
 ghost use Rattle.proto.specs.SeenHits.{seen_hit};
@@ -19,13 +18,13 @@ use std::mem;
 /// The bytes of a hit beside its key and its data are fewer than this.
 const HIT_ROOM: usize = 80;
 
-/// A live entry that a `get` or `gets` shows.
+/// A live entry that a `get` or, with its cas number, a `gets` shows.
 #[derive(Drop)]
 pub struct Hit {
     pub key: ByteString,
     pub flags: u32,
     pub value: ByteString,
-    pub cas: u64,
+    pub cas: Option<u64>,
 }
 
 /// Such an entry, lent.
@@ -34,7 +33,7 @@ pub struct HitRef<'a> {
     pub key: &'a [u8],
     pub flags: u32,
     pub value: &'a [u8],
-    pub cas: u64,
+    pub cas: Option<u64>,
 }
 
 impl Noted<Hit> for HitRef<'_> {
@@ -52,12 +51,10 @@ impl<'a> HitRef<'a> {
     }
 }
 
-/// Hits in the order of the keys asked: of each there is the text that shows it, for `get` or for `gets`. Contracts see the
-/// hits.
+/// Hits in the order of the keys asked: of each there is the text that shows it. Contracts see the hits.
 #[derive(Drop)]
 pub struct Hits {
     text: Vec<u8>,
-    with_cas: bool,
     shown: Trace<Hit>,
 }
 
@@ -70,7 +67,7 @@ impl Model for Hits {
 
     ghost view = { λ a. a.shown.items };
 
-    ghost invariant = { λ a. a.text.items ≡ flat_map (hit_bytes a.with_cas) a.shown.items };
+    ghost invariant = { λ a. a.text.items ≡ flat_map hit_bytes a.shown.items };
 }
 
 impl Hits {
@@ -79,7 +76,6 @@ impl Hits {
     {
         Hits {
             text: Vec::new(alloc),
-            with_cas: false,
             shown: Trace::new(),
         }
     }
@@ -95,26 +91,19 @@ impl Hits {
         self.text.capacity()
     }
 
-    /// Their text for `get` or for `gets`; None where it was written for the other one.
-    pub(crate) fn text(&self, with_cas: bool) -> Option<&[u8]>
-        ensures { IfSome result (λ text. text.now ≡ flat_map (hit_bytes with_cas) self.now) }
+    pub(crate) fn text(&self) -> &[u8]
+        ensures { result.now ≡ flat_map hit_bytes self.now }
     {
-        if is_for(self.text.as_slice(), self.with_cas, with_cas) {
-            Some(self.text.as_slice())
-        } else {
-            None
-        }
+        self.text.as_slice()
     }
 
-    /// Gives an empty output their text and the line behind it, and takes its memory for it; or changes nothing of it.
-    pub(crate) fn give_text(&mut self, with_cas: bool, out: &mut Vec<u8>) -> Result<(), NoMemory>
+    /// Gives an empty output their text and the line that ends it, and takes its memory for it. NoMemory where memory was
+    /// refused: then the output stays empty.
+    pub(crate) fn give_text(&mut self, out: &mut Vec<u8>) -> Result<(), NoMemory>
         requires { out.old.items ≡ [] }
-        ensures ok { OnOk result (out.new.items ≡ flat_map (hit_bytes with_cas) self.old ++ codes "END" ++ line_end) }
+        ensures ok { OnOk result (out.new.items ≡ flat_map hit_bytes self.old ++ codes "END" ++ line_end) }
         ensures err { OnErr result (out.new.items ≡ []) }
     {
-        if !is_for(self.text.as_slice(), self.with_cas, with_cas) {
-            return Err(NoMemory);
-        }
         self.text.reserve(5)?;
         self.text.extend_from_slice(b"END\r\n").unwrap();
         mem::swap(&mut self.text, out);
@@ -128,19 +117,10 @@ impl Hits {
     }
 }
 
-/// Whether the text of hits that was written for `get` or for `gets` is the text for the one that is asked for, too.
-fn is_for(text: &[u8], written: bool, asked: bool) -> bool
-    ensures { IsTrue result → (hits : List Shown) → text.now ≡ flat_map (hit_bytes written) hits
-        → text.now ≡ flat_map (hit_bytes asked) hits }
-{
-    text.is_empty() || written == asked
-}
-
 /// Puts hits one after the other into memory that was reserved for them.
 #[derive(Drop)]
 pub struct HitWriter {
     text: Vec<u8>,
-    with_cas: bool,
     shown: Trace<Hit>,
     room: usize,
 }
@@ -153,24 +133,23 @@ impl Model for HitWriter {
 
     ghost view = { λ a. record { hits = a.shown.items; room = a.room } };
 
-    ghost invariant = { λ a. (a.text.items ≡ flat_map (hit_bytes a.with_cas) a.shown.items)
+    ghost invariant = { λ a. (a.text.items ≡ flat_map hit_bytes a.shown.items)
         × (vec_len a.text + a.room ≤ vec_capacity a.text) };
 }
 
 impl HitWriter {
-    /// Puts hits into this buffer, for `get` or for `gets`, once room is reserved.
-    pub fn in_buffer(buffer: SpareBuffer, with_cas: bool) -> HitWriter
+    /// Puts hits into this buffer, once room is reserved.
+    pub fn in_buffer(buffer: SpareBuffer) -> HitWriter
         ensures { result ≡ record { hits = []; room = 0 } }
     {
         HitWriter {
             text: buffer.into_bytes(),
-            with_cas,
             shown: Trace::new(),
             room: 0,
         }
     }
 
-    /// Sees to it that there is this room, or changes nothing.
+    /// Reserves this many bytes. NoMemory where memory was refused: then nothing has changed.
     pub fn reserve(&mut self, room: usize) -> Result<(), NoMemory>
         ensures ok { IfOk result (λ _. self.new ≡ record { hits = self.old.hits; room = room }) }
         ensures err { OnErr result ((self.new ≡ self.old) × (0 < room)) }
@@ -180,7 +159,7 @@ impl HitWriter {
         Ok(())
     }
 
-    /// Puts a hit behind the others.
+    /// Appends a hit, for which room was reserved.
     pub fn push(&mut self, hit: HitRef)
         requires { hit_room (seen_hit hit) ≤ self.old.room }
         ensures { self.new ≡ record {
@@ -188,7 +167,7 @@ impl HitWriter {
           room = self.old.room - hit_room (seen_hit hit.entry);
         } }
     {
-        push_hit(&mut self.text, self.with_cas, hit);
+        push_hit(&mut self.text, hit);
         self.shown.note_as(&hit);
         self.room -= HIT_ROOM + hit.key.len() + hit.value.len();
     }
@@ -198,7 +177,6 @@ impl HitWriter {
     {
         Hits {
             text: self.text,
-            with_cas: self.with_cas,
             shown: self.shown,
         }
     }

@@ -44,7 +44,7 @@ impl Keys {
         }
     }
 
-    /// The words that are left of a line, copied at once.
+    /// The words that are left of a line, copied at once. NoMemory where memory was refused.
     pub fn from_words(alloc: Global, words: Words) -> Result<Keys, NoMemory>
         ensures { IfOk result (λ keys. keys ≡ words.entry) }
     {
@@ -58,7 +58,7 @@ impl Keys {
         }
     }
 
-    /// Puts a key behind the others, or changes nothing.
+    /// Appends a key. NoMemory where memory was refused: then nothing has changed.
     pub fn push(&mut self, key: &[u8]) -> Result<(), NoMemory>
         requires { IsWord key.now }
         ensures ok { OnOk result (self.new ≡ self.old ++ key.now ∷ []) }

@@ -3,44 +3,47 @@
 #![tactic(auto)]
 
 mod byte_string;
+mod clock;
 mod command_word;
 mod dialect;
 mod examples;
 mod geometry;
-mod head;
 mod history;
 mod hits;
 mod keys;
 pub mod laws;
 mod limits;
 mod line;
-mod meaning;
+mod logged_clock;
 mod message;
 mod message_view;
 mod next;
 mod no_memory;
 mod parse;
+mod parsed_line;
 mod pending_answer;
 mod showing;
 mod spare_buffer;
-mod storage;
+mod storage_line;
+mod system_clock;
+mod terms;
 mod trace;
 mod view;
 mod words;
 
 pub use byte_string::ByteString;
+pub use clock::{AskedClock, Clock, ClockAnswers};
 pub use dialect::Dialect;
 pub use geometry::{
     BadSize, Geometry, ITEM_HEADER, MAX_SEGMENT_SIZE, MAX_SEGMENTS, MIN_SEGMENT_SIZE, MIN_SEGMENTS,
     item_size,
 };
-pub use head::{Command, Head};
 pub use history::{Answered, Posted};
 pub use hits::{Hit, HitRef, HitWriter, Hits};
 pub use keys::Keys;
 pub use limits::{
-    MAX_BLOCK, MAX_KEY, MAX_LENIENT_LINE, MAX_LINE, MAX_POSTS, MAX_SESSIONS, MAX_WORKERS,
-    MIN_ITEM_SIZE, WINDOW,
+    MAX_ANSWER, MAX_BLOCK, MAX_KEY, MAX_LENIENT_LINE, MAX_LINE, MAX_POSTS, MAX_SESSIONS,
+    MAX_WORKERS, MIN_ITEM_SIZE, WINDOW,
 };
 pub use message::{FatalKind, Message, Next, Put, Reply, Request, WrongKind};
 pub use message_view::{MessageView, RequestView};
@@ -50,6 +53,9 @@ pub use parse::number;
 pub use pending_answer::{PendingAnswer, show};
 pub use showing::show_reply;
 pub use spare_buffer::SpareBuffer;
+pub use storage_line::{StorageLineView, StoreMode};
+pub use system_clock::{ClockAnswer, SystemClock};
+pub use terms::Terms;
 pub use trace::{Noted, Trace};
 pub use view::{NextView, next_view, next_view_behind, next_view_in};
 pub use words::Words;

@@ -1,7 +1,7 @@
 //! Messages, lent from their bytes.
 
-use crate::head::Head;
 use crate::message::{FatalKind, WrongKind};
+use crate::storage_line::StorageLineView;
 use crate::words::Words;
 
 /// A request without data, lent from its line.
@@ -18,7 +18,7 @@ pub enum RequestView<'a> {
 #[derive(Drop)]
 pub enum MessageView<'a> {
     Request(RequestView<'a>, bool),
-    Put(Head<'a>, &'a [u8]),
+    Put(StorageLineView<'a>, &'a [u8]),
     Wrong(WrongKind),
     Quit,
     Fatal(FatalKind),

@@ -2,10 +2,10 @@
 
 ghost use Rattle.std.specs.Prelude.{◌≡◌, ◌++◌, is_some, option_copied, None, IsOk, IsTrue, OnOk, OnErr};
 ghost use Rattle.std.specs.Option.{option_copied_mut};
-ghost use Rattle.proto.specs.Answers.{answer, is_ask, is_silent, shows_cas};
+ghost use Rattle.proto.specs.Answers.{answer, is_ask, is_silent};
 ghost use Rattle.proto.specs.AnswerKinds.{kind_of};
 
-use crate::message::{FatalKind, Message, Reply, Request, WrongKind};
+use crate::message::{FatalKind, Message, Reply, WrongKind};
 use crate::no_memory::NoMemory;
 use crate::showing::{show_copied, show_line, show_reply};
 use std::marker::Model;
@@ -14,19 +14,11 @@ use std::snapshot::Snapshot;
 /// What of a message its answer depends on.
 #[derive(Clone, Copy)]
 pub(crate) enum AnswerKind {
-    Ask { with_cas: bool },
+    Ask,
     QuietAsk,
     Wrong(WrongKind),
     Quit,
     Fatal(FatalKind),
-}
-
-/// Whether hits are shown with their cas numbers: all that the answer to a request that isn't quiet depends on
-/// beside the reply.
-fn shows_cas(request: &Request) -> bool
-    ensures { result ≡ shows_cas request.now }
-{
-    matches!(request, Request::Get { with_cas: true, .. })
 }
 
 fn kind_of(message: &Message) -> AnswerKind
@@ -34,9 +26,7 @@ fn kind_of(message: &Message) -> AnswerKind
 {
     match message {
         Message::Ask(_, true) => AnswerKind::QuietAsk,
-        Message::Ask(request, false) => AnswerKind::Ask {
-            with_cas: shows_cas(request),
-        },
+        Message::Ask(_, false) => AnswerKind::Ask,
         Message::Wrong(kind) => AnswerKind::Wrong(*kind),
         Message::Quit => AnswerKind::Quit,
         Message::Fatal(kind) => AnswerKind::Fatal(*kind),
@@ -76,17 +66,19 @@ impl PendingAnswer {
     pub fn is_ask(&self) -> bool
         ensures { result ≡ is_ask self.now }
     {
-        matches!(self.kind, AnswerKind::Ask { .. } | AnswerKind::QuietAsk)
+        matches!(self.kind, AnswerKind::Ask | AnswerKind::QuietAsk)
     }
 
-    /// Appends the answer, or changes nothing. An empty output takes the memory of hits, which have its own then.
+    /// Appends the answer. An empty output takes the memory of hits, which have its own then. NoMemory where memory was
+    /// refused: then the output is unchanged. A message without an answer needs no memory.
     pub fn show(&self, reply: Option<&mut Reply>, out: &mut Vec<u8>) -> Result<(), NoMemory>
         requires { is_some reply ≡ is_ask self.now }
         ensures ok { OnOk result (out.new.items ≡ out.old.items ++ answer self.now (option_copied_mut reply.entry)) }
         ensures err { OnErr result (out.new.items ≡ out.old.items) }
+        ensures silent { IsTrue (is_silent self.now) → IsOk result }
     {
         match (self.kind, reply) {
-            (AnswerKind::Ask { with_cas }, Some(reply)) => show_reply(with_cas, reply, out),
+            (AnswerKind::Ask, Some(reply)) => show_reply(reply, out),
             _ => self.show_local(out),
         }
     }
@@ -98,7 +90,11 @@ impl PendingAnswer {
         ensures silent { IsTrue (is_silent self.now) → IsOk result }
     {
         match self.kind {
-            AnswerKind::Ask { .. } | AnswerKind::QuietAsk | AnswerKind::Quit => Ok(()),
+            AnswerKind::Ask
+            | AnswerKind::QuietAsk
+            | AnswerKind::Quit
+            | AnswerKind::Wrong(WrongKind::Silent)
+            | AnswerKind::Fatal(FatalKind::Binary) => Ok(()),
             AnswerKind::Wrong(WrongKind::Unknown) => show_line(out, b"ERROR"),
             AnswerKind::Wrong(WrongKind::BadLine) | AnswerKind::Fatal(FatalKind::BadLine) => {
                 show_line(out, b"CLIENT_ERROR bad command line format")
@@ -115,8 +111,8 @@ impl PendingAnswer {
     }
 }
 
-/// Appends the answer to the message, or changes nothing. A message without an answer, as a request with
-/// `noreply`, needs no memory.
+/// Appends the answer to the message. NoMemory where memory was refused: then the output is unchanged. A message without an
+/// answer, as a request with `noreply`, needs no memory.
 pub fn show(message: &Message, reply: Option<&Reply>, out: &mut Vec<u8>) -> Result<(), NoMemory>
     requires { is_some reply ≡ is_ask message.now }
     ensures ok { OnOk result (out.new.items ≡ out.old.items ++ answer message.now (option_copied reply.entry)) }
@@ -125,7 +121,7 @@ pub fn show(message: &Message, reply: Option<&Reply>, out: &mut Vec<u8>) -> Resu
 {
     let pending = PendingAnswer::of(message);
     match (pending.kind, reply) {
-        (AnswerKind::Ask { with_cas }, Some(reply)) => show_copied(out, with_cas, reply),
+        (AnswerKind::Ask, Some(reply)) => show_copied(out, reply),
         _ => pending.show_local(out),
     }
 }

@@ -1,8 +1,9 @@
 //! The bytes that show a reply. The room of the whole answer is reserved before its first byte is
 //! written.
 
-ghost use Rattle.std.specs.Prelude.{◌≡◌, ◌+◌, ◌≤◌, ◌++◌, [], if◌then◌else◌, codes, length, decimal};
+ghost use Rattle.std.specs.Prelude.{◌≡◌, ◌+◌, ◌≤◌, ◌++◌, [], codes, length, decimal};
 ghost use Rattle.std.specs.Prelude.{flat_map, vec_len, vec_capacity, OnOk, OnErr};
+ghost use Rattle.std.specs.Option.{option_map_or};
 ghost use Rattle.proto.specs.Answers.{reply_bytes};
 ghost use Rattle.proto.specs.Lines.{line_end};
 ghost use Rattle.proto.specs.SeenHits.{seen_hit};
@@ -13,7 +14,7 @@ use crate::message::Reply;
 use crate::no_memory::NoMemory;
 use itoa::Buffer;
 
-/// Appends bytes for which there is room.
+/// Appends bytes for which there is room, so that no memory is taken.
 fn push(out: &mut Vec<u8>, bytes: &[u8])
     requires { vec_len out.old + length bytes.now ≤ vec_capacity out.old }
     ensures items { out.new.items ≡ out.old.items ++ bytes.now }
@@ -68,28 +69,28 @@ fn push_named(out: &mut Vec<u8>, key: &[u8])
 }
 
 /// Appends the cas number of a hit where it is shown.
-fn push_cas(out: &mut Vec<u8>, with_cas: bool, cas: u64)
+fn push_cas(out: &mut Vec<u8>, cas: Option<u64>)
     requires { vec_len out.old + 21 ≤ vec_capacity out.old }
-    ensures items { out.new.items ≡ out.old.items ++ (if with_cas then codes " " ++ decimal cas else []) }
+    ensures items { out.new.items ≡ out.old.items ++ option_map_or (λ n. codes " " ++ decimal n) cas [] }
     ensures len { vec_len out.new ≤ vec_len out.old + 21 }
     ensures room { vec_capacity out.old ≤ vec_capacity out.new }
 {
-    if with_cas {
+    if let Some(cas) = cas {
         push_spaced(out, cas);
     }
 }
 
 /// Appends a hit: its line, its data and the line end.
-pub(crate) fn push_hit(out: &mut Vec<u8>, with_cas: bool, hit: HitRef)
+pub(crate) fn push_hit(out: &mut Vec<u8>, hit: HitRef)
     requires { vec_len out.old + hit_room (seen_hit hit) ≤ vec_capacity out.old }
-    ensures items { out.new.items ≡ out.old.items ++ hit_bytes with_cas (seen_hit hit.entry) }
+    ensures items { out.new.items ≡ out.old.items ++ hit_bytes (seen_hit hit.entry) }
     ensures len { vec_len out.new ≤ vec_len out.old + hit_room (seen_hit hit.entry) }
     ensures room { vec_capacity out.old ≤ vec_capacity out.new }
 {
     push_named(out, hit.key);
     push_spaced(out, u64::from(hit.flags));
     push_spaced(out, hit.value.len() as u64);
-    push_cas(out, with_cas, hit.cas);
+    push_cas(out, hit.cas);
     push_line(out, b"");
     push_line(out, hit.value);
 }
@@ -104,12 +105,12 @@ pub(crate) fn show_line(out: &mut Vec<u8>, text: &[u8]) -> Result<(), NoMemory>
     Ok(())
 }
 
-/// Appends the hits and the line behind them, or changes nothing.
-fn show_hits(out: &mut Vec<u8>, with_cas: bool, hits: &Hits) -> Result<(), NoMemory>
-    ensures ok { OnOk result (out.new.items ≡ out.old.items ++ flat_map (hit_bytes with_cas) hits.now ++ codes "END" ++ line_end) }
+/// Appends the hits and the line that ends them, or changes nothing.
+fn show_hits(out: &mut Vec<u8>, hits: &Hits) -> Result<(), NoMemory>
+    ensures ok { OnOk result (out.new.items ≡ out.old.items ++ flat_map hit_bytes hits.now ++ codes "END" ++ line_end) }
     ensures err { OnErr result (out.new.items ≡ out.old.items) }
 {
-    let text = hits.text(with_cas).ok_or(NoMemory)?;
+    let text = hits.text();
     out.reserve(text.len() + 5)?;
     push(out, text);
     push_line(out, b"END");
@@ -117,8 +118,8 @@ fn show_hits(out: &mut Vec<u8>, with_cas: bool, hits: &Hits) -> Result<(), NoMem
 }
 
 /// Appends the answer that shows a reply, or changes nothing.
-pub(crate) fn show_copied(out: &mut Vec<u8>, with_cas: bool, reply: &Reply) -> Result<(), NoMemory>
-    ensures ok { OnOk result (out.new.items ≡ out.old.items ++ reply_bytes with_cas reply.now) }
+pub(crate) fn show_copied(out: &mut Vec<u8>, reply: &Reply) -> Result<(), NoMemory>
+    ensures ok { OnOk result (out.new.items ≡ out.old.items ++ reply_bytes reply.now) }
     ensures err { OnErr result (out.new.items ≡ out.old.items) }
 {
     match reply {
@@ -126,7 +127,7 @@ pub(crate) fn show_copied(out: &mut Vec<u8>, with_cas: bool, reply: &Reply) -> R
         Reply::NotStored => show_line(out, b"NOT_STORED"),
         Reply::Exists => show_line(out, b"EXISTS"),
         Reply::NotFound => show_line(out, b"NOT_FOUND"),
-        Reply::Values(hits) => show_hits(out, with_cas, hits),
+        Reply::Values(hits) => show_hits(out, hits),
         Reply::Deleted => show_line(out, b"DELETED"),
         Reply::Number(n) => {
             let mut buffer = Buffer::new();
@@ -145,17 +146,16 @@ pub(crate) fn show_copied(out: &mut Vec<u8>, with_cas: bool, reply: &Reply) -> R
     }
 }
 
-/// Appends the answer that shows a reply to a request that isn't quiet, or changes nothing. Hits are shown with
-/// their cas numbers where `with_cas` says so. An empty output takes the memory of hits, which have its own then, where
-/// that isn't more: more answers may come behind a small one.
-pub fn show_reply(with_cas: bool, reply: &mut Reply, out: &mut Vec<u8>) -> Result<(), NoMemory>
-    ensures ok { OnOk result (out.new.items ≡ out.old.items ++ reply_bytes with_cas reply.old) }
+/// Appends the answer that shows a reply. An empty output takes the memory of hits, which have its own then, where that isn't
+/// more: more answers may follow a small one. NoMemory where memory was refused: then the output is unchanged.
+pub fn show_reply(reply: &mut Reply, out: &mut Vec<u8>) -> Result<(), NoMemory>
+    ensures ok { OnOk result (out.new.items ≡ out.old.items ++ reply_bytes reply.old) }
     ensures err { OnErr result (out.new.items ≡ out.old.items) }
 {
     match reply {
         Reply::Values(hits) if out.is_empty() && hits.capacity() >= out.capacity() => {
-            hits.give_text(with_cas, out)
+            hits.give_text(out)
         }
-        _ => show_copied(out, with_cas, reply),
+        _ => show_copied(out, reply),
     }
 }

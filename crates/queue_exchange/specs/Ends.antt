@@ -2,6 +2,7 @@
 use Rattle.std.specs.Prelude.{◌≡◌, ℕ, ◌+◌, ◌<◌, ◌≤◌, List, [], ◌∷◌, ◌++◌, map, length, Option, Some, None, is_some, slice_index_or, true, false}
 use Rattle.std.specs.Arc.{arc_value}
 use Rattle.crossbeam_queue.specs.Passes.{view, IsPassOf, ruled_capacity}
+use Rattle.proto.specs.declared.limits.TheConstants.{WINDOW}
 use Rattle.proto.specs.declared.history.Posted.{Posted}
 use Rattle.proto.specs.declared.history.Answered.{Answered}
 use Rattle.proto.specs.History.{Legal, worker_share}
@@ -37,7 +38,7 @@ pub record IsWorkerEnd (end : Worker.Inside) : Type 0 where
   pub bye_is : (view end.asks).sending.said_bye ≡ end.said_bye
   pub sent_is : length (view end.asks).sending.sent ≡ end.sent
   pub back_is : length (view end.takes).popped ≡ end.back
-  pub order : (end.back ≤ end.sent) × (end.sent ≤ end.back + 64) × (end.sent ≤ max_posts)
+  pub order : (end.back ≤ end.sent) × (end.sent ≤ end.back + WINDOW) × (end.sent ≤ max_posts)
   pub quiet : end.said_bye ≡ true → end.back ≡ end.sent
 
 -- Storage's end

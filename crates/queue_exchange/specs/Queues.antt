@@ -4,6 +4,7 @@ use mathlib.Core.Option.{some}
 use lib.ListN.{get_elem?}
 use Rattle.atomic_table.specs.Seated.{TableId}
 use Rattle.proto.specs.Sizes.{Sizes}
+use Rattle.proto.specs.declared.limits.TheConstants.{WINDOW}
 use Rattle.proto.specs.declared.history.Posted.{Posted}
 use Rattle.proto.specs.declared.history.Answered.{Answered}
 use Rattle.proto.specs.History.{Legal, worker_share, asked_posted}
@@ -74,19 +75,23 @@ pub record IsEndOf (view : WorkerQueues) (storage : StorageQueues) : Type 0 wher
   pub requests : view.requests ≡ storage.requests
   pub replies : view.replies ≡ slice_index_or storage.replies view.worker view.replies
 
+-- the room of the queue of requests: for a window of requests and a bye of each worker
+abbrev pub room_for : ℕ → ℕ
+room_for workers = (WINDOW + 1) * workers
+
 -- an end for each worker, in their order, and storage's
 pub record AreQueuesMade (workers : ℕ) (geometry : Sizes) (ends : List WorkerQueues) (served : StorageQueues)
     : Type 0 where
   pub count : (length ends ≡ workers) × (length served.replies ≡ workers)
   pub new : (worker : ℕ) (view : WorkerQueues) → get_elem? ends worker ≡ some view
       → IsEndOf view served × (view ≡ new_worker_queues served.requests view.replies served.room worker)
-  pub storage : served ≡ new_storage_queues served.requests (65 * workers) served.replies geometry
+  pub storage : served ≡ new_storage_queues served.requests (room_for workers) served.replies geometry
 
 -- A worker's calls
 
--- fewer than 64 requests are outstanding, the worker hasn't said bye, and it hasn't sent its last request
+-- fewer than WINDOW requests are outstanding, the worker hasn't said bye, and it hasn't sent its last request
 abbrev pub MaySend : WorkerQueues → Type 0
-MaySend view = (length view.sent < length view.back + 64) × (view.said_bye ≡ false) × (length view.sent < max_posts)
+MaySend view = (length view.sent < length view.back + WINDOW) × (view.said_bye ≡ false) × (length view.sent < max_posts)
 
 -- at one moment the request queue was full, and of what it held the worker's requests were the last that it sent
 pub record RequestsFull (view : WorkerQueues) : Type 0 where
@@ -117,11 +122,11 @@ after_taking storage (Bye worker) = record storage { byes = storage.byes ++ work
 abbrev pub after_answering : StorageQueues → Answered → StorageQueues
 after_answering storage answered = record storage { history = storage.history ++ answered ∷ []; open_request = None }
 
--- at one moment the worker's reply queue was full: it held the last 64 answers that the worker was given
+-- at one moment the worker's reply queue was full: it held the last WINDOW answers that the worker was given
 pub record RepliesFull (storage : StorageQueues) (worker : ℕ) : Type 0 where
   pub before : List Answered
   pub items : List Answered
-  pub full : length items ≡ 64
+  pub full : length items ≡ WINDOW
   pub last : worker_share storage.history worker ≡ before ++ items
 
 -- Gathering

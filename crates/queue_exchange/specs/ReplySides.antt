@@ -2,6 +2,7 @@
 use Rattle.std.specs.Prelude.{◌≡◌, true}
 use Rattle.std.specs.Arc.{arc_value}
 use Rattle.crossbeam_queue.specs.Passes.{view, IsPassOf, ruled_capacity}
+use Rattle.proto.specs.declared.limits.TheConstants.{WINDOW}
 use Rattle.queue_exchange.specs.Replies.{ReplyLog}
 use Rattle.queue_exchange.specs.declared.reply_side.ReplySide.TheInside as Reply
 
@@ -11,4 +12,4 @@ reply_log side = record { pushed = (view side.pass).pushed; replies = side.pass.
 pub record IsReplySide (side : Reply.Inside) : Type 0 where
   pub pass : IsPassOf (arc_value side.queue) side.pass
   pub pushes : (view side.pass).pushes ≡ true
-  pub room : ruled_capacity (arc_value side.queue) ≡ 64
+  pub room : ruled_capacity (arc_value side.queue) ≡ WINDOW

@@ -169,4 +169,12 @@ pub record RequestsHold (items : List Taken) (views : List RequestQueueView) : T
 
 -- an entry, where none is picked
 abbrev pub any_entry : Answered
-any_entry = record { worker = 0; session = 0; number = 0; request = FlushAll 0; moment = 0; reply = NoMemory }
+any_entry = record {
+  worker = 0;
+  session = 0;
+  number = 0;
+  request = FlushAll 0;
+  moment = 0;
+  clock = [];
+  reply = NoMemory;
+}

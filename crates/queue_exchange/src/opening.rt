@@ -2,28 +2,31 @@
 ghost use Rattle.std.specs.Prelude.{◌≡◌, ◌⊎◌, ◌↔◌, ◌≤◌, ◌*◌, [], IsTrue, IfOk, MatchResult};
 ghost use Rattle.exchange.specs.declared.opening.MakeFault.TheVariants.{BadCount, NoMemory};
 ghost use Rattle.exchange.specs.Ends.{IsCount};
-ghost use Rattle.queue_exchange.specs.Queues.{AreQueuesMade, new_storage_queues};
+ghost use Rattle.queue_exchange.specs.Queues.{AreQueuesMade, new_storage_queues, room_for};
 
 use crate::storage::StorageEnd;
 use crate::worker::WorkerEnd;
 use exchange::MakeFault;
-use proto::Geometry;
+use proto::{Geometry, MAX_WORKERS, WINDOW};
 use std::alloc::{AllocError, Global};
+
+/// The most messages of one worker that wait: a window of requests, and a bye.
+const MESSAGES: usize = WINDOW as usize + 1;
 
 fn is_count(workers: usize) -> bool
     ensures { IsTrue result ↔ IsCount workers }
 {
-    1 <= workers && workers <= 8
+    1 <= workers && workers <= MAX_WORKERS
 }
 
-// Makes the ends of so many workers, in their order.
+// Makes the ends of the workers, in their order.
 fn make_workers(
     alloc: Global,
     workers: usize,
     storage: &mut StorageEnd,
 ) -> Result<Vec<WorkerEnd>, AllocError>
     requires count { workers ≤ 8 }
-    requires unused { storage.old ≡ new_storage_queues storage.old.requests (65 * workers) [] storage.old.geometry }
+    requires unused { storage.old ≡ new_storage_queues storage.old.requests (room_for workers) [] storage.old.geometry }
     ensures { IfOk result (λ ends. AreQueuesMade workers storage.old.geometry ends.items storage.new) }
 {
     let mut ends = Vec::with_capacity(alloc, workers)?;
@@ -47,7 +50,7 @@ pub fn make(
     if !is_count(workers) {
         return Err(MakeFault::BadCount);
     }
-    let mut storage = StorageEnd::open(alloc, 65 * workers, geometry)?;
+    let mut storage = StorageEnd::open(alloc, MESSAGES * workers, geometry)?;
     let ends = make_workers(alloc, workers, &mut storage)?;
     Ok((ends, storage))
 }

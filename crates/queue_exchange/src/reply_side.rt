@@ -65,7 +65,7 @@ impl ReplySide {
         ensures { MatchResult result
             (λ _. self.new ≡ record self.old { pushed = self.old.pushed ++ answered ∷ [] })
             (λ a. (a ≡ answered) × (self.new ≡ self.old)
-            × ((items : List Answered) × (length items ≡ 64)
+            × ((items : List Answered) × (length items ≡ WINDOW)
             × ((before : List Answered) × (self.old.pushed ≡ before ++ items)))) }
     {
         self.queue

@@ -133,7 +133,8 @@ impl Lesson<Taken, RequestQueueView> for Sends {
     ghost use Rattle.exchange.specs.declared.messages.Taken.{Taken};
     ghost use Rattle.queue_exchange.specs.Requests.{part, messages_of};
 
-    ghost fact = { λ v items. (before : List Taken) × (messages_of v.worker v.sending ≡ before ++ part v.worker items) };
+    ghost fact = { λ v items. (before : List Taken)
+        × (messages_of v.worker v.sending ≡ before ++ part v.worker items) };
 }
 
 /// A pop of a message.
@@ -143,8 +144,9 @@ impl Outcome<Taken, RequestQueueView> for TakesMessage {
     ghost use Rattle.std.specs.Prelude.{◌≡◌, ◌<◌, ◌++◌, ◌∷◌, []};
     ghost use Rattle.queue_exchange.specs.Requests.{storage_pass, sender_of, open_request_after, MayBeTaken};
 
-    ghost then = { λ v x w. (w ≡ storage_pass v.made (v.taken ++ x ∷ []) (open_request_after v.open_request x) v.history) × (sender_of x < v.made)
-        × MayBeTaken v.taken x };
+    ghost then = { λ v x w.
+        (w ≡ storage_pass v.made (v.taken ++ x ∷ []) (open_request_after v.open_request x) v.history)
+        × (sender_of x < v.made) × MayBeTaken v.taken x };
 }
 
 impl Lesson<Taken, RequestQueueView> for TakesMessage {

@@ -89,7 +89,8 @@ impl StorageEnd {
 
     // The end of one more worker.
     pub(crate) fn one_more(&mut self, alloc: Global) -> Result<WorkerEnd, AllocError>
-        requires unused { self.old ≡ new_storage_queues self.old.requests self.old.room self.old.replies self.old.geometry }
+        requires unused { self.old
+            ≡ new_storage_queues self.old.requests self.old.room self.old.replies self.old.geometry }
         requires few { length self.old.replies < 8 }
         ensures { IfOk result
             (λ e. (self.new ≡ record self.old { replies = self.old.replies ++ e.replies ∷ [] })
@@ -123,7 +124,8 @@ impl StorageEnd {
     /// memory.
     pub fn next<R: Wait>(&mut self, rt: &R) -> Option<Taken>
         requires { self.old.open_request ≡ None }
-        ensures { MatchOption result (self.new ≡ self.old) (λ t. IsNextTaken self.old t × (self.new ≡ after_taking self.old t)) }
+        ensures { MatchOption result (self.new ≡ self.old)
+            (λ t. IsNextTaken self.old t × (self.new ≡ after_taking self.old t)) }
     {
         let taken = self
             .requests

@@ -113,7 +113,7 @@ impl WorkerEnd {
     /// How many requests were sent and not taken back.
     pub fn outstanding(&self) -> u64
         ensures value { result + length self.now.back ≡ length self.now.sent }
-        ensures range { result ≤ 64 }
+        ensures range { result ≤ WINDOW }
     {
         self.sent - self.back
     }
@@ -138,7 +138,8 @@ impl WorkerEnd {
     /// The next answer of this worker, in the order of its requests. None comes only where nothing is outstanding, or
     /// the queue of its answers was empty at one moment of the call. Takes no memory.
     pub fn take<R: Wait>(&mut self, rt: &R) -> Option<Answered>
-        ensures { MatchOption result (self.new ≡ self.old) (λ a. self.new ≡ record self.old { back = self.old.back ++ a ∷ [] }) }
+        ensures { MatchOption result (self.new ≡ self.old)
+            (λ a. self.new ≡ record self.old { back = self.old.back ++ a ∷ [] }) }
     {
         if self.back == self.sent {
             return None;

@@ -1,7 +1,7 @@
 //! Sessions are opened, fed, read and answered after a refusal.
 
 use bytes::Bytes;
-use proto::{Answered, Dialect, NoMemory, Reply, Request};
+use proto::{Answered, ClockAnswers, Dialect, NoMemory, Reply, Request};
 use session_book::{Book, EndCause, OpenFault, Received, Settled};
 use std::alloc::Global;
 
@@ -45,12 +45,13 @@ fn next_ask(book: &mut Book) -> Result<Option<(Request, u64)>, NoMemory> {
 /// Settles the next request with this reply.
 fn answer_next(book: &mut Book, reply: Reply) -> Option<Settled> {
     match next_ask(book) {
-        Ok(Some((request, number))) => Some(book.settle(&mut Answered {
+        Ok(Some((request, number))) => Some(book.settle(Answered {
             worker: 0,
             session: 1,
             number,
             request,
             moment: 1000,
+            clock: ClockAnswers::none(),
             reply,
         })),
         _ => None,

@@ -1,6 +1,6 @@
 //! How often the ports and the clock of a run are asked, and that clock. They take no memory.
 
-use engine::Clock;
+use proto::{Clock, ClockAnswer};
 use std::sync::atomic::{AtomicU64, Ordering};
 
 /// How often the ports and the clock of a run were asked.
@@ -42,12 +42,14 @@ impl Clock for SteadyClock<'_> {
 
     ghost leads_to = { λ _ _. ⊤ };
 
+    ghost start = { λ _. None };
+
     ghost leads_reflexive = { λ _. tt };
 
     ghost leads_transitive = { λ _ _ _ _ _. tt };
 
-    fn now(&mut self) -> u64 {
+    fn now(&mut self) -> ClockAnswer {
         self.counters.moments.fetch_add(1, Ordering::SeqCst);
-        1000
+        ClockAnswer::given(1000)
     }
 }

@@ -4,7 +4,7 @@ use crate::counters::{Counters, SteadyClock};
 use crate::quiet_port::QuietPort;
 use crate::served::{Outcome, Session, outcome_of};
 use group::{Config, GroupFault, GroupReport, run_group};
-use proto::{Dialect, Geometry};
+use proto::{Dialect, Geometry, Terms};
 use segcache::Store;
 use std::alloc::Global;
 use std::sync::Wait;
@@ -85,9 +85,12 @@ fn run<R: Threads + Wait + time::Clock + Sync>(rt: &R, alloc: Global) -> Outcome
         alloc,
         ports,
         Config {
-            geometry,
+            terms: Terms {
+                geometry,
+                system_clock: false,
+            },
             dialect: Dialect::Strict,
-            stores_sessions: true,
+            spin: None,
         },
         store,
         clock,

@@ -1,7 +1,7 @@
 //! An exchange is made after a refusal.
 
 use exchange::make;
-use proto::Geometry;
+use proto::{Geometry, Terms};
 use std::alloc::Global;
 
 /// Whether the ends of two workers are made at the first or the second try.
@@ -9,8 +9,12 @@ pub fn is_repeatable(alloc: Global) -> bool {
     let Ok(geometry) = Geometry::new(4096, 8) else {
         return false;
     };
+    let terms = Terms {
+        geometry,
+        system_clock: false,
+    };
     for _ in 0..2 {
-        if let Ok((ends, storage)) = make(alloc, 2, geometry) {
+        if let Ok((ends, storage)) = make(alloc, 2, terms) {
             return ends.len() == 2 && storage.workers() == 2;
         }
     }

@@ -33,6 +33,10 @@ impl Output {
         }
     }
 
+    pub fn is_shut(&self) -> bool {
+        self.is_shut
+    }
+
     pub fn bytes(&self) -> &[u8] {
         if self.length <= ROOM {
             &self.bytes[..self.length]

@@ -9,7 +9,7 @@ use std::thread::Threads;
 use std::time;
 
 /// The fault that a script ends in, as it is printed.
-fn fault_of<H: Threads + Wait + time::Clock + Sync>(
+fn script_fault<H: Threads + Wait + time::Clock + Sync>(
     rt: &H,
     alloc: Global,
     script: &[u8],
@@ -26,7 +26,7 @@ fn check_fault<H: Abort + Threads + Wait + time::Clock + Sync>(
     script: &[u8],
     place: &str,
 ) -> Result<(), Fail> {
-    let fault = fault_of(rt, alloc, script)?;
+    let fault = script_fault(rt, alloc, script)?;
     check_same(rt, fault.as_str(), text, place);
     Ok(())
 }

@@ -1,7 +1,9 @@
 //! The words of the program.
 
 use crate::common::{check_same, options, push_words};
-use command_line::{Job, Options, WordsFault, parse_words, unreadable_words};
+use command_line::{
+    Job, Options, ServeOptions, WordsFault, options_in_force, parse_words, unreadable_words,
+};
 use proto::Dialect;
 use std::alloc::{AllocError, Global};
 use std::io::{self, ErrorKind};
@@ -53,7 +55,7 @@ const SHOWN: [&str; 6] = [
     "--version",
 ];
 
-const BAD: [&str; 20] = [
+const BAD: [&str; 27] = [
     "",
     "replay",
     "replay a b",
@@ -74,6 +76,45 @@ const BAD: [&str; 20] = [
     "replay a --fail-give x",
     "replay a --lenient yes",
     "serve --listen 127.0.0.1:0 --lenient=yes",
+    "serve --listen 127.0.0.1:0 --counters-in-place=yes",
+    "serve --listen 127.0.0.1:0 --spin -1",
+    "serve --listen 127.0.0.1:0 --spin 1000001",
+    "serve --listen 127.0.0.1:0 --idle 0",
+    "serve --listen 127.0.0.1:0 --idle 4294967296",
+    "serve --listen 127.0.0.1:0 --sessions 0",
+    "replay a --spin 1",
+];
+
+/// Words with a number out of its range, and the text that names it.
+const OUT_OF_RANGE: [(&str, &str); 3] = [
+    (
+        "replay a --workers 9",
+        "error: invalid value '9' for '--workers <COUNT>': 9 is not in 1..=8\n",
+    ),
+    (
+        "serve --listen 127.0.0.1:0 --segments 7",
+        "error: invalid value '7' for '--segments <COUNT>': 7 is not in 8..=65536\n",
+    ),
+    (
+        "serve --listen 127.0.0.1:0 --spin 1000001",
+        "error: invalid value '1000001' for '--spin <MICROSECONDS>': 1000001 is not in 0..=1000000\n",
+    ),
+];
+
+/// Words behind `serve`, and all options that are then in force.
+const IN_FORCE: [(&str, &str); 3] = [
+    (
+        "--listen 127.0.0.1:0",
+        "--listen 127.0.0.1:0 --workers 2 --segment-size 65536 --segments 64",
+    ),
+    (
+        "--spin 0 --counters-in-place --listen [::1]:11211 --sessions 3",
+        "--listen [::1]:11211 --workers 2 --segment-size 65536 --segments 64 --sessions 3 --spin 0 --counters-in-place",
+    ),
+    (
+        "--idle 4294967295 --spin 1000000 --lenient --workers 8 --segments 65536 --segment-size 4096 --listen 0.0.0.0:1",
+        "--listen 0.0.0.0:1 --workers 8 --segment-size 4096 --segments 65536 --idle 4294967295 --spin 1000000 --lenient",
+    ),
 ];
 
 /// Words behind `replay script` or a server's address, and whether they ask for the lenient dialect.
@@ -122,15 +163,44 @@ fn check_options(rt: &impl Abort, alloc: Global, rows: &[(&str, [u64; 7])]) -> R
     Ok(())
 }
 
-/// The dialect of a server with these words.
-fn served_dialect(alloc: Global, words: &str) -> Result<Dialect, Fail> {
+/// What a server with these words is told.
+fn serve_options(alloc: Global, words: &str) -> Result<ServeOptions, Fail> {
     let mut all = Vec::new(alloc);
-    push_words(alloc, &mut all, "serve --listen 127.0.0.1:0")?;
+    push_words(alloc, &mut all, "serve")?;
     push_words(alloc, &mut all, words)?;
     match parse_words(alloc, all.as_slice())? {
-        Job::Serve(options) => Ok(options.dialect),
+        Job::Serve(options) => Ok(options),
         Job::Replay(_) | Job::Help(_) => Err(Fail::from("no server")),
     }
+}
+
+/// The dialect of a server with these words beside its address.
+fn served_dialect(alloc: Global, words: &str) -> Result<Dialect, Fail> {
+    let words = format!(in alloc; "--listen 127.0.0.1:0 {words}")?;
+    Ok(serve_options(alloc, words.as_str())?.dialect)
+}
+
+/// The options in force are those of the row, and as words they ask for the same.
+fn check_in_force(rt: &impl Abort, alloc: Global, rows: &[(&str, &str)]) -> Result<(), Fail> {
+    for (words, wanted) in rows {
+        let line = options_in_force(alloc, &serve_options(alloc, words)?)?;
+        check_same(rt, line.as_str(), *wanted, *words);
+        let again = options_in_force(alloc, &serve_options(alloc, line.as_str())?)?;
+        check_same(rt, again.as_str(), *wanted, *words);
+    }
+    Ok(())
+}
+
+fn check_out_of_range(rt: &impl Abort, alloc: Global, rows: &[(&str, &str)]) -> Result<(), Fail> {
+    for (words, wanted) in rows {
+        let mut all = Vec::new(alloc);
+        push_words(alloc, &mut all, words)?;
+        match parse_words(alloc, all.as_slice()) {
+            Err(WordsFault::BadWords(text)) => check_same(rt, text.as_str(), *wanted, *words),
+            Ok(_) | Err(WordsFault::NoMemory) => return Err(Fail::from("no bad words")),
+        }
+    }
+    Ok(())
 }
 
 fn check_dialects(rt: &impl Abort, alloc: Global, rows: &[(&str, bool)]) -> Result<(), Fail> {
@@ -156,6 +226,8 @@ fn words(rt: HostRuntime) -> Result<(), Fail> {
     check_dialects(&rt, alloc, &DIALECTS)?;
     check_jobs(&rt, alloc, &SHOWN, "help")?;
     check_jobs(&rt, alloc, &BAD, "bad words")?;
+    check_out_of_range(&rt, alloc, &OUT_OF_RANGE)?;
+    check_in_force(&rt, alloc, &IN_FORCE)?;
     check_same(
         &rt,
         unreadable(alloc, ErrorKind::InvalidData),

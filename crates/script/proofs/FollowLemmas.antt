@@ -162,6 +162,11 @@ gone_same : (l l' : List PortRecord) (x : PortRecord) (s : ℕ) → l' ≡ l ++ 
     → is_in (was.Gone s) l' ≡ is_in (was.Gone s) l
 gone_same l l' x s e stays = ap (is_in (was.Gone s)) e ∙ any_no (is_entry (was.Gone s)) l x stays
 
+-- one more entry that ends no input
+over_same : (l l' : List PortRecord) (x : PortRecord) (s : ℕ) → l' ≡ l ++ x ∷ [] → is_entry (was.EndOfInput s) x ≡ false
+    → is_in (was.EndOfInput s) l ≡ false → is_in (was.EndOfInput s) l' ≡ false
+over_same l l' x s e other never = ap (is_in (was.EndOfInput s)) e ∙ any_no (is_entry (was.EndOfInput s)) l x other ∙ never
+
 -- ---- what the rest of a send is
 
 -- what is left of a send behind its next piece sends its session all bytes but the first 16,384
@@ -203,10 +208,10 @@ rest_goes s t bytes =
 pub follows_still : (played left left' : List ScriptEvent) (l l' : List PortRecord) (x : PortRecord)
     (closed closed' : ℕ → Bool)
     (can_fail : Bool) → left' ≡ left → l' ≡ l ++ x ∷ [] → opened_by x ≡ None → ((t : ℕ) → fed t (x ∷ []) ≡ [])
-    → ((t : ℕ) → is_entry (was.Gone t) x ≡ false)
+    → ((t : ℕ) → is_entry (was.Gone t) x ≡ false) → ((t : ℕ) → is_entry (was.EndOfInput t) x ≡ false)
     → ((t : ℕ) → closed' t ≡ closed t) → Follows played left l closed can_fail
     → Follows played left' l' closed' can_fail
-follows_still played left left' l l' x closed closed' can_fail left_is l_is none nothing stays same f = record {
+follows_still played left left' l l' x closed closed' can_fail left_is l_is none nothing stays more same f = record {
   opened_are = f.opened_are ∙ (λ i. sym (opened_more l l' x l_is none) i ++ script.sessions_opened (sym left_is i));
   fed_are = λ t active. f.fed_are t (sym (same t) ∙ active)
       ∙ (λ i. sym (fed_same l l' x t l_is (nothing t)) i ++ sent (sym left_is i) t);
@@ -214,6 +219,7 @@ follows_still played left left' l l' x closed closed' can_fail left_is l_is none
       (f.begun t (sym (same t) ∙ ended));
   to_go = λ t goes. f.to_go t (ap (λ xs. goes_in_script xs t) (sym left_is) ∙ goes);
   gone_by = λ t gone. f.gone_by t (sym (gone_same l l' x t l_is (stays t)) ∙ gone);
+  never_over = λ t. over_same l l' x t l_is (more t) (f.never_over t);
 }
 
 -- nothing is added
@@ -226,6 +232,7 @@ follows_as played left left' l closed closed' can_fail left_is same f = record {
   begun = λ t ended. f.begun t (sym (same t) ∙ ended);
   to_go = λ t goes. f.to_go t (ap (λ xs. goes_in_script xs t) (sym left_is) ∙ goes);
   gone_by = f.gone_by;
+  never_over = f.never_over;
 }
 
 -- a session begins
@@ -254,6 +261,7 @@ follows_open played left left' before after l l' s closed closed' can_fail left_
       (ap (λ xs. goes_in_script xs t) left_is ∙ goes_more before (Open s ∷ after) t ∙ sym (goes_more before after t)
       ∙ sym (ap (λ xs. goes_in_script xs t) left'_is) ∙ goes);
   gone_by = λ t gone. f.gone_by t (sym (gone_same l l' (was.Opened s) t l_is refl) ∙ gone);
+  never_over = λ t. over_same l l' (was.Opened s) t l_is refl (f.never_over t);
 }
 
 -- a piece of a session's bytes comes
@@ -285,6 +293,7 @@ follows_send played left left' before after l l' s bytes closed closed' can_fail
           (ap (λ xs. goes_in_script xs t) left_is ∙ goes_more before (Send s bytes ∷ after) t ∙ sym (goes_around t)
           ∙ sym (ap (λ xs. goes_in_script xs t) left'_is) ∙ goes);
       gone_by = λ t gone. f.gone_by t (sym (gone_same l l' (was.Data s (take 16384 bytes)) t l_is refl) ∙ gone);
+      never_over = λ t. over_same l l' (was.Data s (take 16384 bytes)) t l_is refl (f.never_over t);
     }
   where
     goes_around : (t : ℕ) → goes_in_script (before ++ send_after s bytes ++ after) t
@@ -345,10 +354,11 @@ pub follows_close : (played left left' : List ScriptEvent) (l l' : List PortReco
     (closed closed' : ℕ → Bool) (can_fail : Bool) → left' ≡ events_without s left → l' ≡ l ++ x ∷ []
     → opened_by x ≡ None
     → ((t : ℕ) → fed t (x ∷ []) ≡ []) → ((t : ℕ) → is_entry (was.Gone t) x ≡ true → MayGo played can_fail t)
+    → ((t : ℕ) → is_entry (was.EndOfInput t) x ≡ false)
     → script.sessions_opened (events_without s left) ≡ script.sessions_opened left → closed s ≡ false → closed' s ≡ true
     → ((t : ℕ) → t ≢ s → closed' t ≡ closed t) → Follows played left l closed can_fail
     → Follows played left' l' closed' can_fail
-follows_close played left left' l l' x s closed closed' can_fail left'_is l_is none nothing caused opens active ended
+follows_close played left left' l l' x s closed closed' can_fail left'_is l_is none nothing caused more opens active ended
     others f = record {
       opened_are = f.opened_are ∙ (λ i. sym (opened_more l l' x l_is none) i
           ++ sym (ap script.sessions_opened left'_is ∙ opens) i);
@@ -366,4 +376,5 @@ follows_close played left left' l l' x s closed closed' can_fail left'_is l_is n
           or_either (is_in (was.Gone t) l) (is_entry (was.Gone t) x)
           (sym (ap (is_in (was.Gone t)) l_is ∙ any_more (is_entry (was.Gone t)) l x) ∙ gone)
           (f.gone_by t) (caused t);
+      never_over = λ t. over_same l l' x t l_is (more t) (f.never_over t);
     }

@@ -1,53 +1,67 @@
 -- One more entry of a history.
 use Rattle.std.proofs.Common.{◌≡◌, ℕ, suc, ◌+◌, ◌≤◌, min, max, Bool, true, false, cond, eqb, ◌&&◌, List, [], ◌∷◌, ◌++◌, length, refl, sym, ap, subst, ◌∙◌}
-use Rattle.std.proofs.Common.{arith, append_assoc, length-append}
+use Rattle.std.proofs.Common.{arith, map, append_assoc, length-append}
 use Rattle.std.specs.List.{AllByRecursion}
 use Rattle.std.proofs.lemmas.Bool.{eq-eqb, ne_eqb}
-use Rattle.std.proofs.lemmas.List.{append-nil}
+use Rattle.std.proofs.lemmas.List.{append-nil, map-append}
 use Rattle.std.proofs.lemmas.List.Elements.{filter-append}
 use Rattle.proto.specs.declared.message.Request.{Request}
 use Rattle.proto.specs.declared.message.Reply.{Reply}
 use Rattle.proto.specs.declared.history.Answered.{Answered}
+use Rattle.proto.specs.ClockAnswers.{GivenAnswer}
 use Rattle.proto.specs.Sizes.{Sizes}
 use Rattle.proto.specs.Steps.{Step}
-use Rattle.proto.specs.History.{max_moment, worker_share, session_share}
+use Rattle.proto.specs.History.{max_moment, answers_by, worker_share, session_share}
 use Rattle.engine.specs.Reaching.{moments_after, last_or, Reaches}
-use Rattle.engine.proofs.ReachingLemmas.{moments, moment_after, moments_more, times_more, reaches_more}
+use Rattle.engine.proofs.ReachingLemmas.{moments, moment_after, moments_more, times_more, answers_more, reaches_more}
 use Rattle.script.specs.Clocks.{ClockState, answer_of, first_answers}
 use Rattle.script.specs.Execution.{Execution, Executes}
 use Rattle.script.specs.SequentialSessions.{Setup, AreTimed, LedTo, IsOf, HistoryGoesOn}
 
--- the next entry of a session
-abbrev pub entry_of : List Answered → ℕ → ℕ → Request → Reply → Answered
-entry_of h session t q reply = record {
+-- an answer of a script's clock
+abbrev given : ℕ → GivenAnswer
+given seconds = record { seconds = seconds; read = [] }
+
+-- the next entry of a session, at this answer of the clock
+abbrev pub entry_of : List Answered → ℕ → ℕ → ℕ → Request → Reply → Answered
+entry_of h session t seconds q reply = record {
   worker = 0;
   session = session;
   number = length (worker_share h 0) + 1;
   request = q;
   moment = t;
+  clock = answers_by [] h ++ given seconds ∷ [];
   reply = reply;
 }
 
--- the moments with one request more, at the moment of the clock's next answer
+-- the answers and moments with one request more, by the clock's next answer
 timed_more : (clock : ClockState) (h : List Answered) (e : Answered) → AreTimed clock h
+    → e.clock ≡ answers_by [] h ++ given (answer_of clock (length h)) ∷ []
     → e.moment ≡ moment_after (last_or 0 (moments h)) (answer_of clock (length h)) → AreTimed clock (h ++ e ∷ [])
-timed_more clock h e timed is =
+timed_more clock h e timed clock_is is =
     let told = first_answers clock (length h) in
     let longer : length (h ++ e ∷ []) ≡ suc (length h) = length-append h (e ∷ []) ∙ omega arith in
     let last : e.moment ≡ moment_after (last_or 0 (moments_after 0 told)) (answer_of clock (length h)) =
-    is ∙ ap (λ (l : List ℕ). moment_after (last_or 0 l) (answer_of clock (length h))) timed in
-    moments_more h e
-    ∙ ap (λ (l : List ℕ). l ++ e.moment ∷ []) timed
-    ∙ ap (λ (t : ℕ). moments_after 0 told ++ t ∷ []) last
-    ∙ sym (times_more 0 told (answer_of clock (length h)))
-    ∙ ap (λ (n : ℕ). moments_after 0 (first_answers clock n)) (sym longer)
+    is ∙ ap (λ (l : List ℕ). moment_after (last_or 0 l) (answer_of clock (length h))) timed.moments in
+    record {
+      answers = ap (map (λ (a : GivenAnswer). a.seconds)) (answers_more [] h e ∙ clock_is)
+          ∙ map-append (λ (a : GivenAnswer). a.seconds) (answers_by [] h) (given (answer_of clock (length h)) ∷ [])
+          ∙ ap (λ (l : List ℕ). l ++ answer_of clock (length h) ∷ []) timed.answers
+          ∙ ap (first_answers clock) (sym longer);
+      moments = moments_more h e
+          ∙ ap (λ (l : List ℕ). l ++ e.moment ∷ []) timed.moments
+          ∙ ap (λ (t : ℕ). moments_after 0 told ++ t ∷ []) last
+          ∙ sym (times_more 0 told (answer_of clock (length h)))
+          ∙ ap (λ (n : ℕ). moments_after 0 (first_answers clock n)) (sym longer);
+    }
 
 -- a history that leads further, by a request that is executed
 pub led_more : (setup : Setup) (h : List Answered) (session : ℕ) (old new : Execution) (t : ℕ) (q : Request)
     (reply : Reply)
-    → LedTo setup h old → Executes old t q reply new → LedTo setup (h ++ entry_of h session t q reply ∷ []) new
+    → LedTo setup h old → Executes old t q reply new
+    → LedTo setup (h ++ entry_of h session t (answer_of old.clock 0) q reply ∷ []) new
 led_more setup h session old new t q reply led x =
-    let e = entry_of h session t q reply in
+    let e = entry_of h session t (answer_of old.clock 0) q reply in
     let next : answer_of old.clock 0 ≡ answer_of setup.clock (length h) =
     led.clock 0 ∙ ap (answer_of setup.clock) (omega arith) in
     let moment_is : t ≡ moment_after (last_or 0 (moments h)) (answer_of setup.clock (length h)) =
@@ -62,8 +76,9 @@ led_more setup h session old new t q reply led x =
       sizes_are = x.sizes_stay ∙ led.sizes_are;
       reaches = subst (Reaches setup.sizes (h ++ e ∷ []) new.cache) (sym x.last)
           (reaches_more setup.sizes h old.cache new.cache old.moment e led.reaches step (omega arith)
-          (omega arith) refl);
-      timed = timed_more setup.clock h e led.timed moment_is;
+          (given (answer_of old.clock 0)) refl x.moment_is refl);
+      timed = timed_more setup.clock h e led.timed
+          (ap (λ (seconds : ℕ). answers_by [] h ++ given seconds ∷ []) next) moment_is;
       clock = λ n. x.later n ∙ led.clock (n + 1) ∙ ap (answer_of setup.clock) (omega (arith, length-append h (e ∷ [])));
     }
 
@@ -75,12 +90,12 @@ pub share-append : (a b : List Answered) (session : ℕ)
 share-append a b session = filter-append (λ (e : Answered). eqb e.worker 0 && eqb e.session session) a b
 
 -- the next entry of a session is the last of its share
-pub share_one : (h : List Answered) (session t : ℕ) (q : Request) (reply : Reply)
-    → session_share (h ++ entry_of h session t q reply ∷ []) 0 session
-    ≡ session_share h 0 session ++ entry_of h session t q reply ∷ []
-share_one h session t q reply =
-    share-append h (entry_of h session t q reply ∷ []) session
-    ∙ ap (λ (b : Bool). session_share h 0 session ++ cond b (entry_of h session t q reply ∷ []) [])
+pub share_one : (h : List Answered) (session t seconds : ℕ) (q : Request) (reply : Reply)
+    → session_share (h ++ entry_of h session t seconds q reply ∷ []) 0 session
+    ≡ session_share h 0 session ++ entry_of h session t seconds q reply ∷ []
+share_one h session t seconds q reply =
+    share-append h (entry_of h session t seconds q reply ∷ []) session
+    ∙ ap (λ (b : Bool). session_share h 0 session ++ cond b (entry_of h session t seconds q reply ∷ []) [])
     (eq-eqb session session refl)
 
 -- entries of another session
@@ -100,10 +115,10 @@ pub goes_on_same : (session : ℕ) (h : List Answered) → HistoryGoesOn session
 goes_on_same session h = record { entries = []; longer = sym (append-nil h); of_session = tt }
 
 -- and with one of the session
-pub goes_on_one : (session t : ℕ) (h : List Answered) (q : Request) (reply : Reply)
-    → HistoryGoesOn session h (h ++ entry_of h session t q reply ∷ [])
-goes_on_one session t h q reply = record {
-  entries = entry_of h session t q reply ∷ [];
+pub goes_on_one : (session t seconds : ℕ) (h : List Answered) (q : Request) (reply : Reply)
+    → HistoryGoesOn session h (h ++ entry_of h session t seconds q reply ∷ [])
+goes_on_one session t seconds h q reply = record {
+  entries = entry_of h session t seconds q reply ∷ [];
   longer = refl;
   of_session = (record { worker = refl; session_is = refl }, tt);
 }

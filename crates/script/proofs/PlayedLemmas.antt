@@ -36,4 +36,5 @@ played p k tells =
           sym (f.fed_are s (facts_closed (session_entry p.sessions s) (port_facts l s) (k.each s) gone shut)
           ∙ ap (λ xs. fed s l ++ script.sent xs s) (none over) ∙ append-nil (fed s l));
       gone_by = f.gone_by;
+      never_over = f.never_over;
     }

@@ -425,6 +425,7 @@ no_sessions p ss_is l_is ended fail_is plays all none_aside = record {
         begun = λ t closed. absurd (true≢false (sym closed ∙ ap (λ ss. was_closed ss t) ss_is));
         to_go = λ t goes. ap (λ xs. script.goes_in_script xs t) (sym left_is) ∙ goes;
         gone_by = λ t gone. absurd (true≢false (sym gone ∙ ap (is_in (was.Gone t)) l_is));
+        never_over = λ t. ap (is_in (was.EndOfInput t)) l_is;
       };
   aside = subst (NoneReady p.sessions) (sym none_aside) tt;
   finished = λ over. absurd (true≢false (sym over ∙ ended));

@@ -366,7 +366,7 @@ run_none setup now sizes cache moment clock = record {
       small = rw moment (omega arith);
       numbers = λ worker. tt;
     };
-    timed = refl;
+    timed = record { answers = refl; moments = refl };
     clock = λ n. clock n ∙ ap (answer_of setup.clock) (omega arith);
   };
   among = tt;

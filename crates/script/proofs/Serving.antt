@@ -14,6 +14,7 @@ use Rattle.proto.specs.Grammar.{Spells, SpellsNone}
 use Rattle.proto.specs.Reading.{ends_session, asks}
 use Rattle.proto.specs.Answers.{answer, is_ask, said}
 use Rattle.proto.specs.History.{session_share, had}
+use Rattle.script.specs.Clocks.{answer_of}
 use Rattle.script.specs.Execution.{Execution, AnswersBehind}
 use Rattle.script.specs.SequentialSessions.{Setup, LedTo, AreBytesAnswered, HistoryGoesOn, LedOnTo, AnswersNext, AnswersAll, Feeds}
 use Rattle.script.specs.declared.sequential_session.SequentialSession.{SequentialSession}
@@ -84,14 +85,14 @@ pub led_message : (setup : Setup) (session : ℕ) (h : List Answered) (read outp
     → Spells Strict piece m
     → LedOnTo setup session h new (read ++ piece) after (ends_session m)
 led_message setup session h read output piece after old new (Ask q quiet) led a (t, reply, x, is) spells =
-    let e = entry_of h session t q reply in
+    let seconds = answer_of old.clock 0 in let e = entry_of h session t seconds q reply in
     let shown = answered_ask read (session_share h 0 session) output piece q quiet e a spells refl in
     record {
       history = h ++ e ∷ [];
-      goes_on = goes_on_one session t h q reply;
+      goes_on = goes_on_one session t seconds h q reply;
       led = led_more setup h session old new t q reply led x;
       answered = subst (λ (share : List Answered). AreBytesAnswered (read ++ piece) share after false)
-          (sym (share_one h session t q reply))
+          (sym (share_one h session t seconds q reply))
           (subst (λ (out : List ℕ). AreBytesAnswered (read ++ piece) (session_share h 0 session ++ e ∷ []) out false)
           (sym is) shown);
     }

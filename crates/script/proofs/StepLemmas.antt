@@ -383,7 +383,10 @@ send_told p q s bytes k f o running tells =
     let ss = p.sessions in
     let r = around p (Send s bytes) k f in record {
       records_are = o.records_are;
-      may = λ sizes dialect worker history. (open_in_list p s k ((r.taken tells).may), r.free, short_take 16384 bytes, k.at_end ∙ running);
+      may = λ sizes dialect worker history. (
+        (open_in_list p s k ((r.taken tells).may), r.free, (k.follows tells).never_over s, k.at_end ∙ running),
+        short_take 16384 bytes,
+      );
       plays = (
         bytes,
         refl,
@@ -647,6 +650,7 @@ faults_consistent p accept fail_give can_fail k more some = record {
     begun = f.begun;
     to_go = f.to_go;
     gone_by = λ s gone. ⊎_elim (λ line. inl line) (λ could. inr (more could)) (f.gone_by s gone);
+    never_over = f.never_over;
   };
   aside = k.aside;
   finished = k.finished;

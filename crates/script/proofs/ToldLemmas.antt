@@ -8,6 +8,7 @@ use Rattle.worker_port.specs.declared.events.PortEvent.{PortEvent}
 use Rattle.worker_port.specs.declared.events.PortEvent.TheVariants as event
 use Rattle.worker_port.specs.declared.events.Gone.{Gone}
 use Rattle.proto.specs.declared.history.Answered.{Answered}
+use Rattle.worker_port.specs.Giving.{by_any_clock}
 use Rattle.worker_port.specs.Ports.{PortStory, then_told, then_gave, with_pause, event_records, is_open, MayCome}
 use Rattle.script.specs.PortEvents.{is_playable}
 use Rattle.script.specs.Records.{give_records}
@@ -110,7 +111,7 @@ story_is : (old new : PortState) (events : List PortRecord) (paused : ℕ → Bo
 story_is old new events paused same events_are held i = record {
   events = events_are i;
   paused = λ t. held t i;
-  sizes = same.sizes i;
+  terms = by_any_clock (same.sizes i);
   dialect = same.dialect i;
   worker = same.worker i;
   history = same.history i;
@@ -126,6 +127,9 @@ told_next old new (event.Opened s) same script_is tells =
     (λ yes. story_is old new _ _ same (tells yes).records_are (tells yes).goes_on.3)
 told_next old new (event.Data s bytes) same script_is tells =
     told_step old new (then_told (was.Data s bytes ∷ [])) script_is
+    (λ yes. story_is old new _ _ same (tells yes).records_are (tells yes).goes_on.3)
+told_next old new (event.EndOfInput s) same script_is tells =
+    told_step old new (then_told (was.EndOfInput s ∷ [])) script_is
     (λ yes. story_is old new _ _ same (tells yes).records_are (tells yes).goes_on.3)
 told_next old new event.Idle same script_is tells =
     told_step old new (then_told []) script_is

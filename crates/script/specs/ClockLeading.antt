@@ -5,7 +5,7 @@ use Rattle.script.specs.Clocks.{ClockState, answer_of, first_answers}
 use Rattle.script.specs.declared.recording_clock.RecordingClock.{RecordingClock}
 use Rattle.script.specs.Readings.{readings_in_order}
 
--- The clock gave its next answers, so many of them, and goes on behind them.
+-- The clock gave its next answers, as many as the count, and goes on after them.
 pub record GivesAnswers (old new : RecordingClock) : Type 0 where
   pub count : ℕ
   pub told : readings_in_order new.answers ≡ readings_in_order old.answers ++ first_answers old.clock count

@@ -1,5 +1,6 @@
 -- The events of a worker's sessions, and which may follow which.
-use Rattle.std.specs.Prelude.{◌≡◌, ℕ, ◌<◌, ◌≤◌, ◌==◌, Bool, true, false, List, [], IsTrue, fold, flat_map, filter_map, length, slice_index_or, take}
+use Rattle.std.specs.Prelude.{◌≡◌, ℕ, ◌<◌, ◌≤◌, ◌==◌, Bool, true, false, List, [], IsTrue, fold, flat_map}
+use Rattle.std.specs.Prelude.{filter_map, length, slice_index_or, take}
 use Rattle.std.specs.Prelude.{if◌then◌else◌, Option, Some, None}
 use Rattle.std.specs.List.{list_any}
 use Rattle.script.specs.declared.event.ScriptEvent.{ScriptEvent}

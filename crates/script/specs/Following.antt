@@ -22,15 +22,18 @@ pub record Follows (played left : List ScriptEvent) (records : List PortRecord) 
   pub begun : (s : ℕ) → closed s ≡ true → StartsWith (script.sent played s) (fed s records)
   pub to_go : (s : ℕ) → script.goes_in_script left s ≡ true → script.goes_in_script played s ≡ true
   pub gone_by : (s : ℕ) → is_in (was.Gone s) records ≡ true → MayGo played can_fail s
+  pub never_over : (s : ℕ) → is_in (was.EndOfInput s) records ≡ false
 
 -- The list says what the script does: the sessions that were opened are the first of the script's, and what came of
--- each is a beginning of the bytes that the script sends it; once the list has Ended all were opened, and all bytes came
--- of a session that was neither gone nor shut. No session has gone of which the script doesn't say it, unless a `give` can
--- fail.
+-- each is a beginning of the bytes that the script sends it; once the list has Ended all were opened, and all bytes
+-- came of a session that was neither gone nor shut. No session has gone of which the script doesn't say it, unless a
+-- `give` can fail.
 pub record IsPlayed (played : List ScriptEvent) (records : List PortRecord) (can_fail : Bool) : Type 0 where
   pub opened_first : StartsWith (script.sessions_opened played) (opened records)
   pub fed_first : (s : ℕ) → StartsWith (script.sent played s) (fed s records)
   pub opened_all : is_in was.Ended records ≡ true → opened records ≡ script.sessions_opened played
-  pub fed_all : (s : ℕ) → is_in was.Ended records ≡ true → is_in (was.Gone s) records ≡ false → is_in (was.Shut s) records ≡ false
+  pub fed_all : (s : ℕ) → is_in was.Ended records ≡ true → is_in (was.Gone s) records ≡ false
+      → is_in (was.Shut s) records ≡ false
       → fed s records ≡ script.sent played s
   pub gone_by : (s : ℕ) → is_in (was.Gone s) records ≡ true → MayGo played can_fail s
+  pub never_over : (s : ℕ) → is_in (was.EndOfInput s) records ≡ false

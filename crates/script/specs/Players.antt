@@ -66,6 +66,11 @@ pub record IsPlayerConsistent (p : Player) : Type 0 where
   pub finished : p.ended ≡ true → in_order p.events ≡ []
   pub may_fail : 0 < p.fail_give → p.can_fail ≡ true
 
+-- it is consistent still, plays the same script, accepts as much at once, and can fail if it could
+abbrev pub PlayerGoesOn : Player → Player → Type 0
+PlayerGoesOn old new = IsPlayerConsistent new × (new.script ≡ old.script) × (new.accept ≡ old.accept)
+    × (new.can_fail ≡ old.can_fail)
+
 -- the event in front of the rest may be played now, so it is the first that may
 pub record IsFirst (p : Player) (e : ScriptEvent) : Type 0 where
   pub after : List ScriptEvent

@@ -1,5 +1,6 @@
 -- The list of a port's events.
-use Rattle.std.specs.Prelude.{ℕ, ◌==◌, if◌then◌else◌, List, [], ◌∷◌, ◌++◌, take, filter_map, Option, Some, None, Result, Ok, Err}
+use Rattle.std.specs.Prelude.{ℕ, ◌==◌, if◌then◌else◌, List, [], ◌∷◌, ◌++◌, take, filter_map, Option, Some, None}
+use Rattle.std.specs.Prelude.{Result, Ok, Err}
 use Rattle.worker_port.specs.declared.events.PortRecord.{PortRecord}
 use Rattle.worker_port.specs.declared.events.PortRecord.TheVariants as was
 use Rattle.worker_port.specs.declared.events.Gone.{Gone}
@@ -19,6 +20,7 @@ give_records s bytes (Err e) = was.Gone s ∷ []
 abbrev pub opened_by : PortRecord → Option ℕ
 opened_by (was.Opened s) = Some s
 opened_by (was.Data s bytes) = None
+opened_by (was.EndOfInput s) = None
 opened_by (was.Gone s) = None
 opened_by was.Ended = None
 opened_by (was.Accepted s bytes) = None

@@ -1,5 +1,6 @@
 -- What a script is, line by line, and what is wrong with one.
-use Rattle.std.specs.Prelude.{◌≡◌, ℕ, ◌+◌, ◌<◌, ◌≤◌, ⊤, List, [], ◌∷◌, ◌++◌, length, replicate, slice_index_or, slice_set}
+use Rattle.std.specs.Prelude.{◌≡◌, ℕ, ◌+◌, ◌<◌, ◌≤◌, ⊤, List, [], ◌∷◌, ◌++◌, length, replicate, slice_index_or}
+use Rattle.std.specs.Prelude.{slice_set}
 use Rattle.script.specs.declared.event.ScriptEvent.{ScriptEvent}
 use Rattle.script.specs.declared.event.ScriptLine.{ScriptLine}
 use Rattle.script.specs.declared.fault.LineFault.{LineFault}
@@ -47,11 +48,11 @@ pub record IsMisplaced (workers : Workers) (line : List ℕ) (fault : LineFault)
   pub out_of_place : IsOutOfPlace (events_at workers said.worker) said.event fault
 
 -- what is wrong with a line that comes behind those that gave these events
-abbrev pub IsFaulty : Workers → List ℕ → LineFault → Type 0
-IsFaulty workers line kind.NotAScriptLine = SaysNothing line
-IsFaulty workers line kind.WorkerOutOfRange = (said : ScriptLine) × LineSays line said × (length workers ≤ said.worker)
-IsFaulty workers line kind.NotAboveLast = IsMisplaced workers line kind.NotAboveLast
-IsFaulty workers line kind.NotOpen = IsMisplaced workers line kind.NotOpen
+abbrev pub HasLineFault : Workers → List ℕ → LineFault → Type 0
+HasLineFault workers line kind.NotAScriptLine = SaysNothing line
+HasLineFault workers line kind.WorkerOutOfRange = (said : ScriptLine) × LineSays line said × (length workers ≤ said.worker)
+HasLineFault workers line kind.NotAboveLast = IsMisplaced workers line kind.NotAboveLast
+HasLineFault workers line kind.NotOpen = IsMisplaced workers line kind.NotOpen
 
 -- where a reader stands: the lines that are left, the events so far, and how many lines were read
 pub record Position : Type 0 where
@@ -76,7 +77,7 @@ pub record NextHasFault (before : Position) (number : ℕ) (fault : LineFault) :
   pub rest : List (List ℕ)
   pub first : before.left ≡ line ∷ rest
   pub number_is : number ≡ before.read + 1
-  pub faulty : IsFaulty before.workers line fault
+  pub faulty : HasLineFault before.workers line fault
 
 -- why the next line isn't read
 abbrev pub IsNextFault : Position → ScriptFault → Type 0
@@ -93,7 +94,7 @@ pub record HasFault (workers : ℕ) (lines : List (List ℕ)) (number : ℕ) (fa
   pub number_is : number ≡ length before + 1
   pub events : Workers
   pub read : AreRead (no_events workers) before events
-  pub faulty : IsFaulty events line fault
+  pub faulty : HasLineFault events line fault
 
 -- the most bytes that a script may have
 abbrev pub max_script : ℕ

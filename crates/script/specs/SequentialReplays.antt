@@ -1,5 +1,6 @@
 -- What a run of one worker's events gives.
-use Rattle.std.specs.Prelude.{◌≡◌, ℕ, ◌<◌, ◌≤◌, ◌++◌, ◌≢◌, false, List, [], ◌∷◌, length, map, slice_index, slice_index_or, slice_set, Contains, All}
+use Rattle.std.specs.Prelude.{◌≡◌, ℕ, ◌<◌, ◌≤◌, ◌++◌, ◌≢◌, false, List, [], ◌∷◌, length, map, slice_index}
+use Rattle.std.specs.Prelude.{slice_index_or, slice_set, Contains, All}
 use Rattle.std.specs.Prelude.{MatchOption, Option}
 use Rattle.std.specs.List.{AllByRecursion}
 use Rattle.proto.specs.declared.dialect.Dialect.TheVariants.{Strict}
@@ -33,8 +34,8 @@ pub record IsAmong (sessions : List ℕ) (e : Answered) : Type 0 where
   pub worker : e.worker ≡ 0
   pub session : Contains sessions e.session
 
--- Some legal history has entries of worker 0 and of these sessions alone, and the clock's moments. In it each
--- session that was opened has exactly the requests that its bytes spell, and was given exactly their answers.
+-- Some legal history has entries of worker 0 and of these sessions alone, and the clock's answers and moments. In it
+-- each session that was opened has exactly the requests that its bytes spell, and was given exactly their answers.
 pub record IsReplay (sizes : Sizes) (clock : ClockState) (events : List ScriptEvent)
     (given : List SessionOutput) : Type 0 where
   pub history : List Answered

@@ -4,11 +4,12 @@ use Rattle.std.specs.List.{list_any, AllByRecursion}
 use Rattle.proto.specs.declared.dialect.Dialect.TheVariants.{Strict}
 use Rattle.proto.specs.declared.message.Message.{Message}
 use Rattle.proto.specs.declared.history.Answered.{Answered}
+use Rattle.proto.specs.ClockAnswers.{GivenAnswer}
 use Rattle.proto.specs.Grammar.{Spells, SpellsNone}
 use Rattle.proto.specs.Reading.{ends_session, Reads, asks}
 use Rattle.proto.specs.Answers.{said}
 use Rattle.proto.specs.Sizes.{Sizes}
-use Rattle.proto.specs.History.{session_share, had, asked}
+use Rattle.proto.specs.History.{answers_by, session_share, had, asked}
 use Rattle.engine.specs.Reaching.{moments_after, Reaches}
 use Rattle.script.specs.Clocks.{ClockState, answer_of, first_answers}
 use Rattle.script.specs.Execution.{Execution, AnswersBehind}
@@ -19,9 +20,10 @@ pub record Setup : Type 0 where
   pub sizes : Sizes
   pub clock : ClockState
 
--- the moments of a history are those of the clock's first answers
-abbrev pub AreTimed : ClockState → List Answered → Type 0
-AreTimed clock history = map (λ e. e.moment) history ≡ moments_after 0 (first_answers clock (length history))
+-- the clock's first answers are those of the history, and gave it its moments
+pub record AreTimed (clock : ClockState) (history : List Answered) : Type 0 where
+  pub answers : map (λ (a : GivenAnswer). a.seconds) (answers_by [] history) ≡ first_answers clock (length history)
+  pub moments : map (λ e. e.moment) history ≡ moments_after 0 (first_answers clock (length history))
 
 -- From an empty cache the history has led to this cache and clock. The clock gave its first answers to it.
 pub record LedTo (setup : Setup) (history : List Answered) (now : Execution) : Type 0 where
@@ -66,8 +68,8 @@ AnswersNext old unread (Some (n, ended)) new output after =
     (m : Message) × (n ≤ length unread) × Spells Strict (take n unread) m × (ended ≡ ends_session m)
     × AnswersBehind old m new output after
 
--- So many of the unread bytes are messages, which were executed and answered, whatever history and bytes of
--- a session there were before.
+-- The first bytes that are unread, as many as were taken, are messages, which were executed and answered, whatever
+-- history and bytes of a session there were before.
 abbrev pub AnswersAll : Execution → List ℕ → ℕ → Bool → Execution → List ℕ → List ℕ → Type 0
 AnswersAll old unread taken ended new output after =
     (setup : Setup) (session : ℕ) (history : List Answered) (read : List ℕ)

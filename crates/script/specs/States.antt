@@ -1,5 +1,6 @@
 -- What a port has still to play, and what its calls change of that.
-use Rattle.std.specs.Prelude.{◌≡◌, ◌≢◌, ℕ, ◌-◌, ◌<◌, ◌==◌, ◌||◌, ◌⊎◌, nat_lt, min, Bool, true, false, List, [], ◌∷◌, ◌++◌, length}
+use Rattle.std.specs.Prelude.{◌≡◌, ◌≢◌, ℕ, ◌-◌, ◌<◌, ◌==◌, ◌||◌, ◌⊎◌, nat_lt, min, Bool, true, false, List, []}
+use Rattle.std.specs.Prelude.{◌∷◌, ◌++◌, length}
 use Rattle.std.specs.Prelude.{take, Result, Ok, Err, Option, Some}
 use Rattle.std.specs.Prelude.{None, if◌then◌else◌}
 use Rattle.std.proofs.Common.{refl, ◌∙◌}
@@ -13,6 +14,7 @@ use Rattle.worker_port.specs.declared.events.PortEvent.{PortEvent}
 use Rattle.worker_port.specs.declared.events.PortEvent.TheVariants as event
 use Rattle.worker_port.specs.declared.events.PortRecord.{PortRecord}
 use Rattle.worker_port.specs.declared.events.Gone.{Gone}
+use Rattle.worker_port.specs.Giving.{by_any_clock}
 use Rattle.worker_port.specs.Ports.{PortStory}
 use Rattle.script.specs.PortEvents.{event_session, events_without, send_after, is_playable}
 use Rattle.script.specs.PortSessions.{ScriptSessionState, is_paused}
@@ -49,11 +51,12 @@ pub record TakesEvent (old : PlayerState) (e : ScriptEvent) (rest : List ScriptE
   pub left_is : left ≡ before ++ rest ++ after
 
 -- The next event: the first one left whose session isn't paused, of a send its next piece. Behind Gone no event
--- of the session is left.
+-- of the session is left. A script ends no input of a session that is open.
 abbrev pub Plays : PlayerState → PortEvent → PlayerState → Type 0
 Plays old (event.Opened s) new = TakesEvent old (script.Open s) [] new.left
 Plays old (event.Data s piece) new =
     (bytes : List ℕ) × (piece ≡ take 16384 bytes) × TakesEvent old (script.Send s bytes) (send_after s bytes) new.left
+Plays old (event.EndOfInput s) new = ⊥
 Plays old (event.Gone s) new =
     (left : List ScriptEvent) × TakesEvent old (script.Gone s) [] left × (new.left ≡ events_without s left)
 Plays old event.Idle new = new ≡ old
@@ -125,8 +128,8 @@ new_player events = record {
 
 -- ---- the port
 
--- What it plays, the sizes by which histories are judged, the dialect of what its sessions send, its worker's number, and
--- the history by which bytes were given last.
+-- What it plays, the sizes by which histories are judged, the dialect of what its sessions send, its worker's number,
+-- and the history by which bytes were given last.
 pub record PortState : Type 0 where
   pub player : PlayerState
   pub sizes : Sizes
@@ -139,7 +142,7 @@ abbrev pub story_of : PortState → PortStory
 story_of port = record {
   events = port.player.records;
   paused = is_held port.player;
-  sizes = port.sizes;
+  terms = by_any_clock port.sizes;
   dialect = port.dialect;
   worker = port.worker;
   history = port.history;

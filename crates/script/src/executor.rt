@@ -40,7 +40,12 @@ impl<E: StorageEngine + Drop> Executor<E> {
 
     pub fn new(engine: E, clock: ScriptClock) -> Self
         requires { E.moment engine ≤ max_moment }
-        ensures { result ≡ record { sizes = E.sizes engine; cache = E.cache engine; moment = E.moment engine; clock = clock } }
+        ensures { result ≡ record {
+          sizes = E.sizes engine;
+          cache = E.cache engine;
+          moment = E.moment engine;
+          clock = clock;
+        } }
     {
         Executor { engine, clock }
     }

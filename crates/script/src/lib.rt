@@ -1,5 +1,5 @@
-//! Scripts: what the peers of a run do, as lines of text; the clock and the port that play one to a group; and the sequential
-//! replay, the plain program on one thread that a group is compared with.
+//! Scripts: what the peers of a run do, as lines of text; the clock and the port that play one to a group; and the
+//! sequential replay, the plain program on one thread that a group is compared with.
 #![tactic(auto)]
 
 mod clock;

@@ -10,7 +10,7 @@ ghost use Rattle.script.specs.Remaining.{in_order};
 ghost use Rattle.script.specs.PortSessions.{is_closed, is_waiting};
 ghost use Rattle.script.specs.PortSessions as sessions;
 ghost use Rattle.script.specs.Players.{is_left, is_ready, events_left, NoneReady, player_state};
-ghost use Rattle.script.specs.Players.{IsPlayerConsistent, IsFirst, IsCausedAt, Played};
+ghost use Rattle.script.specs.Players.{IsPlayerConsistent, PlayerGoesOn, IsFirst, IsCausedAt, Played};
 ghost use Rattle.script.specs.Players.{RecordsClose, EndsSession, Keeps, SamePlayer, CountsOffer, GivesAs};
 ghost use Rattle.script.specs.States.{CountsGive, SetsHeld, most_accepted, new_player, with_faults};
 ghost use Rattle.worker_port.specs.Ports.{given};
@@ -82,7 +82,8 @@ fn settle(sessions: &Sessions, events: &mut Remaining)
     requires { NoneReady sessions.now events.old.aside }
     ensures order { in_order events.new ≡ in_order events.old }
     ensures aside { NoneReady sessions.now events.new.aside }
-    ensures front { (e : ScriptEvent) (after : List ScriptEvent) → events.new.rest ≡ e ∷ after → is_ready sessions.now e ≡ true }
+    ensures front { (e : ScriptEvent) (after : List ScriptEvent) → events.new.rest ≡ e ∷ after
+        → is_ready sessions.now e ≡ true }
 {
     while let Some(event) = events.front() {
         if is_ready(sessions, event) {
@@ -159,10 +160,7 @@ impl Player {
         requires consistent { IsPlayerConsistent self.old }
         requires running { self.old.ended ≡ false }
         requires first { IsFirst self.old (script.Open session) }
-        ensures consistent { IsPlayerConsistent self.new }
-        ensures script { self.new.script ≡ self.old.script }
-        ensures accept { self.new.accept ≡ self.old.accept }
-        ensures can_fail { self.new.can_fail ≡ self.old.can_fail }
+        ensures goes_on { PlayerGoesOn self.old self.new }
         ensures played { Played self.old result self.new }
     {
         if session <= self.sessions.newest() {
@@ -183,10 +181,7 @@ impl Player {
         requires running { self.old.ended ≡ false }
         requires first { (bytes : List ℕ) × IsFirst self.old (script.Send session bytes) × (piece ≡ take 16384 bytes)
             × (copy ≡ take 16384 bytes) }
-        ensures consistent { IsPlayerConsistent self.new }
-        ensures script { self.new.script ≡ self.old.script }
-        ensures accept { self.new.accept ≡ self.old.accept }
-        ensures can_fail { self.new.can_fail ≡ self.old.can_fail }
+        ensures goes_on { PlayerGoesOn self.old self.new }
         ensures played { Played self.old result self.new }
     {
         self.records.write(PortRecord::Data(session, copy));
@@ -199,10 +194,7 @@ impl Player {
         requires consistent { IsPlayerConsistent self.old }
         requires running { self.old.ended ≡ false }
         requires first { IsFirst self.old (script.Gone session) }
-        ensures consistent { IsPlayerConsistent self.new }
-        ensures script { self.new.script ≡ self.old.script }
-        ensures accept { self.new.accept ≡ self.old.accept }
-        ensures can_fail { self.new.can_fail ≡ self.old.can_fail }
+        ensures goes_on { PlayerGoesOn self.old self.new }
         ensures played { Played self.old result self.new }
     {
         self.close(session, PortRecord::Gone(session));
@@ -216,10 +208,7 @@ impl Player {
         requires running { self.old.ended ≡ false }
         requires first { (e : ScriptEvent) (after : List ScriptEvent) → self.old.events.rest ≡ e ∷ after
             → is_ready self.old.sessions e ≡ true }
-        ensures consistent { IsPlayerConsistent self.new }
-        ensures script { self.new.script ≡ self.old.script }
-        ensures accept { self.new.accept ≡ self.old.accept }
-        ensures can_fail { self.new.can_fail ≡ self.old.can_fail }
+        ensures goes_on { PlayerGoesOn self.old self.new }
         ensures played { Played self.old result self.new }
     {
         match self.events.front() {
@@ -247,10 +236,7 @@ impl Player {
         requires consistent { IsPlayerConsistent self.old }
         requires running { self.old.ended ≡ false }
         requires none { in_order self.old.events ≡ [] }
-        ensures consistent { IsPlayerConsistent self.new }
-        ensures script { self.new.script ≡ self.old.script }
-        ensures accept { self.new.accept ≡ self.old.accept }
-        ensures can_fail { self.new.can_fail ≡ self.old.can_fail }
+        ensures goes_on { PlayerGoesOn self.old self.new }
         ensures played { Played self.old result self.new }
     {
         self.records.write(PortRecord::Ended);
@@ -262,10 +248,7 @@ impl Player {
     /// `Ended` was given, and where no memory is found.
     pub(crate) fn next(&mut self) -> PortEvent
         requires consistent { IsPlayerConsistent self.old }
-        ensures consistent { IsPlayerConsistent self.new }
-        ensures script { self.new.script ≡ self.old.script }
-        ensures accept { self.new.accept ≡ self.old.accept }
-        ensures can_fail { self.new.can_fail ≡ self.old.can_fail }
+        ensures goes_on { PlayerGoesOn self.old self.new }
         ensures played { Played self.old result self.new }
     {
         if self.ended {
@@ -291,10 +274,7 @@ impl Player {
         requires consistent { IsPlayerConsistent self.old }
         requires ends { EndsSession session entry }
         requires caused { IsCausedAt self.old session entry }
-        ensures consistent { IsPlayerConsistent self.new }
-        ensures script { self.new.script ≡ self.old.script }
-        ensures accept { self.new.accept ≡ self.old.accept }
-        ensures can_fail { self.new.can_fail ≡ self.old.can_fail }
+        ensures goes_on { PlayerGoesOn self.old self.new }
         ensures closes { sessions.is_session_open self.old.sessions session ≡ true
             → RecordsClose self.old session entry self.new }
         ensures same { sessions.is_session_open self.old.sessions session ≡ false → self.new ≡ self.old }
@@ -308,10 +288,7 @@ impl Player {
     pub(crate) fn hold(&mut self, session: u64, stage: Stage)
         requires consistent { IsPlayerConsistent self.old }
         requires stage { is_closed stage ≡ false }
-        ensures consistent { IsPlayerConsistent self.new }
-        ensures script { self.new.script ≡ self.old.script }
-        ensures accept { self.new.accept ≡ self.old.accept }
-        ensures can_fail { self.new.can_fail ≡ self.old.can_fail }
+        ensures goes_on { PlayerGoesOn self.old self.new }
         ensures records { self.new.records ≡ self.old.records }
         ensures held { sessions.is_session_open self.old.sessions session ≡ true
             → SetsHeld (player_state self.old) session (is_waiting stage) (player_state self.new) }

@@ -3,7 +3,8 @@
 ghost use Rattle.std.specs.Prelude.{◌≡◌, ℕ, ◌++◌, [], ◌∷◌, ◌≤◌, ◌↔◌, length, true, false, IfOk, option_map, Some};
 ghost use Rattle.script.specs.Events.{IsPlayable};
 ghost use Rattle.worker_port.specs.declared.events.PortRecord.TheVariants.{Shut};
-ghost use Rattle.worker_port.specs.Ports.{PortStory, then_told, with_pause, event_records, then_gave, is_open, MayCome, given};
+ghost use Rattle.worker_port.specs.Ports.{PortStory, then_told, with_pause, event_records, then_gave, is_open};
+ghost use Rattle.worker_port.specs.Ports.{MayCome, given};
 ghost use Rattle.worker_port.specs.Giving.{MayBeGiven};
 ghost use Rattle.script.specs.PortEvents.{is_playable};
 ghost use Rattle.script.specs.PortSessions.{numbers};
@@ -56,7 +57,8 @@ impl Model for ScriptPort {
 }
 
 impl ScriptPort {
-    /// The port of a worker, over a store of these sizes, whose sessions write in this dialect. All events are left, and none was played.
+    /// The port of a worker, over a store of these sizes, whose sessions write in this dialect. All events are left,
+    /// and none was played.
     pub fn new(
         alloc: Global,
         geometry: Geometry,
@@ -77,7 +79,7 @@ impl ScriptPort {
     }
 
     /// From now on each `give` accepts at most `accept` bytes, and the `fail_give`th that is offered at least one
-    /// byte accepts none and answers that the peer has gone. 0 is none for either.
+    /// byte accepts none and answers that the peer has gone. 0 turns either off.
     pub fn with_faults(mut self, accept: usize, fail_give: u64) -> ScriptPort
         ensures { result ≡ record self { player = with_faults accept fail_give self.player } }
     {
@@ -96,7 +98,8 @@ impl ScriptPort {
     pub fn sessions(&self) -> &[ScriptSession]
         ensures sessions { result.now ≡ self.now.player.sessions }
         ensures opened { numbers result.now ≡ opened self.now.player.records }
-        ensures played { is_playable self.now.player.script ≡ true → IsPlayed self.now.player.script self.now.player.records self.now.player.can_fail }
+        ensures played { is_playable self.now.player.script ≡ true
+            → IsPlayed self.now.player.script self.now.player.records self.now.player.can_fail }
     {
         self.player.sessions.as_slice()
     }
@@ -126,11 +129,14 @@ impl Port for ScriptPort {
 
     fn give(&mut self, session: u64, bytes: &[u8], history: ToldHistory) -> Result<usize, Gone>
         requires open { (story : PortStory) → story_told self.old ≡ Some story → is_open session story.events ≡ true }
-        requires said { (story : PortStory) → story_told self.old ≡ Some story → MayBeGiven story history session bytes.now }
+        requires said { (story : PortStory) → story_told self.old ≡ Some story
+            → MayBeGiven story history session bytes.now }
         ensures within { IfOk result (λ n. n ≤ length bytes.now) }
         ensures leads { PlaysOn self.old self.new }
-        ensures told { story_told self.new ≡ option_map (then_gave session bytes.now result history) (story_told self.old) }
-        ensures gives { is_playable self.old.player.script ≡ true → Gives self.old.player session bytes.now result self.new.player }
+        ensures told { story_told self.new ≡ option_map (then_gave session bytes.now result history)
+            (story_told self.old) }
+        ensures gives { is_playable self.old.player.script ≡ true
+            → Gives self.old.player session bytes.now result self.new.player }
         ensures counts { CountsGive self.old.player bytes.now self.new.player }
     {
         self.history = Snapshot::of(&Some(history));
@@ -141,7 +147,8 @@ impl Port for ScriptPort {
         requires { (story : PortStory) → story_told self.old ≡ Some story → is_open session story.events ≡ true }
         ensures leads { PlaysOn self.old self.new }
         ensures told { story_told self.new ≡ option_map (with_pause session true) (story_told self.old) }
-        ensures held { is_playable self.old.player.script ≡ true → SetsHeld self.old.player session true self.new.player }
+        ensures held { is_playable self.old.player.script ≡ true
+            → SetsHeld self.old.player session true self.new.player }
     {
         self.player.hold(session, Stage::Paused);
     }
@@ -150,7 +157,8 @@ impl Port for ScriptPort {
         requires { (story : PortStory) → story_told self.old ≡ Some story → is_open session story.events ≡ true }
         ensures leads { PlaysOn self.old self.new }
         ensures told { story_told self.new ≡ option_map (with_pause session false) (story_told self.old) }
-        ensures held { is_playable self.old.player.script ≡ true → SetsHeld self.old.player session false self.new.player }
+        ensures held { is_playable self.old.player.script ≡ true
+            → SetsHeld self.old.player session false self.new.player }
     {
         self.player.hold(session, Stage::Playing);
     }
@@ -159,7 +167,8 @@ impl Port for ScriptPort {
         requires { (story : PortStory) → story_told self.old ≡ Some story → is_open session story.events ≡ true }
         ensures leads { PlaysOn self.old self.new }
         ensures told { story_told self.new ≡ option_map (then_told (Shut session ∷ [])) (story_told self.old) }
-        ensures shuts { is_playable self.old.player.script ≡ true → DropsSession self.old.player session self.new.player }
+        ensures shuts { is_playable self.old.player.script ≡ true
+            → DropsSession self.old.player session self.new.player }
     {
         self.player.close(session, PortRecord::Shut(session));
     }

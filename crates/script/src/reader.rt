@@ -4,7 +4,7 @@ ghost use Rattle.std.specs.Prelude.{◌≡◌, ◌+◌, ◌<◌, ◌≤◌, ◌�
 ghost use Rattle.std.specs.Prelude.{MatchResult, MatchOption, MatchBool, IfSome};
 ghost use Rattle.script.specs.Lines.{lines_of};
 ghost use Rattle.script.specs.Events.{MayFollow};
-ghost use Rattle.script.specs.Scripts.{MayAdd, IsFaulty, events_at, with_line, no_events, max_script, first_position};
+ghost use Rattle.script.specs.Scripts.{MayAdd, HasLineFault, events_at, with_line, no_events, max_script, first_position};
 ghost use Rattle.script.specs.Scripts.{ReadsLine, IsNextFault, AreEventsOf, IsFaultOf};
 
 use crate::event::ScriptLine;
@@ -39,13 +39,13 @@ fn first_line(script: &[u8]) -> Option<(&[u8], &[u8])>
     }
 }
 
-/// What the line says, where it may be added; or what is wrong with it.
+/// What the line says, if it may be added; or what is wrong with it.
 fn checked(
     alloc: Global,
     workers: &[WorkerScript],
     line: &[u8],
 ) -> Result<Result<ScriptLine, LineFault>, NoMemory>
-    ensures { IfOk result (λ found. MatchResult found (MayAdd workers.now line.now) (IsFaulty workers.now line.now)) }
+    ensures { IfOk result (λ found. MatchResult found (MayAdd workers.now line.now) (HasLineFault workers.now line.now)) }
 {
     let Some(said) = script_line(alloc, line)? else {
         return Ok(Err(LineFault::NotAScriptLine));
@@ -103,7 +103,11 @@ fn no_workers(alloc: Global, workers: usize) -> Result<Vec<WorkerScript>, NoMemo
 }
 
 impl<'a> ScriptReader<'a> {
-    /// At the first line. The workers are those that lines may name.
+    /// At the first line, which may name a worker below this number.
+    ///
+    /// # Errors
+    ///
+    /// NoMemory if memory is missing.
     pub fn new(
         alloc: Global,
         script: &'a [u8],
@@ -120,7 +124,11 @@ impl<'a> ScriptReader<'a> {
         })
     }
 
-    /// Reads the next line, if there is one, and says whether there was. A fault changes nothing.
+    /// Reads the next line, if there is one, and says whether there was.
+    ///
+    /// # Errors
+    ///
+    /// Line with what is wrong with the line; NoMemory if memory is missing. Either leaves the reader as it was.
     pub fn next_line(&mut self) -> Result<bool, ScriptFault>
         ensures read { IfOk result (λ more. MatchBool more (ReadsLine self.old self.new) ((self.old.left ≡ [])
             × (self.new ≡ self.old))) }
@@ -154,7 +162,12 @@ impl<'a> ScriptReader<'a> {
     }
 }
 
-/// The events of a script for so many workers, by the worker's number.
+/// The events of a script for this number of workers, by the worker's number.
+///
+/// # Errors
+///
+/// TooLarge if the script has more than 16,777,216 bytes; Line for the first line that is none of a script or says an event
+/// that may not come there; NoMemory if memory is missing, also where a line has a fault.
 pub fn read_script(
     alloc: Global,
     script: &[u8],

@@ -1,11 +1,13 @@
 //! A script's clock for a group.
-ghost use Rattle.std.specs.Prelude.{◌≡◌, ℕ, ◌+◌, ◌++◌, [], ◌∷◌};
+ghost use Rattle.std.specs.Prelude.{◌≡◌, ℕ, ◌+◌, ◌++◌, [], ◌∷◌, Option, None, ⊤};
+ghost use Rattle.proto.specs.declared.logged_clock.ClockStart.{ClockStart};
 ghost use Rattle.script.specs.Clocks.{answer_of};
 ghost use Rattle.script.specs.Readings.{readings_in_order};
 
 use crate::ScriptClock;
 use crate::readings::Readings;
 use engine::Clock;
+use proto::ClockAnswer;
 
 /// A script's clock that tells the list of its readings. The list takes no memory.
 #[derive(Drop)]
@@ -28,7 +30,7 @@ impl RecordingClock {
 }
 
 impl Clock for RecordingClock {
-    ghost use Rattle.std.specs.Prelude.{Some};
+    ghost use Rattle.std.specs.Prelude.{Some, None};
     ghost use Rattle.script.specs.Readings.{readings_in_order};
     ghost use Rattle.script.specs.ClockLeading.{GivesAnswers, gives_none, gives_more};
 
@@ -36,19 +38,24 @@ impl Clock for RecordingClock {
 
     ghost leads_to = { GivesAnswers };
 
+    ghost start = { λ _. None };
+
     ghost leads_reflexive = { gives_none };
 
     ghost leads_transitive = { gives_more };
 
     /// The next answer of the script's clock.
-    fn now(&mut self) -> u64
-        ensures told { Some (readings_in_order self.new.answers) ≡ Some (readings_in_order self.old.answers ++ result ∷ []) }
+    fn now(&mut self) -> ClockAnswer
+        ensures told { Some (readings_in_order self.new.answers)
+            ≡ Some (readings_in_order self.old.answers ++ result.seconds ∷ []) }
+        ensures start { ◌≡◌ {A = Option ClockStart} None None }
+        ensures read { ⊤ }
         ensures leads { GivesAnswers self.old self.new }
-        ensures next { result ≡ answer_of self.old.clock 0 }
+        ensures next { result.seconds ≡ answer_of self.old.clock 0 }
         ensures later { (n : ℕ) → answer_of self.new.clock n ≡ answer_of self.old.clock (n + 1) }
     {
         let answer = self.clock.now();
         self.answers = self.answers.and(answer);
-        answer
+        ClockAnswer::given(answer)
     }
 }

@@ -30,7 +30,7 @@ pub(crate) fn event_session(event: &ScriptEvent) -> u64
 #[derive(Drop)]
 pub(crate) struct Remaining {
     ring: VecDeque<ScriptEvent>,
-    /// So many in front of the ring are the rest.
+    /// The length of the rest, which stands in front of the ring.
     ahead: usize,
 }
 
@@ -132,10 +132,13 @@ impl Remaining {
         before
     }
 
-    /// So many stay aside, and those behind them are of the rest again.
+    /// The first `stay` stay aside, and those after them are of the rest again.
     pub(crate) fn bring_back(&mut self, stay: usize)
         requires { stay ≤ length self.old.aside }
-        ensures { self.new ≡ record { aside = take stay self.old.aside; rest = drop stay self.old.aside ++ self.old.rest } }
+        ensures { self.new ≡ record {
+          aside = take stay self.old.aside;
+          rest = drop stay self.old.aside ++ self.old.rest;
+        } }
     {
         let back = self.ring.len() - self.ahead - stay;
         self.ring.rotate_right(back);

@@ -6,7 +6,8 @@ ghost use Rattle.script.specs.declared.event.ScriptEvent.{ScriptEvent};
 ghost use Rattle.script.specs.Events.{IsPlayable, MayFollow};
 ghost use Rattle.script.specs.declared.sequential_session.SequentialSession.{SequentialSession};
 ghost use Rattle.script.specs.SequentialSessions.{Setup, Feeds};
-ghost use Rattle.script.specs.SequentialReplays.{FeedsAt, IsSessionAt, IsReplay, IsRising, RunsEvent, numbers_of, output_of};
+ghost use Rattle.script.specs.SequentialReplays.{FeedsAt, IsSessionAt, IsReplay, IsRising, RunsEvent};
+ghost use Rattle.script.specs.SequentialReplays.{numbers_of, output_of};
 
 use crate::executor::Executor;
 use crate::sequential_session::SequentialSession;
@@ -83,9 +84,13 @@ fn outputs(alloc: Global, sessions: Vec<SequentialSession>) -> Result<Vec<Sessio
     Ok(given)
 }
 
-/// Runs the events of one worker, in order, on one thread: what of a session is whole is executed and
-/// answered before the next event. The store is new. Gives each session that was opened, in order of its
-/// number, with all bytes that it was given.
+/// Runs the events of one worker, in order, on one thread: each whole message of a session is executed and answered
+/// before the next event. The store is new. Gives each session that was opened, in order of its number, with all bytes
+/// that it was given.
+///
+/// # Errors
+///
+/// NoMemory if memory is missing.
 pub fn replay_sequentially<E: StorageEngine + Drop>(
     alloc: Global,
     store: E,

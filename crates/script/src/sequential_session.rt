@@ -29,7 +29,8 @@ fn answer_next<E: StorageEngine + Drop>(
     unread: &[u8],
     output: &mut Vec<u8>,
 ) -> Result<Option<(usize, bool)>, NoMemory>
-    ensures { IfOk result (λ found. AnswersNext executor.old unread.now found executor.new output.old.items output.new.items) }
+    ensures { IfOk result (λ found. AnswersNext executor.old unread.now found executor.new output.old.items
+        output.new.items) }
 {
     match next_message(alloc, unread)? {
         Next::More => Ok(None),
@@ -51,7 +52,8 @@ fn answer_all<E: StorageEngine + Drop>(
     unread: &[u8],
     output: &mut Vec<u8>,
 ) -> Result<(usize, bool), NoMemory>
-    ensures answered { IfOk result (λ r. AnswersAll executor.old unread.now r.0 r.1 executor.new output.old.items output.new.items) }
+    ensures answered { IfOk result (λ r. AnswersAll executor.old unread.now r.0 r.1 executor.new output.old.items
+        output.new.items) }
     ensures within { IfOk result (λ r. r.0 ≤ length unread.now) }
     ensures more { IfOk result (λ r. r.1 ≡ false → SpellsNone Strict (drop r.0 unread.now)) }
 {

@@ -118,7 +118,8 @@ impl Sessions {
 
     /// The session with this number.
     pub(crate) fn get(&self, number: u64) -> Option<&ScriptSession>
-        ensures { MatchOption result (session_entry self.now number ≡ None) (λ s. session_entry self.now number ≡ Some s.now) }
+        ensures { MatchOption result (session_entry self.now number ≡ None)
+            (λ s. session_entry self.now number ≡ Some s.now) }
     {
         let at = place_of(self.entries.as_slice(), number)?;
         Some(&self.entries[at])
@@ -137,7 +138,8 @@ impl Sessions {
     /// Adds a session, or changes nothing.
     pub(crate) fn open(&mut self, number: u64) -> Result<(), AllocError>
         requires { newest self.old < number }
-        ensures ok { OnOk result (self.new ≡ self.old ++ (record { number = number; stage = Stage.Playing; output = [] }) ∷ []) }
+        ensures ok { OnOk result (self.new
+            ≡ self.old ++ (record { number = number; stage = Stage.Playing; output = [] }) ∷ []) }
         ensures err { OnErr result (self.new ≡ self.old) }
     {
         self.entries.reserve(1)?;

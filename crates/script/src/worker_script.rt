@@ -93,7 +93,11 @@ impl WorkerScript {
         }
     }
 
-    /// Adds the event, or changes nothing.
+    /// Adds the event.
+    ///
+    /// # Errors
+    ///
+    /// NoMemory if memory is missing; then nothing changes.
     pub fn push(&mut self, event: ScriptEvent) -> Result<(), NoMemory>
         requires { MayFollow self.old event }
         ensures ok { OnOk result (self.new ≡ self.old ++ event ∷ []) }

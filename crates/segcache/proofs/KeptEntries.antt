@@ -16,10 +16,11 @@ use Rattle.engine.specs.Keeping.{StaysKept, AddsNoDeadline, KeepsEntry}
 use Rattle.segments.specs.declared.place.Place.{Place}
 use Rattle.segments.specs.Items.{Item, IsStorable}
 use Rattle.segments.specs.Pools.{PoolState, IsPool, Used, Liveness, item_in, place_deadline, deadline_in, segment_at, lasting}
-use Rattle.segments.specs.Changes.{read_in, touched, new_pool}
+use Rattle.segments.specs.Changes.{with_change, new_pool}
 use Rattle.segments.specs.Filling.{IsFilled, held_size}
-use Rattle.segments.proofs.Places.{appended, touched_segment}
-use Rattle.segments.proofs.FilledLemmas.{filled_touched}
+use Rattle.segments.proofs.ItemChanges.{KeepsSize, some_kept}
+use Rattle.segments.proofs.Places.{appended, changed_segment}
+use Rattle.segments.proofs.FilledLemmas.{filled_changed}
 use Rattle.index.specs.Table.{Places}
 use Rattle.segcache.specs.Shown.{current, shown_entries, live_entries, entry_at, kept_entry, gone}
 use Rattle.segcache.specs.State.{MapState}
@@ -29,6 +30,7 @@ use Rattle.segcache.specs.Writes.{unread, WritesToSegments}
 use Rattle.segcache.specs.Forgetting.{PlacesItem, keys_forgotten}
 use Rattle.segcache.specs.Keeping.{AllLast, KeepsStored}
 use Rattle.segcache.proofs.ShownItems.{get-live_in, entry_is}
+use Rattle.segcache.proofs.OpeningMoments.{was_opened}
 use Rattle.segcache.proofs.AppendNeeds.{appended_here}
 use Rattle.segcache.proofs.WritesWithRoom.{kept_with, holds_little, written_more, all_last, last_appended}
 use Rattle.segments.proofs.MarkedPlaces.{nothing_at}
@@ -71,7 +73,7 @@ undated_shown : (p : PoolState) (m : Places) (t : ℕ) (key : List ℕ) → AllL
 undated_shown p m t key all = ap asked_at (get-live_in p m t key) ∙ undated_entry p t (finite.get m key) all
 
 -- so an entry that is written has none either
-adds_none : (p : PoolState) (m : Places) (t : ℕ) (key : List ℕ) (e : Entry) → AllLast p
+pub adds_none : (p : PoolState) (m : Places) (t : ℕ) (key : List ℕ) (e : Entry) → AllLast p
     → AddsNoDeadline (live_entries p m t) key e → e.deadline ≡ None
 adds_none p m t key e all (inl none) = none
 adds_none p m t key e all (inr same) = same ∙ undated_shown p m t key all
@@ -158,31 +160,27 @@ writes_to_segments old new key e storable placed deadline may kept entries =
 
 -- ---- what else happens to a map
 
--- a segment of the bucket of what has no deadline is still of it when one of its items has been read
-same_bucket : (offset : ℕ) (o : Option Used) (u : Used) → option_map (read_in offset) o ≡ Some u
-    → ((s : Used) → o ≡ Some s → s.bucket ≡ lasting) → u.bucket ≡ lasting
-same_bucket offset None u e all = absurd (none-some u e)
-same_bucket offset (Some s) u e all = (let f : read_in offset s ≡ u = cc in
-    sym (ap (λ (x : Used). x.bucket) f) ∙ all s refl)
-
--- a read keeps what was kept
-pub keeps_read : (old new : MapState) (place : Place) → IsSome (item_in old.pool place)
-    → new.pool ≡ touched old.pool place
+-- a change of an item that keeps its size keeps what was kept
+pub keeps_changed : (change : Item → Item) (old new : MapState) (place : Place) → KeepsSize change (item_in old.pool place)
+    → new.pool ≡ with_change change old.pool place
     → StaysKept KeepsStored old new
-keeps_read old new place some is items keeps =
+keeps_changed change old new place k is items keeps =
     let p = old.pool in
-    let read = filled_touched p place keeps.filled in
-    let held = read.1 in
+    let some = some_kept change (item_in p place) k in
+    let filled = filled_changed change p place k keeps.filled in
+    let held = filled.1 in
     let was = keeps.held in
-    let size : held_size new.pool ≡ held_size (touched p place) = ap held_size is in
+    let size : held_size new.pool ≡ held_size (with_change change p place) = ap held_size is in
     record {
-      filled = subst IsFilled (sym is) read.0;
+      filled = subst IsFilled (sym is) filled.0;
       all_last = λ n u e.
-          (let at = touched_segment p place n some in
-          let now : segment_at (touched p place) n ≡ Some u = ap (λ (q : PoolState). segment_at q n) (sym is) ∙ e in
+          (let at = changed_segment change p place n some in
+          let now : segment_at (with_change change p place) n ≡ Some u =
+          ap (λ (q : PoolState). segment_at q n) (sym is) ∙ e in
           elim (cases_Bool (n == place.segment)) [
-            | inl y ↦ same_bucket place.offset (segment_at p place.segment) u (sym (at ∙ rw y refl) ∙ now)
-                (keeps.all_last place.segment)
+            | inl y ↦
+                let r = was_opened change (segment_at p place.segment) place.offset u (sym (at ∙ rw y refl) ∙ now) in
+                r.3 ∙ keeps.all_last place.segment r.0 r.1
             | inr f ↦ keeps.all_last n u (sym (at ∙ rw f refl) ∙ now)
           ]);
       undated = keeps.undated;

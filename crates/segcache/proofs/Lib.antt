@@ -4,7 +4,7 @@ pub mod ShownItems
 pub mod TiedParts
 -- the invariant of `SegmentMap`: no segment was opened later than the last moment
 pub mod OpeningMoments
--- the contracts of `leave_segment`, `leave_expired`, `leave_all` and `remove`
+-- the contracts of `unindex_segment`, `unindex_expired`, `remove_all` and `remove`
 pub mod LeftPlaces
 -- the contract of `seeded`
 pub mod NewMaps
@@ -36,6 +36,8 @@ pub mod MergedKeys
 pub mod WritesWithRoom
 -- the clauses `kept` of `write`, `remove` and `count_read`, and `keeps` of `seeded`
 pub mod KeptEntries
+-- the contract of `rewrite`: an item put over the one of its key
+pub mod ChangedItems
 -- the promise `HandlesSegments` of `Store::handle`
 pub mod HandledRequests
 -- the promise `StaysFilled` of `Store::handle`

@@ -7,12 +7,13 @@ use Rattle.std.proofs.lemmas.Bool.{cases_Bool}
 use Rattle.std.proofs.lemmas.Option.{none-some}
 use Rattle.segments.specs.declared.place.Place.{Place}
 use Rattle.segments.specs.Pools.{PoolState, IsPool, Used, Liveness, segment_at, has_live}
-use Rattle.segments.specs.Changes.{touched, cleared, read_in, IsGivenBack}
+use Rattle.segments.specs.Items.{Item}
+use Rattle.segments.specs.Changes.{with_change, change_in, cleared, IsGivenBack}
 use Rattle.segments.specs.Merges.{opened_at}
 use Rattle.segments.specs.Filling.{IsInTime}
-use Rattle.segments.proofs.Places.{touched_segment, cleared_segment}
+use Rattle.segments.proofs.Places.{changed_segment, cleared_segment}
 use Rattle.segments.proofs.GroupLemmas.{AreUsed, order_used}
-use Rattle.segments.proofs.InTimeLemmas.{order_touched, order_part, part_given, part_cleared}
+use Rattle.segments.proofs.InTimeLemmas.{order_changed, order_part, part_given, part_cleared}
 use Rattle.segments.specs.Pools.{item_in}
 use Rattle.segcache.specs.Kept.{IsPast}
 
@@ -24,27 +25,30 @@ past_later p t u past le within = record {
   in_order = past.in_order;
 }
 
--- a segment that is there once one of its items was read was there before, opened at the same moment
-read_opened : (o : Option Used) (offset : ℕ) (u : Used) → option_map (read_in offset) o ≡ Some u
-    → (s : Used) × (o ≡ Some s) × (u.opened ≡ s.opened)
-read_opened None offset u e = absurd (none-some u e)
-read_opened (Some s) offset u e = (s, refl, (let f : read_in offset s ≡ u = cc in sym (ap (λ (x : Used). x.opened) f)))
+-- a segment that is there once one of its items was changed was there before, of the same bucket, opened at the same moment
+pub was_opened : (change : Item → Item) (o : Option Used) (offset : ℕ) (u : Used)
+    → option_map (change_in change offset) o ≡ Some u
+    → (s : Used) × (o ≡ Some s) × (u.opened ≡ s.opened) × (u.bucket ≡ s.bucket)
+was_opened change None offset u e = absurd (none-some u e)
+was_opened change (Some s) offset u e =
+    let f : change_in change offset s ≡ u = cc in
+    (s, refl, sym (ap (λ (x : Used). x.opened) f), sym (ap (λ (x : Used). x.bucket) f))
 
--- where an item is read, segments still stand in order, and none was opened after the moment
-pub past_touched : (p : PoolState) (t : ℕ) (place : Place) → IsPast p t → IsSome (item_in p place)
-    → IsPast (touched p place) t
-past_touched p t place past some =
+-- where an item is changed, segments still stand in order, and none was opened after the moment
+pub past_changed : (change : Item → Item) (p : PoolState) (t : ℕ) (place : Place) → IsPast p t → IsSome (item_in p place)
+    → IsPast (with_change change p place) t
+past_changed change p t place past some =
     record {
       within = past.within;
       opened = λ n u e.
+          (let at = changed_segment change p place n some in
           elim (cases_Bool (n == place.segment)) [
             | inl y ↦
-                let r = read_opened (segment_at p place.segment) place.offset u
-                (sym (touched_segment p place n some ∙ rw y refl) ∙ e) in
+                let r = was_opened change (segment_at p place.segment) place.offset u (sym (at ∙ rw y refl) ∙ e) in
                 subst (λ x. x ≤ t) (sym r.2) (past.opened place.segment r.0 r.1)
-            | inr f ↦ past.opened n u (sym (touched_segment p place n some ∙ rw f refl) ∙ e)
-          ];
-      in_order = order_touched p place past.in_order;
+            | inr f ↦ past.opened n u (sym (at ∙ rw f refl) ∙ e)
+          ]);
+      in_order = order_changed change p place some past.in_order;
     }
 
 -- a segment that is kept where a test holds, and is there, is the one that was there

@@ -1,6 +1,6 @@
 -- What is shown of a pool at the places of a map, and what changes of pool and map do to it.
 use Rattle.std.proofs.Common.{◌≡◌, ℕ, ◌≤◌, Bool, true, false, cond, List, [], ◌∷◌, map, Option, Some, None, refl, sym, ap, ◌∙◌, inl, inr, arith, le-leb}
-use Rattle.std.specs.Prelude.{bytes_eq, option_map, IsSome}
+use Rattle.std.specs.Prelude.{bytes_eq, option_map, IsSome, if◌then◌else◌}
 use Rattle.std.specs.Option.{option_map_or}
 use Rattle.std.specs.FinMap as finite
 use Rattle.std.specs.Ordering.{is_eq, nat_cmp}
@@ -13,9 +13,10 @@ use Rattle.proto.proofs.CacheLemmas.{contains_bytes, is_live, same_entries, get-
 use Rattle.segments.specs.declared.place.Place.{Place}
 use Rattle.segments.specs.Items.{Item, read_again}
 use Rattle.segments.specs.Pools.{PoolState, item_in, place_deadline}
-use Rattle.segments.specs.Changes.{touched}
+use Rattle.segments.specs.Changes.{with_change, touched}
 use Rattle.segments.specs.Places.{same_place}
-use Rattle.segments.proofs.Places.{touched_item, touched_deadline}
+use Rattle.segments.proofs.ItemChanges.{KeepsSize, keeps_read, some_kept}
+use Rattle.segments.proofs.Places.{changed_item, changed_deadline}
 use Rattle.index.specs.Table.{Places}
 use Rattle.index.proofs.SlotsAsMap as mapping
 use Rattle.segcache.specs.Shown.{kept_entry, gone, entry_at, entries_at, live_entries}
@@ -61,7 +62,7 @@ shown_at p m t q r at_key there =
     shown_if (is_live (entry_at p r) t) (entry_at p r) (rw is at there) ∙ sym is
 
 -- a place that shows the same in two pools gives the same entry, and no place gives none
-same_maps : (p after : PoolState) (o : Option Place) → ((r : Place) → o ≡ Some r → entry_at after r ≡ entry_at p r)
+pub same_maps : (p after : PoolState) (o : Option Place) → ((r : Place) → o ≡ Some r → entry_at after r ≡ entry_at p r)
     → option_map (entry_at after) o ≡ option_map (entry_at p) o
 same_maps p after None h = refl
 same_maps p after (Some r) h = ap Some (h r refl)
@@ -75,7 +76,7 @@ shown_same p after m t h =
     ∙ sym (get-live_in p m t q))
 
 -- an entry that is live is shown
-live_entry : (t : ℕ) (e : Entry) → is_live e t ≡ true → if_live t (Some e) ≡ Some e
+pub live_entry : (t : ℕ) (e : Entry) → is_live e t ≡ true → if_live t (Some e) ≡ Some e
 live_entry t e waits = rw waits refl
 
 -- a key that is put in at a place with a live entry shows this entry, another key what it showed
@@ -184,6 +185,16 @@ entry_live p place t i e h =
     let is = entry_is p place i e in
     live_entry t (entry_at p place) (ap (λ (x : Entry). is_live x t) is ∙ rw h refl)
 
+-- what is shown of a place whose item is changed, and of every other place
+pub changed_entry : (change : Item → Item) (p : PoolState) (place r : Place) → KeepsSize change (item_in p place)
+    → entry_at (with_change change p place) r ≡ option_map_or (kept_entry (place_deadline p r))
+    (if same_place r place then option_map change (item_in p r) else item_in p r) gone
+unfolding entry_at
+changed_entry change p place r k =
+    ap (λ (d : Option ℕ). option_map_or (kept_entry d) (item_in (with_change change p place) r) gone)
+    (changed_deadline change p place r (some_kept change (item_in p place) k))
+    ∙ ap (λ (o : Option Item). option_map_or (kept_entry (place_deadline p r)) o gone) (changed_item change p place r k)
+
 -- an item that was read once more keeps the same entry
 read_entry : (d : Option ℕ) (o : Option Item)
     → option_map_or (kept_entry d) (option_map read_again o) gone ≡ option_map_or (kept_entry d) o gone
@@ -195,15 +206,8 @@ pub touched_entry : (p : PoolState) (place r : Place) → IsSome (item_in p plac
     → entry_at (touched p place) r ≡ entry_at p r
 unfolding entry_at
 touched_entry p place r h =
-    ap (λ (d : Option ℕ). option_map_or (kept_entry d) (item_in (touched p place) r) gone)
-    (touched_deadline p place r h)
+    changed_entry read_again p place r (keeps_read (item_in p place) h)
     ∙ elim (cases_Bool (same_place r place)) [
-      | inl y ↦
-          let e : item_in (touched p place) r ≡ option_map read_again (item_in p r) =
-          touched_item p place r h ∙ rw y refl in
-          ap (λ (o : Option Item). option_map_or (kept_entry (place_deadline p r)) o gone) e
-          ∙ read_entry (place_deadline p r) (item_in p r)
-      | inr n ↦
-          let e : item_in (touched p place) r ≡ item_in p r = touched_item p place r h ∙ rw n refl in
-          ap (λ (o : Option Item). option_map_or (kept_entry (place_deadline p r)) o gone) e
+      | inl y ↦ rw y (read_entry (place_deadline p r) (item_in p r))
+      | inr n ↦ rw n refl
     ]

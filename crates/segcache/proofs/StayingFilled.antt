@@ -1,5 +1,5 @@
 -- Requests for which nothing is forgotten, by what they do to the segments.
-use Rattle.std.proofs.Common.{◌≡◌, ℕ, ◌+◌, ◌≤◌, List, [], ◌∷◌, Option, Some, None, refl, sym, ap, subst, ◌∙◌, inl, inr, arith}
+use Rattle.std.proofs.Common.{◌≡◌, ℕ, ◌+◌, ◌≤◌, Bool, true, List, [], ◌∷◌, Option, Some, None, refl, sym, ap, subst, ◌∙◌, inl, inr, arith}
 use Rattle.std.specs.Prelude.{◌⊎◌, if◌then◌else◌}
 use Rattle.std.specs.List.{AllByRecursion}
 use Rattle.std.specs.FinMap as finite
@@ -21,19 +21,24 @@ use Rattle.engine.specs.Keeping.{ForgetsNone}
 use Rattle.engine.specs.Outcomes.{outcome_at}
 use Rattle.engine.proofs.KeepingLemmas.{answered_item}
 use Rattle.engine.proofs.Refusals.{answers_act}
-use Rattle.segments.specs.Pools.{PoolState}
-use Rattle.segments.specs.Changes.{touched}
+use Rattle.segments.specs.Pools.{PoolState, item_in}
+use Rattle.segments.specs.Changes.{touched, overwritten}
+use Rattle.segments.specs.Items.{read_again}
+use Rattle.proto.proofs.DeadlineLemmas.{may_be_exact}
 use Rattle.segments.specs.Filling.{IsFilled, HoldsLittle, held_size}
-use Rattle.segments.proofs.FilledLemmas.{filled_touched}
+use Rattle.segments.proofs.ItemChanges.{keeps_read}
+use Rattle.segments.proofs.FilledLemmas.{filled_changed}
 use Rattle.segcache.specs.declared.segment_map.SegmentMap.{SegmentMap}
 use Rattle.segcache.specs.Shown.{shown_entries}
 use Rattle.segcache.specs.State.{MapState, IsSegmentedMap}
 use Rattle.segcache.specs.StoreState.{sizes_in, segmented_cache}
 use Rattle.segcache.specs.Living.{live_others}
-use Rattle.segcache.specs.Writes.{WritesToSegments, IsReadAgain, unread}
+use Rattle.segcache.specs.Writes.{WritesToSegments, ChangesInPlace, IsReadAgain, unread, with_value}
 use Rattle.segcache.specs.Handling.{LeavesSegments, HandlesSegments}
-use Rattle.segcache.specs.Handling.LeavesSegments.{writes, reads, stays, refuses}
+use Rattle.segcache.specs.Handling.LeavesSegments.{writes, changes, reads, stays, refuses}
 use Rattle.segcache.specs.StayingFilled.{StaysFilled}
+use Rattle.segcache.proofs.TiedParts.{current_some}
+use Rattle.segcache.proofs.ChangedItems.{sized_over}
 use Rattle.segcache.proofs.WritesWithRoom.{kept_with}
 
 -- reads leave segments filled, and holding what they held
@@ -46,7 +51,8 @@ counted_filled (key ∷ keys) old new h filled =
     let next = h.0 in
     let r = h.1 in
     let same : next.pool ≡ touched old.pool r.place = ap (λ (m : MapState). m.pool) r.new_is in
-    let one = filled_touched old.pool r.place filled in
+    let some = current_some old.pool old.index key r.place r.stands in
+    let one = filled_changed read_again old.pool r.place (keeps_read (item_in old.pool r.place) some) filled in
     let rest = counted_filled keys next new h.2 (subst IsFilled (sym same) one.0) in
     (rest.0, rest.1 ∙ ap held_size same ∙ one.1)
 
@@ -105,6 +111,31 @@ written_filled found after done key e kept other stored asked w filled little =
       held = omega arith;
     }
 
+-- an item that was changed where it stands
+changed_filled : (found after : MapState) (done : Outcome) (key : List ℕ) (e : Entry)
+    → done.stored ≡ Some key
+    → done.entries ≡ finite.insert (shown_entries found.pool found.index found.moment) key e
+    → ChangesInPlace found key e after → (items : List StoredItem) → IsFilled found.pool
+    → IsLeftFilled found.moment found done done.reply after items
+changed_filled found after done key e stored asked w items filled =
+    let p = found.pool in
+    let t = found.moment in
+    let same : after.pool ≡ overwritten p w.place (with_value e w.item) = ap (λ (m : MapState). m.pool) w.new_is in
+    let f = filled_changed (λ _. with_value e w.item) p w.place (sized_over found after key e w) filled in
+    let exact : IsDated t (finite.insert (shown_entries p found.index t) key e) (Some key)
+    (finite.insert (shown_entries p found.index t) key (record e { deadline = e.deadline })) =
+    dated-insert t (shown_entries p found.index t) key e e.deadline (may_be_exact t e.deadline w.waits) in
+    let held : held_size after.pool ≡ held_size p = ap held_size same ∙ f.1 in
+    record {
+      dated = inr (inr (subst (λ (o : Option (List ℕ)). IsDated t done.entries o
+          (shown_entries after.pool after.index t)) (sym stored)
+          (subst (λ (m : Entries). IsDated t m (Some key) (shown_entries after.pool after.index t)) (sym asked)
+          (subst (λ (m : Entries). IsDated t (finite.insert (shown_entries p found.index t) key e) (Some key) m)
+          (sym w.entries) exact))));
+      filled = subst IsFilled (sym same) f.0;
+      held = omega arith;
+    }
+
 -- where the pool stays, segments stay filled
 same_filled : (t : ℕ) (found after : MapState) (done : Outcome) (reply : Reply) (items : List StoredItem)
     → (done.stored ≡ None) ⊎ (reply ≡ NoMemory)
@@ -116,21 +147,25 @@ same_filled t found after done reply items (inr refused) filled held =
 
 -- each outcome leaves segments filled where little is held, be it that an item is written, reads are counted, the pool stays,
 -- or memory is refused
-leaves_filled : (found after : MapState) (done : Outcome) (reply : Reply) → IsSegmentedMap found
+leaves_filled : (in_place : Bool) (found after : MapState) (done : Outcome) (reply : Reply) → IsSegmentedMap found
     → (done.reply ≡ NoMemory → ⊥)
-    → LeavesSegments found done after reply
+    → LeavesSegments in_place found done after reply
     → LeavesFilled found.moment found done reply after
-leaves_filled found after done _ kept other (writes key e stored asked w) =
+leaves_filled in_place found after done _ kept other (writes key e stored is asked w) =
     written_filled found after done key e kept other stored asked w
-leaves_filled found after done _ kept other (reads hits none is counts) =
+leaves_filled in_place found after done _ kept other (changes key e stored is asked (inl w)) =
+    λ filled little. changed_filled found after done key e stored asked w (items_by found.moment done done.reply) filled
+leaves_filled in_place found after done _ kept other (changes key e stored is asked (inr w)) =
+    written_filled found after done key e kept other stored asked w.1
+leaves_filled in_place found after done _ kept other (reads hits none is counts) =
     λ filled little.
     (let c = counted_filled (keys_of hits) found after counts filled in
     same_filled found.moment found after done done.reply (items_by found.moment done done.reply) (inl none) c.0 c.1)
-leaves_filled found after done _ kept other (stays none hitless same) =
+leaves_filled in_place found after done _ kept other (stays none hitless same) =
     λ filled little.
     same_filled found.moment found after done done.reply (items_by found.moment done done.reply) (inl none)
     (subst IsFilled (sym same) filled) (ap held_size same)
-leaves_filled found after done _ kept other (refuses same) =
+leaves_filled in_place found after done _ kept other (refuses same) =
     λ filled little.
     same_filled found.moment found after done NoMemory (items_by found.moment done NoMemory) (inr refl)
     (subst IsFilled (sym same) filled) (ap held_size same)
@@ -165,7 +200,7 @@ stays_filled before t q reply after step moment h filled little =
     let other = answers_act (item_limit (sizes_in before)) (found_at (segmented_cache before) t) t q in
     let leaves : LeavesFilled t found done reply after.map =
     subst (λ (u : ℕ). LeavesFilled u found done reply after.map) h.is_found.moment
-    (leaves_filled found after.map done reply h.is_found.kept other h.leaves) in
+    (leaves_filled before.in_place found after.map done reply h.is_found.kept other h.leaves) in
     let left = leaves (subst IsFilled (sym pool) filled)
     (subst (λ (p : PoolState). AllByRecursion (λ (i : StoredItem). HoldsLittle p i.bucket t) (items_by t done reply))
     (sym pool) little) in

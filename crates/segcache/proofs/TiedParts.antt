@@ -8,15 +8,16 @@ use Rattle.std.proofs.lemmas.Bool.{cases_Bool, false≢true}
 use Rattle.std.proofs.lemmas.Slice.Eq.{bytes_eq-Decides}
 use Rattle.std.proofs.lemmas.Option.{none-some}
 use Rattle.segments.specs.declared.place.Place.{Place}
-use Rattle.segments.specs.Items.{Item, read_again}
+use Rattle.segments.specs.Items.{Item}
 use Rattle.segments.specs.Pools.{PoolState, IsPool, item_in, has_live}
 use Rattle.proto.specs.Sizes.{Sizes}
-use Rattle.segments.specs.Changes.{touched, IsGivenBack}
+use Rattle.segments.specs.Changes.{with_change, IsGivenBack}
 use Rattle.segments.specs.Places.{same_place, IsAppended}
-use Rattle.segments.proofs.Places.{own_marks, touched_item, given_item, live_given}
+use Rattle.segments.proofs.ItemChanges.{KeepsSize}
+use Rattle.segments.proofs.Places.{own_marks, changed_item, given_item, live_given}
 use Rattle.segments.proofs.MovedPlaces.{same_place_is, same_place_itself}
 use Rattle.segments.specs.Marks.{Marks, IsWithin, KnowsPool, is_marked, is_mark_of, with_mark, lives_by}
-use Rattle.segments.proofs.MarkedPlaces.{mark_after, item_within, knows_unmark, knows_longer, knows_appended, knows_touched, knows_given}
+use Rattle.segments.proofs.MarkedPlaces.{mark_after, item_within, knows_unmark, knows_longer, knows_appended, knows_changed, knows_given}
 use Rattle.index.specs.Keys.{KeysOf, key_at}
 use Rattle.index.specs.Layouts.{IsLayoutOf}
 use Rattle.index.specs.Table.{Table, Places, IsIndex, IsMap, IsSameSize, HasPlace, place_at}
@@ -225,30 +226,37 @@ tied_same p after index t tied known sizes same =
       m.places_are,
     )
 
--- an item that was read once more keeps its key, and what is no item has none
-read_key : (o : Option Item) → option_map (λ (i : Item). i.key) (option_map read_again o)
-    ≡ option_map (λ (i : Item). i.key) o
-read_key None = refl
-read_key (Some i) = refl
+-- an item that is changed keeps its key where the change leaves it, and what is no item has none
+change_key : (change : Item → Item) (o : Option Item) → ((i : Item) → o ≡ Some i → (change i).key ≡ i.key)
+    → option_map (λ (i : Item). i.key) (option_map change o) ≡ option_map (λ (i : Item). i.key) o
+change_key change None same = refl
+change_key change (Some i) same = ap Some (same i refl)
 
--- a read changes no key
-pub touched_key : (p : PoolState) (place r : Place) → IsSome (item_in p place) → key_at (touched p place) r ≡ key_at p r
+-- a change that leaves the size and the key of the item at a place
+pub record KeepsKey (change : Item → Item) (p : PoolState) (place : Place) : Type 0 where
+  pub sized : KeepsSize change (item_in p place)
+  pub key : (i : Item) → item_in p place ≡ Some i → (change i).key ≡ i.key
+
+-- it leaves the keys of all places
+changed_key : (change : Item → Item) (p : PoolState) (place r : Place) → KeepsKey change p place
+    → key_at (with_change change p place) r ≡ key_at p r
 unfolding key_at
-touched_key p place r h =
+changed_key change p place r k =
+    let at = changed_item change p place r k.sized in
     elim (cases_Bool (same_place r place)) [
-      | inl y ↦ ap (option_map (λ (i : Item). i.key)) (touched_item p place r h ∙ rw y refl) ∙ read_key (item_in p r)
-      | inr n ↦ ap (option_map (λ (i : Item). i.key)) (touched_item p place r h ∙ rw n refl)
+      | inl y ↦ ap (option_map (λ (i : Item). i.key)) (at ∙ rw y refl)
+          ∙ change_key change (item_in p r) (λ i e. k.key i (ap (item_in p) (sym (same_place_is r place y)) ∙ e))
+      | inr n ↦ ap (option_map (λ (i : Item). i.key)) (at ∙ rw n refl)
     ]
 
--- where an item is read, all stays tied, and the current places stay
-pub tied_touched : (p after : PoolState) (index : Table) (t : Marks) (place : Place) → IsTied p index t
-    → IsSome (item_in p place)
-    → IsPool after → after ≡ touched p place
+-- so all stays tied, and the current places stay
+pub tied_changed : (change : Item → Item) (p after : PoolState) (index : Table) (t : Marks) (place : Place)
+    → IsTied p index t → KeepsKey change p place → IsPool after → after ≡ with_change change p place
     → IsTied after index t × (current after index ≡ current p index)
-tied_touched p after index t place tied some pool is =
+tied_changed change p after index t place tied k pool is =
     subst (λ (a : PoolState). IsTied a index t × (current a index ≡ current p index)) (sym is)
-    (tied_same p (touched p place) index t tied
-    (knows_touched t p place tied.known (subst IsPool is pool) some) refl (λ r h. touched_key p place r some))
+    (tied_same p (with_change change p place) index t tied
+    (knows_changed change t p place tied.known (subst IsPool is pool) k.sized) refl (λ r _. changed_key change p place r k))
 
 -- where segments without a marked item are given back, a marked place keeps its key, or still has none
 given_key : (t : Marks) (p after : PoolState) (r : Place) (o : Option Item) → IsGivenBack (lives_by t) p after

@@ -1,4 +1,5 @@
-//! How a segment becomes free where none is: by giving back, by a merge, or by clearing the one that was opened first.
+//! How a segment becomes free if none is: segments without a live item are given back, or else a merge makes room, or
+//! the segment that was opened first is cleared.
 
 ghost use Rattle.std.specs.Prelude.{◌≡◌, ℕ};
 ghost use Rattle.segments.specs.Items.{Item};
@@ -18,7 +19,8 @@ impl SegmentMap {
         requires planned { HasPlan self.old.pool self.old.marks }
         requires crowded { IsCrowded self.old.pool self.old.index self.old.moment }
         ensures made { IsRoomMade self.old.pool self.old.index self.old.moment self.new.pool self.new.index }
-        ensures evicted { IsEvicted (lives_by self.old.marks) self.old.pool self.old.index self.new.pool self.new.index }
+        ensures evicted { IsEvicted (lives_by self.old.marks) self.old.pool self.old.index
+            self.new.pool self.new.index }
         ensures moment { self.new.moment ≡ self.old.moment }
     {
         let moves = self.pool.moves();
@@ -37,18 +39,19 @@ impl SegmentMap {
         ensures moment { self.new.moment ≡ self.old.moment }
     {
         if let Some(segment) = self.pool.oldest() {
-            self.leave_segment(segment);
+            self.unindex_segment(segment);
             self.pool.clear(segment);
         }
     }
 
-    /// Forgets what has to be forgotten where each segment has a live item: what a merge doesn't keep, or where nothing
-    /// can be merged the segment that was opened first.
+    /// Forgets what has to be forgotten if each segment has a live item: what a merge doesn't keep, or, if nothing
+    /// can be merged, the segment that was opened first.
     fn evict(&mut self)
         requires full { IsPoolFull self.old.pool }
         requires crowded { IsCrowded self.old.pool self.old.index self.old.moment }
         ensures made { IsRoomMade self.old.pool self.old.index self.old.moment self.new.pool self.new.index }
-        ensures evicted { IsEvicted (lives_by self.old.marks) self.old.pool self.old.index self.new.pool self.new.index }
+        ensures evicted { IsEvicted (lives_by self.old.marks) self.old.pool self.old.index
+            self.new.pool self.new.index }
         ensures moment { self.new.moment ≡ self.old.moment }
     {
         if self.pool.plan_merge(&self.marks) {
@@ -58,15 +61,16 @@ impl SegmentMap {
         }
     }
 
-    /// Makes a segment free: those without a live item are given back, and where there is none something is forgotten.
+    /// Makes a segment free: gives back those without a live item, and if there are none forgets something.
     pub fn free_segment(&mut self)
         requires full { IsPoolFull self.old.pool }
         ensures made { IsRoomMade self.old.pool self.old.index self.old.moment self.new.pool self.new.index }
         ensures room { (bucket : ℕ) → (i : Item) → HasNoRoom self.old.pool bucket self.old.moment i
-            → HasMadeRoom (live_marks self.old.marks self.old.moment) self.old.pool self.old.index bucket self.old.moment i self.new.pool self.new.index }
+            → HasMadeRoom (live_marks self.old.marks self.old.moment) self.old.pool self.old.index bucket
+            self.old.moment i self.new.pool self.new.index }
         ensures moment { self.new.moment ≡ self.old.moment }
     {
-        self.leave_expired();
+        self.unindex_expired();
         if self.pool.give_back(&self.marks) == 0 {
             self.evict();
         }

@@ -1,10 +1,10 @@
-//! The segmented store: the engine over entries in segments that are grouped by time to live, found by an index, and
-//! given back whole or merged where room is needed.
+//! The segmented store: the engine over entries in segments. Segments are grouped by time to live, and given back whole
+//! or merged if room is needed; an index finds the entries.
 #![tactic(auto)]
 
 mod freeing;
-mod leaving;
 mod segment_map;
+mod unindexing;
 mod writing;
 
 use crate::segment_map::SegmentMap;

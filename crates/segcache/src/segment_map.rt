@@ -25,7 +25,7 @@ pub struct SegmentMap {
     /// Which items of the pool the index has.
     pub(crate) marks: LiveMarks,
     pub(crate) moment: u64,
-    /// Some of what was read ahead last, so that a compiler doesn't leave the reading out.
+    /// Some of what was read ahead last, so that a compiler doesn't leave the reads out.
     read_ahead: AtomicU64,
 }
 
@@ -36,7 +36,8 @@ impl Model for SegmentMap {
 
     ghost view = { λ a. record { pool = a.pool; index = a.index; marks = a.marks; moment = a.moment } };
 
-    ghost invariant = { λ a. IsSegmentedMap (record { pool = a.pool; index = a.index; marks = a.marks; moment = a.moment }) };
+    ghost invariant = { λ a. IsSegmentedMap
+        (record { pool = a.pool; index = a.index; marks = a.marks; moment = a.moment }) };
 }
 
 /// The time to live in seconds of an entry that is written at the moment.
@@ -63,14 +64,16 @@ fn entry_at<'a>(pool: &'a Pool, place: Place) -> EntryRef<'a>
 }
 
 impl SegmentMap {
-    /// The place of the key's item, where that is live.
+    /// The place of the key's item; None if it has none that is live.
     fn find(&self, key: &[u8]) -> Option<Place>
         ensures found { MatchOption result
             (map.get (shown_entries self.now.pool self.now.index self.now.moment) key.now ≡ None)
-            (λ place. map.get (shown_entries self.now.pool self.now.index self.now.moment) key.now ≡ Some (entry_at self.now.pool place)) }
+            (λ place. map.get (shown_entries self.now.pool self.now.index self.now.moment) key.now
+            ≡ Some (entry_at self.now.pool place)) }
         ensures current { IfSome result (λ place. map.get (current self.now.pool self.now.index) key.now ≡ Some place) }
         ensures item { IfSome result (λ place. IsSome (item_in self.now.pool place)) }
-        ensures waits { IfSome result (λ place. has_arrived (place_deadline self.now.pool place) self.now.moment ≡ false) }
+        ensures waits { IfSome result
+            (λ place. has_arrived (place_deadline self.now.pool place) self.now.moment ≡ false) }
     {
         let place = self.index.look_up(&self.pool, key)?;
         if has_arrived(self.pool.deadline(place.segment), self.moment) {
@@ -83,7 +86,7 @@ impl SegmentMap {
 impl LiveMap for SegmentMap {
     ghost use Rattle.std.specs.Prelude.{false};
     ghost use Rattle.segcache.specs.Shown.{shown_entries};
-    ghost use Rattle.segcache.specs.Writes.{StandsAt, WritesToSegments, IsReadAgain, HasSamePool};
+    ghost use Rattle.segcache.specs.Writes.{StandsAt, WritesToSegments, ChangesSegments, IsReadAgain, HasSamePool};
     ghost use Rattle.segcache.specs.Keeping.{KeepsStored};
 
     type Place = Place;
@@ -99,6 +102,8 @@ impl LiveMap for SegmentMap {
     ghost stands = { StandsAt };
 
     ghost writes = { WritesToSegments };
+
+    ghost changes = { ChangesSegments };
 
     ghost reads = { IsReadAgain };
 
@@ -158,12 +163,28 @@ impl LiveMap for SegmentMap {
         Ok(())
     }
 
+    fn rewrite(&mut self, key: &[u8], place: Place, entry: EntryRef) -> Result<(), NoMemory> {
+        let item = ItemRef {
+            key,
+            value: entry.value,
+            flags: entry.flags,
+            deadline: entry.deadline,
+            cas: entry.cas,
+            reads: self.pool.item(place).reads,
+        };
+        if !self.pool.fits_over(place, item) {
+            return self.write(key, entry);
+        }
+        self.pool.overwrite(place, item);
+        Ok(())
+    }
+
     fn remove(&mut self, key: &[u8]) {
-        self.leave_key(key);
+        self.remove_key(key);
     }
 
     fn clear(&mut self) {
-        self.leave_all();
+        self.remove_all();
     }
 }
 

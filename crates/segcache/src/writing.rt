@@ -1,4 +1,4 @@
-//! How an item is written: into its bucket's tail or a free segment, over or behind the one that its key has.
+//! How an item is written: into its bucket's tail or a free segment, in place of the one that its key has.
 
 ghost use Rattle.std.specs.Prelude.{◌≡◌, ◌⊎◌, ◌<◌, None, false, IfSome, MatchResult};
 ghost use Rattle.std.specs.FinMap as map;
@@ -36,14 +36,16 @@ fn mark_instead(marks: &mut LiveMarks, source: Option<Place>, place: Place)
 }
 
 impl SegmentMap {
-    /// Puts an item, in place of the one that its key has, into its bucket's tail or a free segment.
+    /// Puts an item, in place of the one that its key has, into its bucket's tail or a free segment. NoRoom if the tail
+    /// doesn't take it and no segment is free.
     fn append(&mut self, bucket: usize, item: ItemRef) -> Result<Place, NoRoom>
         requires bucket { bucket < bucket_count }
         requires storable { IsStorable (item_limit self.old.pool.sizes) (item_of item) }
         ensures appended { MatchResult result
             (λ place. (IsAddedToTail self.old.pool bucket self.old.moment (item_of item.entry) self.new.pool place
             ⊎ IsAddedToFree self.old.pool bucket self.old.moment (item_of item.entry) self.new.pool place)
-            × (current self.new.pool self.new.index ≡ map.insert (current self.old.pool self.old.index) item.entry.key.now place))
+            × (current self.new.pool self.new.index
+            ≡ map.insert (current self.old.pool self.old.index) item.entry.key.now place))
             (λ _. HasNoRoom self.old.pool bucket self.old.moment (item_of item.entry) × (self.new ≡ self.old)) }
         // for callers that read no field
         ensures kept { IsSegmentedMap self.old }
@@ -63,8 +65,10 @@ impl SegmentMap {
         requires no_room { HasNoRoom self.old.pool bucket self.old.moment (item_of item) }
         requires waits { has_arrived item.deadline self.old.moment ≡ false }
         requires of_bucket { bucket ≡ bucket_of (time_to_live item.deadline self.old.moment) }
-        ensures put { IsPut self.old.pool self.old.index self.old.moment (item_of item.entry) item.entry.deadline self.new.pool self.new.index }
-        ensures placed { PlacesItem (live_marks self.old.marks self.old.moment) self.old.pool self.old.index bucket self.old.moment
+        ensures put { IsPut self.old.pool self.old.index self.old.moment
+            (item_of item.entry) item.entry.deadline self.new.pool self.new.index }
+        ensures placed { PlacesItem (live_marks self.old.marks self.old.moment)
+            self.old.pool self.old.index bucket self.old.moment
             (item_of item.entry) self.new.pool self.new.index }
         ensures moment { self.new.moment ≡ self.old.moment }
     {
@@ -72,20 +76,22 @@ impl SegmentMap {
         let _ = self.append(bucket, item);
     }
 
-    /// Puts an item into the pool in place of the one that its key has: over it by one search of the index where that
-    /// needs no free segment, and else behind it, when it has left and a segment is made free.
+    /// Puts an item into the pool in place of the one that its key has. If that needs no free segment, one search of
+    /// the index replaces the old one; else the old one is taken out, and a segment made free.
     pub fn write_item(&mut self, bucket: usize, item: ItemRef)
         requires bucket { bucket < bucket_count }
         requires storable { IsStorable (item_limit self.old.pool.sizes) (item_of item) }
         requires waits { has_arrived item.deadline self.old.moment ≡ false }
         requires of_bucket { bucket ≡ bucket_of (time_to_live item.deadline self.old.moment) }
-        ensures put { IsPutOver self.old.pool self.old.index self.old.moment (item_of item.entry) item.entry.deadline self.new.pool self.new.index }
-        ensures placed { PlacesItem (live_others item.entry.key.now self.old.marks self.old.moment) self.old.pool self.old.index bucket
+        ensures put { IsPutOver self.old.pool self.old.index self.old.moment
+            (item_of item.entry) item.entry.deadline self.new.pool self.new.index }
+        ensures placed { PlacesItem (live_others item.entry.key.now self.old.marks self.old.moment)
+            self.old.pool self.old.index bucket
             self.old.moment (item_of item.entry) self.new.pool self.new.index }
         ensures moment { self.new.moment ≡ self.old.moment }
     {
         if self.append(bucket, item).is_err() {
-            self.leave_key(item.key);
+            self.remove_key(item.key);
             self.append_to_freed(bucket, item);
         }
     }

@@ -1,5 +1,5 @@
-//! Random requests, which the segmented store is to answer as the plain one does: what is live fits into one segment, so
-//! merges keep all of it.
+//! Random requests, which the segmented store is to answer as the plain one does: what is live fits into one segment,
+//! so merges keep all of it.
 
 use crate::asking::answer;
 use crate::random::Random;

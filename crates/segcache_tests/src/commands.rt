@@ -189,6 +189,33 @@ fn deadlines_and_flushes(rt: HostRuntime) -> Result<(), Fail> {
     check_moments(&rt, rt.alloc(), &MOMENTS)
 }
 
+/// A counter of 60 seconds that is counted in each of them: where numbers are changed in place it is there until its
+/// deadline.
+#[test]
+fn counters(rt: HostRuntime) -> Result<(), Fail> {
+    let alloc = rt.alloc();
+    let input =
+        "set n 7 60 1\r\n5\r\nget n\r\nincr n 1\r\nincr n 1\r\nincr n 1\r\nincr n 3\r\nincr n 88\r\nget n\r\ndecr n 90\r\ngets n\r\nget n\r\nget n\r\n";
+    let mut store = Store::seeded(alloc, Geometry::new(65536, 64)?, 0, 1, true)?;
+    check_session(
+        &rt,
+        alloc,
+        &mut store,
+        (1000, 5),
+        input,
+        "STORED\r\nVALUE n 7 1\r\n5\r\nEND\r\n6\r\n7\r\n8\r\n11\r\n99\r\nVALUE n 7 2\r\n99\r\nEND\r\n9\r\nVALUE n 7 1 7\r\n9\r\nEND\r\nVALUE n 7 1\r\n9\r\nEND\r\nVALUE n 7 1\r\n9\r\nEND\r\n",
+    )?;
+    let mut store = Store::seeded(alloc, Geometry::new(65536, 64)?, 0, 1, false)?;
+    check_session(
+        &rt,
+        alloc,
+        &mut store,
+        (1000, 5),
+        input,
+        "STORED\r\nVALUE n 7 1\r\n5\r\nEND\r\n6\r\n7\r\n8\r\n11\r\n99\r\nVALUE n 7 2\r\n99\r\nEND\r\nNOT_FOUND\r\nEND\r\nEND\r\nEND\r\n",
+    )
+}
+
 /// The last cas number was given out: only a write that takes none is stored.
 #[test]
 fn no_cas_number_left(rt: HostRuntime) -> Result<(), Fail> {
@@ -268,8 +295,8 @@ fn check_lengths(
     Ok(())
 }
 
-/// The lengths of a key and of a value, and whether they are stored. Keys have 1 to 250 bytes, and an item an eighth of a
-/// segment at most: 24 bytes, the key and the value, rounded up to a multiple of 8.
+/// The lengths of a key and of a value, and whether they are stored. Keys have 1 to 250 bytes, and an item an eighth
+/// of a segment at most: 24 bytes, the key and the value, rounded up to a multiple of 8.
 const LENGTHS: [(usize, usize, bool); 8] = [
     (0, 1, false),
     (1, 1, true),

@@ -2,6 +2,8 @@
 #![tactic(auto)]
 
 #[cfg(test)]
+mod answer_limit;
+#[cfg(test)]
 mod asking;
 #[cfg(test)]
 mod beside_plain;
@@ -9,6 +11,8 @@ mod beside_plain;
 mod bounded;
 #[cfg(test)]
 mod commands;
+#[cfg(test)]
+mod counters;
 #[cfg(test)]
 mod in_turn;
 #[cfg(test)]

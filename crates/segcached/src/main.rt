@@ -11,10 +11,10 @@ use std::process::ExitCode;
 use std::sync::Wait;
 use std::thread::Threads;
 use std::{env, fs, time};
-use subcommands::{Fault, cannot_read, replay, seed_of, serve};
+use subcommands::{Fault, cannot_read, replay, seed_of, serve_to_end};
 
 /// Replays the script in the file that the options name, with these threads.
-fn replay_file<H: Threads + Wait + Sync>(
+fn replay_file<H: Threads + Wait + time::Clock + Sync>(
     rt: &HostRuntime,
     threads: &H,
     options: &Options,
@@ -39,7 +39,7 @@ fn serve_at<H: Threads + Wait + Net + time::Clock + Eprint + Copy + Drop + Send 
     let alloc = rt.alloc();
     let geometry = geometry_of(options.segment_size, options.segments).ok_or(Fault::BadGeometry)?;
     let mut out = BufWriter::new(alloc, io::writer(rt)).map_err(|_| Fault::NoMemory)?;
-    serve(*threads, alloc, options, geometry, seed_of(rt), &mut out)?;
+    serve_to_end(*threads, alloc, options, geometry, seed_of(rt), &mut out)?;
     Ok(())
 }
 

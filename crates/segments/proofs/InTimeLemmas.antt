@@ -8,15 +8,15 @@ use Rattle.std.proofs.lemmas.List.Elements.{All-nil, All-cons, All-head, All-tai
 use Rattle.segments.specs.declared.place.Place.{Place}
 use Rattle.segments.specs.Items.{Item}
 use Rattle.proto.specs.Counts.{times}
-use Rattle.segments.specs.Pools.{PoolState, IsPool, Used, Liveness, segment_at, has_live, oldest}
-use Rattle.segments.specs.Changes.{IsGivenBack, IsAddedToTail, IsAddedToFree, cleared, with_items, touched}
+use Rattle.segments.specs.Pools.{PoolState, IsPool, Used, Liveness, segment_at, item_in, has_live, oldest}
+use Rattle.segments.specs.Changes.{IsGivenBack, IsAddedToTail, IsAddedToFree, cleared, with_items, with_change}
 use Rattle.segments.specs.Merges.{Evicts, qualifies, merged_segments, merged_into, contains_number, kept_items, opened_at}
 use Rattle.segments.specs.Filling.{AreInTime, IsInOrder, IsInTime}
 use Rattle.segments.proofs.LinkLemmas.{used_if}
 use Rattle.segments.proofs.Places.{cleared_segment}
 use Rattle.segments.proofs.MovedPlaces.{merged_front, merged_in_chain, merged_segment}
 use Rattle.segments.proofs.FilledLemmas.{opened_new, not_free, same_all, alike_same, alike_all}
-use Rattle.segments.proofs.FilledLemmas.{in_time_alike, past_alike, in_time_push, in_time_tail, read_alike}
+use Rattle.segments.proofs.FilledLemmas.{in_time_alike, past_alike, in_time_push, in_time_tail, change_alike}
 
 -- The segments of chains are some of those that were, with the opening moments that they had.
 pub record IsPart (p q : PoolState) : Type 0 where
@@ -198,7 +198,8 @@ pub in_time_appended : (p : PoolState) (b t : ℕ) (i : Item) (after : PoolState
 in_time_appended p b t i after place k (inl a) time = in_time_tail p b t t i after place a time
 in_time_appended p b t i after place k (inr a) time = in_time_free p b t i after place k a time
 
--- a read changes no order
-pub order_touched : (p : PoolState) (place : Place) → IsInOrder p → IsInOrder (touched p place)
-order_touched p place f = in_time_alike p (touched p place) p.order
-    (alike_all p (touched p place) p.order (λ n _. read_alike p place n)) f
+-- a change of an item changes no order
+pub order_changed : (change : Item → Item) (p : PoolState) (place : Place) → IsSome (item_in p place) → IsInOrder p
+    → IsInOrder (with_change change p place)
+order_changed change p place some f = in_time_alike p (with_change change p place) p.order
+    (alike_all p (with_change change p place) p.order (λ n _. change_alike change p place n some)) f

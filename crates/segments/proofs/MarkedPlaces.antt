@@ -12,12 +12,13 @@ use Rattle.std.proofs.lemmas.Bool.{cases_lt, cases_Bool, cases_eq, eq-eqb, ne_eq
 use Rattle.proto.specs.Sizes.{Sizes}
 use Rattle.segments.specs.declared.place.Place.{Place}
 use Rattle.segments.specs.declared.place.Move.{Move}
-use Rattle.segments.specs.Items.{Item, halved, read_again}
+use Rattle.segments.specs.Items.{Item, halved}
 use Rattle.segments.specs.Pools.{PoolState, Plan, IsPool, Standing, Liveness, item_in, items_of, segment_at, standing, has_live, place_deadline, deadline_in}
-use Rattle.segments.specs.Changes.{IsGivenBack, cleared, touched}
+use Rattle.segments.specs.Changes.{IsGivenBack, cleared, with_change}
 use Rattle.segments.specs.Merges.{IsPlan, carried_out, planned_moves, planned, unplanned, contains_number, merged_segments}
 use Rattle.segments.specs.Places.{IsAppended, IsCarriedOut, same_place}
-use Rattle.segments.proofs.Places.{standing_by, live_stays, live_given, mark_within, cleared_item, touched_item}
+use Rattle.segments.proofs.Places.{standing_by, live_stays, live_given, mark_within, cleared_item, changed_item}
+use Rattle.segments.proofs.ItemChanges.{KeepsSize}
 use Rattle.segments.proofs.MovedPlaces.{carried, same_place_is, same_place_itself, live_source, moved_other}
 use Rattle.segments.proofs.PlanLemmas.{found_from}
 use Rattle.segments.proofs.AgreeingTests.{in_segment}
@@ -476,20 +477,20 @@ knows_appended t p bucket moment i after place known k a =
     let here : item_in after place ≡ Some i = a.items place ∙ (let s = same_place_itself place in rw s refl) in
     knows_mark t after place (knows_longer t p bucket moment i after place known k a) (subst IsSome (sym here) refl)
 
--- an item that is read once more is still there
-some_read : (o : Option Item) → IsSome o → IsSome (option_map read_again o)
-some_read None h = h
-some_read (Some i) h = h
+-- an item that is changed is still there
+some_changed : (change : Item → Item) (o : Option Item) → IsSome o → IsSome (option_map change o)
+some_changed change None h = h
+some_changed change (Some i) h = h
 
--- where an item is read
-pub knows_touched : (t : Marks) (p : PoolState) (place : Place) → KnowsPool t p → IsPool (touched p place)
-    → IsSome (item_in p place) → KnowsPool t (touched p place)
-knows_touched t p place known k h =
-    knows_after t p (touched p place) known k refl
+-- where an item is changed, and keeps its size
+pub knows_changed : (change : Item → Item) (t : Marks) (p : PoolState) (place : Place) → KnowsPool t p
+    → IsPool (with_change change p place) → KeepsSize change (item_in p place) → KnowsPool t (with_change change p place)
+knows_changed change t p place known pool k =
+    knows_after t p (with_change change p place) known pool refl
     (λ q _ some.
     elim (cases_Bool (same_place q place)) [
-      | inl y ↦ subst IsSome (sym (touched_item p place q h ∙ rw y refl)) (some_read (item_in p q) some)
-      | inr f ↦ subst IsSome (sym (touched_item p place q h ∙ rw f refl)) some
+      | inl y ↦ subst IsSome (sym (changed_item change p place q k ∙ rw y refl)) (some_changed change (item_in p q) some)
+      | inr f ↦ subst IsSome (sym (changed_item change p place q k ∙ rw f refl)) some
     ])
 
 -- where segments with no mark are given back

@@ -3,17 +3,17 @@
 ghost use Rattle.std.specs.Prelude.{◌≡◌, ◌<◌, ◌≤◌, ◌/◌, true, false, length, replicate, slice_index_or, All, IfOk, IfSome};
 ghost use Rattle.segments.specs.Marks.{no_marks, is_marked, marked, row_of, with_mark, without_marks, carried_marks, IsWithin};
 
-use crate::mark_row::Row;
+use crate::segment_marks::SegmentMarks;
 use crate::{ItemRef, Live, Move, Place};
 use proto::{Geometry, MIN_ITEM_SIZE, NoMemory};
 use std::alloc::Global;
 use std::marker::Model;
 
-/// A row of marks for each segment.
+/// The marks of each segment: a bit for each 32 bytes.
 #[derive(Drop)]
 pub struct LiveMarks {
     geometry: Geometry,
-    rows: Vec<Row>,
+    rows: Vec<SegmentMarks>,
 }
 
 impl Model for LiveMarks {
@@ -27,26 +27,26 @@ impl Model for LiveMarks {
     ghost invariant = { AreMarksKept };
 }
 
-/// As many rows of as many marks, none set.
-fn empty_rows(alloc: Global, rows: u32, marks: u32) -> Result<Vec<Row>, NoMemory>
+/// Segments with this many marks each, none set. NoMemory if memory is refused.
+fn unmarked_segments(alloc: Global, count: u32, marks: u32) -> Result<Vec<SegmentMarks>, NoMemory>
     requires { marks ≤ 32768 }
-    ensures { IfOk result (λ v. v.items ≡ replicate rows (replicate marks false)) }
+    ensures { IfOk result (λ v. v.items ≡ replicate count (replicate marks false)) }
 {
-    let mut empty = Vec::with_capacity(alloc, rows as usize)?;
-    for _row in 0..rows {
-        empty.push(Row::new(alloc, marks)?)?;
+    let mut segments = Vec::with_capacity(alloc, count as usize)?;
+    for _number in 0..count {
+        segments.push(SegmentMarks::new(alloc, marks)?)?;
     }
-    Ok(empty)
+    Ok(segments)
 }
 
 impl LiveMarks {
-    /// No place is marked.
+    /// Takes the memory for all marks, none of which is set. NoMemory if memory is refused.
     pub fn new(alloc: Global, geometry: Geometry) -> Result<LiveMarks, NoMemory>
         ensures { IfOk result (λ t. t ≡ no_marks geometry) }
     {
         Ok(LiveMarks {
             geometry,
-            rows: empty_rows(
+            rows: unmarked_segments(
                 alloc,
                 geometry.segments(),
                 geometry.segment_size() / MIN_ITEM_SIZE,
@@ -64,7 +64,7 @@ impl LiveMarks {
         }
     }
 
-    /// How many marks the segment has.
+    /// How many places of the segment are marked.
     pub fn count(&self, segment: u32) -> u32
         ensures { result ≡ marked (row_of self.now segment) }
     {
@@ -90,7 +90,7 @@ impl LiveMarks {
         self.rows[place.segment as usize].unmark(place.offset / MIN_ITEM_SIZE);
     }
 
-    /// The marks are where moves put what they start at.
+    /// Moves the marks as the items are moved.
     pub fn carry(&mut self, moves: &[Move])
         requires sources { All (λ m. IsWithin self.old.sizes m.source) moves.now }
         requires targets { All (λ m. IfSome m.target (IsWithin self.old.sizes)) moves.now }
@@ -106,7 +106,7 @@ impl LiveMarks {
         }
     }
 
-    /// Takes the marks of a segment away.
+    /// Takes all marks of a segment away.
     pub fn clear_segment(&mut self, segment: u32)
         requires { segment < self.old.sizes.segments }
         ensures { self.new ≡ without_marks self.old segment }

@@ -1,10 +1,16 @@
 -- What is said, and what is left to say, when messages or replies come onto.
-use Rattle.std.proofs.Common.{◌≡◌, ◌+◌, ◌≤◌, true, false, List, [], ◌∷◌, ◌++◌, length, Some, None, refl, arith}
+use Rattle.std.proofs.Common.{◌≡◌, ℕ, ◌+◌, ◌<◌, ◌≤◌, true, false, List, [], ◌∷◌, ◌++◌, length, Some, None, refl, sym, ap, ◌∙◌, arith}
+use Rattle.std.specs.Prelude.{IsTrue, codes, decimal, flat_map}
+use Rattle.proto.specs.Hits.{hit_bytes}
+use Rattle.proto.specs.Lines.{line_end}
 use Rattle.proto.specs.declared.message.Reply.{Reply}
 use Rattle.proto.specs.declared.message.Message.{Message}
 use Rattle.proto.specs.declared.message.Message.TheVariants.{Ask, Wrong, Quit, Fatal}
+use Rattle.proto.specs.declared.message.Reply.TheVariants as replies
+use Rattle.proto.specs.declared.message.WrongKind.TheVariants as wrong
+use Rattle.proto.specs.declared.message.FatalKind.TheVariants as fatal
 use Rattle.proto.specs.Reading.{asks}
-use Rattle.proto.specs.Answers.{answer, said, is_ask}
+use Rattle.proto.specs.Answers.{answer, reply_bytes, said, is_ask, is_silent}
 use Rattle.session_book.specs.Session.{left, begins_asked}
 use Rattle.proto.proofs.AskLemmas.{onto}
 
@@ -115,3 +121,68 @@ said_reply (Fatal kind) ms r e = absurd cc
 -- a queue that is what some messages and replies leave is empty or begins with a request
 pub begins_asked_by : (queue ms : List Message) (rs : List Reply) → queue ≡ left ms rs → begins_asked queue ≡ true
 begins_asked_by queue ms rs e = rw e (begins_asked-left ms rs)
+
+-- with something behind it a list isn't nothing
+some : (xs ys : List ℕ) → 0 < length ys → 0 < length (xs ++ ys)
+some [] ys lt = lt
+some (x ∷ xs) ys lt = omega arith
+
+-- each reply has bytes
+shown : (r : Reply) → 0 < length (reply_bytes r)
+shown replies.Stored = omega arith
+shown replies.NotStored = omega arith
+shown replies.Exists = omega arith
+shown replies.NotFound = omega arith
+shown (replies.Values hits) = some (flat_map hit_bytes hits ++ codes "END") line_end (omega arith)
+shown replies.Deleted = omega arith
+shown (replies.Number n) = some (decimal n) line_end (omega arith)
+shown replies.Flushed = omega arith
+shown replies.TooLarge = omega arith
+shown replies.NoMemory = omega arith
+shown replies.NotNumber = omega arith
+shown replies.NoCas = omega arith
+
+-- of two lists that are nothing together the first is nothing
+none_front : (xs ys : List ℕ) → xs ++ ys ≡ [] → length xs ≡ 0
+none_front [] ys e = refl
+none_front (x ∷ xs) ys e = absurd (let l = ap length e in omega (arith, l))
+
+-- a request to which nothing is said, nor to what follows, is quiet
+pub silent_reply : (m : Message) (ms : List Message) (r : Reply) → is_ask m ≡ true → said (m ∷ ms) (r ∷ []) ≡ []
+    → IsTrue (is_silent m)
+silent_reply (Ask q true) ms r e none = refl
+silent_reply (Ask q false) ms r e none =
+    absurd (let l = none_front (reply_bytes r) (said ms []) none in let some = shown r in omega (arith, l, some))
+silent_reply (Wrong kind) ms r e none = absurd cc
+silent_reply Quit ms r e none = refl
+silent_reply (Fatal kind) ms r e none = absurd cc
+
+-- a message to which nothing is said at once has no answer
+pub silent_local : (m : Message) (ms : List Message) → is_ask m ≡ false → said (m ∷ ms) [] ≡ [] → IsTrue (is_silent m)
+silent_local (Ask q quiet) ms e none = absurd cc
+silent_local (Wrong wrong.Unknown) ms e none = absurd (let l = ap length none in omega (arith, l))
+silent_local (Wrong wrong.BadLine) ms e none = absurd (let l = ap length none in omega (arith, l))
+silent_local (Wrong wrong.Silent) ms e none = refl
+silent_local Quit ms e none = refl
+silent_local (Fatal fatal.BadLine) ms e none = absurd (let l = ap length none in omega (arith, l))
+silent_local (Fatal fatal.LongLine) ms e none = absurd (let l = ap length none in omega (arith, l))
+silent_local (Fatal fatal.BadChunk) ms e none = absurd (let l = ap length none in omega (arith, l))
+silent_local (Fatal fatal.TooLarge) ms e none = absurd (let l = ap length none in omega (arith, l))
+silent_local (Fatal fatal.Binary) ms e none = refl
+
+-- of two lists that are nothing together the second is nothing
+pub none_behind : (xs ys : List ℕ) → xs ++ ys ≡ [] → ys ≡ []
+none_behind [] ys e = e
+none_behind (x ∷ xs) ys e = absurd (let l = ap length e in omega (arith, l))
+
+-- the first of a queue that begins with a request is one
+pub first_ask : (queue : List Message) (m : Message) (ms : List Message) → queue ≡ m ∷ ms → begins_asked queue ≡ true
+    → is_ask m ≡ true
+first_ask queue m ms is asked = sym (ap begins_asked is) ∙ asked
+
+-- where nothing is said to a queue with a reply for its first request, nothing is said to the rest
+pub silent_rest : (queue : List Message) (m : Message) (ms : List Message) (r : Reply) → queue ≡ m ∷ ms → is_ask m ≡ true
+    → said queue (r ∷ []) ≡ [] → said ms [] ≡ []
+silent_rest queue m ms r is ask none =
+    none_behind (answer m (Some r)) (said ms [])
+    (sym (said_reply m ms r ask) ∙ ap (λ (q : List Message). said q (r ∷ [])) (sym is) ∙ none)

@@ -3,7 +3,7 @@ use Rattle.std.proofs.Common.{◌≡◌, ℕ, ◌+◌, ◌<◌, ◌≤◌, Bool,
 use Rattle.std.proofs.Common.{◌∷◌, ◌++◌, length, drop, Option, Some, None, Result, Ok, Err}
 use Rattle.std.proofs.Common.{refl, sym, ap, subst, ◌∙◌, arith, inl, inr, add-zero, zero-add, length-append}
 use Rattle.std.proofs.lemmas.List.{append-nil}
-use Rattle.session_book.proofs.Steps.{reads_nothing, reads_new}
+use Rattle.session_book.proofs.Steps.{reads_nothing}
 use Rattle.std.specs.Prelude.{◌==◌, ◌⊎◌, slice_get}
 use Rattle.std.proofs.lemmas.Bool.{cases_Bool, cases_eq, cases_lt, eq-eqb, ne_eqb}
 use Rattle.std.specs.Prelude.{IsSome}
@@ -20,12 +20,10 @@ use Rattle.proto.specs.Reading.{asks}
 use Rattle.session_book.specs.declared.causes.Unsettled.{Unsettled}
 use Rattle.session_book.specs.declared.causes.Received.{Received}
 use Rattle.session_book.specs.declared.causes.Received.TheVariants as receptions
-use Rattle.session_book.specs.Session.{SessionState, new_session, begins_asked, left, with_reply, IsInputFull, held_fed, TakesPiece, FeedsHeld}
-use Rattle.session_book.specs.Session.{ReadsOn, ReadsAsk, Stops, given_request, gave}
+use Rattle.session_book.specs.Session.{SessionState, new_session, begins_asked, left, with_reply, IsInputFull, held_fed, TakesPiece, FeedsHeld, IsReady}
+use Rattle.session_book.specs.Session.{ReadsOn, ReadsAsk, given_request}
 use Rattle.session_book.specs.Book.{BookState, session_of, unsettled_in, OnlyAt, ChangesOpen, Receives, FeedsHeldOf, IsBook, GivesNone, NextAsk, given_in}
-use Rattle.session_book.specs.Book.{IsOldest, SettlesReply, ChangesSession, stops}
-use Rattle.std.specs.Option.{option_map}
-use Rattle.std.proofs.Math.Seq.{drop-nil}
+use Rattle.session_book.specs.Book.{IsOldest, SettlesReply}
 use Rattle.session_book.proofs.Answering.{asks-left, begins_asked_by}
 use Rattle.proto.proofs.AskLemmas.{asks-append}
 
@@ -301,8 +299,8 @@ nothing_only a session s open_now q =
 pub idle_ask : (before : BookState) (session : ℕ) (s : SessionState) (result : Result (Option (Request × ℕ)) NoMemory)
     (after : BookState) → given_in result ≡ [] → after ≡ before → IsBook before
     → session_of before session ≡ Some s → (result ≡ Ok None → GivesNone before s)
-    → NextAsk before session s result after
-idle_ask before session s result after none same is open_now cause = record {
+    → ((e : NoMemory) → result ≡ Err e → IsReady s) → NextAsk before session s result after
+idle_ask before session s result after none same is open_now cause failed = record {
   messages = [];
   read = s;
   reading = record {
@@ -319,6 +317,7 @@ idle_ask before session s result after none same is open_now cause = record {
   room = rw (same) (omega arith);
   enough = rw (same) (omega arith);
   none = cause;
+  refused = failed;
 }
 
 -- the reply went to the session
@@ -409,17 +408,3 @@ fed_again (Err e) before after now same session s t u open_now only rest feeds u
   still_open before now same session s open_now,
   unchanged before after now same rest (back (u_is ∙ feeds)),
 )
-
--- no growth was made before the session was read
-pub refused_ask : (before after now : BookState) (session : ℕ) (s : SessionState)
-    (result : Result (Option (Request × ℕ)) NoMemory)
-    (e : NoMemory) → before ≡ now → result ≡ Err e → IsBook before
-    → after.sessions ≡ before.sessions → after.unsettled ≡ before.unsettled
-    → after ≡ record before { sessions = after.sessions; unsettled = after.unsettled }
-    → session_of now session ≡ Some s → NextAsk now session s result after
-refused_ask before after now session s result e same failed is sessions unsettled rest open_now =
-    let unchanged : after ≡ now =
-    rest ∙ ap (λ (es : List (ℕ × SessionState)). record before { sessions = es; unsettled = after.unsettled }) sessions
-    ∙ ap (λ (us : List Unsettled). record before { unsettled = us }) unsettled ∙ same in
-    idle_ask now session s result after (ap given_in failed) unchanged
-    (subst (λ (b : BookState). IsBook b) same is) open_now (λ none. absurd cc)

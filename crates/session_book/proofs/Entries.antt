@@ -1,6 +1,6 @@
 -- What a book says once a call has changed its entries.
 use Rattle.std.proofs.Common.{◌≡◌, ℕ, ◌+◌, ◌<◌, List, [], ◌∷◌, ◌++◌, length, drop, map, Option}
-use Rattle.std.proofs.Common.{Some, None, Result, Ok, refl, sym, ap, subst, ◌∙◌, arith, add-zero, length-append}
+use Rattle.std.proofs.Common.{Some, None, Result, Ok, Err, refl, sym, ap, subst, ◌∙◌, arith, add-zero, length-append}
 use Rattle.std.proofs.lemmas.List.{append-nil}
 use Rattle.std.specs.Bool.{nat_eq}
 use Rattle.std.specs.Map.{lookup}
@@ -32,7 +32,7 @@ settled_book outcomes.Kept before after answered is oldest h greatest unsettled 
     settles_kept before after answered.session answered.number h.s (with_reply h.s answered.reply) answered.reply is
     h.was_open h.only greatest oldest unsettled refl
 settled_book outcomes.Starved before after answered is oldest h greatest unsettled =
-    settles_book before after answered.session answered.number None is h.1 greatest oldest unsettled
+    settles_book before after answered.session answered.number None is h.only greatest oldest unsettled
     (λ t e. absurd cc) (λ t e. absurd cc)
 
 -- the answer is settled in the book as it is at its session
@@ -48,8 +48,12 @@ settled outcomes.Dropped before after now answered same is oldest h rest =
 settled outcomes.Kept before after now answered same is oldest h rest =
     settles_reply before now after answered h.s (with_reply h.s answered.reply) same is h.was_open h.only oldest rest refl
 settled outcomes.Starved before after now answered same is oldest h rest =
-    subst (λ (b : BookState). Settles b answered outcomes.Starved after) same
-    (h.0, record { oldest = oldest; only_at = h.1; rest = rest })
+    subst (λ (b : BookState). Settles b answered outcomes.Starved after) same (record {
+      s = h.s;
+      was_open = h.was_open;
+      something = h.something;
+      settles = record { oldest = oldest; only_at = h.only; rest = rest };
+    })
 
 -- ---- asking
 
@@ -136,9 +140,10 @@ pub asks_none : (before after now : BookState) (session : ℕ) (s : SessionState
     (result : Result (Option (Request × ℕ)) NoMemory)
     → before ≡ now → AsksOpen before after session r
     → given_request r ≡ [] → given_in result ≡ [] → (result ≡ Ok None → r ≡ Ok None)
+    → ((e : NoMemory) → result ≡ Err e → r ≡ Err e)
     → after ≡ record before { sessions = after.sessions; looks = after.looks }
     → session_of now session ≡ Some s → NextAsk now session s result after
-asks_none before after now session s r result same open_now none given why rest at =
+asks_none before after now session s r result same open_now none given why failed rest at =
     let h = open_now s (ap (λ (b : BookState). session_of b session) same ∙ at) in
     let unsettled : after.unsettled ≡ before.unsettled = ap (λ (b : BookState). b.unsettled) rest in
     let posted : after.posted ≡ before.posted = ap (λ (b : BookState). b.posted) rest in
@@ -153,6 +158,7 @@ asks_none before after now session s r result same open_now none given why rest 
       room = omega (arith, ap length unsettled);
       enough = omega (arith, posted);
       none = λ e. stops (h.reads.none (why e));
+      refused = λ f e. h.reads.refused f (failed f e);
     })
 
 -- an open session gives a request
@@ -186,4 +192,5 @@ asks_given before after now session s q r same open_now r_is few below rest at =
       room = omega (arith, longer, few);
       enough = omega (arith, posted, below);
       none = λ e. absurd cc;
+      refused = λ f e. absurd cc;
     })

@@ -1,5 +1,5 @@
 -- How many bytes there have to be before a message can be found.
-use Rattle.std.proofs.Common.{ℕ, ◌<◌, List, [], ◌++◌, length, take, arith, inl, inr, append_assoc, length-append}
+use Rattle.std.proofs.Common.{◌≡◌, ℕ, ◌<◌, List, [], ◌++◌, length, take, Option, Some, subst, arith, inl, inr, append_assoc, length-append}
 use Rattle.std.specs.Prelude.{nat_le}
 use Rattle.std.specs.Bool.{OnFalse}
 use Rattle.std.proofs.lemmas.Bool.{cases_Bool, leb-false}
@@ -10,7 +10,9 @@ use Rattle.proto.specs.Lines.{IsSearched}
 use Rattle.proto.specs.Needs.{IsNeed, NeedsMore, IsUnfinished}
 use Rattle.proto.proofs.MessageReader.{spelling_nonempty}
 use Rattle.proto.proofs.NeedLemmas.{awaits_fewer}
-use Rattle.session_book.specs.Session.{SessionState, Stops, no_message}
+use Rattle.proto.proofs.Options.{some_is}
+use Rattle.session_book.specs.declared.causes.EndCause.{EndCause}
+use Rattle.session_book.specs.Session.{SessionState, HasReadAll, Stops, no_message}
 
 -- one byte is needed always
 pub needs_one : (d : Dialect) (b : List ℕ) → NeedsMore d b 1
@@ -25,6 +27,13 @@ pub spells_none : (d : Dialect) (b : List ℕ) (need : ℕ) → NeedsMore d b ne
 spells_none d b need h fewer =
     let none : SpellsNone d (b ++ []) = h [] (rw append-nil fewer) in
     rw append-nil at none
+
+-- a session that has fewer bytes than it needs has read all
+pub read_all : (now : SessionState) → NeedsMore now.dialect now.unread now.need → length now.unread < now.need
+    → (cause : Option EndCause) → HasReadAll (Some now) cause
+read_all now h fewer cause is s same none =
+    let e : now ≡ s = some_is now s same in
+    subst (λ (x : SessionState). SpellsNone x.dialect x.unread) e (spells_none now.dialect now.unread now.need h fewer)
 
 -- a session that has fewer bytes than it needs reads no further
 pub stops_short : (s : SessionState) → NeedsMore s.dialect s.unread s.need → OnFalse (nat_le s.need (length s.unread)) (Stops s)

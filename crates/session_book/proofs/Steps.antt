@@ -4,11 +4,10 @@ use Rattle.std.proofs.Common.{length, take, drop, Option, Some, None, Ok, Err, i
 use Rattle.std.proofs.Common.{ap, subst, ◌∙◌, arith, inl, inr, append_assoc, length-append, take-append-drop}
 use Rattle.std.proofs.lemmas.List.{append-nil}
 use Rattle.std.proofs.lemmas.Bool.{both_ways}
-use Rattle.proto.specs.declared.dialect.Dialect.{Dialect}
 use Rattle.proto.specs.declared.message.Request.{Request}
 use Rattle.proto.specs.declared.message.Message.{Message}
 use Rattle.proto.specs.declared.message.Message.TheVariants.{Ask, Wrong, Quit, Fatal}
-use Rattle.proto.specs.Grammar.{Spells, SpellsNone}
+use Rattle.proto.specs.Grammar.{Spells}
 use Rattle.proto.specs.Needs.{IsUnfinished}
 use Rattle.proto.specs.Reading.{asks}
 use Rattle.proto.specs.Answers.{said, is_ask}
@@ -17,9 +16,9 @@ use Rattle.session_book.specs.declared.causes.EndCause.{EndCause}
 use Rattle.session_book.specs.declared.limits.TheConstants.{MAX_WAITING}
 use Rattle.session_book.specs.declared.session.Read.{Read}
 use Rattle.session_book.specs.Session.{SessionState, left, ended_by, need_after, begins_asked, ReadsOn, AskAtLast, Stops, no_message, IsReady, ReadsAsk}
-use Rattle.session_book.specs.Session.{new_session, ReadsMessage, TakesLocal, TakesAsk, TakesNothing, ReadsOne, read_of}
+use Rattle.session_book.specs.Session.{ReadsMessage, TakesLocal, TakesAsk, TakesNothing, ReadsOne, read_of}
 use Rattle.proto.specs.declared.no_memory.NoMemory.{NoMemory}
-use Rattle.session_book.proofs.Needing.{needs_one, spells_none, unfinished_short}
+use Rattle.session_book.proofs.Needing.{unfinished_short}
 use Rattle.session_book.proofs.Answering.{said-append, left-append, left_waits, said_waits}
 use Rattle.session_book.proofs.Reading.{ended_by-append, not_ended_before, none_ends}
 use Rattle.proto.proofs.AskLemmas.{asks-append}
@@ -62,6 +61,7 @@ reads_nothing s asked = record {
   out = rw (append-nil, said_stays s.queue asked, append-nil) refl;
   need = inl refl;
   held = refl;
+  over = refl;
 }
 
 -- once a message was read, one byte is needed
@@ -107,6 +107,7 @@ reads_more before now after ms m h none t =
           ∙ ap (λ (q : List Message). said q []) grouped);
       need = inl (t.need ∙ sym (need_one before.need ms m));
       held = t.held ∙ h.held;
+      over = t.over ∙ h.over;
     }
 
 -- the parser has found no further message
@@ -123,6 +124,7 @@ reads_no_more before now after ms h t = record {
   out = ap (λ (s : SessionState). s.out) t.rest ∙ h.out;
   need = inr (rw h.dialect at t.unfinished);
   held = ap (λ (s : SessionState). s.held) t.rest ∙ h.held;
+  over = ap (λ (s : SessionState). s.is_over) t.rest ∙ h.over;
 }
 
 -- in front of messages of which only the last may be a request, one may stand that is none
@@ -162,8 +164,9 @@ taken : (before : SessionState) (b : List ℕ) (n : ℕ) (m seen : Message) (aft
     → after.unread ≡ drop n before.unread → after.ended ≡ ended_by None (m ∷ [])
     → after.queue ≡ left (before.queue ++ m ∷ []) []
     → after.out ≡ before.out ++ said (before.queue ++ m ∷ []) []
-    → after.need ≡ 1 → after.held ≡ before.held → after.dialect ≡ before.dialect → ReadsMessage before m after
-taken before b n m seen after b_is spelled m_is open_yet unread ended queue out need held dialect = record {
+    → after.need ≡ 1 → after.held ≡ before.held → after.is_over ≡ before.is_over → after.dialect ≡ before.dialect
+    → ReadsMessage before m after
+taken before b n m seen after b_is spelled m_is open_yet unread ended queue out need held over dialect = record {
   piece = take n b;
   spells = rw m_is spelled;
   dialect = dialect;
@@ -174,6 +177,7 @@ taken before b n m seen after b_is spelled m_is open_yet unread ended queue out 
   out = out;
   need = need;
   held = held;
+  over = over;
 }
 
 -- a single message that is no request asks nothing
@@ -239,6 +243,7 @@ reads_ask before now after looks looks_now looks_after q h ready one t = record 
     no_look = λ short. absurd (too_short before now looks looks_now h ready short);
   };
   none = λ e. absurd cc;
+  refused = λ f e. absurd cc;
 }
 
 -- the parser found no further message
@@ -260,6 +265,7 @@ reads_none before now after looks looks_now looks_after h ready one t = record {
       let unfinished : IsUnfinished after.dialect after.unread after.need =
       rw (ap (λ (s : SessionState). s.dialect) t.rest) t.unfinished in
       no_message (unfinished_short after.dialect after.unread after.need unfinished) unfinished.none;
+  refused = λ f e. absurd cc;
 }
 
 -- the session reads no further
@@ -277,14 +283,8 @@ reads_stops before now looks looks_now h stops = record {
     no_look = λ short. (h.nothing short).1;
   };
   none = λ e. stops;
+  refused = λ f e. absurd cc;
 }
-
--- a session that was just opened has nothing to read
-pub reads_new : (d : Dialect) (looks : ℕ) → ReadsAsk (new_session d) looks (Ok None) (new_session d) looks
-reads_new d looks =
-    let none : SpellsNone d [] = spells_none d [] 1 (needs_one d []) (omega arith) in
-    reads_stops (new_session d) (new_session d) looks looks (starts_locals (new_session d) looks refl)
-    (no_message (omega arith) none)
 
 -- there was no memory for a message, which stays unread
 pub reads_refused : (before now after : SessionState) (looks looks_now looks_after : ℕ) (no_memory : NoMemory)
@@ -301,6 +301,7 @@ reads_refused before now after looks looks_now looks_after no_memory h ready one
     no_look = λ short. absurd (too_short before now looks looks_now h ready short);
   };
   none = λ e. absurd cc;
+  refused = λ f e. rw same ready;
 }
 
 -- the parser found a message, as the session's parts say
@@ -310,10 +311,10 @@ pub read_found : (now view : SessionState) (b : List ℕ) (n : ℕ) (m seen : Me
     → m ≡ seen → now.ended ≡ None → after.unread ≡ drop n view.unread → after.ended ≡ ended_by None (m ∷ [])
     → after.queue ≡ left (view.queue ++ m ∷ []) []
     → after.out ≡ view.out ++ said (view.queue ++ m ∷ []) [] → after.need ≡ 1 → after.held ≡ view.held
-    → after.dialect ≡ view.dialect → ReadsOne now (Ok r) after
-read_found now view b n m seen r after same r_is b_is spelled m_is open_yet unread ended queue out need held dialect =
+    → after.is_over ≡ view.is_over → after.dialect ≡ view.dialect → ReadsOne now (Ok r) after
+read_found now view b n m seen r after same r_is b_is spelled m_is open_yet unread ended queue out need held over dialect =
     let takes : ReadsOne view (Ok (read_of m)) after = takes_one view after m
     (taken view b n m seen after b_is spelled m_is
-    (ap (λ (s : SessionState). s.ended) same ∙ open_yet) unread ended queue out need held dialect) in
+    (ap (λ (s : SessionState). s.ended) same ∙ open_yet) unread ended queue out need held over dialect) in
     subst (λ (s : SessionState). ReadsOne s (Ok r) after) same
     (subst (λ (x : Read). ReadsOne view (Ok x) after) (sym r_is) takes)

@@ -1,5 +1,5 @@
 -- The sessions of one worker.
-use Rattle.std.specs.Prelude.{◌≡◌, ℕ, ◌+◌, ◌<◌, ◌≤◌, ◌⊎◌, ⊤, Bool, true, false, List, []}
+use Rattle.std.specs.Prelude.{◌≡◌, ℕ, ◌+◌, ◌<◌, ◌≤◌, ◌⊎◌, Bool, true, false, List, []}
 use Rattle.std.specs.Prelude.{◌∷◌, ◌++◌, map, length, Option, Some, None, Result, Ok, Err, IsSome}
 use Rattle.std.specs.Prelude.{slice_get, drop, max, filter, ◌==◌, if◌then◌else◌}
 use Rattle.std.specs.Map.{lookup}
@@ -9,6 +9,7 @@ use Rattle.proto.specs.declared.message.Request.{Request}
 use Rattle.proto.specs.declared.message.Message.{Message}
 use Rattle.proto.specs.declared.history.Answered.{Answered}
 use Rattle.proto.specs.declared.no_memory.NoMemory.{NoMemory}
+use Rattle.proto.specs.Answers.{said}
 use Rattle.proto.specs.Reading.{asks}
 use Rattle.session_book.specs.declared.causes.Unsettled.{Unsettled}
 use Rattle.session_book.specs.declared.causes.Received.{Received}
@@ -17,7 +18,7 @@ use Rattle.session_book.specs.declared.causes.Settled.{Settled}
 use Rattle.session_book.specs.declared.causes.Settled.TheVariants as outcomes
 use Rattle.proto.specs.declared.limits.TheConstants.{WINDOW}
 use Rattle.session_book.specs.declared.limits.TheConstants.{MAX_SESSIONS, MAX_POSTS}
-use Rattle.session_book.specs.Session.{SessionState, new_session, begins_asked, TakesPiece, IsInputFull, held_fed, ReadsUpTo, Stops, with_reply}
+use Rattle.session_book.specs.Session.{SessionState, begins_asked, TakesPiece, IsInputFull, held_fed, ReadsUpTo, IsReady, Stops, with_reply}
 
 -- A worker's book: the worker's number; the dialect of its sessions' lines; the open sessions by their numbers; how many requests got a number;
 -- the unsettled requests in the order of their numbers; the greatest number of a session opened, and how many
@@ -48,11 +49,6 @@ pub record IsBook (book : BookState) : Type 0 where
       → length (asks s.queue) ≡ unsettled_in book.unsettled session
   pub open_below : (session : ℕ) → book.greatest < session → session_of book session ≡ None
   pub unsettled_below : (session : ℕ) → book.greatest < session → unsettled_in book.unsettled session ≡ 0
-
--- it isn't open, or has had no input
-abbrev pub HasNoInput : Option SessionState → Type 0
-HasNoInput None = ⊤
-HasNoInput (Some s) = s ≡ new_session s.dialect
 
 -- the output that wasn't given yet, none of a session that isn't open
 abbrev pub out_of : Option SessionState → List ℕ
@@ -139,6 +135,7 @@ pub record NextAsk (before : BookState) (session : ℕ) (s : SessionState)
   pub room : length after.unsettled ≤ max WINDOW (length before.unsettled)
   pub enough : after.posted ≤ max MAX_POSTS before.posted
   pub none : result ≡ Ok None → GivesNone before read
+  pub refused : (e : NoMemory) → result ≡ Err e → IsReady read
 
 -- the answer is that of the oldest unsettled request
 abbrev pub IsOldest : BookState → Answered → Type 0
@@ -158,6 +155,13 @@ pub record SettlesReply (before after : BookState) (answered : Answered) : Type 
   pub unsettled : 0 < length (asks s.queue)
   pub settles : SettlesOldest before after answered (Some (with_reply s answered.reply))
 
+-- the session is closed, since there was no room for what it is to be said, which isn't nothing
+pub record Starves (before after : BookState) (answered : Answered) : Type 0 where
+  pub s : SessionState
+  pub was_open : session_of before answered.session ≡ Some s
+  pub something : ¬ (said s.queue (answered.reply ∷ []) ≡ [])
+  pub settles : SettlesOldest before after answered None
+
 -- What becomes of an answer: it is a stranger where it isn't that of the oldest unsettled request; else it is
 -- dropped where its session was closed, or its bytes go to its session, which is closed where they find no room.
 abbrev pub Settles : BookState → Answered → Settled → BookState → Type 0
@@ -165,5 +169,4 @@ Settles before answered outcomes.Stranger after = ¬ (IsOldest before answered) 
 Settles before answered outcomes.Dropped after =
     (session_of before answered.session ≡ None) × SettlesOldest before after answered None
 Settles before answered outcomes.Kept after = SettlesReply before after answered
-Settles before answered outcomes.Starved after =
-    IsSome (session_of before answered.session) × SettlesOldest before after answered None
+Settles before answered outcomes.Starved after = Starves before after answered

@@ -1,7 +1,7 @@
 -- One session: what of its bytes was read, what was asked, and what is to be given.
 use Rattle.std.specs.Prelude.{◌≡◌, ℕ, ◌+◌, ◌<◌, ◌≤◌, ◌⊎◌, ⊤, Bool, true, false, List}
 use Rattle.std.specs.Prelude.{[], ◌∷◌, ◌++◌, length, drop, Option, Some, None, Result, Ok, Err}
-use Rattle.std.specs.Prelude.{is_some, ◌==◌, ◌&&◌, if◌then◌else◌}
+use Rattle.std.specs.Prelude.{is_some, ◌==◌, ◌&&◌, if◌then◌else◌, nat_lt}
 use Rattle.proto.specs.declared.dialect.Dialect.{Dialect}
 use Rattle.proto.specs.declared.message.Request.{Request}
 use Rattle.proto.specs.declared.message.Reply.{Reply}
@@ -22,7 +22,8 @@ use Rattle.session_book.specs.declared.limits.TheConstants.{MAX_UNREAD, MAX_WAIT
 
 -- An open session: the dialect of its lines; its unread bytes; the messages read, from its oldest unsettled request on; its output that
 -- wasn't given yet; whether it has read Quit or a fatal message; how many unread bytes there have to be
--- before the parser is asked again; and the piece of input that is held until it fits, empty where none is.
+-- before the parser is asked again; the piece of input that is held until it fits, empty where none is; and whether its input has
+-- ended, so that nothing comes behind that.
 pub record SessionState : Type 0 where
   pub dialect : Dialect
   pub unread : List ℕ
@@ -31,10 +32,11 @@ pub record SessionState : Type 0 where
   pub ended : Option EndCause
   pub need : ℕ
   pub held : List ℕ
+  pub is_over : Bool
 
 -- a session that was just opened
 abbrev pub new_session : Dialect → SessionState
-new_session d = record { dialect = d; unread = []; queue = []; out = []; ended = None; need = 1; held = [] }
+new_session d = record { dialect = d; unread = []; queue = []; out = []; ended = None; need = 1; held = []; is_over = false }
 
 -- the messages from the first request on for which no reply is left, where the requests use up the replies
 -- one after the other: those that `said` stops before
@@ -82,6 +84,7 @@ pub record ReadsOn (before : SessionState) (ms : List Message) (after : SessionS
   pub out : after.out ≡ before.out ++ said (before.queue ++ ms) []
   pub need : (after.need ≡ need_after before.need ms) ⊎ IsUnfinished before.dialect after.unread after.need
   pub held : after.held ≡ before.held
+  pub over : after.is_over ≡ before.is_over
 
 -- The queue's first request gets its reply; then the messages before the next request leave the queue, and
 -- the answers go behind the output.
@@ -92,9 +95,24 @@ with_reply s reply = record s { queue = left s.queue (reply ∷ []); out = s.out
 abbrev pub gave : SessionState → ℕ → SessionState
 gave s n = record s { out = drop n s.out }
 
+-- no more input of the session comes
+abbrev pub once_over : SessionState → SessionState
+once_over s = record s { is_over = true }
+
+-- what ends the session: a message; or its input is over, none of it is held, and no message is left in it
+abbrev pub ending_of : SessionState → Option EndCause
+ending_of s =
+    if is_some s.ended then s.ended
+    else if s.is_over && length s.held == 0 && nat_lt (length s.unread) s.need then Some causes.EndOfInput else None
+
 -- how the session has ended, once no request is unsettled and all output was given
 abbrev pub finished_by : SessionState → Option EndCause
-finished_by s = if length s.queue == 0 && length s.out == 0 then s.ended else None
+finished_by s = if length s.queue == 0 && length s.out == 0 then ending_of s else None
+
+-- where a session has finished with its input, all of that was read: no beginning of the unread bytes spells a message
+abbrev pub HasReadAll : Option SessionState → Option EndCause → Type 0
+HasReadAll o cause = cause ≡ Some causes.EndOfInput → (s : SessionState) → o ≡ Some s → s.ended ≡ None
+    → SpellsNone s.dialect s.unread
 
 -- no message before the last is a request
 abbrev pub AskAtLast : List Message → Type 0
@@ -166,12 +184,14 @@ given_request (Ok (Some q)) = q ∷ []
 given_request (Ok None) = []
 given_request (Err e) = []
 
--- A session is read up to its next request; there is none only where it stops.
+-- A session is read up to its next request; there is none only where it stops, and memory is refused only where the parser is to
+-- be asked.
 pub record ReadsAsk (before : SessionState) (looks : ℕ) (result : Result (Option Request) NoMemory)
     (after : SessionState) (looks_after : ℕ) : Type 0 where
   pub messages : List Message
   pub reading : ReadsUpTo before looks messages (given_request result) after looks_after
   pub none : result ≡ Ok None → Stops after
+  pub refused : (e : NoMemory) → result ≡ Err e → IsReady after
 
 -- A message is read: its spelling leaves the unread bytes, and it goes behind the queue.
 pub record ReadsMessage (before : SessionState) (m : Message) (after : SessionState) : Type 0 where
@@ -184,6 +204,7 @@ pub record ReadsMessage (before : SessionState) (m : Message) (after : SessionSt
   pub out : after.out ≡ before.out ++ said (before.queue ++ m ∷ []) []
   pub need : after.need ≡ 1
   pub held : after.held ≡ before.held
+  pub over : after.is_over ≡ before.is_over
 
 -- a message that is no request is read
 pub record TakesLocal (before after : SessionState) : Type 0 where

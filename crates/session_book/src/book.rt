@@ -1,8 +1,8 @@
 //! The sessions of one worker: reading what they were fed, and answering in the order of their messages.
 
 ghost use Rattle.std.specs.Prelude.{ℕ, ◌≡◌, ◌⊎◌, ◌+◌, ◌≤◌, ◌<◌, ◌↔◌, [], length, is_some, option_map};
-ghost use Rattle.std.specs.Prelude.{OnOk, OnErr, MatchOption};
-ghost use Rattle.session_book.specs.Session.{SessionState, IsEmptied, new_session, gave, finished_by};
+ghost use Rattle.std.specs.Prelude.{OnOk, OnErr};
+ghost use Rattle.session_book.specs.Session.{SessionState, IsEmptied, new_session, gave, finished_by, once_over, HasReadAll};
 ghost use Rattle.std.specs.Bool.{OnTrue, OnFalse};
 ghost use Rattle.std.specs.Option.{option_and_then};
 ghost use Rattle.std.specs.VecDeque.{deque_len, deque_capacity};
@@ -13,7 +13,6 @@ ghost use Rattle.session_book.specs.Entries.{state_at, AsksEntry, SettlesEntry};
 
 use crate::causes::{EndCause, OpenFault, Received, Settled, Unsettled};
 use crate::limits::{MAX_POSTS, MAX_SESSIONS};
-use crate::open_session::OpenSession;
 use crate::ready_queues::Task;
 use crate::session::Session;
 use crate::upkeep::Upkeep;
@@ -28,7 +27,7 @@ use std::marker::Model;
 pub struct Offer<'a> {
     /// The output, empty where it is none or where more is about to stand behind it.
     pub out: &'a [u8],
-    /// Quit or Fatal, once all before it was answered and given.
+    /// Why it has ended, once all before that was answered and given.
     pub finished: Option<EndCause>,
 }
 
@@ -41,7 +40,7 @@ pub struct Book {
     alloc: Global,
     worker: usize,
     dialect: Dialect,
-    sessions: HashMap<u64, OpenSession>,
+    sessions: HashMap<u64, Session>,
     posted: u64,
     unsettled: VecDeque<Unsettled>,
     greatest: u64,
@@ -80,7 +79,7 @@ impl Model for Book {
 
 impl Book {
     ghost use Rattle.session_book.specs.Book.{session_of, out_of, ChangesSession, Receives, FeedsHeldOf};
-    ghost use Rattle.session_book.specs.Book.{HasNoInput, OnlyAt, IsKnown, NextAsk, Settles};
+    ghost use Rattle.session_book.specs.Book.{OnlyAt, IsKnown, NextAsk, Settles};
 
     /// No session is open yet. The worker's number is kept for its owner.
     pub fn new(alloc: Global, worker: usize, dialect: Dialect) -> Self
@@ -132,7 +131,7 @@ impl Book {
         }
         match self
             .sessions
-            .insert(session, OpenSession::new(self.dialect))
+            .insert(session, Session::new(self.alloc, self.dialect))
         {
             Ok(_) => {}
             Err(_) => return Err(OpenFault::NoMemory),
@@ -150,7 +149,7 @@ impl Book {
         let Some(open) = self.sessions.get_mut(&session) else {
             return Received::Unknown;
         };
-        open.receive(self.alloc, session, piece, &mut self.upkeep)
+        open.receive(session, piece, &mut self.upkeep)
     }
 
     /// Feeds the held piece of a session, if it fits by now.
@@ -163,20 +162,6 @@ impl Book {
         open.feed_held(session, &mut self.upkeep)
     }
 
-    /// The state of a session that is open and has had input.
-    fn state(&self, session: u64) -> Option<&Session>
-        ensures { MatchOption result (HasNoInput (session_of self.now session))
-            (λ state. session_of self.now session ≡ Some state.now) }
-    {
-        let Some(open) = self.sessions.get(&session) else {
-            return None;
-        };
-        match &open.state {
-            Some(state) => Some(state),
-            None => None,
-        }
-    }
-
     /// Whether the window is full: no request is given before an answer was settled.
     pub fn is_full(&self) -> bool
         ensures full { OnTrue result (WINDOW ≤ length self.now.unsettled) }
@@ -187,7 +172,7 @@ impl Book {
 
     /// The next request of a session with its number, which the caller posts. Messages that the book answers
     /// itself are answered in their order; nothing is read while the window is full or all numbers were given. After
-    /// `NoMemory` the messages before the refused one stay read.
+    /// `NoMemory` the messages before the refused one stay read. A `get` is lent a spare buffer for its hits.
     pub fn next_ask(&mut self, session: u64) -> Result<Option<(Request, u64)>, NoMemory>
         ensures closed { session_of self.old session ≡ None → (result ≡ Ok None) × (self.new ≡ self.old) }
         ensures open { (s : SessionState) → session_of self.old session ≡ Some s → NextAsk self.old session s result self.new }
@@ -202,9 +187,10 @@ impl Book {
             &mut self.looks,
             &mut self.upkeep,
         );
-        let Some(request) = read? else {
+        let Some(mut request) = read? else {
             return Ok(None);
         };
+        self.upkeep.spares.lend_hits(&mut request);
         self.posted += 1;
         let number = self.posted;
         self.unsettled.push_back(Unsettled { number, session })?;
@@ -212,9 +198,9 @@ impl Book {
     }
 
     /// Puts the answer to the oldest unsettled request behind the output of its session, and behind it the answers
-    /// that waited for it.
-    pub fn settle(&mut self, answered: &mut Answered) -> Settled
-        ensures { Settles self.old answered.old result self.new }
+    /// that waited for it. The memory of its hits is kept for another request.
+    pub fn settle(&mut self, answered: Answered) -> Settled
+        ensures { Settles self.old answered result self.new }
     {
         let asked = Unsettled {
             number: answered.number,
@@ -225,7 +211,10 @@ impl Book {
         }
         self.unsettled.pop_front();
         self.upkeep.load.settled(&answered.request);
-        settle_session(&mut self.sessions, answered, &mut self.upkeep)
+        let mut answered = answered;
+        let settled = settle_session(&mut self.sessions, &mut answered, &mut self.upkeep);
+        self.upkeep.spares.keep_hits(answered.reply);
+        settled
     }
 
     pub fn is_open(&self, session: u64) -> bool
@@ -238,7 +227,7 @@ impl Book {
     pub fn out(&self, session: u64) -> &[u8]
         ensures { result.now ≡ out_of (session_of self.now session) }
     {
-        match self.state(session) {
+        match self.sessions.get(&session) {
             Some(state) => state.out(),
             None => &[],
         }
@@ -248,22 +237,31 @@ impl Book {
     pub fn offer(&self, session: u64) -> Offer<'_>
         ensures out { (result.out.now ≡ []) ⊎ (result.out.now ≡ out_of (session_of self.now session)) }
         ensures finished { result.finished ≡ option_and_then finished_by (session_of self.now session) }
+        ensures read { HasReadAll (session_of self.now session) result.finished }
     {
-        let Some(state) = self.state(session) else {
+        let Some(open) = self.sessions.get(&session) else {
             return Offer {
                 out: &[],
                 finished: None,
             };
         };
-        let out = if state.is_worth_giving(&self.upkeep) {
-            state.out()
-        } else {
-            &[]
-        };
         Offer {
-            out,
-            finished: state.finished(),
+            out: open.offer(&self.upkeep),
+            finished: open.finished(),
         }
+    }
+
+    /// No more input of the session comes. It answers whether the session has finished with that.
+    pub fn end_input(&mut self, session: u64) -> Option<EndCause>
+        ensures over { ChangesSession self.old self.new session (option_map once_over (session_of self.old session)) }
+        ensures finished { result ≡ option_and_then finished_by (session_of self.new session) }
+        ensures read { HasReadAll (session_of self.new session) result }
+    {
+        let Some(open) = self.sessions.get_mut(&session) else {
+            return None;
+        };
+        open.end_input();
+        open.finished()
     }
 
     /// `n` bytes of the output were given. It answers whether the session has finished by now.
@@ -271,18 +269,20 @@ impl Book {
         requires { n ≤ length (out_of (session_of self.old session)) }
         ensures gave { ChangesSession self.old self.new session (option_map (λ s. gave s n) (session_of self.old session)) }
         ensures finished { result ≡ option_and_then finished_by (session_of self.new session) }
+        ensures read { HasReadAll (session_of self.new session) result }
     {
         let Some(open) = self.sessions.get_mut(&session) else {
             return None;
         };
-        open.gave(session, n, &mut self.upkeep)
+        open.gave(session, n, &mut self.upkeep);
+        open.finished()
     }
 
-    /// Quit or Fatal, once all before it was answered and given. It serves tests alone: an offer and `gave` tell a worker.
+    /// Why the session has ended, once all before that was answered and given. It serves tests alone: an offer and `gave` tell a worker.
     pub fn finished(&self, session: u64) -> Option<EndCause>
         ensures { result ≡ option_and_then finished_by (session_of self.now session) }
     {
-        self.state(session)?.finished()
+        self.sessions.get(&session)?.finished()
     }
 
     /// Drops a session with its input and output. The answers to its unsettled requests are dropped when they come.
@@ -290,7 +290,7 @@ impl Book {
         ensures { ChangesSession self.old self.new session None }
     {
         if let Some(open) = self.sessions.remove(&session) {
-            self.upkeep.load.output_changed(open.waiting(), 0);
+            self.upkeep.load.output_changed(open.out().len(), 0);
         }
     }
 
@@ -337,8 +337,9 @@ impl Book {
         self.upkeep.ready.are_empty()
     }
 
-    /// Whether more than 1,024 keys stand in unsettled requests, or more than 67,108,864 bytes of output wait, over all
-    /// sessions. Its owner then has one request at a time unsettled.
+    /// Whether more than 767 keys stand in unsettled requests, or more than 67,108,864 bytes of output wait, over all
+    /// sessions. Its owner then asks for one request at a time: so the hits of the unsettled ones take 134,217,728 bytes at
+    /// most, and beyond them and the 67,108,864 the outputs grow by one answer at a time.
     pub fn is_crowded(&self) -> bool {
         self.upkeep.load.is_above_limits()
     }
@@ -353,7 +354,7 @@ impl Book {
 
 /// Reads a session up to its next request, for which there is room among the unsettled ones then.
 fn ask_session(
-    sessions: &mut HashMap<u64, OpenSession>,
+    sessions: &mut HashMap<u64, Session>,
     session: u64,
     unsettled: &mut VecDeque<Unsettled>,
     looks: &mut u64,
@@ -374,7 +375,7 @@ fn ask_session(
 
 /// Gives the first unsettled request of a session its reply. Where there is no memory for it the session is closed.
 fn settle_session(
-    sessions: &mut HashMap<u64, OpenSession>,
+    sessions: &mut HashMap<u64, Session>,
     answered: &mut Answered,
     upkeep: &mut Upkeep,
 ) -> Settled

@@ -1,9 +1,9 @@
 //! Bytes that come in behind and go out in front.
 
 ghost use Rattle.std.specs.Prelude.{◌≡◌, ◌++◌, [], length, drop, ◌≤◌, OnOk, OnErr};
-ghost use Rattle.std.specs.Prelude.{is_some};
+ghost use Rattle.std.specs.Prelude.{is_some, IsOk, IsTrue};
 ghost use Rattle.std.specs.Option.{option_copied_mut};
-ghost use Rattle.proto.specs.Answers.{answer, is_ask};
+ghost use Rattle.proto.specs.Answers.{answer, is_ask, is_silent};
 
 use proto::{NoMemory, PendingAnswer, Reply, SpareBuffer};
 use std::alloc::Global;
@@ -68,6 +68,7 @@ impl Buffer {
         requires { is_some reply ≡ is_ask pending.now }
         ensures ok { OnOk result (self.new ≡ self.old ++ answer pending.now (option_copied_mut reply.entry)) }
         ensures err { OnErr result (self.new ≡ self.old) }
+        ensures silent { IsTrue (is_silent pending.now) → IsOk result }
     {
         pending.show(reply, &mut self.bytes)
     }

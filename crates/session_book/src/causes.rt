@@ -49,8 +49,10 @@ pub enum Settled {
 /// How a session ended.
 #[derive(Clone, Copy, Debug, PartialEq, Eq)]
 pub enum EndCause {
-    /// Its input ended and all was answered.
+    /// It was open still when the port ended, and all was answered.
     Drained,
+    /// Its input ended and all was answered.
+    EndOfInput,
     Quit,
     /// A fatal message was read.
     Fatal,

@@ -1,8 +1,10 @@
 //! What a caller carries over a whole run, over the definitions alone.
 
-ghost use Rattle.std.specs.Prelude.{◌≡◌};
-ghost use Rattle.proto.specs.declared.limits.TheConstants.{WINDOW};
-ghost use Rattle.session_book.specs.declared.limits.TheConstants.{MAX_UNREAD, MAX_WAITING, MAX_KEYS, MAX_OUTPUT};
+ghost use Rattle.std.specs.Prelude.{◌≡◌, ◌≤◌, ◌+◌, ◌*◌, length};
+ghost use Rattle.proto.specs.declared.hits.Hit.{Hit};
+ghost use Rattle.proto.specs.declared.limits.TheConstants.{WINDOW, MAX_ANSWER};
+ghost use Rattle.proto.specs.Hits.{hit_room};
+ghost use Rattle.session_book.specs.declared.limits.TheConstants.{MAX_UNREAD, MAX_WAITING, MAX_KEYS, MAX_HIT, MAX_OUTPUT};
 ghost use Rattle.session_book.specs.declared.limits.TheConstants.{MAX_SESSIONS, MAX_POSTS};
 ghost use Rattle.session_book.specs.Accounts.{StartsAccounts, FeedKeeps, ReadKeeps, SettleKeeps, GiveKeeps, ReadBegins};
 ghost use Rattle.session_book.specs.Accounts.{ReadIsWhole, SaidBegins, SaidIsWhole};
@@ -24,12 +26,15 @@ pub fn beginnings()
     ensures said_whole { SaidIsWhole }
 {}
 
-/// The limits of a book in numbers: those that its contracts cite, and those of `is_crowded`.
+/// The limits of a book in numbers: those that its contracts cite, and those of `is_crowded`. A hit of an item needs no more
+/// room than is reckoned with, nor do the hits of as many keys with one more answer.
 pub fn limits()
     ensures unsettled { WINDOW ≡ 64 }
     ensures unread { MAX_UNREAD ≡ 262144 }
     ensures waiting { MAX_WAITING ≡ 1048576 }
-    ensures keys { MAX_KEYS ≡ 1024 }
+    ensures keys { MAX_KEYS ≡ 767 }
+    ensures hit { (h : Hit) → 24 + length h.key + length h.value ≤ 131072 → hit_room h ≤ MAX_HIT }
+    ensures hits { MAX_KEYS * MAX_HIT + MAX_ANSWER ≤ 134217728 }
     ensures output { MAX_OUTPUT ≡ 67108864 }
     ensures sessions { MAX_SESSIONS ≡ 16777216 }
     ensures posts { MAX_POSTS ≡ 4611686018427387904 }

@@ -8,7 +8,6 @@ mod causes;
 pub mod laws;
 mod limits;
 mod load;
-mod open_session;
 mod ready_queues;
 mod session;
 mod spare_buffers;

@@ -12,9 +12,12 @@ pub enum Task {
     Ask,
     /// They may have output, or have finished.
     Give,
-    /// Their peer accepted nothing when it was last offered some.
-    GiveSlowly,
+    /// They have output, of which their client accepted nothing when it was last offered some.
+    RetryWrite,
 }
+
+/// How many tasks there are.
+const TASKS: usize = 4;
 
 /// A queue of sessions by their numbers. A session that joins it draws a ticket, which counts those that ever joined, and
 /// is in the queue while its ticket is above the number of those that have left: who leaves isn't looked up.
@@ -62,109 +65,72 @@ impl ReadyQueue {
 /// The tickets that a session drew last, one of each queue.
 #[derive(Clone, Copy)]
 pub(crate) struct Tickets {
-    feed: u64,
-    ask: u64,
-    give: u64,
-    slow: u64,
+    drawn: [u64; TASKS],
 }
 
 impl Tickets {
     pub(crate) fn none() -> Tickets {
-        Tickets {
-            feed: 0,
-            ask: 0,
-            give: 0,
-            slow: 0,
-        }
+        Tickets { drawn: [0; TASKS] }
     }
 }
 
-/// The ready queues, in each of which a session stands once at most: to be given output it stands in one of two, that of
-/// the sessions whose peer accepted nothing when it was last offered some being gone through slowly. The memory for a session
-/// is reserved when it is opened. The number of a closed session is passed over.
+/// The ready queues by their tasks, in each of which a session stands once at most: to be given output it stands in one of
+/// two, since that of the clients that accepted nothing is gone through slowly. The memory for a session is reserved when it
+/// is opened. The number of a closed session is passed over.
 #[derive(Drop)]
 pub(crate) struct ReadyQueues {
-    feed: ReadyQueue,
-    ask: ReadyQueue,
-    give: ReadyQueue,
-    slow: ReadyQueue,
+    queues: [ReadyQueue; TASKS],
 }
 
 impl ReadyQueues {
     pub(crate) fn new(alloc: Global) -> ReadyQueues {
         ReadyQueues {
-            feed: ReadyQueue::new(alloc),
-            ask: ReadyQueue::new(alloc),
-            give: ReadyQueue::new(alloc),
-            slow: ReadyQueue::new(alloc),
+            queues: [
+                ReadyQueue::new(alloc),
+                ReadyQueue::new(alloc),
+                ReadyQueue::new(alloc),
+                ReadyQueue::new(alloc),
+            ],
         }
     }
 
     /// Reserves the memory that this number of sessions needs.
     pub(crate) fn reserve(&mut self, sessions: usize) -> Result<(), AllocError> {
-        self.feed.reserve(sessions)?;
-        self.ask.reserve(sessions)?;
-        self.give.reserve(sessions)?;
-        self.slow.reserve(sessions)
+        for queue in &mut self.queues {
+            queue.reserve(sessions)?;
+        }
+        Ok(())
     }
 
-    pub(crate) fn feed_later(&mut self, session: u64, tickets: &mut Tickets) {
-        if !self.feed.has(tickets.feed) {
-            tickets.feed = self.feed.push(session);
+    /// Puts the session into the queue of the task, unless it stands there, or for output in either of both.
+    pub(crate) fn add(&mut self, task: Task, session: u64, tickets: &mut Tickets) {
+        let stands = match task {
+            Task::Feed | Task::Ask => self.has(task, tickets),
+            Task::Give | Task::RetryWrite => {
+                self.has(Task::Give, tickets) || self.has(Task::RetryWrite, tickets)
+            }
+        };
+        if !stands {
+            tickets.drawn[task as usize] = self.queues[task as usize].push(session);
         }
     }
 
-    pub(crate) fn ask_later(&mut self, session: u64, tickets: &mut Tickets) {
-        if !self.ask.has(tickets.ask) {
-            tickets.ask = self.ask.push(session);
-        }
-    }
-
-    pub(crate) fn give_later(&mut self, session: u64, tickets: &mut Tickets) {
-        if !self.is_giving(tickets) {
-            tickets.give = self.give.push(session);
-        }
-    }
-
-    /// The session is offered its output again, though its peer accepted nothing.
-    pub(crate) fn give_slowly(&mut self, session: u64, tickets: &mut Tickets) {
-        if !self.is_giving(tickets) {
-            tickets.slow = self.slow.push(session);
-        }
-    }
-
-    fn is_giving(&self, tickets: &Tickets) -> bool {
-        self.give.has(tickets.give) || self.slow.has(tickets.slow)
-    }
-
-    pub(crate) fn is_asking(&self, tickets: &Tickets) -> bool {
-        self.ask.has(tickets.ask)
+    /// Whether the session that has these tickets stands in the queue of the task.
+    pub(crate) fn has(&self, task: Task, tickets: &Tickets) -> bool {
+        self.queues[task as usize].has(tickets.drawn[task as usize])
     }
 
     /// Takes out the next session that is to be taken up for the task.
     pub(crate) fn next(&mut self, task: Task) -> Option<u64> {
-        match task {
-            Task::Feed => self.feed.pop(),
-            Task::Ask => self.ask.pop(),
-            Task::Give => self.give.pop(),
-            Task::GiveSlowly => self.slow.pop(),
-        }
+        self.queues[task as usize].pop()
     }
 
     /// How many sessions are to be taken up for the task.
     pub(crate) fn count(&self, task: Task) -> usize {
-        match task {
-            Task::Feed => self.feed.sessions.len(),
-            Task::Ask => self.ask.sessions.len(),
-            Task::Give => self.give.sessions.len(),
-            Task::GiveSlowly => self.slow.sessions.len(),
-        }
+        self.queues[task as usize].sessions.len()
     }
 
     pub(crate) fn are_empty(&self) -> bool {
-        self.feed.sessions.is_empty()
-            && self.ask.sessions.is_empty()
-            && self.give.sessions.is_empty()
-            && self.slow.sessions.is_empty()
+        self.queues.iter().all(|queue| queue.sessions.is_empty())
     }
 }

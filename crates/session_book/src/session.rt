@@ -1,7 +1,7 @@
 //! One session: reading its messages and answering them in their order.
 
 ghost use Rattle.std.specs.Prelude.{◌≡◌, ◌≤◌, ◌<◌, ◌+◌, ◌↔◌, [], length, not, ◌==◌, drop, is_some, OnOk, OnErr, ◌∷◌};
-ghost use Rattle.std.specs.Prelude.{◌++◌, true, None, Some, Ok, Err};
+ghost use Rattle.std.specs.Prelude.{◌++◌, true, None, Some, Ok, Err, IsOk, ◌⊎◌};
 ghost use Rattle.std.specs.VecDeque.{deque_len, deque_capacity};
 ghost use Rattle.proto.specs.declared.message.Request.{Request};
 ghost use Rattle.std.specs.Bool.{OnTrue, OnFalse};
@@ -12,7 +12,7 @@ ghost use Rattle.proto.specs.Reading.{asks};
 use crate::buffer::Buffer;
 use crate::causes::{EndCause, FeedFault, Received, Unsettled};
 use crate::limits::{MAX_UNREAD, MAX_WAITING};
-use crate::ready_queues::Tickets;
+use crate::ready_queues::{Task, Tickets};
 use crate::spare_buffers::SpareBuffers;
 use crate::upkeep::Upkeep;
 use bytes::Bytes;
@@ -46,6 +46,8 @@ pub struct Session {
     ended: Option<EndCause>,
     need: usize,
     held: Option<Bytes>,
+    /// No more input comes.
+    is_over: bool,
     tickets: Tickets,
 }
 
@@ -65,6 +67,7 @@ impl Model for Session {
       ended = a.ended;
       need = a.need;
       held = unwrap_or a.held [];
+      is_over = a.is_over;
     } };
 
     ghost invariant = { λ a. (begins_asked a.queue.items ≡ true) × NeedsMore a.dialect a.input a.need
@@ -81,7 +84,7 @@ pub enum Read {
 
 impl Session {
     ghost use Rattle.session_book.specs.Session.{new_session, once_fed, IsInputFull, TakesPiece, FeedsHeld};
-    ghost use Rattle.session_book.specs.Session.{with_reply, finished_by, IsReady, IsEmptied, Stops, ReadsOne, ReadsAsk};
+    ghost use Rattle.session_book.specs.Session.{with_reply, finished_by, ending_of, once_over, HasReadAll, IsReady, IsEmptied, Stops, ReadsOne, ReadsAsk};
 
     pub fn new(alloc: Global, dialect: Dialect) -> Self
         ensures { result ≡ new_session dialect }
@@ -96,6 +99,7 @@ impl Session {
             ended: None,
             need: 1,
             held: None,
+            is_over: false,
             tickets: Tickets::none(),
         }
     }
@@ -119,13 +123,13 @@ impl Session {
     }
 
     /// Feeds a piece, or holds it until it fits.
-    fn take_piece(&mut self, piece: Bytes, inputs: &mut SpareBuffers) -> Received
+    fn take_piece(&mut self, piece: Bytes, spares: &mut SpareBuffers) -> Received
         ensures { TakesPiece self.old piece result self.new }
     {
         if self.held.is_some() {
             return Received::Refused;
         }
-        inputs.lend(&mut self.input);
+        spares.lend_input(&mut self.input);
         match self.feed(&piece) {
             Ok(()) => Received::Fed,
             Err(FeedFault::Full) => {
@@ -225,11 +229,12 @@ impl Session {
 
     /// Gives the first request of the queue its reply. Where there is no memory for the bytes the session is of no
     /// further use.
-    fn take_reply(&mut self, reply: &mut Reply, outputs: &mut SpareBuffers) -> Result<(), NoMemory>
+    fn take_reply(&mut self, reply: &mut Reply, spares: &mut SpareBuffers) -> Result<(), NoMemory>
         requires { 0 < length (asks self.old.queue) }
-        ensures { OnOk result (self.new ≡ with_reply self.old reply.old) }
+        ensures ok { OnOk result (self.new ≡ with_reply self.old reply.old) }
+        ensures silent { said self.old.queue (reply.old ∷ []) ≡ [] → IsOk result }
     {
-        outputs.lend(&mut self.output);
+        spares.lend_output(&mut self.output);
         match answer_first(&mut self.queue, reply, &mut self.output) {
             Ok(()) => Ok(()),
             Err(e) => {
@@ -245,14 +250,36 @@ impl Session {
         self.output.as_slice()
     }
 
+    /// What ends the session.
+    fn ending(&self) -> Option<EndCause>
+        ensures is { result ≡ ending_of self.now }
+        ensures read { HasReadAll (Some self.now) result }
+    {
+        if self.ended.is_some() {
+            return self.ended;
+        }
+        if self.is_over && self.held().is_empty() && self.input.len() < self.need {
+            return Some(EndCause::EndOfInput);
+        }
+        None
+    }
+
     pub fn finished(&self) -> Option<EndCause>
-        ensures { result ≡ finished_by self.now }
+        ensures finished { result ≡ finished_by self.now }
+        ensures read { HasReadAll (Some self.now) result }
     {
         if self.queue.is_empty() && self.output.len() == 0 {
-            self.ended
+            self.ending()
         } else {
             None
         }
+    }
+
+    /// No more input comes.
+    pub fn end_input(&mut self)
+        ensures { self.new ≡ once_over self.old }
+    {
+        self.is_over = true;
     }
 }
 
@@ -264,7 +291,7 @@ impl Session {
     pub fn receive(&mut self, session: u64, piece: Bytes, upkeep: &mut Upkeep) -> Received
         ensures { TakesPiece self.old piece result self.new }
     {
-        let received = self.take_piece(piece, &mut upkeep.inputs);
+        let received = self.take_piece(piece, &mut upkeep.spares);
         if received == Received::Fed {
             self.ask_later(session, upkeep);
         }
@@ -295,6 +322,10 @@ impl Session {
         ensures kept { unsettled.new.items ≡ unsettled.old.items }
         ensures room { (request : Request) → result ≡ Ok (Some request) → deque_len unsettled.new < deque_capacity unsettled.new }
     {
+        if !self.is_ready() {
+            self.was_asked(session, upkeep);
+            return Ok(None);
+        }
         let before = self.output.len();
         unsettled.reserve(1)?;
         let read = self.read_ask(looks);
@@ -315,15 +346,16 @@ impl Session {
         upkeep: &mut Upkeep,
     ) -> Result<(), NoMemory>
         requires { 0 < length (asks self.old.queue) }
-        ensures { OnOk result (self.new ≡ with_reply self.old reply.old) }
+        ensures ok { OnOk result (self.new ≡ with_reply self.old reply.old) }
+        ensures silent { said self.old.queue (reply.old ∷ []) ≡ [] → IsOk result }
     {
         let before = self.output.len();
-        let settled = self.take_reply(reply, &mut upkeep.outputs);
+        let settled = self.take_reply(reply, &mut upkeep.spares);
         if settled.is_err() {
             upkeep.load.output_changed(before, 0);
         } else {
             upkeep.load.output_changed(before, self.output.len());
-            upkeep.ready.give_later(session, &mut self.tickets);
+            upkeep.ready.add(Task::Give, session, &mut self.tickets);
         }
         settled
     }
@@ -338,22 +370,33 @@ impl Session {
         self.was_given(session, n, upkeep);
     }
 
+    /// The output, where it is to be given now.
+    pub fn offer(&self, upkeep: &Upkeep) -> &[u8]
+        ensures { (result.now ≡ []) ⊎ (result.now ≡ self.now.out) }
+    {
+        if self.is_worth_giving(upkeep) {
+            self.out()
+        } else {
+            &[]
+        }
+    }
+
     pub fn ask_later(&mut self, session: u64, upkeep: &mut Upkeep)
         ensures { self.new ≡ self.old }
     {
-        upkeep.ready.ask_later(session, &mut self.tickets);
+        upkeep.ready.add(Task::Ask, session, &mut self.tickets);
     }
 
-    /// The session was asked: there may be room for its held piece, and it may have output; and it may be read further.
+    /// The session was asked: there may be room for its held piece, and it may have output, or have finished; and it may be read further.
     fn was_asked(&mut self, session: u64, upkeep: &mut Upkeep)
         ensures { self.new ≡ self.old }
     {
-        upkeep.inputs.take_back(&mut self.input);
+        upkeep.spares.keep_input(&mut self.input);
         if self.held.is_some() && self.has_room() {
-            upkeep.ready.feed_later(session, &mut self.tickets);
+            upkeep.ready.add(Task::Feed, session, &mut self.tickets);
         }
-        if self.output.len() > 0 || self.ended.is_some() {
-            upkeep.ready.give_later(session, &mut self.tickets);
+        if self.output.len() > 0 || self.ended.is_some() || self.is_over {
+            upkeep.ready.add(Task::Give, session, &mut self.tickets);
         }
         upkeep.reads_on = self.is_ready();
     }
@@ -367,22 +410,24 @@ impl Session {
     fn was_given(&mut self, session: u64, accepted: usize, upkeep: &mut Upkeep)
         ensures { self.new ≡ self.old }
     {
-        upkeep.outputs.take_back(&mut self.output);
+        upkeep.spares.keep_output(&mut self.output);
         if self.output.len().saturating_add(accepted) > MAX_WAITING {
-            upkeep.ready.ask_later(session, &mut self.tickets);
+            upkeep.ready.add(Task::Ask, session, &mut self.tickets);
         }
         if accepted == 0 {
-            upkeep.ready.give_slowly(session, &mut self.tickets);
+            upkeep
+                .ready
+                .add(Task::RetryWrite, session, &mut self.tickets);
         } else if self.output.len() > 0 {
-            upkeep.ready.give_later(session, &mut self.tickets);
+            upkeep.ready.add(Task::Give, session, &mut self.tickets);
         }
     }
 
     /// Whether the output is to be given now: little output waits for the answers that are outstanding, and for the
     /// input that is left to be read.
-    pub fn is_worth_giving(&self, upkeep: &Upkeep) -> bool {
+    fn is_worth_giving(&self, upkeep: &Upkeep) -> bool {
         self.output.len() >= WORTH_GIVING
-            || (self.queue.is_empty() && !upkeep.ready.is_asking(&self.tickets))
+            || (self.queue.is_empty() && !upkeep.ready.has(Task::Ask, &self.tickets))
     }
 }
 
@@ -437,6 +482,7 @@ fn answer_first(
     requires asked { begins_asked queue.old.items ≡ true }
     ensures queue { OnOk result (queue.new.items ≡ left queue.old.items (reply.old ∷ [])) }
     ensures out { OnOk result (out.new ≡ out.old ++ said queue.old.items (reply.old ∷ [])) }
+    ensures silent { said queue.old.items (reply.old ∷ []) ≡ [] → IsOk result }
 {
     if let Some(pending) = queue.pop_front() {
         out.show(&pending, Some(reply))?;
@@ -448,6 +494,7 @@ fn answer_first(
 fn answer_locals(queue: &mut VecDeque<PendingAnswer>, out: &mut Buffer) -> Result<(), NoMemory>
     ensures queue { OnOk result (queue.new.items ≡ left queue.old.items []) }
     ensures out { OnOk result (out.new ≡ out.old ++ said queue.old.items []) }
+    ensures silent { said queue.old.items [] ≡ [] → IsOk result }
 {
     while let Some(pending) = queue.front() {
         if pending.is_ask() {

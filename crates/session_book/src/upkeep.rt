@@ -11,8 +11,7 @@ use std::alloc::Global;
 pub(crate) struct Upkeep {
     pub(crate) ready: ReadyQueues,
     pub(crate) load: Load,
-    pub(crate) inputs: SpareBuffers,
-    pub(crate) outputs: SpareBuffers,
+    pub(crate) spares: SpareBuffers,
     /// Whether the session that was asked last can be read further.
     pub(crate) reads_on: bool,
 }
@@ -22,8 +21,7 @@ impl Upkeep {
         Upkeep {
             ready: ReadyQueues::new(alloc),
             load: Load::new(),
-            inputs: SpareBuffers::new(alloc),
-            outputs: SpareBuffers::new(alloc),
+            spares: SpareBuffers::new(alloc),
             reads_on: false,
         }
     }

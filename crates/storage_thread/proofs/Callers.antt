@@ -2,7 +2,7 @@
 use Rattle.std.proofs.Common.{◌≡◌, ℕ, zero, suc, ◌<◌, List, [], ◌∷◌, ◌++◌, length, take, get_or, refl, sym, ap, ◌∙◌, subst, arith}
 use mathlib.Core.Option.{some, some-injective, some-ne-none}
 use lib.ListN.{get_elem?}
-use Rattle.proto.specs.Sizes.{Sizes}
+use Rattle.proto.specs.declared.terms.Terms.{Terms}
 use Rattle.exchange.specs.Ends.{WorkerView, StorageView, AreMade, AreTogether, new_worker_view}
 use Rattle.storage_thread.specs.Serving.{IsSameExchange}
 
@@ -31,7 +31,7 @@ AreSame old new = (length new ≡ length old)
     × ((get_or new i d).worker ≡ (get_or old i d).worker))
 
 -- the ends that were made together still go together once they were used
-pub together : (n : ℕ) (g : Sizes) (ends now : List WorkerView) (s t : StorageView) → AreMade n g ends s
+pub together : (n : ℕ) (g : Terms) (ends now : List WorkerView) (s t : StorageView) → AreMade n g ends s
     → IsSameExchange s t
     → AreSame ends now → AreTogether now t
 together n g ends now s t made same r = record {

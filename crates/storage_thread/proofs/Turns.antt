@@ -1,9 +1,9 @@
 -- What one turn of the storage thread keeps.
 use Rattle.std.proofs.Common.{◌≡◌, ◌≢◌, ℕ, zero, suc, ◌+◌, ◌<◌, ◌≤◌, List, [], ◌∷◌, ◌++◌}
-use Rattle.std.proofs.Common.{map, length, Option, Some, None, Bool, cond, refl, sym, ap, ◌∙◌}
-use Rattle.std.proofs.Common.{subst, arith, length-append, append_assoc, append-nil, eq-eqb, ne_eqb}
+use Rattle.std.proofs.Common.{map, length, Option, Some, None, Bool, true, cond, refl, sym, ap, ◌∙◌}
+use Rattle.std.proofs.Common.{subst, true≢false, arith, length-append, append_assoc, append-nil, eq-eqb, ne_eqb}
 use Rattle.std.specs.List.{All}
-use Rattle.std.specs.Option.{option_map}
+use Rattle.std.specs.Option.{option_map, IfSome, IsSome}
 use Rattle.std.proofs.lemmas.List.Elements.{All-nil, All-cons, All-head, All-tail, All-append}
 use mathlib.Core.Logic.{dite}
 use mathlib.Core.List.{map-append}
@@ -11,13 +11,16 @@ use native.Mathlib.Decide.{ℕ_discrete}
 use Rattle.proto.specs.declared.history.Posted.{Posted}
 use Rattle.proto.specs.declared.history.Answered.{Answered}
 use Rattle.proto.specs.Cache.{Cache, empty_cache}
-use Rattle.proto.specs.History.{worker_share}
+use Rattle.proto.specs.ClockAnswers.{GivenAnswer, IsRead}
+use Rattle.proto.specs.declared.logged_clock.ClockStart.{ClockStart}
+use Rattle.proto.specs.declared.clock.AskedClock.{AskedClock}
+use Rattle.proto.specs.History.{worker_share, answers_by}
 use Rattle.exchange.specs.declared.messages.Taken.TheVariants.{Asked, Bye}
 use Rattle.proto.specs.Counts.{times}
 use Rattle.exchange.specs.Ends.{StorageView}
 use Rattle.engine.specs.Reaching.{moments_after, last_or, Reaches}
-use Rattle.engine.proofs.ReachingLemmas.{moments, moment_after, moments_more, times_more}
-use Rattle.storage_thread.specs.Serving.{AsksClock, IsTimed, taken_as, SaidBye, IsUnused, GetsNone, GetsMessage, AnswersOpenRequest}
+use Rattle.engine.proofs.ReachingLemmas.{moments, moment_after, moments_more, times_more, answers_more}
+use Rattle.storage_thread.specs.Serving.{AsksClock, IsReadSince, IsTimed, seconds_of, taken_as, SaidBye, IsUnused, GetsNone, GetsMessage, AnswersOpenRequest}
 use Rattle.storage_thread.specs.Serving.{IsStorageServing}
 use Rattle.proto.proofs.CountLemmas.{one_more_time, no_more_time}
 
@@ -28,7 +31,7 @@ serving_first v c m u c_is m_is = record {
   same = (refl, refl, refl);
   shut = u.1;
   taken = u.0 ∙ sym (ap (map taken_as) u.2);
-  reaches = subst (λ (z : List Answered × Cache × ℕ). Reaches v.geometry z.0 z.1 z.2)
+  reaches = subst (λ (z : List Answered × Cache × ℕ). Reaches v.terms.geometry z.0 z.1 z.2)
       (λ i. (sym u.2 i, sym c_is i, sym m_is i))
       record {
         caches = [];
@@ -61,7 +64,29 @@ one_answer_more (Some told) mid after answers n first then =
 
 -- before the first request the clock has given no answer
 pub timed_first : (told : Option (List ℕ)) (h : List Answered) → h ≡ [] → IsTimed told told h
-timed_first told h none = ([], no_answers told, ap moments none)
+timed_first told h none = ([], no_answers told, ap moments none, ap (λ (l : List Answered). seconds_of (answers_by [] l)) none)
+
+-- answers that were read off the system's clock, and one more
+pub read_more : (b : Bool) (old new : Option ClockStart) (h : List Answered) (e : Answered) (a : GivenAnswer)
+    → e.clock ≡ answers_by [] h ++ a ∷ [] → IsReadSince b old h → IfSome old (λ from. IsRead from a) → new ≡ old
+    → IsReadSince b new (h ++ e ∷ [])
+read_more b old new h e a is all one same by = let f = all by in let from = f.0 in (
+  from,
+  same ∙ f.1,
+  subst (All (IsRead from)) (sym (answers_more [] h e ∙ is))
+      (All-append (IsRead from) (answers_by [] h) (a ∷ []) f.2
+      (All-cons (IsRead from) a [] (subst (λ s. IfSome s (λ from. IsRead from a)) f.1 one) (All-nil (IsRead from)))),
+)
+
+-- before the first request
+pub read_first : {a b : Bool} {h : List Answered} (start : Option ClockStart) → b ≡ a → (a ≡ true → IsSome start) → h ≡ []
+    → IsReadSince b start h
+read_first None same counts none by = absurd (true≢false (sym (counts (sym same ∙ by))))
+read_first (Some from) same counts none by = (
+  from,
+  refl,
+  subst (λ (l : List Answered). All (IsRead from) (answers_by [] l)) (sym none) (All-nil (IsRead from)),
+)
 
 -- a turn in which no request came
 module _ (old now new : StorageView) (c : Cache) (m : ℕ) (r : IsStorageServing old now c m) where
@@ -72,11 +97,11 @@ module _ (old now new : StorageView) (c : Cache) (m : ℕ) (r : IsStorageServing
       ap (λ (z : StorageView). z.exchange) whole ∙ r.same.0,
       ap (λ (z : StorageView). z.workers) whole
           ∙ r.same.1,
-      ap (λ (z : StorageView). z.geometry) whole ∙ r.same.2,
+      ap (λ (z : StorageView). z.terms) whole ∙ r.same.2,
     );
     shut = ap (λ (z : StorageView). z.open_request) whole ∙ r.shut;
     taken = subst (λ (z : StorageView). z.taken ≡ map taken_as z.history) (sym whole) r.taken;
-    reaches = subst (λ (z : StorageView). Reaches z.geometry z.history c m) (sym whole) r.reaches;
+    reaches = subst (λ (z : StorageView). Reaches z.terms.geometry z.history c m) (sym whole) r.reaches;
     known = subst (λ (z : StorageView). All (λ (e : Answered). e.worker < z.workers) z.history) (sym whole) r.known;
     inside = subst (λ (z : StorageView). All (λ w. w < z.workers) z.byes) (sym whole) inside;
     once = λ v. subst (λ (z : StorageView). times v z.byes ≤ 1) (sym whole) (once v);
@@ -103,11 +128,11 @@ module _ (old now new : StorageView) (c : Cache) (m : ℕ) (r : IsStorageServing
 
 -- a request was taken
 module _ (now mid : StorageView) (w : ℕ) (p : Posted) (f : GetsMessage now mid (Asked w p)) where
-  pub asked_reaches : (c : Cache) (m : ℕ) → Reaches now.geometry now.history c m → Reaches mid.geometry mid.history c m
-  asked_reaches c m r = subst (λ (z : StorageView). Reaches z.geometry z.history c m) (sym f.after) r
+  pub asked_reaches : (c : Cache) (m : ℕ) → Reaches now.terms.geometry now.history c m → Reaches mid.terms.geometry mid.history c m
+  asked_reaches c m r = subst (λ (z : StorageView). Reaches z.terms.geometry z.history c m) (sym f.after) r
 
-  pub asked_sizes : now.geometry ≡ mid.geometry
-  asked_sizes = ap (λ (z : StorageView). z.geometry) (sym f.after)
+  pub asked_sizes : now.terms.geometry ≡ mid.terms.geometry
+  asked_sizes = ap (λ (z : StorageView). z.terms.geometry) (sym f.after)
 
   pub asked_open : mid.open_request ≡ Some (w, p)
   asked_open = ap (λ (z : StorageView). z.open_request) f.after ∙ ap (λ (z : ℕ). Some (z, p)) (sym f.is_next.0)
@@ -116,8 +141,12 @@ module _ (now mid : StorageView) (w : ℕ) (p : Posted) (f : GetsMessage now mid
   asked_next = f.is_next.2 ∙ ap (λ (z : ℕ × StorageView). length (worker_share z.1.history z.0) + 1)
       (λ i. (sym f.is_next.0 i, sym f.after i))
 
+  pub asked_read : (start : Option ClockStart) → IsReadSince now.terms.system_clock start now.history
+      → IsReadSince mid.terms.system_clock start mid.history
+  asked_read start r = subst (λ (z : StorageView). IsReadSince z.terms.system_clock start z.history) (sym f.after) r
+
   -- and answered
-  module _ (new : StorageView) (m : ℕ) (a : AnswersOpenRequest mid new w p m) where
+  module _ (new : StorageView) (m : ℕ) (told : List GivenAnswer) (a : AnswersOpenRequest mid new w p m told) where
     pub whole : new ≡ record now {
       taken = now.taken ++ (f.lane, p) ∷ [];
       open_request = None;
@@ -125,17 +154,17 @@ module _ (now mid : StorageView) (w : ℕ) (p : Posted) (f : GetsMessage now mid
       looks = f.looks;
       last = f.lane;
     }
-    whole = a.4 ∙ (λ i. let z : StorageView = f.after i in
+    whole = a.5 ∙ (λ i. let z : StorageView = f.after i in
         record z { history = z.history ++ a.0 ∷ []; open_request = None })
 
     pub serving_asked : (old : StorageView) (c₀ c : Cache) (m₀ : ℕ) → IsStorageServing old now c₀ m₀
-        → Reaches new.geometry new.history c m → IsStorageServing old new c m
+        → Reaches new.terms.geometry new.history c m → IsStorageServing old new c m
     serving_asked old c₀ c m₀ r reaches = record {
       same = (
         ap (λ (z : StorageView). z.exchange) whole ∙ r.same.0,
         ap (λ (z : StorageView). z.workers) whole
             ∙ r.same.1,
-        ap (λ (z : StorageView). z.geometry) whole ∙ r.same.2,
+        ap (λ (z : StorageView). z.terms) whole ∙ r.same.2,
       );
       shut = ap (λ (z : StorageView). z.open_request) whole;
       taken = ap (λ (z : StorageView). z.taken) whole ∙ (ap (λ (l : List (ℕ × Posted)). l ++ (f.lane, p) ∷ []) r.taken
@@ -158,8 +187,8 @@ module _ (now mid : StorageView) (w : ℕ) (p : Posted) (f : GetsMessage now mid
     pub longer : length new.history ≡ length now.history + 1
     longer = ap length one_entry ∙ (length-append now.history (a.0 ∷ []) ∙ (omega arith))
 
-    pub same_sizes : now.geometry ≡ new.geometry
-    same_sizes = ap (λ (z : StorageView). z.geometry) (sym whole)
+    pub same_sizes : now.terms.geometry ≡ new.terms.geometry
+    same_sizes = ap (λ (z : StorageView). z.terms.geometry) (sym whole)
 
     pub same_byes : length new.byes ≡ length now.byes
     same_byes = ap (λ (z : StorageView). length z.byes) whole
@@ -167,15 +196,24 @@ module _ (now mid : StorageView) (w : ℕ) (p : Posted) (f : GetsMessage now mid
     pub same_workers : new.workers ≡ now.workers
     same_workers = ap (λ (z : StorageView). z.workers) whole
 
-    pub timed_asked : (before then after : Option (List ℕ)) (m₀ : ℕ) → last_or 0 (moments now.history) ≡ m₀
-        → IsTimed before then now.history → AsksClock then m₀ after m → IsTimed before after new.history
-    timed_asked before then after m₀ last_is t asked = let n = asked.0 in (
+    -- the clock's answers are those by which the history has its moments
+    pub answers_asked : told ≡ answers_by [] new.history
+    answers_asked = sym a.4 ∙ sym (answers_more [] now.history a.0) ∙ ap (answers_by []) (sym one_entry)
+
+    pub timed_asked : {C : Type 0} (tells : C → Option (List ℕ)) (start : C → Option ClockStart) (before : Option (List ℕ)) (then after : AskedClock C) (m₀ : ℕ)
+        → last_or 0 (moments now.history) ≡ m₀ → then.answers ≡ answers_by [] now.history → after.answers ≡ told
+        → IsTimed before (tells then.clock) now.history → AsksClock tells start then m₀ after m
+        → IsTimed before (tells after.clock) new.history
+    timed_asked tells start before then after m₀ last_is then_is after_is t asked = let n = asked.0.seconds in (
       t.0 ++ n ∷ [],
-      one_answer_more before then after t.0 n t.1 asked.1,
+      one_answer_more before (tells then.clock) (tells after.clock) t.0 n t.1 asked.1,
       ap moments one_entry ∙ (moments_more now.history a.0 ∙ (ap (λ (l : List ℕ). l ++ a.0.moment ∷ []) t.2
           ∙ ((λ i. moments_after 0 t.0 ++
-          (a.3 ∙ asked.2 ∙ ap (λ (z : ℕ). moment_after z n) (sym last_is ∙ ap (last_or 0) t.2)) i ∷ [])
+          (a.3 ∙ asked.3 ∙ ap (λ (z : ℕ). moment_after z n) (sym last_is ∙ ap (last_or 0) t.2)) i ∷ [])
           ∙ sym (times_more 0 t.0 n)))),
+      ap seconds_of (sym answers_asked ∙ sym after_is ∙ asked.2)
+          ∙ map-append (λ (x : GivenAnswer). x.seconds) then.answers (asked.0 ∷ [])
+          ∙ ap (λ (l : List ℕ). l ++ n ∷ []) (ap seconds_of then_is ∙ t.3),
     )
 
 -- one bye of each worker

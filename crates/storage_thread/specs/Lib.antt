@@ -1,3 +1,2 @@
 pub mod Serving
 pub mod Keeping
-pub mod Readings

@@ -1,9 +1,12 @@
 -- What the storage thread makes of requests.
-use Rattle.std.specs.Prelude.{◌≡◌, ℕ, ◌<◌, ◌≤◌, max, min, List, [], ◌∷◌, ◌++◌, map, All, Option, None, option_map}
+use Rattle.std.specs.Prelude.{◌≡◌, ℕ, ◌<◌, ◌≤◌, max, min, List, [], ◌∷◌, ◌++◌, map, All, Option, Some, None, IfSome, option_map, Bool, true}
+use Rattle.proto.specs.ClockAnswers.{GivenAnswer, IsRead}
+use Rattle.proto.specs.declared.logged_clock.ClockStart.{ClockStart}
 use Rattle.proto.specs.declared.history.Posted.{Posted}
 use Rattle.proto.specs.declared.history.Answered.{Answered}
 use Rattle.proto.specs.Cache.{Cache}
-use Rattle.proto.specs.History.{max_moment}
+use Rattle.proto.specs.declared.clock.AskedClock.{AskedClock}
+use Rattle.proto.specs.History.{max_moment, answers_by}
 use Rattle.engine.specs.Reaching.{moments_after, Reaches}
 use Rattle.proto.specs.Counts.{times}
 use Rattle.exchange.specs.Beginnings.{posted_of}
@@ -11,14 +14,29 @@ use Rattle.exchange.specs.declared.messages.Taken.{Taken}
 use Rattle.exchange.specs.Ends.{StorageView, IsNextMessage, with_taken}
 
 -- The clock was asked once, and the new moment is that of its answer.
-abbrev pub AsksClock : Option (List ℕ) → ℕ → Option (List ℕ) → ℕ → Type 0
-AsksClock old last new moment =
-    (answer : ℕ) × (new ≡ option_map (λ (told : List ℕ). told ++ answer ∷ []) old) × (moment ≡ max last (min answer max_moment))
+abbrev pub AsksClock : {C : Type 0} → (C → Option (List ℕ)) → (C → Option ClockStart) → AskedClock C → ℕ
+    → AskedClock C → ℕ → Type 0
+AsksClock {C} told start old last new moment =
+    (answer : GivenAnswer)
+    × (told new.clock ≡ option_map (λ (told : List ℕ). told ++ answer.seconds ∷ []) (told old.clock))
+    × (new.answers ≡ old.answers ++ answer ∷ []) × (moment ≡ max last (min answer.seconds max_moment))
+    × IfSome (start old.clock) (λ from. IsRead from answer) × (start new.clock ≡ start old.clock)
 
--- The clock was asked once for each request, which is told where it tells its answers, and the moments are those of these.
+-- where that is required, the clock counts from a start, and the history's moments are those of its readings since
+abbrev pub IsReadSince : Bool → Option ClockStart → List Answered → Type 0
+IsReadSince is_required start history =
+    is_required ≡ true → (from : ClockStart) × (start ≡ Some from) × All (IsRead from) (answers_by [] history)
+
+-- what clock answers say
+abbrev pub seconds_of : List GivenAnswer → List ℕ
+seconds_of answers = map (λ (a : GivenAnswer). a.seconds) answers
+
+-- The clock was asked once for each request, which is told where it tells its answers. They are those by which the history has
+-- its moments.
 abbrev pub IsTimed : Option (List ℕ) → Option (List ℕ) → List Answered → Type 0
 IsTimed old new history =
-    (answers : List ℕ) × (new ≡ option_map (λ (told : List ℕ). told ++ answers) old) × (map (λ e. e.moment) history ≡ moments_after 0 answers)
+    (answers : List ℕ) × (new ≡ option_map (λ (told : List ℕ). told ++ answers) old)
+    × (map (λ e. e.moment) history ≡ moments_after 0 answers) × (seconds_of (answers_by [] history) ≡ answers)
 
 -- a request of the history, as it was taken
 abbrev pub taken_as : Answered → ℕ × Posted
@@ -34,7 +52,7 @@ IsUnused v = (v.taken ≡ []) × (v.open_request ≡ None) × (v.history ≡ [])
 
 -- the same exchange
 abbrev pub IsSameExchange : StorageView → StorageView → Type 0
-IsSameExchange old new = (new.exchange ≡ old.exchange) × (new.workers ≡ old.workers) × (new.geometry ≡ old.geometry)
+IsSameExchange old new = (new.exchange ≡ old.exchange) × (new.workers ≡ old.workers) × (new.terms ≡ old.terms)
 
 -- nothing was taken, and nothing but the looks at the lanes has changed
 abbrev pub GetsNone : StorageView → StorageView → Type 0
@@ -48,10 +66,10 @@ pub record GetsMessage (old new : StorageView) (t : Taken) : Type 0 where
   pub looks : List (ℕ × ℕ)
   pub after : new ≡ record (with_taken old lane t) { looks = looks }
 
--- the open request is the worker's next one, and was answered with an entry at this moment
-abbrev pub AnswersOpenRequest : StorageView → StorageView → ℕ → Posted → ℕ → Type 0
-AnswersOpenRequest old new worker posted moment =
-    (e : Answered) × (e.worker ≡ worker) × (posted_of e ≡ posted) × (e.moment ≡ moment)
+-- the open request is the worker's next one, and was answered with an entry at this moment, after these answers of the clock
+abbrev pub AnswersOpenRequest : StorageView → StorageView → ℕ → Posted → ℕ → List GivenAnswer → Type 0
+AnswersOpenRequest old new worker posted moment clock =
+    (e : Answered) × (e.worker ≡ worker) × (posted_of e ≡ posted) × (e.moment ≡ moment) × (e.clock ≡ clock)
     × (new ≡ record old { history = old.history ++ e ∷ []; open_request = None })
 
 -- What holds between two requests: all that was taken was executed, once each and in order.
@@ -59,7 +77,7 @@ pub record IsStorageServing (old new : StorageView) (cache : Cache) (moment : �
   pub same : IsSameExchange old new
   pub shut : new.open_request ≡ None
   pub taken : new.taken ≡ map taken_as new.history
-  pub reaches : Reaches new.geometry new.history cache moment
+  pub reaches : Reaches new.terms.geometry new.history cache moment
   pub known : All (λ (e : Answered). e.worker < new.workers) new.history
   pub inside : All (λ w. w < new.workers) new.byes
   pub once : (w : ℕ) → times w new.byes ≤ 1

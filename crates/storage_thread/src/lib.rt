@@ -7,5 +7,5 @@ mod reading_ahead;
 mod serving;
 mod unix_clock;
 
-pub use serving::{StorageReport, run_storage};
+pub use serving::{StorageReport, next_moment, run_storage};
 pub use unix_clock::UnixClock;

@@ -1,11 +1,11 @@
 //! The loop of the storage thread.
 
-ghost use Rattle.std.specs.Prelude.{◌≡◌, ℕ, ◌+◌, ◌-◌, ◌^◌, ◌<◌, ◌≤◌, map, min, length, All, Some, None, MatchOption, []};
+ghost use Rattle.std.specs.Prelude.{◌≡◌, ℕ, ◌+◌, ◌-◌, ◌^◌, ◌<◌, ◌≤◌, map, min, length, All, Some, None, true, IsSome, MatchOption, []};
 ghost use Rattle.std.specs.Option.{IfNone};
 ghost use Rattle.proto.specs.Cache.{empty_cache};
-ghost use Rattle.proto.specs.History.{max_moment, worker_share, Legal};
+ghost use Rattle.proto.specs.History.{max_moment, answers_by, worker_share, Legal};
 ghost use Rattle.engine.specs.Reaching.{Reaches};
-ghost use Rattle.storage_thread.specs.Serving.{AsksClock, IsTimed, taken_as, SaidBye, IsUnused, IsSameExchange};
+ghost use Rattle.storage_thread.specs.Serving.{AsksClock, IsReadSince, IsTimed, taken_as, SaidBye, IsUnused, IsSameExchange};
 ghost use Rattle.storage_thread.specs.Serving.{GetsNone, GetsMessage, AnswersOpenRequest};
 ghost use Rattle.storage_thread.specs.Keeping.{LeadsKeeping, MayForgetNothing};
 
@@ -13,12 +13,14 @@ use crate::answered_worker::AnsweredWorker;
 use crate::reading_ahead::ReadAhead;
 use engine::{Clock, MAX_MOMENT, StorageEngine};
 use exchange::{Answered, IdleTurns, Posted, StorageBatch, StorageEnd, StorageSignals, Taken};
+use proto::AskedClock;
 use std::sync::Wait;
+use std::time;
 
 /// The workers are told of their answers at least at each so many.
 const ANSWERS_A_FLUSH: u64 = 8;
 
-/// So often it spins in a row before it parks: for two microseconds.
+/// The idle turns in a row in which it spins before it parks, where the signals say no time: two microseconds.
 const IDLE_TURNS: u32 = 10;
 
 /// What the storage thread leaves.
@@ -30,10 +32,11 @@ pub struct StorageReport<C: Clock> {
     pub executed: u64,
 }
 
-// The moment of the next request: the clock's answer, but none after the greatest moment or before the last one.
-fn next_moment<C: Clock>(clock: &mut C, last: u64) -> u64
-    ensures leads { C.leads_to clock.old clock.new }
-    ensures moment { AsksClock (C.told clock.old) last (C.told clock.new) result }
+/// Asks the clock once for the moment of the next request: its answer, but none after the greatest moment or before the last
+/// one.
+pub fn next_moment<C: Clock>(clock: &mut AskedClock<C>, last: u64) -> u64
+    ensures leads { C.leads_to clock.old.clock clock.new.clock }
+    ensures moment { AsksClock C.told C.start clock.old last clock.new result }
     ensures order { (last ≤ result) × (last ≤ max_moment → result ≤ max_moment) }
 {
     let now = clock.now().min(MAX_MOMENT);
@@ -43,24 +46,28 @@ fn next_moment<C: Clock>(clock: &mut C, last: u64) -> u64
 // Executes the open request, and answers it. Its worker is told at the next flush, or before.
 fn execute<S: StorageEngine, C: Clock>(
     store: &mut S,
-    clock: &mut C,
+    clock: &mut AskedClock<C>,
     end: &mut StorageBatch,
     worker: usize,
     posted: Posted,
 )
-    requires reaches { Reaches end.old.end.geometry end.old.end.history (S.cache store.old) (S.moment store.old) }
-    requires sizes { S.sizes store.old ≡ end.old.end.geometry }
+    requires answers { clock.old.answers ≡ answers_by [] end.old.end.history }
+    requires read { IsReadSince end.old.end.terms.system_clock (C.start clock.old.clock) end.old.end.history }
+    requires reaches { Reaches end.old.end.terms.geometry end.old.end.history (S.cache store.old) (S.moment store.old) }
+    requires sizes { S.sizes store.old ≡ end.old.end.terms.geometry }
     requires open_request { end.old.end.open_request ≡ Some (worker, posted) }
     requires next { posted.number ≡ length (worker_share end.old.end.history worker) + 1 }
-    ensures reaches { Reaches end.new.end.geometry end.new.end.history (S.cache store.new) (S.moment store.new) }
-    ensures kept { LeadsKeeping end.old.end.geometry end.old.end.history (S.cache store.old) (S.keeps store.old)
-        → LeadsKeeping end.new.end.geometry end.new.end.history (S.cache store.new) (S.keeps store.new) }
+    ensures reaches { Reaches end.new.end.terms.geometry end.new.end.history (S.cache store.new) (S.moment store.new) }
+    ensures kept { LeadsKeeping end.old.end.terms.geometry end.old.end.history (S.cache store.old) (S.keeps store.old)
+        → LeadsKeeping end.new.end.terms.geometry end.new.end.history (S.cache store.new) (S.keeps store.new) }
     ensures sizes { S.sizes store.new ≡ S.sizes store.old }
-    ensures answered { AnswersOpenRequest end.old.end end.new.end worker posted (S.moment store.new) }
-    ensures leads { C.leads_to clock.old clock.new }
-    ensures moment { AsksClock (C.told clock.old) (S.moment store.old) (C.told clock.new) (S.moment store.new) }
+    ensures answered { AnswersOpenRequest end.old.end end.new.end worker posted (S.moment store.new) clock.new.answers }
+    ensures read { IsReadSince end.new.end.terms.system_clock (C.start clock.new.clock) end.new.end.history }
+    ensures leads { C.leads_to clock.old.clock clock.new.clock }
+    ensures moment { AsksClock C.told C.start clock.old (S.moment store.old) clock.new (S.moment store.new) }
 {
     let moment = next_moment(clock, store.last_moment());
+    let told = clock.answers();
     let Posted {
         session,
         number,
@@ -73,6 +80,7 @@ fn execute<S: StorageEngine, C: Clock>(
         number,
         request,
         moment,
+        clock: told,
         reply,
     };
     end.answer_later(answered);
@@ -88,7 +96,7 @@ fn tell(end: &mut StorageBatch, answered: &mut AnsweredWorker, signals: &Storage
 }
 
 // The same, where the last answer was an eighth.
-fn tell_eighth(
+fn flush_every_eighth(
     end: &mut StorageBatch,
     executed: u64,
     answered: &mut AnsweredWorker,
@@ -103,26 +111,33 @@ fn tell_eighth(
 
 // The next message among those that the last look at the lanes named. Where none is left, the workers are told of all
 // answers, and then the lanes are looked at.
-fn take_next(
+fn take_next<C: Clock>(
     end: &mut StorageBatch,
+    clock: &AskedClock<C>,
     executed: u64,
     answered: &mut AnsweredWorker,
     signals: &StorageSignals,
 ) -> Option<Taken>
-    requires { end.old.end.open_request ≡ None }
+    requires shut { end.old.end.open_request ≡ None }
+    requires fresh { clock.now.answers ≡ answers_by [] end.old.end.history }
     ensures taken { MatchOption result (GetsNone end.old.end end.new.end) (GetsMessage end.old.end end.new.end) }
     ensures told { IfNone result (end.new.told ≡ end.new.end.history) }
 {
-    tell_eighth(end, executed, answered, signals);
-    if let Some(taken) = end.next_seen() {
+    flush_every_eighth(end, executed, answered, signals);
+    if let Some(taken) = end.next_seen(clock) {
         return Some(taken);
     }
     tell(end, answered, signals);
-    end.next()
+    end.next(clock)
 }
 
 // An idle turn, in which the thread may park. No worker waits for an answer that was given.
-fn pass_turn<R: Wait>(rt: &R, _end: &StorageBatch, idle: &mut IdleTurns, signals: &StorageSignals)
+fn pass_turn<R: Wait + time::Clock>(
+    rt: &R,
+    _end: &StorageBatch,
+    idle: &mut IdleTurns,
+    signals: &StorageSignals,
+)
     requires told { _end.now.told ≡ _end.now.end.history }
 {
     idle.turn(rt, signals.parking());
@@ -131,9 +146,9 @@ fn pass_turn<R: Wait>(rt: &R, _end: &StorageBatch, idle: &mut IdleTurns, signals
 /// Executes requests until each worker has said bye. The store is empty, for the geometry that the exchange was
 /// made for, and nothing was taken from the end. The clock is asked once for each request. The messages that a look named
 /// are served before it looks again; the workers are told of each eighth answer, and of all before it looks. While
-/// nothing comes, the thread parks on a word of the signals: who has posted or said bye unparks it. By the hints there it
-/// reads ahead.
-pub fn run_storage<R: Wait, S: StorageEngine + Drop, C: Clock>(
+/// nothing comes, the thread spins, as long as the signals say, and then parks on a word of the signals: who has posted or
+/// said bye unparks it. By the hints there it reads ahead.
+pub fn run_storage<R: Wait + time::Clock, S: StorageEngine + Drop, C: Clock>(
     rt: &R,
     store: S,
     clock: C,
@@ -141,10 +156,12 @@ pub fn run_storage<R: Wait, S: StorageEngine + Drop, C: Clock>(
     signals: &StorageSignals,
 ) -> StorageReport<C>
     requires empty { (S.cache store ≡ empty_cache 0) × (S.moment store ≡ 0) }
-    requires sizes { S.sizes store ≡ storage_end.geometry }
+    requires sizes { S.sizes store ≡ storage_end.terms.geometry }
+    requires system_clock { storage_end.terms.system_clock ≡ true → IsSome (C.start clock) }
+    requires unasked { IsSome (C.start clock) → C.told clock ≡ Some [] }
     requires unused { IsUnused storage_end }
     ensures same { IsSameExchange storage_end result.storage_end }
-    ensures legal { Legal storage_end.geometry result.storage_end.history }
+    ensures legal { Legal storage_end.terms.geometry result.storage_end.history }
     ensures once_in_order { (result.storage_end.taken ≡ map taken_as result.storage_end.history)
         × (result.storage_end.open_request ≡ None) }
     ensures inside { All (λ e. e.worker < storage_end.workers) result.storage_end.history }
@@ -153,27 +170,27 @@ pub fn run_storage<R: Wait, S: StorageEngine + Drop, C: Clock>(
     ensures moments { IsTimed (C.told clock) (C.told result.clock) result.storage_end.history }
 
     // nothing is forgotten where no deadline is set and little is stored, by a store that keeps what it stores
-    ensures bounded { S.keeps store [] → MayForgetNothing storage_end.geometry result.storage_end.history }
+    ensures bounded { S.keeps store [] → MayForgetNothing storage_end.terms.geometry result.storage_end.history }
     ensures executed { result.executed ≡ min (length result.storage_end.history) (2 ^ 64 - 1) }
 {
     let mut store = store;
-    let mut clock = clock;
+    let mut clock = AskedClock::new(clock);
     let mut end = storage_end.batched();
     let mut executed = 0u64;
     let mut left = end.workers();
-    let mut idle = IdleTurns::new(IDLE_TURNS);
+    let mut idle = IdleTurns::new(IDLE_TURNS, signals.spin());
     let mut ahead = ReadAhead::new();
     let mut answered = AnsweredWorker::none();
     for _ in rt.forever() {
         if left == 0 {
             tell(&mut end, &mut answered, signals);
             return StorageReport {
-                clock,
+                clock: clock.into_clock(),
                 storage_end: end.into_end(),
                 executed,
             };
         }
-        match take_next(&mut end, executed, &mut answered, signals) {
+        match take_next(&mut end, &clock, executed, &mut answered, signals) {
             Some(Taken::Asked { worker, posted }) => {
                 ahead.note_taken(&store, &end, signals);
                 execute(&mut store, &mut clock, &mut end, worker, posted);

@@ -1,80 +1,43 @@
-//! The system's clock.
+//! Unix seconds, by the system's clock.
 
-ghost use Rattle.std.specs.Prelude.{◌≡◌, ◌/◌, ◌++◌, ◌∷◌, [], All};
-ghost use Rattle.std.specs.Time.{system_time_nanos};
-ghost use Rattle.storage_thread.specs.Readings.{seconds_in, AreSeconds};
+ghost use Rattle.std.specs.Prelude.{◌≡◌, []};
 
-use engine::Clock;
-use proto::Trace;
-use std::slice;
-use std::time::{self, SystemTime, UNIX_EPOCH};
+use proto::{Clock, ClockAnswer, SystemClock};
+use std::time;
 
-/// Unix seconds, 0 before 1970 or where the clock can't be read. It tells its answers, each the seconds of one reading of the
-/// system's clock; no clause says that what the system reads goes on.
+/// Unix seconds: the Unix time of its start, 0 before 1970 or where it can't be read, and the whole seconds that the monotonic
+/// clock has counted since. It tells its answers, one for each reading of the monotonic clock.
 #[derive(Drop)]
 pub struct UnixClock<R: Drop> {
-    rt: R,
-    // Each reading, with the answer that was given by it.
-    pub(crate) readings: Trace<(Option<SystemTime>, u64)>,
-    ghost seconds: { AreSeconds readings.items },
+    pub(crate) system: SystemClock<R>,
 }
 
 impl<R: time::Clock + Drop> UnixClock<R> {
+    /// Reads the start.
     pub fn new(rt: R) -> UnixClock<R>
-        ensures { result.readings.items ≡ [] }
+        ensures { result.system.readings ≡ [] }
     {
         UnixClock {
-            rt,
-            readings: Trace::new(),
+            system: SystemClock::new(rt),
         }
-    }
-}
-
-/// The whole seconds from 1970 to a reading of the system's clock.
-fn unix_seconds(reading: SystemTime) -> u64
-    ensures { result ≡ system_time_nanos reading / 1000000000 }
-{
-    match reading.duration_since(UNIX_EPOCH) {
-        Ok(since) => since.as_secs(),
-        Err(_) => 0,
-    }
-}
-
-/// The whole seconds of a reading, 0 where the clock couldn't be read.
-fn seconds_of(reading: &Option<SystemTime>) -> u64
-    ensures { result ≡ seconds_in reading.now }
-{
-    match reading {
-        Some(reading) => unix_seconds(*reading),
-        None => 0,
-    }
-}
-
-impl<R: time::Clock + Drop> UnixClock<R> {
-    /// Each answer that was told is the seconds of its reading.
-    pub fn agrees(&self)
-        ensures { AreSeconds self.now.readings.items }
-    {
-        let _rt = &self.rt;
     }
 }
 
 impl<R: time::Clock + Drop> Clock for UnixClock<R> {
     ghost use Rattle.std.specs.Prelude.{⊤, Some, map};
-    ghost use Rattle.storage_thread.specs.Readings.{answers_in};
+    ghost use Rattle.proto.specs.ClockAnswers.{seconds_since};
 
-    ghost told = { λ c. Some (answers_in c.readings.items) };
+    ghost told = { λ c. Some (map (seconds_since c.system.start) c.system.readings) };
 
     ghost leads_to = { λ _ _. ⊤ };
+
+    ghost start = { λ c. Some c.system.start };
 
     ghost leads_reflexive = { λ _. tt };
 
     ghost leads_transitive = { λ _ _ _ _ _. tt };
 
-    fn now(&mut self) -> u64 {
-        let reading = SystemTime::now(&self.rt).ok();
-        let seconds = seconds_of(&reading);
-        self.readings.note(slice::from_ref(&(reading, seconds)));
-        seconds
+    fn now(&mut self) -> ClockAnswer {
+        self.system.now()
     }
 }

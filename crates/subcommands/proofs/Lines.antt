@@ -15,6 +15,7 @@ use Rattle.script.proofs.EventLemmas.{bool_cases}
 use Rattle.worker_port.specs.Ports.{PortStory}
 use Rattle.group.specs.declared.report.GroupWorker.{GroupWorker}
 use Rattle.group.specs.Threads.{ArePortsOf}
+use Rattle.worker_port.specs.Giving.{by_any_clock}
 use mathlib.Core.Logic.{dite}
 use mathlib.Core.Option.{some, some-injective}
 use native.Mathlib.Decide.{ℕ_discrete}
@@ -152,11 +153,11 @@ module _ (sizes : Sizes) (d : Dialect) (accept fail_give : ℕ) (scripts : Worke
       (s.0, each.1 w s.0 port s.1 at)
 
   -- they are the ports of their workers, at which nothing has happened yet
-  pub owned : ArePortsOf story_told sizes d ports
+  pub owned : ArePortsOf story_told (by_any_clock sizes) d ports
   owned w port at story told =
       let is = (port_at w port at).1 in let same = sym (story_is port story told) in (
         ap (λ (z : PortStory). z.worker) same ∙ ap (λ (p : PortState). p.worker) is.1,
-        ap (λ (z : PortStory). z.sizes) same ∙ ap (λ (p : PortState). p.sizes) is.1,
+        ap (λ (z : PortStory). z.terms) same ∙ ap (λ (p : PortState). by_any_clock p.sizes) is.1,
         ap (λ (z : PortStory). z.dialect) same ∙ ap (λ (p : PortState). p.dialect) is.1,
         ap (λ (z : PortStory). z.events) same ∙ ap (λ (p : PortState). p.player.records) is.1,
         ap (λ (z : PortStory). z.history) same ∙ ap (λ (p : PortState). p.history) is.1,

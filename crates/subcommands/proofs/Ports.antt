@@ -10,6 +10,7 @@ use Rattle.worker_port.specs.Ports.{PortStory}
 use Rattle.net.specs.declared.port.MioPort.{MioPort}
 use Rattle.net.specs.Stories.{story_of, IsNew}
 use Rattle.group.specs.Threads.{ArePortsOf}
+use Rattle.worker_port.specs.Giving.{by_system_clock}
 use Rattle.subcommands.specs.Runs.{AreNewPorts, socket_told}
 
 -- one more, of the worker behind the last
@@ -22,11 +23,11 @@ new_more {R} sizes d ports port old new w p at =
     (at_end ports port w p at)
 
 pub new_of : {R : Type 0} (sizes : Sizes) (d : Dialect) (ports : List (MioPort R)) → AreNewPorts sizes d ports
-    → ArePortsOf socket_told sizes d ports
+    → ArePortsOf socket_told (by_system_clock sizes) d ports
 new_of sizes d ports h w port at story e =
     let same = sym (some_is _ story e) in let k = h w port at in (
       ap (λ (s : PortStory). s.worker) same ∙ k.worker_is,
-      ap (λ (s : PortStory). s.sizes) same ∙ k.sizes_are,
+      ap (λ (s : PortStory). s.terms) same ∙ k.terms_are,
       ap (λ (s : PortStory). s.dialect) same ∙ k.dialect_is,
       ap (λ (s : PortStory). s.events) same ∙ k.none,
       ap (λ (s : PortStory). s.history) same ∙ k.untold,

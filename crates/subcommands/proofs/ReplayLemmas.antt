@@ -1,6 +1,6 @@
 -- From a group's run over the ports of a script to what the script's bytes make it print.
-use Rattle.std.proofs.Common.{◌≡◌, ℕ, zero, suc, ◌+◌, ◌<◌, nat_lt, inl, inr, ⊎_elim, ◌==◌, Bool, true, ◌||◌, cond, List, [], ◌∷◌, ◌++◌, length, map}
-use Rattle.std.proofs.Common.{Option, Some, None, All, Contains, refl, sym, ap, subst, ◌∙◌, arith}
+use Rattle.std.proofs.Common.{◌≡◌, ℕ, zero, suc, ◌+◌, ◌<◌, nat_lt, inl, inr, ⊎_elim, ◌==◌, Bool, true, false, ◌||◌, cond, List, [], ◌∷◌, ◌++◌, length, map}
+use Rattle.std.proofs.Common.{true≢false, Option, Some, None, All, Contains, refl, sym, ap, subst, ◌∙◌, arith}
 use Rattle.std.specs.Prelude.{⊤, flat_map, IsSome}
 use Rattle.std.specs.List.{list_any}
 use Rattle.std.proofs.lemmas.List.{length-map, get_or-map}
@@ -23,6 +23,7 @@ use Rattle.storage_thread.specs.Serving.{IsTimed}
 use Rattle.script.specs.declared.event.ScriptEvent.{ScriptEvent}
 use Rattle.script.specs.Clocks.{ClockState, answer_of, first_answers}
 use Rattle.script.specs.Scripts.{Workers, AreEventsOf}
+use Rattle.script.specs.SequentialSessions.{AreTimed}
 use Rattle.worker_port.specs.declared.events.PortRecord.{PortRecord}
 use Rattle.worker_port.specs.declared.events.PortRecord.TheVariants as was
 use Rattle.worker_port.specs.Ports.{PortStory, fed, given, is_in}
@@ -89,19 +90,21 @@ any_opened : (s : ℕ) (events : List PortRecord) → list_any (λ t. t == s) (o
 any_opened s [] = refl
 any_opened s (was.Opened t ∷ events) = ap (λ b. (t == s) || b) (any_opened s events)
 any_opened s (was.Data t bytes ∷ events) = any_opened s events
+any_opened s (was.EndOfInput t ∷ events) = any_opened s events
 any_opened s (was.Gone t ∷ events) = any_opened s events
 any_opened s (was.Ended ∷ events) = any_opened s events
 any_opened s (was.Accepted t bytes ∷ events) = any_opened s events
 any_opened s (was.Shut t ∷ events) = any_opened s events
 
 -- a cause that fits the list and the messages of a session fits the messages alone
-may_end : (events : List PortRecord) (s : ℕ) (messages : List Message) (cause : EndCause)
+may_end : (events : List PortRecord) (s : ℕ) → is_in (was.EndOfInput s) events ≡ false → (messages : List Message) (cause : EndCause)
     → IsCauseOf events s messages cause → MayEnd messages cause
-may_end events s messages causes.Drained caused = caused.2
-may_end events s messages causes.Quit caused = caused.1
-may_end events s messages causes.Fatal caused = (caused.1, caused.2)
-may_end events s messages causes.Gone caused = tt
-may_end events s messages causes.NoMemory caused = tt
+may_end events s never messages causes.Drained caused = caused.3
+may_end events s never messages causes.EndOfInput caused = true≢false (sym caused.0 ∙ never)
+may_end events s never messages causes.Quit caused = caused.1
+may_end events s never messages causes.Fatal caused = (caused.1, caused.2)
+may_end events s never messages causes.Gone caused = tt
+may_end events s never messages causes.NoMemory caused = tt
 
 -- what holds of the sessions of all requests of a list, as they were posted, holds of an entry's
 posted_there : (P : ℕ → Type 0) (entries : List Answered) → All (λ (p : Posted). P p.session) (asked_posted entries)
@@ -125,7 +128,7 @@ module _ (d : Dialect) (history : List Answered) (w : ℕ) (events : List Script
         came_first = played.fed_first s;
         came_all = λ found. let caused =
             (answered s causes.Drained reading.0 reading.1 found reading.2).caused in
-            played.fed_all s listed.ended caused.0 caused.1;
+            played.fed_all s listed.ended caused.1 caused.2;
         no_room = listed.no_stranger s;
         answered = λ cause found. let a = answered s cause reading.0 reading.1 found reading.2 in record {
           messages = reading.0;
@@ -133,7 +136,7 @@ module _ (d : Dialect) (history : List Answered) (w : ℕ) (events : List Script
           reads = reading.2;
           answers = a.answers;
           complete = a.complete;
-          may_end = may_end l s reading.0 cause a.caused;
+          may_end = may_end l s (played.never_over s) reading.0 cause a.caused;
         };
         gone_by = λ found. ⊎_elim (λ line. inl line) (λ could. inr (asked_to could))
             (played.gone_by s (answered s causes.Gone reading.0 reading.1 found reading.2).caused);
@@ -164,13 +167,13 @@ length-after : (answers : List ℕ) (last : ℕ) → length (moments_after last 
 length-after [] last = refl
 length-after (a ∷ answers) last = ap suc (length-after answers (moment_after last a))
 
--- if a new clock was asked once for each request of a history, the requests' moments are those of its first answers
-timed : (clock : ClockState) (told after : RecordingClock) (history : List Answered) → told.clock ≡ clock
+-- if a new clock was asked once for each request of a history, its first answers gave the requests their moments
+timed_by : (clock : ClockState) (told after : RecordingClock) (history : List Answered) → told.clock ≡ clock
     → readings_in_order told.answers ≡ []
     → GivesAnswers told after → IsTimed (Some (readings_in_order told.answers))
     (Some (readings_in_order after.answers)) history
-    → moments history ≡ moments_after 0 (first_answers clock (length history))
-timed clock told after history clock_is none gives is =
+    → AreTimed clock history
+timed_by clock told after history clock_is none gives is =
     let told_are : Some (readings_in_order after.answers) ≡ Some (readings_in_order told.answers ++ is.0) = is.1 in
     let listed_are : readings_in_order after.answers ≡ readings_in_order told.answers ++ is.0 = cc in
     let answers_are : readings_in_order after.answers ≡ is.0 = listed_are ∙ ap (λ (l : List ℕ). l ++ is.0) none in
@@ -179,7 +182,8 @@ timed clock told after history clock_is none gives is =
     let count_is : gives.count ≡ length history =
     sym (sym (length-map history (λ (e : Answered). e.moment)) ∙ ap length is.2 ∙ length-after is.0 0
     ∙ ap length first_are ∙ length-first clock gives.count) in
-    is.2 ∙ ap (moments_after 0) (first_are ∙ ap (first_answers clock) count_is)
+    let told_first : is.0 ≡ first_answers clock (length history) = first_are ∙ ap (first_answers clock) count_is in
+    record { answers = is.3 ∙ told_first; moments = is.2 ∙ ap (moments_after 0) told_first }
 
 -- ---- a store that keeps what it stores
 
@@ -218,7 +222,7 @@ replayed sizes d clock workers accept fail_give text scripts read ports ports_ar
       history = run.history;
       legal = run.made.legal;
       inside = subst (λ n. All (λ (e : Answered). e.worker < n) run.history) (sym ports_are.0) run.made.inside;
-      moments_are = timed clock told report.clock run.history clock_is none run.made.leads run.made.moments;
+      timed = timed_by clock told report.clock run.history clock_is none run.made.leads run.made.moments;
       outcomes = map outcomes_of report.workers.items;
       one_each = length-map report.workers.items outcomes_of ∙ run.one_each ∙ sym ports_are.0;
       each = λ w events os there at.

@@ -1,5 +1,6 @@
 -- What `segcached replay` prints for a script.
-use Rattle.std.specs.Prelude.{◌≡◌, ℕ, ◌+◌, true, List, [], ◌∷◌, ◌++◌, ◌==◌, length, codes, decimal, flat_map, map, if◌then◌else◌, Some, ⊤}
+use Rattle.std.specs.Prelude.{◌≡◌, ℕ, ◌+◌, true, List, [], ◌∷◌, ◌++◌, ◌==◌, length, codes, decimal, flat_map}
+use Rattle.std.specs.Prelude.{map, if◌then◌else◌, Some, ⊤}
 use mathlib.Core.Option.{some}
 use lib.ListN.{get_elem?}
 use Rattle.hex.specs.Hex.{encode_lower}
@@ -43,8 +44,8 @@ lines_from worker (events ∷ more) = printed_lines worker events ++ lines_from 
 abbrev pub events_of : GroupWorker PortState → List PortRecord
 events_of worker = worker.port.player.records
 
--- a worker's port that tells, over a store of these sizes and in this dialect, with all these events left to play, and with
--- these faults
+-- a worker's port that tells, over a store of these sizes and in this dialect, with all these events left to play, and
+-- with these faults
 abbrev pub IsPort : Sizes → Dialect → ℕ → ℕ → ℕ → List ScriptEvent → PortState → Type 0
 IsPort sizes d accept fail_give worker events port =
     (is_playable events ≡ true)
@@ -72,8 +73,8 @@ IsPlayedAt port = is_playable port.player.script ≡ true
 abbrev pub ArePlayed : List (GroupWorker PortState) → Type 0
 ArePlayed workers = (k : ℕ) (x : GroupWorker PortState) → get_elem? workers k ≡ some x → IsPlayedAt x.port
 
--- The script has these events for so many workers. A group of them ran over ports with these events, and over a new
--- clock; and what each session was given is printed, in order of worker and session.
+-- The script has these events for this number of workers. A group of them ran over ports with these events, and over a
+-- new clock; and what each session was given is printed, in order of worker and session.
 pub record IsPrinted (sizes : Sizes) (d : Dialect) (clock : ClockState) (workers accept fail_give : ℕ)
     (text printed : List ℕ) : Type 0 where
   pub scripts : Workers

@@ -1,5 +1,5 @@
 -- What serving leaves.
-use Rattle.std.specs.Prelude.{◌≡◌, ℕ, ⊤, List, [], length, Option, Some}
+use Rattle.std.specs.Prelude.{◌≡◌, ℕ, ⊤, List, [], map, length, Option, Some}
 use mathlib.Core.Option.{some}
 use lib.ListN.{get_elem?}
 use Rattle.proto.specs.declared.dialect.Dialect.{Dialect}
@@ -8,7 +8,7 @@ use Rattle.worker_port.specs.Ports.{PortStory}
 use Rattle.net.specs.declared.port.MioPort.{MioPort}
 use Rattle.net.specs.Stories.{story_of, IsNew}
 use Rattle.storage_thread.specs.declared.unix_clock.UnixClock.{UnixClock}
-use Rattle.storage_thread.specs.Readings.{answers_in, AreSeconds}
+use Rattle.proto.specs.ClockAnswers.{seconds_since}
 use Rattle.segcache.specs.StoreState.{Store}
 use Rattle.group.specs.declared.report.GroupReport.{GroupReport}
 use Rattle.group.specs.Headline.{IsRun}
@@ -20,15 +20,16 @@ socket_told port = Some (story_of port.served)
 
 -- what the system's clock tells
 abbrev pub clock_told : {R : Type 0} → UnixClock R → Option (List ℕ)
-clock_told clock = Some (answers_in clock.readings.items)
+clock_told clock = Some (map (seconds_since clock.system.start) clock.system.readings)
 
 -- each is its worker's port, of which nothing was told
 abbrev pub AreNewPorts : {R : Type 0} → Sizes → Dialect → List (MioPort R) → Type 0
 AreNewPorts {R} sizes d ports =
     (w : ℕ) (port : MioPort R) → get_elem? ports w ≡ some port → IsNew sizes d w (story_of port.served)
 
--- A group of so many workers ran over new ports and a new store, both of these sizes, in this dialect, and over a clock that
--- was not read yet, and left this report. Each answer of its clock is the seconds of a reading.
+-- A group with this number of workers ran over new ports and a new store, both of these sizes, in this dialect, and
+-- over the system's clock, which was not read yet, and left this report. Each answer of its clock is the seconds of a
+-- reading.
 pub record IsServed {R : Type 0} (sizes : Sizes) (d : Dialect) (workers : ℕ)
     (report : GroupReport (MioPort R) (UnixClock R)) : Type 0 where
   pub ports : List (MioPort R)
@@ -37,6 +38,5 @@ pub record IsServed {R : Type 0} (sizes : Sizes) (d : Dialect) (workers : ℕ)
   pub store : Store
   pub new_store : IsNewStore sizes store
   pub clock : UnixClock R
-  pub unread : clock.readings.items ≡ []
+  pub unread : clock.system.readings ≡ []
   pub run : IsRun socket_told (λ _ _. ⊤) clock_told (λ _ _. ⊤) ⊤ sizes ports clock report
-  pub seconds : AreSeconds report.clock.readings.items

@@ -2,7 +2,7 @@
 
 ghost use Rattle.std.specs.Prelude.{◌≡◌};
 ghost use Rattle.subcommands.specs.declared.fault.Fault.TheVariants.{NoMemory};
-ghost use Rattle.subcommands.specs.Faults.{fault_of};
+ghost use Rattle.subcommands.specs.Faults.{fault_of_group};
 
 use group::GroupFault;
 use proto::NoMemory;
@@ -59,7 +59,7 @@ impl<T: Drop> From<AllocFailed<T>> for Fault {
 }
 
 impl From<GroupFault> for Fault {
-    ghost from_gives = { λ error fault. fault ≡ fault_of error };
+    ghost from_gives = { λ error fault. fault ≡ fault_of_group error };
 
     fn from(fault: GroupFault) -> Fault {
         match fault {

@@ -1,24 +1,103 @@
 //! What an operator is told while it serves.
 
+use mio::unix::SourceFd;
+use mio::{Events, Interest, Poll, Token};
 use net::Notices;
+use std::alloc::Global;
 use std::io::Eprint;
+use std::net::Net;
+use std::os::fd::RawFd;
+use std::time::Duration;
 
-/// Tells the operator on standard error, a line each. Where that takes none, serving goes on.
+const STANDARD_ERROR: RawFd = 2;
+
+/// Looks whether standard error takes a line at once.
+#[derive(Drop)]
+pub(crate) struct Watch {
+    poll: Poll,
+    events: Events,
+}
+
+impl Watch {
+    // None where standard error can't be watched, as where it is a file, which keeps no writer waiting.
+    pub(crate) fn new<H: Net>(rt: &H, alloc: Global) -> Option<Watch> {
+        let poll = Poll::new(rt).ok()?;
+        let events = Events::with_capacity(alloc, 1).ok()?;
+        poll.registry()
+            .register(&mut SourceFd(&STANDARD_ERROR), Token(0), Interest::WRITABLE)
+            .ok()?;
+        Some(Watch { poll, events })
+    }
+
+    // A pipe that takes anything takes at least 4,096 bytes. It is registered anew, since a poll tells only of what has
+    // changed.
+    fn takes_a_line(&mut self) -> bool {
+        let registered = self.poll.registry().reregister(
+            &mut SourceFd(&STANDARD_ERROR),
+            Token(0),
+            Interest::WRITABLE,
+        );
+        registered.is_ok()
+            && self
+                .poll
+                .poll(&mut self.events, Some(Duration::ZERO))
+                .is_ok()
+            && !self.events.is_empty()
+    }
+}
+
+/// Tells the operator on standard error, a line each. It never waits: a line that standard error doesn't take at once
+/// is dropped.
 #[derive(Drop)]
 pub(crate) struct Operator<H: Drop> {
     pub(crate) rt: H,
+    pub(crate) watch: Option<Watch>,
+}
+
+impl<H: Eprint + Net + Drop> Operator<H> {
+    pub(crate) fn new(rt: H, alloc: Global) -> Operator<H> {
+        let watch = Watch::new(&rt, alloc);
+        Operator { rt, watch }
+    }
+}
+
+impl<H: Eprint + Drop> Operator<H> {
+    fn can_write(&mut self) -> bool {
+        match &mut self.watch {
+            Some(watch) => watch.takes_a_line(),
+            None => true,
+        }
+    }
+
+    /// Tells with which options it serves.
+    pub(crate) fn serves_with(&mut self, options: &str) {
+        if self.can_write() {
+            let _ = eprintln!(self.rt; "segcached: {options}");
+        }
+    }
+
+    /// Tells that it has ended.
+    pub(crate) fn has_ended(&mut self) {
+        if self.can_write() {
+            let _ = eprintln!(self.rt; "serving has ended");
+        }
+    }
 }
 
 impl<H: Eprint + Drop> Notices for Operator<H> {
     fn workers_are_full(&mut self, waiting: usize, closed: u64) {
-        let _ = eprintln!(self.rt;
-            "all workers are full: {waiting} connections wait, {closed} were closed"
-        );
+        if self.can_write() {
+            let _ = eprintln!(self.rt;
+                "all workers are full: {waiting} connections wait, {closed} were closed"
+            );
+        }
     }
 
     fn accepts_fail(&mut self, failed: u64) {
-        let _ = eprintln!(self.rt;
-            "connections can't be accepted, {failed} times so far: descriptors or memory are missing"
-        );
+        if self.can_write() {
+            let _ = eprintln!(self.rt;
+                "connections can't be accepted, {failed} times so far: descriptors or memory are missing"
+            );
+        }
     }
 }

@@ -16,7 +16,7 @@ use std::io::{self, ErrorKind, Read};
 /// The most bytes that one read is asked for.
 const PIECE: usize = 8192;
 
-/// That the options' file can't be read, for this reason: want of memory, or else the file is named.
+/// The fault if the options' file can't be read: NoMemory if memory is missing, else CannotRead with the file's path.
 pub fn cannot_read(alloc: Global, options: &Options, error: &io::Error) -> Fault
     ensures { IsReadFault result }
 {
@@ -33,7 +33,8 @@ pub fn cannot_read(alloc: Global, options: &Options, error: &io::Error) -> Fault
 fn read_noted<R: Read>(script: &mut R, buf: &mut [u8], text: &mut Trace<u8>) -> io::Result<usize>
     ensures bound { ReadsAtMost result buf.new }
     ensures bytes { ReadConsumes (R.remaining script.old) (R.remaining script.new) result buf.new }
-    ensures noted { MatchResult result (λ n. text.new.items ≡ text.old.items ++ take n buf.new) (λ _. text.new.items ≡ text.old.items) }
+    ensures noted { MatchResult result (λ n. text.new.items ≡ text.old.items ++ take n buf.new)
+        (λ _. text.new.items ≡ text.old.items) }
 {
     let n = script.read(buf)?;
     text.note(&buf[..n]);
@@ -50,7 +51,8 @@ fn add_piece<R: Read>(
 ) -> Result<bool, Fault>
     requires { bytes.old.items ≡ text.old.items }
     ensures same { OnOk result (bytes.new.items ≡ text.new.items) }
-    ensures read { OnOk result (ReadsOn (R.remaining script.old) text.old.items (R.remaining script.new) text.new.items) }
+    ensures read { OnOk result (ReadsOn (R.remaining script.old) text.old.items
+        (R.remaining script.new) text.new.items) }
     ensures end { IfOk result (λ more. more ≡ false → IsAtEnd (R.remaining script.new)) }
 {
     let mut piece = [0; PIECE];

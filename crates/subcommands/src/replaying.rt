@@ -5,7 +5,8 @@ ghost use Rattle.std.specs.String.{string_bytes};
 ghost use Rattle.std.specs.Io.KnownBytes.{Appends};
 ghost use Rattle.script.specs.Clocks.{clock_at};
 ghost use Rattle.script.specs.Scripts.{AreEventsOf};
-ghost use Rattle.subcommands.specs.Printed.{in_hexadecimal, printed_line, printed_lines, lines_from, events_of, ArePorts};
+ghost use Rattle.subcommands.specs.Printed.{in_hexadecimal, printed_line, printed_lines, lines_from, events_of};
+ghost use Rattle.subcommands.specs.Printed.{ArePorts};
 ghost use Rattle.subcommands.specs.Printed.{IsPlayedAt, ArePlayed, IsPrinted};
 ghost use Rattle.subcommands.specs.Replayed.{IsReplayOf};
 
@@ -13,13 +14,14 @@ use crate::fault::Fault;
 use crate::reading::script_bytes;
 use command_line::Options;
 use group::{Config, GroupWorker, run_group};
-use proto::{Geometry, Trace};
+use proto::{Geometry, Terms, Trace};
 use script::{RecordingClock, ScriptClock, ScriptPort, WorkerScript, read_script};
 use segcache::Store;
 use std::alloc::{AllocError, Global};
 use std::io::{Read, Write};
 use std::sync::Wait;
 use std::thread::Threads;
+use std::time;
 use worker::OpenGate;
 
 /// The events of the script, by worker, and the bytes that its reads gave.
@@ -69,7 +71,8 @@ fn write_worker<W: Write>(
     worker: usize,
     port: &ScriptPort,
 ) -> Result<(), Fault>
-    ensures lines { OnOk result (Appends (W.contents out.old) (W.contents out.new) (printed_lines worker port.now.player.records)) }
+    ensures lines { OnOk result (Appends (W.contents out.old) (W.contents out.new)
+        (printed_lines worker port.now.player.records)) }
     ensures played { IsPlayedAt port.now }
 {
     for session in port.sessions() {
@@ -129,7 +132,13 @@ fn ports_of(
 /// and the bytes, a line each, in order of worker and session. What was printed before a fault stays printed.
 ///
 /// Gives the bytes that the script's reads gave, for clauses alone.
-pub fn replay<H: Threads + Wait + Sync, R: Read + Drop, W: Write>(
+///
+/// # Errors
+///
+/// CannotRead if a read of the script fails; Script if it is too large or a line has a fault; NoThread if a thread
+/// can't be started; CannotWrite if a line can't be printed; NoMemory if memory is missing; BadWorkers if the options
+/// ask for none or for more than 8 workers.
+pub fn replay<H: Threads + Wait + time::Clock + Sync, R: Read + Drop, W: Write>(
     rt: &H,
     alloc: Global,
     options: &Options,
@@ -159,9 +168,12 @@ pub fn replay<H: Threads + Wait + Sync, R: Read + Drop, W: Write>(
         alloc,
         ports,
         Config {
-            geometry,
+            terms: Terms {
+                geometry,
+                system_clock: false,
+            },
             dialect: options.dialect,
-            stores_sessions: true,
+            spin: None,
         },
         store,
         clock,

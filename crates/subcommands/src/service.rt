@@ -9,11 +9,11 @@ ghost use Rattle.net.specs.Stories.{story_of, IsNew};
 ghost use Rattle.subcommands.specs.Runs.{AreNewPorts, IsServed};
 
 use crate::fault::Fault;
-use crate::operator::Operator;
-use command_line::{ServeOptions, on_one_line};
+use crate::operator::{Operator, Watch};
+use command_line::{ServeOptions, on_one_line, options_in_force};
 use group::{Config, GroupReport, run_group};
-use net::{Hand, ListenReport, Listener, MioPort, NetFault, Owner};
-use proto::{Dialect, Geometry, MAX_SESSIONS};
+use net::{Hand, ListenReport, Listener, MioPort, NetFault, Owner, StreamSender};
+use proto::{Geometry, MAX_SESSIONS, Terms};
 use segcache::Store;
 use std::alloc::Global;
 use std::io::{Eprint, Write};
@@ -40,22 +40,43 @@ fn cannot_listen(alloc: Global, options: &ServeOptions, fault: NetFault) -> Faul
     }
 }
 
-/// A port that ends the sessions which are silent for so long, if they are to be ended.
+/// Has the port end silent sessions, if after a number of seconds they are to be ended.
+fn set_idle_limit<H>(port: &mut MioPort<H>, idle: Option<u64>)
+where
+    H: Wait + Net + time::Clock + Copy + Drop,
+    ensures { story_of port.new.served ≡ story_of port.old.served }
+{
+    if let Some(seconds) = idle {
+        port.set_idle_limit(seconds);
+    }
+}
+
+/// Has the port look for events for a number of microseconds before it sleeps, if one is given.
+fn set_spin<H>(port: &mut MioPort<H>, spin: Option<u32>)
+where
+    H: Wait + Net + time::Clock + Copy + Drop,
+    ensures { story_of port.new.served ≡ story_of port.old.served }
+{
+    if let Some(micros) = spin {
+        port.set_spin(micros);
+    }
+}
+
+/// A port with the limits of the options.
 fn new_port<H>(
     rt: H,
     alloc: Global,
     hand: Hand,
     owner: Owner,
-    idle: Option<u64>,
+    options: &ServeOptions,
 ) -> Result<MioPort<H>, NetFault>
 where
     H: Wait + Net + time::Clock + Copy + Drop,
     ensures { IfOk result (λ port. IsNew owner.geometry owner.dialect owner.worker (story_of port.served)) }
 {
     let mut port = MioPort::new(rt, alloc, hand, owner)?;
-    if let Some(seconds) = idle {
-        port.set_idle_limit(seconds);
-    }
+    set_idle_limit(&mut port, options.idle);
+    set_spin(&mut port, options.spin);
     Ok(port)
 }
 
@@ -65,15 +86,14 @@ fn make_ports<H>(
     rt: H,
     alloc: Global,
     geometry: Geometry,
-    dialect: Dialect,
-    workers: usize,
-    idle: Option<u64>,
-) -> Result<(Vec<Hand>, Vec<MioPort<H>>), NetFault>
+    options: &ServeOptions,
+) -> Result<(Vec<StreamSender>, Vec<MioPort<H>>), NetFault>
 where
     H: Wait + Net + time::Clock + Copy + Drop,
-    ensures new { IfOk result (λ made. AreNewPorts geometry dialect made.1.items) }
-    ensures count { IfOk result (λ made. vec_len made.1 ≡ workers) }
+    ensures new { IfOk result (λ made. AreNewPorts geometry options.entry.now.dialect made.1.items) }
+    ensures count { IfOk result (λ made. vec_len made.1 ≡ options.entry.now.workers) }
 {
+    let workers = options.workers as usize;
     let mut hands = Vec::with_capacity(alloc, workers)?;
     let mut ports = Vec::with_capacity(alloc, workers)?;
     for worker in 0..workers {
@@ -81,10 +101,10 @@ where
         hands.push(of_listener)?;
         let owner = Owner {
             geometry,
-            dialect,
+            dialect: options.dialect,
             worker,
         };
-        ports.push(new_port(rt, alloc, of_port, owner, idle)?)?;
+        ports.push(new_port(rt, alloc, of_port, owner, options)?)?;
     }
     Ok((hands, ports))
 }
@@ -125,7 +145,7 @@ fn announce<W: Write>(
 #[derive(Drop)]
 struct Opened<H: Drop> {
     listener: Listener,
-    hands: Vec<Hand>,
+    hands: Vec<StreamSender>,
     ports: Vec<MioPort<H>>,
     store: Store,
 }
@@ -148,14 +168,7 @@ where
         Ok(listener) => listener,
         Err(fault) => return Err(cannot_listen(alloc, options, fault)),
     };
-    let (hands, ports) = match make_ports(
-        rt,
-        alloc,
-        geometry,
-        options.dialect,
-        options.workers as usize,
-        options.idle,
-    ) {
+    let (hands, ports) = match make_ports(rt, alloc, geometry, options) {
         Ok(made) => made,
         Err(fault) => return Err(cannot_listen(alloc, options, fault)),
     };
@@ -163,68 +176,72 @@ where
         listener,
         hands,
         ports,
-        store: Store::seeded(alloc, geometry, 0, seed)?,
+        store: Store::seeded(alloc, geometry, 0, seed, options.counters_in_place)?,
     })
 }
 
 /// Accepts streams in a thread of its own, up to the limit. The address is free again once it has ended.
 fn start_listening<H>(
     rt: H,
+    watch: Option<Watch>,
     mut listener: Listener,
-    mut hands: Vec<Hand>,
+    mut hands: Vec<StreamSender>,
     limit: Option<u64>,
 ) -> Result<JoinHandle<ListenReport>, Fault>
 where
     H: Threads + Wait + time::Clock + Eprint + Copy + Drop + Send + 'static,
 {
     match thread::spawn(&rt, move || {
-        listener.run_heard(&rt, hands.as_mut_slice(), limit, &mut Operator { rt })
+        os::set_thread_name(b"listener");
+        let mut operator = Operator { rt, watch };
+        listener.run_heard(&rt, hands.as_mut_slice(), limit, &mut operator)
     }) {
         Ok(listening) => Ok(listening),
         Err(_) => Err(Fault::NoThread),
     }
 }
 
-/// Runs a worker for each port over the store, until all have ended.
+/// Runs a worker for each port over the store, as the options say, until all have ended.
 fn run_workers<H>(
     rt: H,
     alloc: Global,
     ports: Vec<MioPort<H>>,
     store: Store,
     geometry: Geometry,
-    dialect: Dialect,
+    options: &ServeOptions,
 ) -> Result<Report<H>, Fault>
 where
     H: Threads + Wait + time::Clock + Copy + Drop + Send + Sync + 'static,
     requires store { IsNewStore geometry store }
-    requires ports { AreNewPorts geometry dialect ports.items }
-    ensures { IfOk result (λ report. IsServed geometry dialect (vec_len ports) report) }
+    requires ports { AreNewPorts geometry options.now.dialect ports.items }
+    ensures { IfOk result (λ report. IsServed geometry options.entry.now.dialect (vec_len ports) report) }
 {
     let config = Config {
-        geometry,
-        dialect,
-        stores_sessions: false,
+        terms: Terms {
+            geometry,
+            system_clock: true,
+        },
+        dialect: options.dialect,
+        spin: options.spin,
     };
     let clock = UnixClock::new(rt);
     let report = run_group(&rt, alloc, ports, config, store, clock, &OpenGate)?;
-    report.clock.agrees();
     Ok(report)
 }
 
-/// Accepts streams up to the limit, and runs the workers until they have ended.
+/// Accepts streams up to the options' limit, and runs the workers until they have ended.
 fn run<H>(
     rt: H,
     alloc: Global,
     opened: Opened<H>,
     geometry: Geometry,
-    dialect: Dialect,
-    limit: Option<u64>,
+    options: &ServeOptions,
 ) -> Result<Report<H>, Fault>
 where
-    H: Threads + Wait + time::Clock + Eprint + Copy + Drop + Send + Sync + 'static,
+    H: Threads + Wait + Net + time::Clock + Eprint + Copy + Drop + Send + Sync + 'static,
     requires store { IsNewStore geometry opened.store }
-    requires ports { AreNewPorts geometry dialect opened.ports.items }
-    ensures { IfOk result (λ report. IsServed geometry dialect (vec_len opened.ports) report) }
+    requires ports { AreNewPorts geometry options.now.dialect opened.ports.items }
+    ensures { IfOk result (λ report. IsServed geometry options.entry.now.dialect (vec_len opened.ports) report) }
 {
     let Opened {
         listener,
@@ -232,17 +249,28 @@ where
         ports,
         store,
     } = opened;
-    let listening = start_listening(rt, listener, hands, limit)?;
-    let report = run_workers(rt, alloc, ports, store, geometry, dialect)?;
+    let listening = start_listening(
+        rt,
+        Watch::new(&rt, alloc),
+        listener,
+        hands,
+        options.sessions,
+    )?;
+    let report = run_workers(rt, alloc, ports, store, geometry, options)?;
     listening.join(&rt);
-    let _ = eprintln!(rt; "serving has ended");
+    Operator::new(rt, alloc).has_ended();
     Ok(report)
 }
 
 /// Listens on the options' address, prints it, and serves: a thread accepts streams, a group of workers serves them,
-/// and moments are Unix seconds. Keys are hashed with the seed. With a number of sessions it accepts so many streams,
-/// and ends when their sessions have ended; else it goes on until each worker was given as many streams as it opens in
+/// and moments are Unix seconds. Keys are hashed with the seed. With a number of sessions it accepts that many streams,
+/// and ends once their sessions have ended; else it goes on until each worker was given as many streams as it opens in
 /// a run, and ends in the same way. It leaves what the group left.
+///
+/// # Errors
+///
+/// CannotListen if the address is none, can't be bound or can't be watched; CannotWrite if the line of the address
+/// can't be printed; NoThread if a thread can't be started; NoMemory if memory is missing at the start.
 pub fn serve<H, W: Write>(
     rt: H,
     alloc: Global,
@@ -253,18 +281,34 @@ pub fn serve<H, W: Write>(
 ) -> Result<Report<H>, Fault>
 where
     H: Threads + Wait + Net + time::Clock + Eprint + Copy + Drop + Send + Sync + 'static,
-    ensures announced { OnOk result ((port : ℕ) × (line : List ℕ) × IsListeningLine (string_bytes options.entry.now.listen) port line
+    ensures announced { OnOk result ((port : ℕ) × (line : List ℕ)
+        × IsListeningLine (string_bytes options.entry.now.listen) port line
         × Appends (W.contents out.old) (W.contents out.new) line) }
-    ensures served { IfOk result (λ report. IsServed geometry options.entry.now.dialect options.entry.now.workers report) }
+    ensures served { IfOk result (λ report. IsServed geometry options.entry.now.dialect options.entry.now.workers
+        report) }
 {
     let opened = open(rt, alloc, options, geometry, seed)?;
+    let in_force = options_in_force(alloc, options)?;
+    Operator::new(rt, alloc).serves_with(in_force.as_str());
     announce(alloc, options, opened.listener.port(), out)?;
-    run(
-        rt,
-        alloc,
-        opened,
-        geometry,
-        options.dialect,
-        options.sessions,
-    )
+    run(rt, alloc, opened, geometry, options)
+}
+
+/// Serves as `serve` does, and lets go of what the group leaves. The errors are the same.
+pub fn serve_to_end<H, W: Write>(
+    rt: H,
+    alloc: Global,
+    options: &ServeOptions,
+    geometry: Geometry,
+    seed: u64,
+    out: &mut W,
+) -> Result<(), Fault>
+where
+    H: Threads + Wait + Net + time::Clock + Eprint + Copy + Drop + Send + Sync + 'static,
+    ensures { OnOk result ((port : ℕ) × (line : List ℕ)
+        × IsListeningLine (string_bytes options.entry.now.listen) port line
+        × Appends (W.contents out.old) (W.contents out.new) line) }
+{
+    serve(rt, alloc, options, geometry, seed, out)?;
+    Ok(())
 }

@@ -4,7 +4,7 @@ use crate::player::Player;
 use crate::same::check_same;
 use bytes::Bytes;
 use proto::Dialect;
-use session_book::{Book, OpenFault, Received, Settled};
+use session_book::{Book, EndCause, OpenFault, Received, Settled};
 use std::alloc::Global;
 use std::process::Abort;
 use std::test::Fail;
@@ -36,6 +36,10 @@ fn check_output(rt: &impl Abort, player: &Player, session: u64, output: &str) {
     check_same(rt, is_given, true, (session, output));
 }
 
+fn check_finished(rt: &impl Abort, player: &Player, session: u64, wanted: Option<EndCause>) {
+    check_same(rt, player.finished(session), wanted, session);
+}
+
 fn check_received(rt: &impl Abort, book: &mut Book, session: u64, piece: Bytes, wanted: Received) {
     let length = piece.len();
     let received = book.receive(session, piece);
@@ -56,6 +60,8 @@ enum Step {
     Ask(u64, Option<u64>),
     Settle(usize, Settled),
     Output(u64, &'static str),
+    /// Whether and why the session has ended.
+    Finished(u64, Option<EndCause>),
     Close(u64),
 }
 
@@ -66,6 +72,7 @@ fn check_step(rt: &impl Abort, player: &mut Player, step: &Step) -> Result<(), F
         Step::Ask(session, number) => return check_ask(rt, player, *session, *number),
         Step::Settle(place, settled) => return check_settle(rt, player, *place, *settled),
         Step::Output(session, output) => check_output(rt, player, *session, output),
+        Step::Finished(session, cause) => check_finished(rt, player, *session, *cause),
         Step::Close(session) => player.close(*session),
     }
     Ok(())
@@ -264,6 +271,52 @@ fn reads_a_line_of_carriage_returns(rt: HostRuntime) -> Result<(), Fail> {
     let checked = check_returns(&rt, &mut player);
     drop(player);
     checked
+}
+
+/// An `append` is refused once, with its data, and the next answer belongs to the next request; a silent one has no answer.
+const REFUSED_DATA: [Step; 10] = [
+    Step::Open(1),
+    Step::Feed(1, b"append a 0 0 7\r\nget b\r\n\r\nget a\r\n"),
+    Step::Ask(1, Some(1)),
+    Step::Ask(1, None),
+    Step::Settle(0, Settled::Kept),
+    Step::Output(1, "ERROR\r\nVALUE a 0 1\r\nx\r\nEND\r\n"),
+    Step::Feed(1, b"prepend a 0 0 5 noreply\r\nget b\r\n"),
+    Step::Ask(1, None),
+    Step::Output(1, "ERROR\r\nVALUE a 0 1\r\nx\r\nEND\r\n"),
+    Step::Finished(1, None),
+];
+
+#[test]
+fn refused_data_is_no_request_leniently(rt: HostRuntime) -> Result<(), Fail> {
+    let mut player = Player::new(rt.alloc(), Dialect::Lenient, Some("x"));
+    let checked = check_steps(&rt, &mut player, &REFUSED_DATA);
+    drop(player);
+    checked
+}
+
+/// The first byte of a message of the binary protocol.
+const BINARY: [Step; 3] = [Step::Open(1), Step::Feed(1, b"\x80"), Step::Ask(1, None)];
+
+/// After that byte a session ends so, and is answered nothing.
+fn check_binary(
+    rt: &impl Abort,
+    alloc: Global,
+    dialect: Dialect,
+    ends: Option<EndCause>,
+) -> Result<(), Fail> {
+    let mut player = Player::new(alloc, dialect, None);
+    let checked = check_steps(rt, &mut player, &BINARY);
+    check_finished(rt, &player, 1, ends);
+    check_output(rt, &player, 1, "");
+    drop(player);
+    checked
+}
+
+#[test]
+fn the_binary_protocol_is_closed_at_once_leniently(rt: HostRuntime) -> Result<(), Fail> {
+    check_binary(&rt, rt.alloc(), Dialect::Strict, None)?;
+    check_binary(&rt, rt.alloc(), Dialect::Lenient, Some(EndCause::Fatal))
 }
 
 const TO_CLOSED: [Step; 12] = [

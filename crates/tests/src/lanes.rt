@@ -1,10 +1,11 @@
 //! How many requests a lane holds, whose turn it is, and what is refused.
 
-ghost use Rattle.std.specs.Prelude.{◌≡◌, None, IfOk};
+ghost use Rattle.std.specs.Prelude.{◌≡◌, [], None, IfOk};
 
+use crate::clock::Stopped;
 use crate::same::check_same;
 use exchange::{MakeFault, Posted, StorageEnd, Taken, WorkerEnd, make};
-use proto::{ByteString, Geometry, Request};
+use proto::{AskedClock, ByteString, Geometry, Request, Terms};
 use std::alloc::Global;
 use std::process::Abort;
 use std::test::Fail;
@@ -16,12 +17,18 @@ struct Lanes {
     storage: StorageEnd,
 }
 
-fn made(alloc: Global, workers: usize) -> Result<Lanes, MakeFault> {
+fn made(alloc: Global, workers: usize) -> Result<Lanes, MakeFault>
+    ensures { IfOk result (λ lanes. lanes.storage.history ≡ []) }
+{
     let geometry = match Geometry::new(4096, 8) {
         Ok(geometry) => geometry,
         Err(_) => return Err(MakeFault::BadCount),
     };
-    let (workers, storage) = make(alloc, workers, geometry)?;
+    let terms = Terms {
+        geometry,
+        system_clock: false,
+    };
+    let (workers, storage) = make(alloc, workers, terms)?;
     Ok(Lanes { workers, storage })
 }
 
@@ -73,9 +80,11 @@ fn last<'a>(rt: &impl Abort, ends: &'a mut [WorkerEnd]) -> &'a mut WorkerEnd {
 
 /// The lane of the next message, and whether it is a request; a bye else.
 fn next_of(storage: &mut StorageEnd) -> Option<(usize, bool)>
-    requires { storage.old.open_request ≡ None }
+    requires shut { storage.old.open_request ≡ None }
+    requires unanswered { storage.old.history ≡ [] }
+    ensures { storage.new.history ≡ [] }
 {
-    match storage.next() {
+    match storage.next(&AskedClock::new(Stopped)) {
         Some(Taken::Asked { worker, posted }) => {
             drop(posted);
             Some((worker, true))
@@ -86,12 +95,10 @@ fn next_of(storage: &mut StorageEnd) -> Option<(usize, bool)>
 }
 
 /// No request is open, and the next message is so.
-fn check_next(
-    rt: &impl Abort,
-    storage: &mut StorageEnd,
-    wanted: Option<(usize, bool)>,
-    place: &str,
-) {
+fn check_next(rt: &impl Abort, storage: &mut StorageEnd, wanted: Option<(usize, bool)>, place: &str)
+    requires { storage.old.history ≡ [] }
+    ensures { storage.new.history ≡ [] }
+{
     assert!(rt; !storage.is_open());
     check_same(rt, next_of(storage), wanted, place);
 }
@@ -147,7 +154,9 @@ fn check_bye(
     alloc: Global,
     end: &mut WorkerEnd,
     storage: &mut StorageEnd,
-) -> Result<(), Fail> {
+) -> Result<(), Fail>
+    requires { storage.old.history ≡ [] }
+{
     check_next(rt, storage, None, "the beginning");
     say_bye(end);
     check_sent(rt, alloc, end, false)?;
@@ -169,7 +178,9 @@ fn check_turns(
     alloc: Global,
     ends: &mut [WorkerEnd],
     storage: &mut StorageEnd,
-) -> Result<(), Fail> {
+) -> Result<(), Fail>
+    requires { storage.old.history ≡ [] }
+{
     check_same(rt, storage.workers(), 3, "workers");
     for end in ends {
         check_sent(rt, alloc, end, true)?;

@@ -4,6 +4,8 @@
 #[cfg(test)]
 mod book;
 #[cfg(test)]
+mod clock;
+#[cfg(test)]
 mod cuttings;
 #[cfg(test)]
 mod lanes;

@@ -62,7 +62,7 @@ const REQUESTS: [(&[u8], Given, &[u8]); 16] = [
 ];
 
 /// Lines that are answered without the cache.
-const FAULTS: [(&[u8], &[u8]); 22] = [
+const FAULTS: [(&[u8], &[u8]); 26] = [
     (b"foo\r\n", b"ERROR\r\n"),
     (b"\r\n", b"ERROR\r\n"),
     (b" get a\r\n", b"ERROR\r\n"),
@@ -114,11 +114,18 @@ const FAULTS: [(&[u8], &[u8]); 22] = [
     ),
     (b"set a 0 0 2\r\nxyz\r", b"CLIENT_ERROR bad data chunk\r\n"),
     (b"set a 0 0 1\r\nx\ry", b"CLIENT_ERROR bad data chunk\r\n"),
+    (b"append a 0 0 1\r\n", b"ERROR\r\n"),
+    (b"prepend a 0 0 1 noreply\r\n", b"ERROR\r\n"),
+    (
+        b"delete a 0\r\n",
+        b"CLIENT_ERROR bad command line format\r\n",
+    ),
+    (b"\x80\x01\r\n", b"ERROR\r\n"),
     (b"quit\r\n", b""),
 ];
 
-/// Leniently spaces before a line's end don't count; a data block is as it was sent.
-const LENIENT_REQUESTS: [(&[u8], Given, &[u8]); 11] = [
+/// Leniently spaces before a line's end don't count, nor does a zero behind the key of a `delete`; a data block is as it was sent.
+const LENIENT_REQUESTS: [(&[u8], Given, &[u8]); 16] = [
     (b"get a \r\n", Given::Hit, b"VALUE a 0 1\r\nx\r\nEND\r\n"),
     (b"get a   \r\n", Given::Hit, b"VALUE a 0 1\r\nx\r\nEND\r\n"),
     (
@@ -128,6 +135,11 @@ const LENIENT_REQUESTS: [(&[u8], Given, &[u8]); 11] = [
     ),
     (b"get a\r\n", Given::Hit, b"VALUE a 0 1\r\nx\r\nEND\r\n"),
     (b"delete a \r\n", Given::Deleted, b"DELETED\r\n"),
+    (b"delete a 0\r\n", Given::Deleted, b"DELETED\r\n"),
+    (b"delete a 0 \r\n", Given::Deleted, b"DELETED\r\n"),
+    (b"delete a 0 noreply\r\n", Given::Deleted, b""),
+    (b"delete 0\r\n", Given::NotFound, b"NOT_FOUND\r\n"),
+    (b"delete 0 0\r\n", Given::NotFound, b"NOT_FOUND\r\n"),
     (b"incr n 1 \r\n", Given::Zero, b"0\r\n"),
     (b"flush_all \r\n", Given::Flushed, b"OK\r\n"),
     (b"flush_all 0 noreply \r\n", Given::Flushed, b""),
@@ -136,8 +148,8 @@ const LENIENT_REQUESTS: [(&[u8], Given, &[u8]); 11] = [
     (b"set a 0 0 2\r\nx \r\n", Given::Stored, b"STORED\r\n"),
 ];
 
-/// Other faults stay, also leniently.
-const LENIENT_FAULTS: [(&[u8], &[u8]); 11] = [
+/// Other faults stay, also leniently. `append` and `prepend` are refused once, with their data, or are silent.
+const LENIENT_FAULTS: [(&[u8], &[u8]); 23] = [
     (b"get \r\n", b"CLIENT_ERROR bad command line format\r\n"),
     (b"get  \r\n", b"CLIENT_ERROR bad command line format\r\n"),
     (b" \r\n", b"ERROR\r\n"),
@@ -154,6 +166,36 @@ const LENIENT_FAULTS: [(&[u8], &[u8]); 11] = [
         b"CLIENT_ERROR bad command line format\r\n",
     ),
     (b"set a 0 0 1 \r\nx \r", b"CLIENT_ERROR bad data chunk\r\n"),
+    (b"append a 0 0 1\r\nx\r\n", b"ERROR\r\n"),
+    (b"prepend a 7 -1 7 \r\nget b\r\n\r\n", b"ERROR\r\n"),
+    (b"append a 0 0 1 noreply\r\nx\r\n", b""),
+    (b"prepend a 0 0 0 noreply\r\n\r\n", b""),
+    (
+        b"append a 0 0\r\n",
+        b"CLIENT_ERROR bad command line format\r\n",
+    ),
+    (
+        b"append a 0 0 1 1\r\n",
+        b"CLIENT_ERROR bad command line format\r\n",
+    ),
+    (b"append a 0 0 1\r\nxyz", b"CLIENT_ERROR bad data chunk\r\n"),
+    (
+        b"prepend a 0 0 131073\r\n",
+        b"SERVER_ERROR object too large for cache\r\n",
+    ),
+    (
+        b"delete a 1\r\n",
+        b"CLIENT_ERROR bad command line format\r\n",
+    ),
+    (
+        b"delete a 00\r\n",
+        b"CLIENT_ERROR bad command line format\r\n",
+    ),
+    (
+        b"delete a 0 0\r\n",
+        b"CLIENT_ERROR bad command line format\r\n",
+    ),
+    (b"\x80", b""),
     (b"quit \r\n", b""),
 ];
 
@@ -176,8 +218,8 @@ enum Given {
 
 /// The one hit that a `get` of `a` shows.
 fn hit(alloc: Global, with_cas: bool) -> Result<Hits, NoMemory> {
-    let mut hits = HitWriter::in_buffer(SpareBuffer::new(alloc), with_cas);
-    push_hit(&mut hits, "x", u64::MAX)?;
+    let mut hits = HitWriter::in_buffer(SpareBuffer::new(alloc));
+    push_hit(&mut hits, "x", if with_cas { Some(u64::MAX) } else { None })?;
     Ok(hits.finish())
 }
 
@@ -556,11 +598,13 @@ const NEEDS: [(&[u8], usize); 6] = [
 ];
 
 /// The same where the lines end in spaces.
-const LENIENT_NEEDS: [(&[u8], usize); 4] = [
+const LENIENT_NEEDS: [(&[u8], usize); 6] = [
     (b"get a ", 7),
     (b"set a 0 0 1 \r", 14),
     (b"set a 0 0 1 \r\n", 17),
     (b"set a 0 0 2  \r\nx ", 19),
+    (b"append a 0 0 100000\r\n", 100_023),
+    (b"prepend a 0 0 1 noreply\r\nx", 28),
 ];
 
 fn check_needs(rt: &impl Abort, rows: &[(&[u8], usize)]) {

@@ -1,7 +1,10 @@
 //! A book with the requests that it has given, and a store that knows one value.
 
 use bytes::Bytes;
-use proto::{Answered, Dialect, HitRef, HitWriter, NoMemory, Posted, Reply, Request, SpareBuffer};
+use proto::{
+    Answered, ClockAnswers, Dialect, HitRef, HitWriter, NoMemory, Posted, Reply, Request,
+    SpareBuffer,
+};
 use session_book::{Book, EndCause, Received, Settled};
 use std::alloc::Global;
 use std::test::Fail;
@@ -57,10 +60,8 @@ impl Player {
             return Ok(None);
         }
         let reply = reply_to(self.alloc, &self.asked[place].request, self.found)?;
-        let mut answered = answered(self.asked.remove(place), reply);
-        let settled = self.book.settle(&mut answered);
-        drop(answered);
-        Ok(Some(settled))
+        let answered = answered(self.asked.remove(place), reply);
+        Ok(Some(self.book.settle(answered)))
     }
 
     pub fn has_output(&self, session: u64, output: &str) -> bool {
@@ -96,12 +97,13 @@ fn answered(posted: Posted, reply: Reply) -> Answered {
         number: posted.number,
         request: posted.request,
         moment: 1000,
+        clock: ClockAnswers::none(),
         reply,
     }
 }
 
 /// Pushes the hit of `a` with this value.
-pub fn push_hit(hits: &mut HitWriter, value: &str, cas: u64) -> Result<(), NoMemory> {
+pub fn push_hit(hits: &mut HitWriter, value: &str, cas: Option<u64>) -> Result<(), NoMemory> {
     let hit = HitRef {
         key: b"a",
         flags: 0,
@@ -118,9 +120,9 @@ fn reply_to(alloc: Global, request: &Request, found: Option<&str>) -> Result<Rep
     let Request::Get { with_cas, .. } = request else {
         return Ok(Reply::Stored);
     };
-    let mut hits = HitWriter::in_buffer(SpareBuffer::new(alloc), *with_cas);
+    let mut hits = HitWriter::in_buffer(SpareBuffer::new(alloc));
     if let Some(value) = found {
-        push_hit(&mut hits, value, 1)?;
+        push_hit(&mut hits, value, if *with_cas { Some(1) } else { None })?;
     }
     Ok(Reply::Values(hits.finish()))
 }

@@ -46,7 +46,7 @@ fn check_hints(rt: &impl Abort, signals: &StorageSignals) {
 
 #[test]
 fn each_message_has_a_hint(rt: HostRuntime) -> Result<(), Fail> {
-    let signals = StorageSignals::new(rt.alloc(), FoldHasher::default(), 2)?;
+    let signals = StorageSignals::new(rt.alloc(), FoldHasher::default(), 2, None)?;
     check_hints(&rt, &signals);
     drop(signals);
     Ok(())
@@ -60,7 +60,7 @@ fn check_no_hints(rt: &impl Abort, signals: &StorageSignals) {
 
 #[test]
 fn a_single_worker_leaves_none(rt: HostRuntime) -> Result<(), Fail> {
-    let signals = StorageSignals::new(rt.alloc(), FoldHasher::default(), 1)?;
+    let signals = StorageSignals::new(rt.alloc(), FoldHasher::default(), 1, None)?;
     check_no_hints(&rt, &signals);
     drop(signals);
     Ok(())

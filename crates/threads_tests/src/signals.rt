@@ -8,6 +8,8 @@ use std::sync::Arc;
 
 /// The signals of storage and so many workers.
 pub(crate) fn signals_of(rt: &impl Abort, alloc: Global, workers: usize) -> Arc<StorageSignals> {
-    let signals = StorageSignals::new(alloc, FoldHasher::default(), workers).expect(rt, "memory");
+    let signals = StorageSignals::new(alloc, FoldHasher::default(), workers, None).expect(
+        rt, "memory",
+    );
     Arc::new(alloc, signals).expect(rt, "memory")
 }

@@ -52,7 +52,7 @@ had_first all first s h = (
 pub may_be_given : (v : RunView) (end : WorkerView) (request : Option Posted) (t : ℕ) (s : SessionState)
     → AreFactsConsistent (facts v t) → session_of v.book t ≡ Some s → v.posted ≡ posted_by end request
     → v.back ≡ end.back → WasToldOfHistory end
-    → MayBeSent end.geometry v.dialect end.worker end.seen t (fed t v.events) (given t v.events) s.out
+    → MayBeSent end.terms v.dialect end.worker end.seen t (fed t v.events) (given t v.events) s.out
 may_be_given v end request t s h open_is posted back told =
     let run = runs (facts v t) s h open_is in
     let same : run.running.s ≡ s = some_is run.running.s s (sym run.running.state ∙ open_is) in

@@ -1,9 +1,6 @@
 -- The list of sessions that notes tell, with one more note.
 use Rattle.std.proofs.Common.{◌≡◌, ℕ, List, [], ◌∷◌, ◌++◌, refl}
 use Rattle.session_book.specs.declared.causes.EndCause.{EndCause}
-use Rattle.std.specs.Prelude.{IfSome}
-use Rattle.worker.specs.EndCauses.{RisesFrom}
-use Rattle.worker.specs.declared.session_list.SessionList.TheInside.{Inside}
 use Rattle.worker.specs.declared.session_list.SessionNote.{SessionNote}
 use Rattle.worker.specs.SessionLists.{and_noted, listed_from, listed}
 
@@ -14,7 +11,3 @@ more_from sessions (x ∷ notes) note = more_from (and_noted sessions x) notes n
 
 pub listed_more : (notes : List SessionNote) (note : SessionNote) → listed (notes ++ note ∷ []) ≡ and_noted (listed notes) note
 listed_more notes note = more_from [] notes note
-
--- what is stored is the list that the notes tell, where its numbers rise
-abbrev pub IsStored : Inside → Type 0
-IsStored l = RisesFrom 0 (listed l.notes.items) → IfSome l.stored (λ entries. entries.items ≡ listed l.notes.items)

@@ -186,7 +186,7 @@ still_by : (end : WorkerView) (book : BookState) (history : List Answered) → h
 still_by end book history is story (h, d) = (
   record {
     worker_is = h.worker_is;
-    sizes_are = h.sizes_are;
+    terms_are = h.terms_are;
     later = subst (λ l. StartsWith end.seen l) (sym is) (starts_self end.seen);
   },
   d,

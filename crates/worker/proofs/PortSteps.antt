@@ -1,7 +1,7 @@
 -- What an event of the port leaves true of a worker.
 use Rattle.std.proofs.Common.{◌≡◌, ◌≢◌, ℕ, ◌+◌, ◌-◌, ◌^◌, ◌<◌, ◌≤◌, ◌==◌, Bool, true}
 use Rattle.std.proofs.Common.{false, true≢false, ◌||◌, ◌&&◌, not, cond, eq-eqb, ne_eqb, List, [], ◌∷◌}
-use Rattle.std.proofs.Common.{◌++◌, length, min, refl, sym, ap, subst, ◌∙◌, append-nil, arith, Option, Some, None, is_some, ◌⊎◌, ⊎_elim}
+use Rattle.std.proofs.Common.{◌++◌, length, min, refl, sym, ap, subst, ◌∙◌, append-nil, arith, Option, Some, None, is_some, ◌⊎◌, ⊎_elim, inl, inr, nat_lt}
 use Rattle.std.proofs.lemmas.List.{length-append}
 use Rattle.std.specs.Option.{option_map, option_and_then}
 use Rattle.proto.specs.declared.dialect.Dialect.{Dialect}
@@ -10,8 +10,8 @@ use Rattle.proto.proofs.Options.{some_is}
 use Rattle.exchange.specs.Ends.{WorkerView}
 use Rattle.session_book.specs.declared.causes.EndCause.{EndCause}
 use Rattle.session_book.specs.declared.causes.EndCause.TheVariants as causes
-use Rattle.session_book.specs.Session.{SessionState, new_session, once_fed, holding, finished_by}
-use Rattle.session_book.specs.Book.{BookState, session_of, held_of}
+use Rattle.session_book.specs.Session.{SessionState, new_session, once_fed, once_over, holding, ending_of, finished_by, HasReadAll}
+use Rattle.session_book.specs.Book.{BookState, session_of, held_of, ChangesSession}
 use Rattle.worker_port.specs.declared.events.PortRecord.{PortRecord}
 use Rattle.worker_port.specs.declared.events.PortRecord.TheVariants as was
 use Rattle.worker.specs.declared.state.WorkerState.{WorkerState}
@@ -24,14 +24,14 @@ use Rattle.worker.specs.Workers.{HandlesData, feeds, holds, shuts, drops, Admits
 use Rattle.worker.proofs.EndCauseLemmas.{rises_more, rises_with, length-with, cause_more, cause_new}
 use Rattle.worker_port.proofs.Facts.{elsewhere, opened_here, fed_here, shut_here}
 use Rattle.worker.proofs.SessionSteps.{Stays, served_came, closed_no_memory, runs, runs_at_port, untouched, is_running, is_unopened, served_new}
-use Rattle.worker.proofs.SessionSteps.{opened_if_placed}
+use Rattle.worker.proofs.SessionSteps.{opened_if_placed, Ends}
 use Rattle.worker.proofs.RunViews.{AreSessionsCounted, facts_equal, change_at, at_other, at_same, ClosesIn}
 use Rattle.worker_port.proofs.Lists.{AcceptsOnlyOpen, ended_same, ended_now, count_same, count_more, accepts_more}
 use Rattle.worker.proofs.RunViews.{shuts_here, close_all, apart_shut}
 use Rattle.worker.proofs.StoryLaws.{told_before, two_calls, paused_elsewhere, paused_kept, paused_but, paused_more, resumed_holds_none}
-use Rattle.worker.proofs.PieceLaws.{pieces_at, pieces_kept, fed_piece}
+use Rattle.worker.proofs.PieceLaws.{pieces_at, pieces_kept, fed_piece, over_piece}
 use Rattle.worker.proofs.WorkerSteps.{WorkerGoesOn, OwnFacts, StoryFacts, steps, steps_on, steady_same, same_end, later_is}
-use Rattle.worker.proofs.WorkerSteps.{told_finished, told_gone, closes_in, own_closed, own_within, shut_goes_on, told_fed, told_held, open_here, open_at}
+use Rattle.worker.proofs.WorkerSteps.{told_finished, told_gone, closes_in, own_closed, own_within, shut_goes_on, told_fed, told_over, told_held, open_here, open_at}
 use Rattle.proto.proofs.CountLemmas.{either_way}
 
 -- a truth value that can't be true is false
@@ -57,14 +57,40 @@ pub no_length : {A : Type 0} (xs : List A) → (length xs == 0) ≡ true → xs 
 no_length [] e = refl
 no_length (x ∷ xs) e = absurd (true≢false (sym e ∙ ne_eqb (length (x ∷ xs)) 0 (λ q. omega arith)))
 
--- where a session has finished with a cause, it is open, has no queue and no output, and ended with that cause
+-- where a session has finished with a cause, it is open, has no queue and no output, and this is what ends it
 finished_is : (o : Option SessionState) (c : EndCause) → option_and_then finished_by o ≡ Some c
-    → (s : SessionState) × (o ≡ Some s) × (s.queue ≡ []) × (s.out ≡ []) × (s.ended ≡ Some c)
+    → (s : SessionState) × (o ≡ Some s) × (s.queue ≡ []) × (s.out ≡ []) × (ending_of s ≡ Some c)
 finished_is None c e = absurd (cc)
 finished_is (Some s) c e =
-    let p = finished_if (length s.queue == 0 && length s.out == 0) s.ended c e in
+    let p = finished_if (length s.queue == 0 && length s.out == 0) (ending_of s) c e in
     let q = and_parts (length s.queue == 0) (length s.out == 0) p.0 in
     (s, refl, no_length s.queue q.0, no_length s.out q.1, p.1)
+
+-- what ends it is a message, or its input under a test
+ending_by : (o : Option EndCause) (b : Bool) (c : EndCause)
+    → cond (is_some o) o (cond b (Some causes.EndOfInput) None) ≡ Some c
+    → (o ≡ Some c) ⊎ ((o ≡ None) × (b ≡ true) × (c ≡ causes.EndOfInput))
+ending_by (Some d) b c e = inl e
+ending_by None true c e = let is : causes.EndOfInput ≡ c = cc in inr (refl, refl, sym is)
+ending_by None false c e = absurd (cc)
+
+-- a session ends so
+ends_by : (s : SessionState) (c : EndCause) → ending_of s ≡ Some c → HasReadAll (Some s) (Some c) → Ends s c
+ends_by s c e read =
+    let over : Bool = s.is_over in let unheld : Bool = length s.held == 0 in
+    let short : Bool = nat_lt (length s.unread) s.need in
+    elim (ending_by s.ended (over && unheld && short) c e) [
+      | inl ended ↦ inl ended
+      | inr out ↦
+          let p = and_parts (over && unheld) short out.1 in let q = and_parts over unheld p.0 in
+          inr (record {
+            is = out.2;
+            open_yet = out.0;
+            over = q.0;
+            held = no_length s.held q.1;
+            none = read (ap Some out.2) s refl out.0;
+          })
+    ]
 
 -- a session that has finished is still open at a port that tells its list
 pub finished_open : {P : Type 0} (told : P → Option PortStory) (w : WorkerState P) (t : ℕ) (c : EndCause)
@@ -77,9 +103,10 @@ finished_open told w t c h e = let f = finished_is (session_of w.book t) c e in 
 pub finish_goes_on : {P : Type 0} (told : P → Option PortStory) (old new : WorkerState P) (t : ℕ) (c : EndCause)
     → Shuts told old new t c
     → IsWorkerServing told old → option_and_then finished_by (session_of old.book t) ≡ Some c
-    → WorkerGoesOn told old new
-finish_goes_on told old new t c k h e =
+    → HasReadAll (session_of old.book t) (Some c) → WorkerGoesOn told old new
+finish_goes_on told old new t c k h e read =
     let f = finished_is (session_of old.book t) c e in
+    let ends : Ends f.0 c = ends_by f.0 c f.4 (subst (λ (o : Option SessionState). HasReadAll o (Some c)) f.1 read) in
     shut_goes_on told old new t c k h
     (λ story was_told closes.
     let v = run_view story old in
@@ -87,7 +114,7 @@ finish_goes_on told old new t c k h e =
     let same : f.0 ≡ r.running.s = some_is f.0 r.running.s (sym f.1 ∙ r.running.state) in
     told_finished v (run_view (then_told (was.Shut t ∷ []) story) new) old.unopened old.ended t c was_told closes r
     (ap (λ (s : SessionState). s.queue) (sym same) ∙ f.2) (ap (λ (s : SessionState). s.out) (sym same) ∙ f.3)
-    (ap (λ (s : SessionState). s.ended) (sym same) ∙ f.4))
+    (ap held_of r.running.state) (subst (λ (s : SessionState). Ends s c) same ends))
 
 -- ---- a session is opened
 
@@ -117,7 +144,7 @@ told_admitted v v' unopened ended t h may d e p k r book piece =
     (λ i. (facts (record v { back = k i }) t).had)
     (ap (λ y. cause_of y t) r ∙ cause_new v.sessions t causes.Drained u.1)
     (book t ∙ at_same t (Some (new_session v.dialect)) (session_of v.book t)) (λ i. piece i t) in
-    let served = served_new f' u.0.fed u.0.given u.0.had u.0.asked u.0.piece in
+    let served = served_new f' u.0.fed u.0.given u.0.had u.0.asked u.0.piece u.0.over in
     let now = is_running f' refl refl (record {
       gone = u.0.gone;
       shut = u.0.shut;
@@ -425,6 +452,32 @@ received_goes_on told old new port t b came h (drops none book port_is rest) =
       ap (λ (x : BookState). x.dialect) book,
     ) h) h
     (λ story e was_so. absurd (open_in_book story old t was_so.0 (came.opened story e) none))
+
+-- the port told that the input of a session has ended, and may have
+pub record EndsAt {P : Type 0} (told : P → Option PortStory) (old port : P) (t : ℕ) : Type 0 where
+  pub told_is : told port ≡ option_map (then_told (was.EndOfInput t ∷ [])) (told old)
+  pub opened : (story : PortStory) → told old ≡ Some story → is_open t story.events ≡ true
+
+-- the book notes it
+pub over_goes_on : {P : Type 0} (told : P → Option PortStory) (old : WorkerState P) (port : P) (book : BookState) (t : ℕ)
+    → EndsAt told old.port port t → IsWorkerServing told old
+    → ChangesSession old.book book t (option_map once_over (session_of old.book t))
+    → WorkerGoesOn told old (record old { port = port; book = book })
+over_goes_on told old port book t came h k =
+    let f = then_told (was.EndOfInput t ∷ []) in let new = record old { port = port; book = book } in
+    let pieces = pieces_kept old.book book t (option_map once_over (session_of old.book t)) k.only_at
+    (over_piece (session_of old.book t)) in
+    steps_on told old new f (λ s q. q) came.told_is (own_within told old new port
+    (record { end = refl; request = refl; sessions = refl; unopened = refl; strangers = refl; ended = refl }) (
+      ap (λ (x : BookState). x.posted) k.rest,
+      ap (λ (x : BookState). x.unsettled) k.rest,
+      ap (λ (x : BookState). x.dialect) k.rest,
+    ) h) h
+    (λ story e was_so. (
+      told_over (run_view story old) (run_view (f story) new) old.unopened old.ended t was_so.0 (came.opened story e)
+          refl refl refl refl refl k.only_at pieces,
+      paused_kept story (f story) (piece_of old.book) (piece_of book) pieces (λ s. refl) was_so.1,
+    ))
 
 -- the port told that a session has gone, and may have
 pub record LosesAt {P : Type 0} (told : P → Option PortStory) (old port : P) (t : ℕ) : Type 0 where

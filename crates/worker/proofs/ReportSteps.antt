@@ -1,6 +1,6 @@
 -- What a worker that has drained reports.
 use Rattle.std.proofs.Common.{◌≡◌, ◌≢◌, ◌⊎◌, inl, inr, ⊎_elim, ℕ, zero, suc, ◌<◌, ◌==◌, ◌&&◌, Bool, true, false}
-use Rattle.std.proofs.Common.{true≢false, cond, eq-eqb, List, [], ◌∷◌, ◌++◌, length, map, refl}
+use Rattle.std.proofs.Common.{true≢false, cond, eq-eqb, nat_lt, lt-ltb, List, [], ◌∷◌, ◌++◌, length, map, refl}
 use Rattle.std.proofs.Common.{sym, ap, subst, ◌∙◌, append-nil, arith, Option, Some, None, is_some}
 use Rattle.std.specs.Prelude.{IsSome, slice_index_or}
 use Rattle.std.specs.List.{filter, list_any, last_or}
@@ -20,7 +20,7 @@ use Rattle.exchange.specs.Beginnings.{StartsWith, posted_of}
 use Rattle.exchange.specs.Ends.{WorkerView}
 use Rattle.session_book.specs.declared.causes.EndCause.{EndCause}
 use Rattle.session_book.specs.declared.causes.EndCause.TheVariants as causes
-use Rattle.session_book.specs.Session.{SessionState, left, ended_by, finished_by, IsEmptied, Stops, ended, waiting, no_message}
+use Rattle.session_book.specs.Session.{SessionState, left, ended_by, ending_of, finished_by, IsEmptied, Stops, ended, waiting, no_message}
 use Rattle.session_book.specs.Book.{session_of, held_of}
 use Rattle.session_book.proofs.Reading.{has_ended_by, none_ends}
 use Rattle.worker_port.specs.Ports.{fed, given}
@@ -181,6 +181,9 @@ whole_read v s c messages rest h reads e =
 final_closed : (v : RunView) (s : ℕ) (c : EndCause) (messages : List Message) (rest : List ℕ) → IsClosed (facts v s) c
     → Reads v.dialect (fed s v.events) messages rest → IsFinal v s c messages
 final_closed v s causes.Drained messages rest h reads = absurd h.caused
+final_closed v s causes.EndOfInput messages rest h reads = let w = h.caused in
+    final_whole v s causes.EndOfInput messages h.messages (same_reading v.dialect (fed s v.events) h.rest rest h.messages messages
+    h.read (λ goes_on. w.none) reads) h.asked w.whole.0 (w.over, w.shut, none_ends h.messages w.whole.2)
 final_closed v s causes.Quit messages rest h reads = let w = h.caused.1 in
     let last = by_last v.dialect h.read.read None h.messages causes.Quit h.read.reads w.2 in
     final_whole v s causes.Quit messages h.messages (whole_read v s causes.Quit messages rest h reads w.2) h.asked w.0
@@ -199,7 +202,28 @@ final_closed v s causes.NoMemory messages rest h reads = let m =
 
 -- a session that is still open has read all that spells a message
 ended_none : (s : SessionState) → s.queue ≡ [] → s.out ≡ [] → finished_by s ≡ None → s.ended ≡ None
-ended_none s q o e = sym (λ i. cond ((length (q i) == 0) && (length (o i) == 0)) s.ended None) ∙ e
+ended_none s q o e = none_first s.ended _ (sym (λ i. cond ((length (q i) == 0) && (length (o i) == 0)) (ending_of s) None) ∙ e)
+  where
+    none_first : (o x : Option EndCause) → cond (is_some o) o x ≡ None → o ≡ None
+    none_first None x e = refl
+    none_first (Some c) x e = absurd cc
+
+-- nor has its input ended
+not_over : (s : SessionState) → s.queue ≡ [] → IsEmptied s → s.ended ≡ None → s.is_over ≡ false
+not_over s q h none =
+    let short : nat_lt (length s.unread) s.need ≡ true = lt-ltb (length s.unread) s.need (too_short s h.out none h.stops) in
+    untaken s.is_over (sym (λ i. cond ((length (q i) == 0) && (length (h.out i) == 0))
+    (cond (is_some (none i)) (none i) (cond (s.is_over && (length (h.held i) == 0) && short i) (Some causes.EndOfInput) None)) None)
+    ∙ h.unfinished)
+  where
+    too_short : (s : SessionState) → s.out ≡ [] → s.ended ≡ None → Stops s → length s.unread < s.need
+    too_short s o e (ended h) = absurd (true≢false (sym h ∙ ap is_some e))
+    too_short s o e (waiting h) = let len : length s.out ≡ 0 = ap (length {A = ℕ}) o in absurd (omega arith)
+    too_short s o e (no_message h none) = h
+
+    untaken : (b : Bool) → cond (b && true && true) (Some causes.EndOfInput) None ≡ None → b ≡ false
+    untaken true e = absurd cc
+    untaken false e = refl
 
 -- once a session that hasn't ended and has no output reads no further, no beginning of its unread bytes spells a message
 no_more : (s : SessionState) → s.out ≡ [] → s.ended ≡ None → Stops s → SpellsNone s.dialect s.unread
@@ -234,7 +258,7 @@ final_drained v s messages rest run held emptied many reads =
     final_whole v s causes.Drained messages r.messages same r.asked
     (sym (append-nil (given s v.events)) ∙ ap (λ (x : List ℕ). given s v.events ++ x) (sym emptied.out)
     ∙ r.has_said.whole)
-    (run.gone, run.shut, none_ends r.messages (sym r.has_read.ended ∙ ends))
+    (sym r.over ∙ not_over st queue emptied ends, run.gone, run.shut, none_ends r.messages (sym r.has_read.ended ∙ ends))
 
 -- a session with an entry in the report is final, where it has as many replies as requests and, if it is still open,
 -- is emptied
@@ -246,6 +270,8 @@ final_placed : (v : RunView) (s : ℕ) (c : EndCause) (messages : List Message) 
     → IsFinal v s c messages
 final_placed v s causes.Drained messages rest h none emptied many reads =
     final_drained v s messages rest h none (emptied refl h.s h.state) many reads
+final_placed v s causes.EndOfInput messages rest h none emptied many reads =
+    final_closed v s causes.EndOfInput messages rest h reads
 final_placed v s causes.Quit messages rest h none emptied many reads =
     final_closed v s causes.Quit messages rest h reads
 final_placed v s causes.Fatal messages rest h none emptied many reads =

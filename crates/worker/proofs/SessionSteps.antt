@@ -1,5 +1,5 @@
 -- What each step leaves of what is known of its session.
-use Rattle.std.proofs.Common.{◌≡◌, ℕ, ◌<◌, ◌⊎◌, inl, inr, Bool, true, false, true≢false}
+use Rattle.std.proofs.Common.{◌≡◌, ℕ, ◌<◌, ◌⊎◌, inl, inr, Bool, true, false, cond, true≢false}
 use Rattle.std.proofs.Common.{List, [], ◌∷◌, ◌++◌, length, take, refl, sym, ap, subst, ◌∙◌}
 use Rattle.std.proofs.Common.{append_assoc, append-nil, arith, Option, Some, None, is_some}
 use Rattle.std.proofs.lemmas.List.{length-append}
@@ -8,12 +8,13 @@ use Rattle.proto.specs.declared.message.Request.{Request}
 use Rattle.proto.specs.declared.message.Reply.{Reply}
 use Rattle.proto.specs.declared.message.Message.{Message}
 use Rattle.proto.specs.declared.message.Message.TheVariants.{Ask, Wrong, Quit, Fatal}
+use Rattle.proto.specs.Grammar.{SpellsNone}
 use Rattle.proto.specs.Reading.{asks}
 use Rattle.proto.specs.Answers.{said}
 use Rattle.exchange.specs.Beginnings.{StartsWith}
 use Rattle.session_book.specs.declared.causes.EndCause.{EndCause}
 use Rattle.session_book.specs.declared.causes.EndCause.TheVariants as causes
-use Rattle.session_book.specs.Session.{SessionState, ended_by, new_session, once_fed, holding, ReadsOn, with_reply, gave}
+use Rattle.session_book.specs.Session.{SessionState, ended_by, new_session, once_fed, once_over, holding, ReadsOn, with_reply, gave}
 use Rattle.session_book.specs.Accounts.{HasRead, HasSaid}
 use Rattle.worker.specs.Sessions.{SessionFacts, IsUntouched, IsUnopened, IsSessionServed, IsRunning, BeginsWith, IsWhole, IsCaused, IsClosed, IsReportedAs}
 use Rattle.worker.specs.Sessions.{IsKnownAs, AreFactsConsistent}
@@ -40,6 +41,7 @@ runs_as : (f : SessionFacts) (s : SessionState) (o : Bool) (c : Option EndCause)
 runs_as f s false c h e = absurd (not_both f.state s h.0.state e)
 runs_as f s true None h e = absurd (not_both f.state s h.state e)
 runs_as f s true (Some causes.Drained) h e = (refl, refl, h)
+runs_as f s true (Some causes.EndOfInput) h e = absurd (not_both f.state s h.state e)
 runs_as f s true (Some causes.Quit) h e = absurd (not_both f.state s h.state e)
 runs_as f s true (Some causes.Fatal) h e = absurd (not_both f.state s h.state e)
 runs_as f s true (Some causes.Gone) h e = absurd (not_both f.state s h.state e)
@@ -57,6 +59,7 @@ runs_from : (f : SessionFacts) (o : Bool) (c : Option EndCause) → IsKnownAs o 
 runs_from f false c h o g s = absurd (true≢false (sym o))
 runs_from f true None h o g s = absurd (true≢false (sym h.shut ∙ s))
 runs_from f true (Some causes.Drained) h o g s = (refl, h)
+runs_from f true (Some causes.EndOfInput) h o g s = absurd (true≢false (sym h.caused.shut ∙ s))
 runs_from f true (Some causes.Quit) h o g s = absurd (true≢false (sym h.caused.0 ∙ s))
 runs_from f true (Some causes.Fatal) h o g s = absurd (true≢false (sym h.caused.0 ∙ s))
 runs_from f true (Some causes.Gone) h o g s = absurd (true≢false (sym h.caused ∙ g))
@@ -104,12 +107,14 @@ runs_on f g s held r opened gone shut cause served =
         has_read = served.has_read;
         has_said = served.has_said;
         asked = served.asked;
+        over = served.over;
       };
     })
 
 -- a closed session is as its cause in the report says
 placed_closed : (f : SessionFacts) (c : EndCause) → IsClosed f c → IsReportedAs f (Some c)
 placed_closed f causes.Drained h = absurd h.caused
+placed_closed f causes.EndOfInput h = h
 placed_closed f causes.Quit h = h
 placed_closed f causes.Fatal h = h
 placed_closed f causes.Gone h = h
@@ -134,8 +139,8 @@ is_unopened f o e h = record {
 
 -- a session of which nothing came, and for which nothing was asked, had or given, is served in the state of a new one
 pub served_new : (f : SessionFacts) → f.port.fed ≡ [] → f.port.given ≡ [] → f.had ≡ [] → f.asked ≡ [] → f.piece ≡ []
-    → IsSessionServed f.piece f (new_session f.dialect)
-served_new f fed_is given_is had_is asked_is piece_is = record {
+    → f.port.over ≡ false → IsSessionServed f.piece f (new_session f.dialect)
+served_new f fed_is given_is had_is asked_is piece_is goes_on = record {
   bytes = [];
   messages = [];
   fed = fed_is ∙ sym piece_is;
@@ -143,6 +148,7 @@ served_new f fed_is given_is had_is asked_is piece_is = record {
   has_said = subst (λ (x : List Reply × List ℕ). HasSaid [] x.0 x.1 (new_session f.dialect))
       (λ i. (sym had_is i, sym given_is i)) (starts_accounts f.dialect).1;
   asked = asked_is;
+  over = sym goes_on;
 }
 
 -- bytes came, which are held at first
@@ -155,7 +161,14 @@ served_came f s held more h = record {
   has_read = h.has_read;
   has_said = h.has_said;
   asked = h.asked;
+  over = h.over;
 }
+
+-- what a session is fed leaves whether its input has ended
+fed_over : (ended : Bool) (s : SessionState) (b : List ℕ)
+    → (cond ended s (record s { unread = s.unread ++ b })).is_over ≡ s.is_over
+fed_over true s b = refl
+fed_over false s b = refl
 
 -- held bytes are fed
 pub served_fed : (f : SessionFacts) (s : SessionState) (held : List ℕ) → IsSessionServed held f s
@@ -168,6 +181,7 @@ served_fed f s held h =
       has_read = k.0;
       has_said = k.1;
       asked = h.asked;
+      over = fed_over (is_some s.ended) s held ∙ h.over;
     }
 
 -- a piece is held, or no longer
@@ -188,6 +202,28 @@ served_holding f s held piece h = record {
   };
   has_said = record { whole = h.has_said.whole; queue = h.has_said.queue; replied = h.has_said.replied };
   asked = h.asked;
+  over = h.over;
+}
+
+-- the input has ended
+pub served_over : (f : SessionFacts) (s : SessionState) (held : List ℕ) → IsSessionServed held f s
+    → IsSessionServed held (record f { port = record f.port { over = true } }) (once_over s)
+served_over f s held h = record {
+  bytes = h.bytes;
+  messages = h.messages;
+  fed = h.fed;
+  has_read = record {
+    read = h.has_read.read;
+    dropped = h.has_read.dropped;
+    whole = h.has_read.whole;
+    dialect = h.has_read.dialect;
+    reads = h.has_read.reads;
+    ended = h.has_read.ended;
+    nothing_dropped = h.has_read.nothing_dropped;
+  };
+  has_said = record { whole = h.has_said.whole; queue = h.has_said.queue; replied = h.has_said.replied };
+  asked = h.asked;
+  over = refl;
 }
 
 -- messages are read, and their requests asked
@@ -202,6 +238,7 @@ served_read f s after held more r h =
       has_read = k.0;
       has_said = k.1;
       asked = ap (λ (x : List Request). x ++ asks more) h.asked ∙ sym (asks-append h.messages more);
+      over = r.over ∙ h.over;
     }
 
 -- a reply is settled
@@ -216,6 +253,7 @@ served_settled f s held r some h =
       has_read = k.0;
       has_said = k.1;
       asked = h.asked;
+      over = h.over;
     }
 
 -- output is given
@@ -229,6 +267,7 @@ served_gave f s held n h =
       has_read = k.0;
       has_said = k.1;
       asked = h.asked;
+      over = h.over;
     }
 
 -- ---- closing
@@ -257,8 +296,9 @@ pub record Stays (f g : SessionFacts) : Type 0 where
 
 -- a served session that is gone or shut is closed with a cause that is one of it, where what came, was given, asked and had stays
 closed_as : (f g : SessionFacts) (s : SessionState) (held : List ℕ) (c : EndCause) (h : IsSessionServed held f s)
-    → Stays f g → IsCaused g h.messages c
+    → Stays f g → IsCaused g h.messages ((s.unread ++ h.has_read.dropped) ++ held) c
     → (g.port.gone ≡ true) ⊎ (g.port.shut ≡ true) → IsClosed g c
+unfolding begins
 closed_as f g s held c h k caused over =
     let b = begins f.dialect h.bytes held g.port.fed h.messages s (k.fed ∙ h.fed) h.has_read in record {
       messages = h.messages;
@@ -321,10 +361,10 @@ ending o (Quit ∷ ms) h = ending (Some causes.Quit) ms quits
 ending o (Fatal kind ∷ ms) h = ending (Some causes.Fatal) ms fails
 
 -- all was answered and given: it is closed with what has ended it
-whole_as : (f g : SessionFacts) (s : SessionState) (held : List ℕ) (c : EndCause) (h : IsSessionServed held f s)
+whole_as : (f g : SessionFacts) (s : SessionState) (held : List ℕ) (o : Option EndCause) (h : IsSessionServed held f s)
     → Stays f g → s.queue ≡ [] → s.out ≡ []
-    → s.ended ≡ Some c → IsWhole g h.messages c
-whole_as f g s held c h k queue out ended = (
+    → s.ended ≡ o → IsWhole g h.messages o
+whole_as f g s held o h k queue out ended = (
   k.given ∙ sym (append-nil f.port.given) ∙ ap (λ (x : List ℕ). f.port.given ++ x) (sym out) ∙ h.has_said.whole
       ∙ ap (said h.messages) (sym k.had),
   (let none : length (asks s.queue) ≡ 0 = ap (λ ms. length (asks ms)) queue in
@@ -333,44 +373,82 @@ whole_as f g s held c h k queue out ended = (
 )
 
 -- Quit or Fatal is the cause of closing a session that it has ended, where that was shut with all answered and given
-caused_by : (g : SessionFacts) (ms : List Message) (c : EndCause) → IsEnding (Some c) → g.port.shut ≡ true
-    → IsWhole g ms c → IsCaused g ms c
-caused_by g ms causes.Quit e shut w = (shut, w)
-caused_by g ms causes.Fatal e shut w = (shut, w)
-caused_by g ms causes.Drained (inl e) shut w = cc
-caused_by g ms causes.Drained (inr (inl e)) shut w = cc
-caused_by g ms causes.Drained (inr (inr e)) shut w = cc
-caused_by g ms causes.Gone (inl e) shut w = cc
-caused_by g ms causes.Gone (inr (inl e)) shut w = cc
-caused_by g ms causes.Gone (inr (inr e)) shut w = cc
-caused_by g ms causes.NoMemory (inl e) shut w = cc
-caused_by g ms causes.NoMemory (inr (inl e)) shut w = cc
-caused_by g ms causes.NoMemory (inr (inr e)) shut w = cc
+caused_by : (g : SessionFacts) (ms : List Message) (rest : List ℕ) (c : EndCause) → IsEnding (Some c) → g.port.shut ≡ true
+    → IsWhole g ms (Some c) → IsCaused g ms rest c
+caused_by g ms rest causes.Quit e shut w = (shut, w)
+caused_by g ms rest causes.Fatal e shut w = (shut, w)
+caused_by g ms rest causes.Drained (inl e) shut w = cc
+caused_by g ms rest causes.Drained (inr (inl e)) shut w = cc
+caused_by g ms rest causes.Drained (inr (inr e)) shut w = cc
+caused_by g ms rest causes.EndOfInput (inl e) shut w = cc
+caused_by g ms rest causes.EndOfInput (inr (inl e)) shut w = cc
+caused_by g ms rest causes.EndOfInput (inr (inr e)) shut w = cc
+caused_by g ms rest causes.Gone (inl e) shut w = cc
+caused_by g ms rest causes.Gone (inr (inl e)) shut w = cc
+caused_by g ms rest causes.Gone (inr (inr e)) shut w = cc
+caused_by g ms rest causes.NoMemory (inl e) shut w = cc
+caused_by g ms rest causes.NoMemory (inr (inl e)) shut w = cc
+caused_by g ms rest causes.NoMemory (inr (inr e)) shut w = cc
+
+-- with its input, of which none is held or left to be read, ends a session that no message has ended
+pub record RunsOut (s : SessionState) (c : EndCause) : Type 0 where
+  pub is : c ≡ causes.EndOfInput
+  pub open_yet : s.ended ≡ None
+  pub over : s.is_over ≡ true
+  pub held : s.held ≡ []
+  pub none : SpellsNone s.dialect s.unread
+
+-- what ends a session: a message, or the end of its input
+abbrev pub Ends : SessionState → EndCause → Type 0
+Ends s c = (s.ended ≡ Some c) ⊎ RunsOut s c
 
 -- a served session without queue and output that was shut is closed with what has ended it
 pub closed_finished : (f g : SessionFacts) (s : SessionState) (held : List ℕ) (c : EndCause) → IsSessionServed held f s
-    → Stays f g → s.queue ≡ []
-    → s.out ≡ [] → s.ended ≡ Some c → g.port.shut ≡ true → IsClosed g c
-closed_finished f g s held c h k queue out ended shut =
+    → Stays f g → s.queue ≡ [] → s.out ≡ [] → held ≡ s.held → g.port.over ≡ f.port.over → Ends s c
+    → g.port.shut ≡ true → IsClosed g c
+closed_finished f g s held c h k queue out holds same (inl ended) shut =
     let is : IsEnding (Some c) = subst IsEnding (sym h.has_read.ended ∙ ended) (ending None h.messages (inl refl)) in
-    closed_as f g s held c h k (caused_by g h.messages c is shut (whole_as f g s held c h k queue out ended)) (inr shut)
+    closed_as f g s held c h k (caused_by g h.messages ((s.unread ++ h.has_read.dropped) ++ held) c is shut
+    (whole_as f g s held (Some c) h k queue out ended)) (inr shut)
+closed_finished f g s held c h k queue out holds same (inr o) shut =
+    let behind : List ℕ = (s.unread ++ h.has_read.dropped) ++ held in
+    let behind_is : behind ≡ s.unread = ap (λ (x : List ℕ). (s.unread ++ h.has_read.dropped) ++ x) (holds ∙ o.held)
+    ∙ append-nil (s.unread ++ h.has_read.dropped)
+    ∙ ap (λ (x : List ℕ). s.unread ++ x) (h.has_read.nothing_dropped o.open_yet) ∙ append-nil s.unread in
+    let dialect : s.dialect ≡ g.dialect = h.has_read.dialect ∙ sym k.dialect in
+    closed_as f g s held c h k (subst (λ (x : EndCause). IsCaused g h.messages behind x) (sym o.is) (record {
+      over = same ∙ sym h.over ∙ o.over;
+      shut = shut;
+      none = subst (λ (y : Dialect × List ℕ). SpellsNone y.0 y.1) (λ i. (dialect i, sym behind_is i)) o.none;
+      whole = whole_as f g s held None h k queue out o.open_yet;
+    })) (inr shut)
 
 -- ---- an answer to a closed session is dropped
 
 -- one more reply leaves why a session was closed
-caused_more : (f : SessionFacts) (r : Reply) (ms : List Message) (c : EndCause) → IsCaused f ms c
-    → IsCaused (record f { had = f.had ++ r ∷ [] }) ms c
-caused_more f r ms causes.Drained h = h
-caused_more f r ms causes.Quit h = (
+caused_more : (f : SessionFacts) (r : Reply) (ms : List Message) (rest : List ℕ) (c : EndCause) → IsCaused f ms rest c
+    → IsCaused (record f { had = f.had ++ r ∷ [] }) ms rest c
+caused_more f r ms rest causes.Drained h = h
+caused_more f r ms rest causes.EndOfInput h = record {
+  over = h.over;
+  shut = h.shut;
+  none = h.none;
+  whole = (
+    h.whole.0 ∙ sym (said_all ms f.had (r ∷ []) h.whole.1),
+    omega (arith, h.whole.1, length-append f.had (r ∷ [])),
+    h.whole.2,
+  );
+}
+caused_more f r ms rest causes.Quit h = (
   h.0,
   (h.1.0 ∙ sym (said_all ms f.had (r ∷ []) h.1.1), omega (arith, h.1.1, length-append f.had (r ∷ [])), h.1.2),
 )
-caused_more f r ms causes.Fatal h = (
+caused_more f r ms rest causes.Fatal h = (
   h.0,
   (h.1.0 ∙ sym (said_all ms f.had (r ∷ []) h.1.1), omega (arith, h.1.1, length-append f.had (r ∷ [])), h.1.2),
 )
-caused_more f r ms causes.Gone h = h
-caused_more f r ms causes.NoMemory h = h
+caused_more f r ms rest causes.Gone h = h
+caused_more f r ms rest causes.NoMemory h = h
 
 -- a closed session is closed still when one more reply came back for it
 pub closed_dropped : (f : SessionFacts) (r : Reply) (c : EndCause) → IsClosed f c
@@ -382,7 +460,7 @@ closed_dropped f r c h = record {
   asked = h.asked;
   said = begins_on f.port.given (said h.messages f.had) (said h.messages (f.had ++ r ∷ [])) h.said
       (said_more h.messages f.had (r ∷ []));
-  caused = caused_more f r h.messages c h.caused;
+  caused = caused_more f r h.messages h.rest c h.caused;
   over = h.over;
   state = h.state;
 }
@@ -394,6 +472,7 @@ dropped_as : (f : SessionFacts) (r : Reply) (o : Bool) (c : Option EndCause) →
 dropped_as f r false c none some h = absurd (some h.0.asked)
 dropped_as f r true None none some h = absurd (some h.asked)
 dropped_as f r true (Some causes.Drained) none some h = absurd (not_both f.state h.s none h.state)
+dropped_as f r true (Some causes.EndOfInput) none some h = closed_dropped f r causes.EndOfInput h
 dropped_as f r true (Some causes.Quit) none some h = closed_dropped f r causes.Quit h
 dropped_as f r true (Some causes.Fatal) none some h = closed_dropped f r causes.Fatal h
 dropped_as f r true (Some causes.Gone) none some h = closed_dropped f r causes.Gone h

@@ -47,6 +47,7 @@ pub ends_elsewhere : (x : PortRecord) (s : ℕ) → about s x ≡ false
     → (is_in (was.Gone s) (x ∷ []) || is_in (was.Shut s) (x ∷ [])) ≡ false
 ends_elsewhere (was.Opened t) s e = refl
 ends_elsewhere (was.Data t b) s e = refl
+ends_elsewhere (was.EndOfInput t) s e = refl
 ends_elsewhere (was.Gone t) s e = ap (λ b. (b || false) || false) e
 ends_elsewhere was.Ended s e = refl
 ends_elsewhere (was.Accepted t b) s e = refl

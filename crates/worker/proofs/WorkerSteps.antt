@@ -7,7 +7,7 @@ use Rattle.proto.specs.declared.history.Posted.{Posted}
 use Rattle.exchange.specs.Ends.{WorkerView}
 use Rattle.session_book.specs.declared.causes.EndCause.{EndCause}
 use Rattle.session_book.specs.declared.causes.EndCause.TheVariants as causes
-use Rattle.session_book.specs.Session.{SessionState, once_fed, holding}
+use Rattle.session_book.specs.Session.{SessionState, once_fed, once_over, holding}
 use Rattle.session_book.specs.Book.{BookState, session_of}
 use Rattle.worker_port.specs.declared.events.PortRecord.{PortRecord}
 use Rattle.worker_port.specs.declared.events.PortRecord.TheVariants as was
@@ -22,9 +22,9 @@ use Rattle.worker_port.specs.Giving.{IsStoryOf}
 use Rattle.exchange.proofs.Lists.{starts_trans}
 use Rattle.worker.specs.Workers.{Continues, Closes, Shuts, LeavesWorker, IsStoryBy}
 use Rattle.worker.proofs.EndCauseLemmas.{rises_with, length-with}
-use Rattle.worker_port.proofs.Facts.{about, elsewhere, fed_here}
-use Rattle.worker.proofs.SessionSteps.{Runs, runs, runs_at_port, runs_on, closed_gone, closed_no_memory, closed_finished, served_came, served_fed}
-use Rattle.worker.proofs.SessionSteps.{served_holding}
+use Rattle.worker_port.proofs.Facts.{about, elsewhere, fed_here, over_here}
+use Rattle.worker.proofs.SessionSteps.{Runs, runs, runs_at_port, runs_on, Ends, closed_gone, closed_no_memory, closed_finished, served_came, served_fed}
+use Rattle.worker.proofs.SessionSteps.{served_holding, served_over}
 use Rattle.worker.proofs.StoryLaws.{told_before, tells_as, paused_but, paused_elsewhere}
 use Rattle.worker.proofs.PieceLaws.{pieces_at}
 use Rattle.worker.proofs.RunViews.{facts_equal, change_at, at_other, at_same, ClosesIn, shuts_here, goes_here, stays}
@@ -147,14 +147,15 @@ told_no_memory v v' unopened ended t h k r =
 -- shut as it has finished
 pub told_finished : (v v' : RunView) (unopened : ℕ) (ended : Bool) (t : ℕ) (c : EndCause)
     → IsStoryKnown v unopened ended → ClosesIn v v' t c (was.Shut t)
-    → (r : Runs (facts v t)) → r.running.s.queue ≡ [] → r.running.s.out ≡ [] → r.running.s.ended ≡ Some c
-    → IsStoryKnown v' unopened ended
-told_finished v v' unopened ended t c h k r queue out ends =
+    → (r : Runs (facts v t)) → r.running.s.queue ≡ [] → r.running.s.out ≡ [] → v.piece t ≡ r.running.s.held
+    → Ends r.running.s c → IsStoryKnown v' unopened ended
+told_finished v v' unopened ended t c h k r queue out held ends =
     let here = shuts_here v v' t c causes.Drained k r.cause in
     let port = record (port_facts v.events t) { shut = true } in
     let st = stays (facts v t) (facts v' t) port c here refl refl in
     told_shut v v' unopened ended t c h k r (closed_finished (facts v t) (facts v' t) r.running.s
-    (facts v t).piece c r.running.served st queue out ends (ap (λ (p : PortFacts). p.shut) here.port_is))
+    (facts v t).piece c r.running.served st queue out held (ap (λ (p : PortFacts). p.over) here.port_is) ends
+    (ap (λ (p : PortFacts). p.shut) here.port_is))
 
 -- what a closing of the worker makes of its view
 pub closes_in : {P : Type 0} (story : PortStory) (old new : WorkerState P) (t : ℕ) (c : EndCause) (x : PortRecord)
@@ -188,18 +189,18 @@ same_end old new e = record {
 }
 
 -- such an end is later, or the same
-pub later_view : (old new : WorkerView) → new.worker ≡ old.worker → new.geometry ≡ old.geometry → new.seen ≡ old.seen
+pub later_view : (old new : WorkerView) → new.worker ≡ old.worker → new.terms ≡ old.terms → new.seen ≡ old.seen
     → IsLaterEnd old new
-later_view old new w g s = record { worker = w; geometry = g; later = ([], s ∙ sym (append-nil old.seen)) }
+later_view old new w g s = record { worker = w; terms = g; later = ([], s ∙ sym (append-nil old.seen)) }
 
 pub later_is : (old new : WorkerView) → new ≡ old → IsLaterEnd old new
-later_is old new e = later_view old new (ap (λ (w : WorkerView). w.worker) e) (ap (λ (w : WorkerView). w.geometry) e)
+later_is old new e = later_view old new (ap (λ (w : WorkerView). w.worker) e) (ap (λ (w : WorkerView). w.terms) e)
     (ap (λ (w : WorkerView). w.seen) e)
 
 pub later_trans : (a b c : WorkerView) → IsLaterEnd a b → IsLaterEnd b c → IsLaterEnd a c
 later_trans a b c h k = record {
   worker = k.worker ∙ h.worker;
-  geometry = k.geometry ∙ h.geometry;
+  terms = k.terms ∙ h.terms;
   later = starts_trans c.seen b.seen a.seen k.later h.later;
 }
 
@@ -207,7 +208,7 @@ later_trans a b c h k = record {
 pub story_later : (story : PortStory) (a b : WorkerView) → IsStoryOf story a → IsLaterEnd a b → IsStoryOf story b
 story_later story a b h k = record {
   worker_is = h.worker_is ∙ sym k.worker;
-  sizes_are = h.sizes_are ∙ sym k.geometry;
+  terms_are = h.terms_are ∙ sym k.terms;
   later = starts_trans b.seen a.seen story.history k.later h.later;
 }
 
@@ -425,6 +426,31 @@ told_fed v v' unopened ended t b h opened none d e p k r book piece =
     (change_at t v v' (others_same v v' t (was.Data t b) d e p k r (λ s ne. ne_eqb t s ne)
     (λ s ne. book s ∙ at_other t s (option_map (λ (x : SessionState). once_fed x b) (session_of v.book t))
     (session_of v.book s) ne)
+    (λ s ne. piece s)) (subst AreFactsConsistent (sym here) now) (λ s ne. h.each s))
+
+-- the input has ended
+pub told_over : (v v' : RunView) (unopened : ℕ) (ended : Bool) (t : ℕ) → IsStoryKnown v unopened ended
+    → is_open t v.events ≡ true
+    → v'.dialect ≡ v.dialect → v'.events ≡ v.events ++ was.EndOfInput t ∷ [] → v'.posted ≡ v.posted → v'.back ≡ v.back
+    → v'.sessions ≡ v.sessions
+    → ((s : ℕ) → session_of v'.book s ≡ cond (s == t) (option_map once_over (session_of v.book t)) (session_of v.book s))
+    → ((s : ℕ) → v'.piece s ≡ v.piece s) → IsStoryKnown v' unopened ended
+told_over v v' unopened ended t h opened d e p k r book piece =
+    let o = open_here v.events t opened in
+    let run = runs_at_port (facts v t) (h.each t) o.0 o.1 o.2 in
+    let s = run.running.s in
+    let port = record (port_facts v.events t) { over = true } in
+    let served = served_over (facts v t) s (v.piece t) run.running.served in
+    let state : session_of v'.book t ≡ Some (once_over s) =
+    book t ∙ at_same t (option_map once_over (session_of v.book t)) (session_of v.book t)
+    ∙ ap (option_map once_over) run.running.state in
+    let here = fact_at v v' t port (Some (once_over s)) (v.piece t) d
+    (ap (λ l. port_facts l t) e ∙ over_here v.events t) p k r state (piece t) in
+    let now = running_on (facts v t) port (once_over s) (v.piece t) run refl refl refl served in
+    told_same v v' unopened ended (was.EndOfInput t) h e r (ended_same v.events (was.EndOfInput t) refl)
+    (count_same v.events (was.EndOfInput t) refl) tt
+    (change_at t v v' (others_same v v' t (was.EndOfInput t) d e p k r (λ s ne. ne_eqb t s ne)
+    (λ s ne. book s ∙ at_other t s (option_map once_over (session_of v.book t)) (session_of v.book s) ne)
     (λ s ne. piece s)) (subst AreFactsConsistent (sym here) now) (λ s ne. h.each s))
 
 -- bytes came and are held

@@ -1,5 +1,5 @@
 -- The entries of sessions in the report, and the pieces of input that are held.
-use Rattle.std.specs.Prelude.{ℕ, ◌<◌, ◌≤◌, ⊤, length, slice_index_or, List, [], ◌∷◌, ◌==◌, if◌then◌else◌, map}
+use Rattle.std.specs.Prelude.{ℕ, ◌<◌, ⊤, List, [], ◌∷◌, ◌==◌, if◌then◌else◌, map}
 use Rattle.session_book.specs.declared.causes.EndCause.{EndCause}
 use Rattle.session_book.specs.Book.{BookState, session_of, held_of}
 
@@ -15,9 +15,3 @@ with_cause sessions session cause = map (λ (e : ℕ × EndCause). if e.0 == ses
 -- the piece that the book holds of a session, none of one that isn't open
 abbrev pub piece_of : BookState → ℕ → List ℕ
 piece_of book session = held_of (session_of book session)
-
--- the numbers before this position are below the session's, and those from it on are not
-abbrev pub IsFirstFrom : List (ℕ × EndCause) → ℕ → ℕ → Type 0
-IsFirstFrom sessions session position =
-    ((k : ℕ) (d : ℕ × EndCause) → k < position → (slice_index_or sessions k d).0 < session)
-    × ((k : ℕ) (d : ℕ × EndCause) → position ≤ k → k < length sessions → session ≤ (slice_index_or sessions k d).0)

@@ -22,7 +22,10 @@ use Rattle.worker.specs.EndCauses.{RisesFrom}
 
 abbrev pub IsCauseOf : List PortRecord → ℕ → List Message → EndCause → Type 0
 IsCauseOf events s messages causes.Drained =
-    (is_in (was.Gone s) events ≡ false) × (is_in (was.Shut s) events ≡ false) × (list_any ends_session messages ≡ false)
+    (is_in (was.EndOfInput s) events ≡ false) × (is_in (was.Gone s) events ≡ false) × (is_in (was.Shut s) events ≡ false)
+    × (list_any ends_session messages ≡ false)
+IsCauseOf events s messages causes.EndOfInput =
+    (is_in (was.EndOfInput s) events ≡ true) × (is_in (was.Shut s) events ≡ true) × (list_any ends_session messages ≡ false)
 IsCauseOf events s messages causes.Gone = is_in (was.Gone s) events ≡ true
 IsCauseOf events s messages causes.NoMemory = is_in (was.Shut s) events ≡ true
 IsCauseOf events s messages causes.Quit = (is_in (was.Shut s) events ≡ true) × (last_or None messages ≡ Some Quit)

@@ -1,15 +1,14 @@
 -- The list of the sessions that a worker opened.
-use Rattle.std.specs.Prelude.{ℕ, Bool, List, [], ◌∷◌, ◌++◌}
+use Rattle.std.specs.Prelude.{ℕ, List, [], ◌∷◌, ◌++◌}
 use Rattle.session_book.specs.declared.causes.EndCause.{EndCause}
 use Rattle.session_book.specs.declared.causes.EndCause.TheVariants as causes
 use Rattle.worker.specs.declared.session_list.SessionNote.{SessionNote}
 use Rattle.worker.specs.declared.session_list.SessionNote.TheVariants as was
 use Rattle.worker.specs.EndCauses.{with_cause}
 
--- a list of sessions, each with its cause, and whether there is memory for one more
+-- a list of sessions, each with its cause
 pub record SessionEntries : Type 0 where
   pub items : List (ℕ × EndCause)
-  pub has_place : Bool
 
 -- a session that is opened stands at the end, as if it drained; one that is closed gets its cause
 abbrev pub and_noted : List (ℕ × EndCause) → SessionNote → List (ℕ × EndCause)

@@ -7,6 +7,7 @@ use Rattle.proto.specs.declared.message.Reply.{Reply}
 use Rattle.proto.specs.declared.message.Message.{Message}
 use Rattle.proto.specs.declared.history.Posted.{Posted}
 use Rattle.proto.specs.declared.history.Answered.{Answered}
+use Rattle.proto.specs.Grammar.{SpellsNone}
 use Rattle.proto.specs.Reading.{Reads, asks}
 use Rattle.proto.specs.Answers.{said}
 use Rattle.exchange.specs.Beginnings.{StartsWith}
@@ -47,6 +48,7 @@ pub record SessionFacts : Type 0 where
 pub record IsUntouched (f : SessionFacts) : Type 0 where
   pub fed : f.port.fed ≡ []
   pub given : f.port.given ≡ []
+  pub over : f.port.over ≡ false
   pub gone : f.port.gone ≡ false
   pub shut : f.port.shut ≡ false
   pub asked : f.asked ≡ []
@@ -62,7 +64,7 @@ pub record IsUnopened (f : SessionFacts) : Type 0 where
   pub state : f.state ≡ None
 
 -- The session was fed all bytes that came, but for those held back; messages were read and asked, and their
--- answers given or put out, as its state says.
+-- answers given or put out, as its state says; and the state says whether its input has ended.
 pub record IsSessionServed (held : List ℕ) (f : SessionFacts) (s : SessionState) : Type 0 where
   pub bytes : List ℕ
   pub messages : List Message
@@ -70,6 +72,7 @@ pub record IsSessionServed (held : List ℕ) (f : SessionFacts) (s : SessionStat
   pub has_read : HasRead f.dialect bytes messages s
   pub has_said : HasSaid messages f.had f.port.given s
   pub asked : f.asked ≡ asks messages
+  pub over : s.is_over ≡ f.port.over
 
 -- the session is open at the port and in the book
 pub record IsRunning (f : SessionFacts) : Type 0 where
@@ -85,19 +88,27 @@ pub record BeginsWith (d : Dialect) (b : List ℕ) (messages : List Message) (re
   pub whole : b ≡ read ++ rest
   pub reads : Reads d read messages []
 
--- all was answered and given before the session was shut with a cause that it read itself
-abbrev pub IsWhole : SessionFacts → List Message → EndCause → Type 0
-IsWhole f messages cause =
+-- all was answered and given before the session was shut, which this has ended among the messages
+abbrev pub IsWhole : SessionFacts → List Message → Option EndCause → Type 0
+IsWhole f messages ended =
     (f.port.given ≡ said messages f.had) × (length (asks messages) ≤ length f.had)
-    × (ended_by None messages ≡ Some cause)
+    × (ended_by None messages ≡ ended)
+
+-- the session was shut as its input had ended: no beginning of the rest spells a message, and all was answered and given
+pub record HasRunOut (f : SessionFacts) (messages : List Message) (rest : List ℕ) : Type 0 where
+  pub over : f.port.over ≡ true
+  pub shut : f.port.shut ≡ true
+  pub none : SpellsNone f.dialect rest
+  pub whole : IsWhole f messages None
 
 -- why the session was closed
-abbrev pub IsCaused : SessionFacts → List Message → EndCause → Type 0
-IsCaused f messages causes.Drained = ⊥
-IsCaused f messages causes.Quit = (f.port.shut ≡ true) × IsWhole f messages causes.Quit
-IsCaused f messages causes.Fatal = (f.port.shut ≡ true) × IsWhole f messages causes.Fatal
-IsCaused f messages causes.Gone = f.port.gone ≡ true
-IsCaused f messages causes.NoMemory = f.port.shut ≡ true
+abbrev pub IsCaused : SessionFacts → List Message → List ℕ → EndCause → Type 0
+IsCaused f messages rest causes.Drained = ⊥
+IsCaused f messages rest causes.EndOfInput = HasRunOut f messages rest
+IsCaused f messages rest causes.Quit = (f.port.shut ≡ true) × IsWhole f messages (Some causes.Quit)
+IsCaused f messages rest causes.Fatal = (f.port.shut ≡ true) × IsWhole f messages (Some causes.Fatal)
+IsCaused f messages rest causes.Gone = f.port.gone ≡ true
+IsCaused f messages rest causes.NoMemory = f.port.shut ≡ true
 
 -- the session is closed: some first messages were read and asked, and a beginning of their answers was given
 pub record IsClosed (f : SessionFacts) (cause : EndCause) : Type 0 where
@@ -106,7 +117,7 @@ pub record IsClosed (f : SessionFacts) (cause : EndCause) : Type 0 where
   pub read : BeginsWith f.dialect f.port.fed messages rest
   pub asked : f.asked ≡ asks messages
   pub said : StartsWith (said messages f.had) f.port.given
-  pub caused : IsCaused f messages cause
+  pub caused : IsCaused f messages rest cause
   pub over : (f.port.gone ≡ true) ⊎ (f.port.shut ≡ true)
   pub state : f.state ≡ None
 
@@ -114,6 +125,7 @@ pub record IsClosed (f : SessionFacts) (cause : EndCause) : Type 0 where
 abbrev pub IsReportedAs : SessionFacts → Option EndCause → Type 0
 IsReportedAs f None = IsUnopened f
 IsReportedAs f (Some causes.Drained) = IsRunning f
+IsReportedAs f (Some causes.EndOfInput) = IsClosed f causes.EndOfInput
 IsReportedAs f (Some causes.Quit) = IsClosed f causes.Quit
 IsReportedAs f (Some causes.Fatal) = IsClosed f causes.Fatal
 IsReportedAs f (Some causes.Gone) = IsClosed f causes.Gone

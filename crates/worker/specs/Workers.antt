@@ -7,7 +7,7 @@ use mathlib.Core.Option.{some}
 use lib.ListN.{get_elem?}
 use Rattle.proto.specs.declared.history.Posted.{Posted}
 use Rattle.proto.specs.declared.history.Answered.{Answered}
-use Rattle.proto.specs.History.{Legal, worker_share, asked_posted}
+use Rattle.proto.specs.History.{LegalBy, worker_share, asked_posted}
 use Rattle.exchange.specs.Ends.{WorkerView, WorkerBatchView, flushed}
 use Rattle.exchange.specs.Beginnings.{StartsWith, posted_of}
 use Rattle.session_book.specs.declared.causes.EndCause.{EndCause}
@@ -45,7 +45,7 @@ unsettled_post p = record { number = p.number; session = p.session }
 -- The history that the end was told of last is legal, its requests are the first of those that it sent, and what came back are
 -- the first of its entries there.
 pub record WasToldOfHistory (end : WorkerView) : Type 0 where
-  pub legal : Legal end.geometry end.seen
+  pub legal : LegalBy end.terms end.seen
   pub asked : StartsWith end.sent (asked_posted (worker_share end.seen end.worker))
   pub back : StartsWith (worker_share end.seen end.worker) end.back
 
@@ -104,7 +104,7 @@ pub record IsSameEnd (old new : WorkerView) : Type 0 where
 -- the end, later: its history begins with the one that it was told of before
 pub record IsLaterEnd (old new : WorkerView) : Type 0 where
   pub worker : new.worker ≡ old.worker
-  pub geometry : new.geometry ≡ old.geometry
+  pub terms : new.terms ≡ old.terms
   pub later : StartsWith new.seen old.seen
 
 -- the end looked for an answer and found none

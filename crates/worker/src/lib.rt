@@ -1,12 +1,10 @@
 //! One worker's loop over a port: the port's events become requests, and the answers become bytes.
 #![tactic(auto)]
 
-mod end_causes;
 mod gate;
 mod hold_gate;
 mod open_gate;
 mod pauses;
-mod reply_buffers;
 mod report;
 mod run;
 mod sending;

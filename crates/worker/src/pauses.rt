@@ -3,6 +3,7 @@
 use crossbeam_utils::Backoff;
 use exchange::{IdleTurns, ParkingWord};
 use std::sync::Wait;
+use std::time::Clock;
 
 /// Idle turns in a row that spin for an answer before the worker parks: some ten microseconds, in which storage mostly
 /// answers.
@@ -17,9 +18,10 @@ pub(crate) struct Pauses {
 }
 
 impl Pauses {
-    pub(crate) fn new() -> Pauses {
+    /// A worker that waits for an answer spins for `spin` microseconds before it parks, or for `IDLE_TURNS` turns.
+    pub(crate) fn new(spin: Option<u32>) -> Pauses {
         Pauses {
-            idle: IdleTurns::new(IDLE_TURNS),
+            idle: IdleTurns::new(IDLE_TURNS, spin),
             backoff: Backoff::new(),
         }
     }
@@ -33,7 +35,7 @@ impl Pauses {
     }
 
     /// One idle turn, in which answers are waited for or not.
-    pub(crate) fn turn<R: Wait>(
+    pub(crate) fn turn<R: Wait + Clock>(
         &mut self,
         rt: &R,
         for_answers: bool,

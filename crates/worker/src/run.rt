@@ -10,7 +10,6 @@ use crate::gate::Gate;
 use crate::pauses::Pauses;
 use crate::report::WorkerReport;
 use crate::sending;
-use crate::session_list::SessionList;
 use crate::state::WorkerState;
 use crate::worker::Worker;
 use exchange::{StorageSignals, WorkerEnd};
@@ -18,6 +17,7 @@ use proto::{Dialect, WINDOW};
 use session_book::Task;
 use std::alloc::Global;
 use std::sync::Wait;
+use std::time::Clock;
 use worker_port::Port;
 
 /// The most events that are taken in a turn. Storage is told of their requests together, so it is woken once for them.
@@ -151,7 +151,7 @@ fn take_turn<P: Port, G: Gate>(worker: &mut Worker<P>, gate: &G, storage: &Stora
     let posted = post_requests(worker, gate, storage);
     let settled = settle_answers(worker, gate);
     let given = give_output(worker, Task::Give, usize::MAX);
-    let given_slowly = give_output(worker, Task::GiveSlowly, SLOW_A_TURN);
+    let given_slowly = give_output(worker, Task::RetryWrite, SLOW_A_TURN);
     posted || settled || given || given_slowly
 }
 
@@ -176,14 +176,13 @@ fn has_drained<P: Port>(worker: &mut Worker<P>) -> bool
 
 /// Serves a port until it has ended and all was answered and given, and then says bye.
 ///
-/// The end has sent nothing yet, and the list of a port that tells it is empty, as is that of the sessions. It may wait: for events, for answers
-/// and for a port that accepts no bytes. Where it has posted, it unparks the storage thread, which parks on a word of the signals.
-pub fn run_worker<P: Port, G: Gate, R: Wait>(
+/// The end has sent nothing yet, and the list of a port that tells it is empty. It may wait: for events, for answers and for a
+/// port that accepts no bytes. Where it has posted, it unparks the storage thread, which parks on a word of the signals.
+pub fn run_worker<P: Port, G: Gate, R: Wait + Clock>(
     rt: &R,
     alloc: Global,
     port: P,
     worker_end: WorkerEnd,
-    sessions: SessionList,
     dialect: Dialect,
     gate: &G,
     storage: &StorageSignals,
@@ -193,7 +192,6 @@ pub fn run_worker<P: Port, G: Gate, R: Wait>(
     requires spelled { (story : PortStory) → P.told port ≡ Some story → story.dialect ≡ dialect }
     requires fresh { (worker_end.sent ≡ []) × (worker_end.back ≡ []) × (worker_end.said_bye ≡ false) }
     requires untold { worker_end.seen ≡ [] }
-    requires none { sessions.items ≡ [] }
     ensures leads { P.leads_to port result.port }
     ensures tells { is_some (P.told result.port) ≡ is_some (P.told port) }
     ensures over { IsOver worker_end result.worker_end }
@@ -204,8 +202,8 @@ pub fn run_worker<P: Port, G: Gate, R: Wait>(
     ensures spelled { (story : PortStory) → P.told result.port ≡ Some story → story.dialect ≡ dialect }
 {
     let parking = storage.worker_parking(worker_end.worker());
-    let mut worker = Worker::new(alloc, port, worker_end, sessions, dialect);
-    let mut pauses = Pauses::new();
+    let mut worker = Worker::new(alloc, port, worker_end, dialect);
+    let mut pauses = Pauses::new(storage.spin());
     for _ in rt.forever() {
         if take_turn(&mut worker, gate, storage) {
             pauses.reset(parking);
@@ -239,11 +237,9 @@ fn leave<P: Port>(worker: Worker<P>, storage: &StorageSignals) -> WorkerReport<P
         unopened,
         strangers,
         ended: _,
-        reply_buffers,
     } = state;
     drop(book);
     drop(request);
-    drop(reply_buffers);
     WorkerReport {
         port,
         worker_end: sending::say_bye(batch, storage),

@@ -6,7 +6,6 @@ ghost use Rattle.worker.specs.EndCauses.{piece_of};
 ghost use Rattle.worker_port.specs.Ports.{PortStory, is_open};
 ghost use Rattle.worker.specs.Workers.{end_of, Closes, Shuts, Admits, Refuses, SameRest, HandlesData};
 
-use crate::reply_buffers::ReplyBuffers;
 use crate::session_list::SessionList;
 use bytes::Bytes;
 use exchange::WorkerBatch;
@@ -28,7 +27,6 @@ pub(crate) struct WorkerState<P> {
     pub(crate) strangers: u64,
     /// The port has ended.
     pub(crate) ended: bool,
-    pub(crate) reply_buffers: ReplyBuffers,
 }
 
 impl<P: Port> WorkerState<P> {
@@ -84,7 +82,7 @@ impl<P: Port> WorkerState<P> {
         ensures rest { SameRest self.old self.new }
         ensures admits { Admits P.told self.old self.new session ⊎ Refuses P.told self.old self.new session }
     {
-        if self.sessions.reserve().is_err() || self.book.open(session).is_err() {
+        if self.book.open(session).is_err() {
             self.refuse(session);
             return;
         }

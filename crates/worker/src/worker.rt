@@ -1,7 +1,7 @@
 //! A worker that serves its port, by the steps that it takes.
 
 ghost use Rattle.std.specs.Prelude.{◌≡◌, true, false, Some, None, []};
-ghost use Rattle.session_book.specs.Session.{finished_by};
+ghost use Rattle.session_book.specs.Session.{finished_by, HasReadAll};
 ghost use Rattle.session_book.specs.Book.{session_of};
 ghost use Rattle.worker_port.specs.Ports.{PortStory};
 ghost use Rattle.worker_port.specs.Giving.{IsStoryOf};
@@ -9,7 +9,6 @@ ghost use Rattle.worker.specs.Workers.{end_of, Continues};
 ghost use Rattle.std.specs.Option.{option_and_then};
 
 use crate::gate::Gate;
-use crate::reply_buffers::ReplyBuffers;
 use crate::sending;
 use crate::session_list::SessionList;
 use crate::state::WorkerState;
@@ -40,19 +39,12 @@ impl<P: Port> Model for Worker<P> {
 
 impl<P: Port> Worker<P> {
     /// A worker whose end has sent nothing yet, over a port that has told nothing.
-    pub(crate) fn new(
-        alloc: Global,
-        port: P,
-        worker_end: WorkerEnd,
-        sessions: SessionList,
-        dialect: Dialect,
-    ) -> Worker<P>
+    pub(crate) fn new(alloc: Global, port: P, worker_end: WorkerEnd, dialect: Dialect) -> Worker<P>
         requires port { (story : PortStory) → P.told port ≡ Some story → story.events ≡ [] }
         requires whose { (story : PortStory) → P.told port ≡ Some story → IsStoryOf story worker_end }
         requires spelled { (story : PortStory) → P.told port ≡ Some story → story.dialect ≡ dialect }
         requires fresh { (worker_end.sent ≡ []) × (worker_end.back ≡ []) × (worker_end.said_bye ≡ false) }
         requires untold { worker_end.seen ≡ [] }
-        requires none { sessions.items ≡ [] }
         ensures port { result.port ≡ port }
         ensures end { end_of result ≡ worker_end }
         ensures dialect { result.book.dialect ≡ dialect }
@@ -64,11 +56,10 @@ impl<P: Port> Worker<P> {
                 batch: worker_end.batched(),
                 book,
                 request: None,
-                sessions,
+                sessions: SessionList::new(),
                 unopened: 0,
                 strangers: 0,
                 ended: false,
-                reply_buffers: ReplyBuffers::new(alloc),
             },
         }
     }
@@ -89,6 +80,10 @@ impl<P: Port> Worker<P> {
         match self.state.port.next(may_wait) {
             PortEvent::Opened(session) => self.state.admit(session),
             PortEvent::Data(session, bytes) => self.state.receive(session, bytes),
+            PortEvent::EndOfInput(session) => {
+                let finished = self.state.book.end_input(session);
+                self.finish(session, finished);
+            }
             PortEvent::Gone(session) => self.state.lose(session),
             PortEvent::Idle => return false,
             PortEvent::Ended => self.state.ended = true,
@@ -119,8 +114,7 @@ impl<P: Port> Worker<P> {
         ensures { Continues P.told P.leads_to self.old self.new }
     {
         match self.state.book.next_ask(session) {
-            Ok(Some((mut request, number))) => {
-                self.state.reply_buffers.lend(&mut request);
+            Ok(Some((request, number))) => {
                 let posted = Posted {
                     session,
                     number,
@@ -198,14 +192,12 @@ impl<P: Port> Worker<P> {
     pub(crate) fn settle_next<G: Gate>(&mut self, gate: &G) -> bool
         ensures { Continues P.told P.leads_to self.old self.new }
     {
-        let Some(mut answered) = sending::take_answer(&mut self.state.batch) else {
+        let Some(answered) = sending::take_answer(&mut self.state.batch) else {
             return false;
         };
         let session = answered.session;
         gate.answered(self.state.batch.worker(), answered.number);
-        let settled = self.state.book.settle(&mut answered);
-        self.state.reply_buffers.keep(answered);
-        match settled {
+        match self.state.book.settle(answered) {
             Settled::Kept => {}
             Settled::Dropped => {}
             Settled::Starved => self.state.shut(session, EndCause::NoMemory),
@@ -219,6 +211,7 @@ impl<P: Port> Worker<P> {
     pub(crate) fn offer(&mut self, session: u64) -> (bool, Option<EndCause>)
         ensures goes_on { Continues P.told P.leads_to self.old self.new }
         ensures finished { result.1 ≡ option_and_then finished_by (session_of self.new.book session) }
+        ensures read { HasReadAll (session_of self.new.book session) result.1 }
     {
         let offer = self.state.book.offer(session);
         if offer.out.is_empty() {
@@ -263,9 +256,10 @@ impl<P: Port> Worker<P> {
         moved || finished
     }
 
-    /// Shuts a session that has ended itself, once all was answered and given.
+    /// Shuts a session that has ended itself, or whose input has, once all was answered and given.
     pub(crate) fn finish(&mut self, session: u64, finished: Option<EndCause>) -> bool
-        requires { finished ≡ option_and_then finished_by (session_of self.old.book session) }
+        requires finished { finished ≡ option_and_then finished_by (session_of self.old.book session) }
+        requires read { HasReadAll (session_of self.old.book session) finished }
         ensures { Continues P.told P.leads_to self.old self.new }
     {
         match finished {

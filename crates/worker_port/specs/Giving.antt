@@ -1,15 +1,24 @@
 -- What may be offered to a session, at any moment of a run.
-use Rattle.std.specs.Prelude.{◌≡◌, ℕ, List, ◌++◌}
+use Rattle.std.specs.Prelude.{◌≡◌, ℕ, true, false, List, ◌++◌}
 use Rattle.proto.specs.declared.dialect.Dialect.{Dialect}
 use Rattle.proto.specs.declared.message.Message.{Message}
 use Rattle.proto.specs.declared.history.Answered.{Answered}
+use Rattle.proto.specs.declared.terms.Terms.{Terms}
 use Rattle.proto.specs.Sizes.{Sizes}
-use Rattle.proto.specs.History.{Legal, session_share, asked, had}
+use Rattle.proto.specs.History.{LegalBy, session_share, asked, had}
 use Rattle.proto.specs.Reading.{Reads, asks}
 use Rattle.proto.specs.Answers.{said}
 use Rattle.exchange.specs.Beginnings.{StartsWith}
 use Rattle.exchange.specs.Ends.{WorkerView}
 use Rattle.worker_port.specs.Ports.{PortStory, fed, given}
+
+-- the sizes, and moments by the system's clock
+abbrev pub by_system_clock : Sizes → Terms
+by_system_clock sizes = record { geometry = sizes; system_clock = true }
+
+-- the sizes, and moments by any clock
+abbrev pub by_any_clock : Sizes → Terms
+by_any_clock sizes = record { geometry = sizes; system_clock = false }
 
 -- the session's requests in the history are the first of the messages', and the bytes begin what is said to these there
 pub record BeginsAnswers (history : List Answered) (worker s : ℕ) (bytes : List ℕ) (messages : List Message) : Type 0 where
@@ -17,22 +26,22 @@ pub record BeginsAnswers (history : List Answered) (worker s : ℕ) (bytes : Lis
   pub begins : StartsWith (said messages (had (session_share history worker s))) bytes
 
 -- by this history these bytes may go behind those that the session took, whatever messages those spell that came of it
-pub record MayBeSent (sizes : Sizes) (d : Dialect) (worker : ℕ) (history : List Answered) (s : ℕ) (came took bytes : List ℕ)
+pub record MayBeSent (terms : Terms) (d : Dialect) (worker : ℕ) (history : List Answered) (s : ℕ) (came took bytes : List ℕ)
     : Type 0 where
-  pub legal : Legal sizes history
+  pub legal : LegalBy terms history
   pub said_there : (messages : List Message) (rest : List ℕ) → Reads d came messages rest
       → BeginsAnswers history worker s (took ++ bytes) messages
 
 -- by what the port tells: the history begins with the one of the last bytes, and these may be sent
 pub record MayBeGiven (story : PortStory) (history : List Answered) (s : ℕ) (bytes : List ℕ) : Type 0 where
   pub later : StartsWith history story.history
-  pub may : MayBeSent story.sizes story.dialect story.worker history s (fed s story.events) (given s story.events) bytes
+  pub may : MayBeSent story.terms story.dialect story.worker history s (fed s story.events) (given s story.events) bytes
 
--- The sizes and the number are those of the worker's end, and its history begins with the one by which bytes were given last.
-pub record IsOf (worker : ℕ) (sizes : Sizes) (history : List Answered) (end : WorkerView) : Type 0 where
+-- The terms and the number are those of the worker's end, and its history begins with the one by which bytes were given last.
+pub record IsOf (worker : ℕ) (terms : Terms) (history : List Answered) (end : WorkerView) : Type 0 where
   pub worker_is : worker ≡ end.worker
-  pub sizes_are : sizes ≡ end.geometry
+  pub terms_are : terms ≡ end.terms
   pub later : StartsWith end.seen history
 
 abbrev pub IsStoryOf : PortStory → WorkerView → Type 0
-IsStoryOf story end = IsOf story.worker story.sizes story.history end
+IsStoryOf story end = IsOf story.worker story.terms story.history end

@@ -1,7 +1,7 @@
 //! A port and a clock that count how often they are asked.
 
 use bytes::Bytes;
-use engine::Clock;
+use proto::{Clock, ClockAnswer};
 use std::alloc::Global;
 use std::sync::atomic::{AtomicU64, Ordering};
 use worker_port::{Gone, Port, PortEvent, ToldHistory};
@@ -30,13 +30,14 @@ impl Counters {
     }
 }
 
-/// Opens session 1, sends it some bytes, and ends. It keeps what is given.
+/// Opens session 1, sends it some bytes, and ends. It keeps what is given, and whether a session was shut.
 #[derive(Drop)]
 pub(crate) struct CountedPort<'a> {
     counters: &'a Counters,
     input: Option<Bytes>,
     is_open: bool,
     pub(crate) given: Vec<u8>,
+    pub(crate) was_shut: bool,
 }
 
 impl<'a> CountedPort<'a> {
@@ -46,6 +47,7 @@ impl<'a> CountedPort<'a> {
             input: Some(input),
             is_open: false,
             given: Vec::new(alloc),
+            was_shut: false,
         }
     }
 }
@@ -80,7 +82,9 @@ impl Port for CountedPort<'_> {
 
     fn resume(&mut self, _session: u64) {}
 
-    fn shut(&mut self, _session: u64) {}
+    fn shut(&mut self, _session: u64) {
+        self.was_shut = true;
+    }
 
     ghost leads_reflexive = { λ _. tt };
 
@@ -100,12 +104,14 @@ impl Clock for CountedClock<'_> {
 
     ghost leads_to = { λ _ _. ⊤ };
 
+    ghost start = { λ _. None };
+
     ghost leads_reflexive = { λ _. tt };
 
     ghost leads_transitive = { λ _ _ _ _ _. tt };
 
-    fn now(&mut self) -> u64 {
+    fn now(&mut self) -> ClockAnswer {
         self.counters.moments.fetch_add(1, Ordering::SeqCst);
-        1000
+        ClockAnswer::given(1000)
     }
 }

@@ -1,6 +1,6 @@
 //! A gate and a clock that wait for each other, so that eight workers and storage have to run side by side.
 
-use engine::Clock;
+use proto::{Clock, ClockAnswer};
 use std::sync::atomic::{AtomicBool, AtomicU64, Ordering};
 use std::thread;
 use worker::Gate;
@@ -110,15 +110,17 @@ impl Clock for MeetingClock<'_> {
 
     ghost leads_to = { λ _ _. ⊤ };
 
+    ghost start = { λ _. None };
+
     ghost leads_reflexive = { λ _. tt };
 
     ghost leads_transitive = { λ _ _ _ _ _. tt };
 
-    fn now(&mut self) -> u64 {
+    fn now(&mut self) -> ClockAnswer {
         if !self.meeting.has(Wanted::Asked) {
             self.meeting.was_asked.store(true, Ordering::SeqCst);
             self.meeting.stay(Wanted::AllSecond);
         }
-        1000
+        ClockAnswer::given(1000)
     }
 }

@@ -2,11 +2,9 @@
 
 use crate::groups::counters::{CountedPort, Counters};
 use bytes::Bytes;
-use engine::Clock;
 use group::{Config, GroupFault, GroupReport, GroupWorker, run_group};
-use proto::{Dialect, Geometry};
+use proto::{Clock, Dialect, Geometry, Terms};
 use segcache::Store;
-use session_book::EndCause;
 use std::alloc::Global;
 use std::process::Abort;
 use std::sync::Wait;
@@ -64,14 +62,17 @@ pub(crate) fn run<
     let geometry = Geometry::new(65_536, 64).expect(rt, "a geometry");
     let store = Store::new(alloc, geometry).expect(rt, "memory");
     let config = Config {
-        geometry,
+        terms: Terms {
+            geometry,
+            system_clock: false,
+        },
         dialect: Dialect::Strict,
-        stores_sessions: true,
+        spin: None,
     };
     run_group(rt, alloc, ports, config, store, clock, gate)
 }
 
-/// Each worker opened session 1 alone, which drained, and was given the whole output for its key.
+/// Each worker's session 1 was given the whole output for its key, and was open until the port ended.
 pub(crate) fn are_complete<R: Abort>(
     rt: &R,
     alloc: Global,
@@ -80,8 +81,7 @@ pub(crate) fn are_complete<R: Abort>(
 ) -> bool {
     for (worker, key) in workers.iter().zip(keys.iter()) {
         let wanted = with_key(rt, alloc, OUTPUT, *key);
-        let has_drained = worker.sessions.entries() == Some([(1, EndCause::Drained)].as_slice());
-        if !has_drained || worker.port.given.as_slice() != wanted.as_slice() {
+        if worker.port.was_shut || worker.port.given.as_slice() != wanted.as_slice() {
             return false;
         }
     }

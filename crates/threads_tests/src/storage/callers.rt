@@ -1,6 +1,6 @@
 //! Eight workers' threads beside the storage thread.
 
-ghost use Rattle.std.specs.Prelude.{◌≡◌};
+ghost use Rattle.std.specs.Prelude.{◌≡◌, false};
 ghost use Rattle.proto.specs.Cache.{empty_cache};
 ghost use Rattle.segcache.specs.StoreState.{sizes_in, segmented_cache, last_moment};
 ghost use Rattle.storage_thread.specs.Serving.{IsUnused, IsSameExchange};
@@ -8,8 +8,8 @@ ghost use Rattle.storage_thread.specs.Serving.{IsUnused, IsSameExchange};
 use crate::same::check_same;
 use crate::signals::signals_of;
 use crate::storage::ends::{ask, made};
-use engine::Clock;
 use exchange::{Gathered, StorageEnd, StorageSignals, WorkerEnd, gather};
+use proto::{Clock, ClockAnswer};
 use segcache::Store;
 use std::alloc::Global;
 use std::process::Abort;
@@ -38,13 +38,15 @@ impl Clock for Count {
 
     ghost leads_to = { λ _ _. ⊤ };
 
+    ghost start = { λ _. None };
+
     ghost leads_reflexive = { λ _. tt };
 
     ghost leads_transitive = { λ _ _ _ _ _. tt };
 
-    fn now(&mut self) -> u64 {
+    fn now(&mut self) -> ClockAnswer {
         self.last = self.last.saturating_add(1);
-        self.last
+        ClockAnswer::given(self.last)
     }
 }
 
@@ -130,7 +132,8 @@ fn many_callers(rt: HostRuntime) -> Result<(), Fail> {
         promise,
         move || -> StorageReport<Count>
             requires empty { (segmented_cache store ≡ empty_cache 0) × (last_moment store ≡ 0) }
-            requires sizes { sizes_in store ≡ storage.geometry }
+            requires sizes { sizes_in store ≡ storage.terms.geometry }
+            requires any_clock { storage.terms.system_clock ≡ false }
             requires unused { IsUnused storage }
             ensures { IsSameExchange storage result.storage_end }
         { run_storage(&rt, store, clock, storage, &of_storage) },

@@ -5,9 +5,10 @@ ghost use Rattle.proto.specs.Sizes.{Sizes};
 ghost use Rattle.proto.specs.Cache.{empty_cache};
 ghost use Rattle.segcache.specs.StoreState.{sizes_in, segmented_cache, last_moment};
 ghost use Rattle.exchange.specs.Ends.{AreMade};
+ghost use Rattle.worker_port.specs.Giving.{by_any_clock};
 
 use exchange::{MakeFault, Posted, StorageEnd, WorkerEnd, make};
-use proto::{ByteString, Geometry, Request};
+use proto::{ByteString, Geometry, Request, Terms};
 use segcache::Store;
 use std::alloc::Global;
 
@@ -16,7 +17,7 @@ pub(crate) fn made(
     alloc: Global,
     workers: usize,
 ) -> Result<(Vec<WorkerEnd>, StorageEnd, Store), MakeFault>
-    ensures { IfOk result (λ r. (g : Sizes) × AreMade workers g r.0.items r.1
+    ensures { IfOk result (λ r. (g : Sizes) × AreMade workers (by_any_clock g) r.0.items r.1
         × (sizes_in r.2 ≡ g) × (segmented_cache r.2 ≡ empty_cache 0)
         × (last_moment r.2 ≡ 0)) }
 {
@@ -27,7 +28,11 @@ pub(crate) fn made(
     let Ok(store) = Store::new(alloc, geometry) else {
         return Err(MakeFault::NoMemory);
     };
-    let (ends, storage) = make(alloc, workers, geometry)?;
+    let terms = Terms {
+        geometry,
+        system_clock: false,
+    };
+    let (ends, storage) = make(alloc, workers, terms)?;
     Ok((ends, storage, store))
 }
 

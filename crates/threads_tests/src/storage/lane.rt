@@ -1,28 +1,40 @@
 //! One lane, by the single calls of its ends.
 
-ghost use Rattle.std.specs.Prelude.{◌≡◌, ◌+◌, length, Some, None};
-ghost use Rattle.proto.specs.History.{worker_share};
+ghost use Rattle.std.specs.Prelude.{◌≡◌, ◌+◌, [], length, false, Some, None};
+ghost use Rattle.proto.specs.History.{answers_by, worker_share};
 ghost use Rattle.engine.specs.Reaching.{Reaches};
 ghost use Rattle.segcache.specs.StoreState.{sizes_in, segmented_cache, last_moment};
+ghost use Rattle.storage_thread.specs.Serving.{IsUnused};
 
+use crate::clock::SteadyClock;
 use crate::same::check_same;
 use crate::storage::ends::{ask, made};
 use engine::StorageEngine;
 use exchange::{Answered, Posted, StorageEnd, Taken, WorkerEnd};
-use proto::Reply;
+use proto::{AskedClock, Clock, Reply};
 use segcache::Store;
 use std::alloc::Global;
 use std::process::Abort;
 use std::test::Fail;
+use storage_thread::next_moment;
 
-/// Executes the open request at the store's last moment, and answers it.
-fn execute<S: StorageEngine>(store: &mut S, end: &mut StorageEnd, worker: usize, posted: Posted)
-    requires reaches { Reaches end.old.geometry end.old.history (S.cache store.old) (S.moment store.old) }
-    requires sizes { S.sizes store.old ≡ end.old.geometry }
+/// Executes the open request at the clock's moment, and answers it.
+fn execute<S: StorageEngine, C: Clock>(
+    store: &mut S,
+    clock: &mut AskedClock<C>,
+    end: &mut StorageEnd,
+    worker: usize,
+    posted: Posted,
+)
+    requires answers { clock.old.answers ≡ answers_by [] end.old.history }
+    requires reaches { Reaches end.old.terms.geometry end.old.history (S.cache store.old) (S.moment store.old) }
+    requires sizes { S.sizes store.old ≡ end.old.terms.geometry }
+    requires any_clock { end.old.terms.system_clock ≡ false }
     requires open_request { end.old.open_request ≡ Some (worker, posted) }
     requires next { posted.number ≡ length (worker_share end.old.history worker) + 1 }
 {
-    let moment = store.last_moment();
+    let moment = next_moment(clock, store.last_moment());
+    let told = clock.answers();
     let Posted {
         session,
         number,
@@ -35,19 +47,22 @@ fn execute<S: StorageEngine>(store: &mut S, end: &mut StorageEnd, worker: usize,
         number,
         request,
         moment,
+        clock: told,
         reply,
     });
 }
 
 /// Executes and answers one request, and says whether there was one.
-fn serve_one(store: &mut Store, end: &mut StorageEnd) -> bool
-    requires reaches { Reaches end.old.geometry end.old.history (segmented_cache store.old) (last_moment store.old) }
-    requires sizes { sizes_in store.old ≡ end.old.geometry }
+fn serve_one<C: Clock>(store: &mut Store, clock: &mut AskedClock<C>, end: &mut StorageEnd) -> bool
+    requires answers { clock.old.answers ≡ answers_by [] end.old.history }
+    requires reaches { Reaches end.old.terms.geometry end.old.history (segmented_cache store.old) (last_moment store.old) }
+    requires sizes { sizes_in store.old ≡ end.old.terms.geometry }
+    requires any_clock { end.old.terms.system_clock ≡ false }
     requires shut { end.old.open_request ≡ None }
 {
-    match end.next() {
+    match end.next(clock) {
         Some(Taken::Asked { worker, posted }) => {
-            execute(store, end, worker, posted);
+            execute(store, clock, end, worker, posted);
             true
         }
         _ => false,
@@ -86,13 +101,15 @@ fn check_room(
     storage: &mut StorageEnd,
     store: &mut Store,
 )
-    requires reaches { Reaches storage.old.geometry storage.old.history (segmented_cache store.old) (last_moment store.old) }
-    requires sizes { sizes_in store.old ≡ storage.old.geometry }
-    requires shut { storage.old.open_request ≡ None }
+    requires unused { IsUnused storage.old }
+    requires reaches { Reaches storage.old.terms.geometry storage.old.history (segmented_cache store.old) (last_moment store.old) }
+    requires sizes { sizes_in store.old ≡ storage.old.terms.geometry }
+    requires any_clock { storage.old.terms.system_clock ≡ false }
 {
+    let mut clock = AskedClock::new(SteadyClock);
     check_sent(rt, alloc, end, 64);
     check_same(rt, takes_first(end), None, "before an answer");
-    check_same(rt, serve_one(store, storage), true, "an answer");
+    check_same(rt, serve_one(store, &mut clock, storage), true, "an answer");
     check_same(rt, takes_first(end), Some(true), "the answer");
     check_same(rt, takes_first(end), None, "behind the answer");
     check_sent(rt, alloc, end, 1);

@@ -1,6 +1,8 @@
 //! A port whose session stays open until all answers came: at one that ends by itself the walk at the end serves a
 //! session that was forgotten.
 
+use crate::same::check_same;
+use crate::workers::refusing_gate::RefusingGate;
 use crate::workers::scripts::{joined, repeated};
 use crate::workers::serving::{serve, sizes};
 use bytes::Bytes;
@@ -10,17 +12,22 @@ use std::process::Abort;
 use std::sync::Wait;
 use std::thread::Threads;
 use std::time::Clock;
-use worker::OpenGate;
+use worker::{Gate, OpenGate};
 use worker_port::{Gone, MAX_PIECE, Port, PortEvent, ToldHistory};
 
 /// How often a port is asked in vain until it gives up.
 const PATIENCE: u64 = 3_000_000;
 
-/// Opens session 7, sends its pieces, and ends once so many bytes were given, or once it was shut.
+/// Opens session 7, sends its pieces, and may end its input. It ends once so many bytes were given, or once the session was
+/// shut.
 #[derive(Drop)]
 struct LivePort {
     is_open: bool,
+    is_paused: bool,
     pieces: VecDeque<Bytes>,
+    /// The input ends behind the pieces, and the port ends only once the session was shut.
+    ends_input: bool,
+    is_over: bool,
     wanted: usize,
     given: usize,
     /// At most so many bytes of each give are accepted.
@@ -38,7 +45,22 @@ struct LivePort {
 
 impl LivePort {
     fn is_served(&self) -> bool {
-        self.was_shut || (self.wanted > 0 && self.given >= self.wanted)
+        self.was_shut || (!self.ends_input && self.wanted > 0 && self.given >= self.wanted)
+    }
+
+    /// The next piece, or the end of the input behind the last one.
+    fn next_input(&mut self) -> Option<PortEvent> {
+        if self.is_paused {
+            return None;
+        }
+        if let Some(bytes) = self.pieces.pop_front() {
+            return Some(PortEvent::Data(7, bytes));
+        }
+        if self.ends_input && !self.is_over {
+            self.is_over = true;
+            return Some(PortEvent::EndOfInput(7));
+        }
+        None
     }
 }
 
@@ -55,8 +77,8 @@ impl Port for LivePort {
             self.waits_at_first = may_wait;
             return PortEvent::Opened(7);
         }
-        if let Some(bytes) = self.pieces.pop_front() {
-            return PortEvent::Data(7, bytes);
+        if let Some(event) = self.next_input() {
+            return event;
         }
         if self.has_ended {
             return PortEvent::Idle;
@@ -80,9 +102,13 @@ impl Port for LivePort {
         Ok(accepted)
     }
 
-    fn pause(&mut self, _session: u64) {}
+    fn pause(&mut self, _session: u64) {
+        self.is_paused = true;
+    }
 
-    fn resume(&mut self, _session: u64) {}
+    fn resume(&mut self, _session: u64) {
+        self.is_paused = false;
+    }
 
     fn shut(&mut self, _session: u64) {
         self.was_shut = true;
@@ -97,26 +123,36 @@ impl Port for LivePort {
 #[derive(Drop)]
 struct Peer<'a> {
     input: &'a [u8],
-    /// So many bytes answer it. None where it is shut.
+    /// The most bytes of one piece.
+    piece: usize,
+    ends_input: bool,
+    /// So many bytes answer it.
     wanted: usize,
+    /// The worker shuts the session, by itself or behind the end of its input.
+    is_shut: bool,
     accept: usize,
     slow_gives: u64,
 }
 
-/// All came while the port was still open, and the port was let wait only where nothing was left to do.
-fn check_served<R>(rt: &R, alloc: Global, peer: Peer)
+/// All came while the port was still open, and the port was let wait only where nothing was left to do. The number of
+/// requests that were executed.
+fn check_served<R, G>(rt: &R, alloc: Global, peer: Peer, gate: &G) -> u64
 where
     R: Abort + Threads + Wait + Clock + Copy + Drop + Send + Sync + 'static,
+    G: Gate,
 {
     let mut pieces = VecDeque::new(alloc);
-    for piece in peer.input.chunks(MAX_PIECE) {
+    for piece in peer.input.chunks(peer.piece) {
         pieces
             .push_back(Bytes::copy_from_slice(alloc, piece).expect(rt, "memory"))
             .expect(rt, "memory");
     }
     let port = LivePort {
         is_open: false,
+        is_paused: false,
         pieces,
+        ends_input: peer.ends_input,
+        is_over: false,
         wanted: peer.wanted,
         given: 0,
         accept: peer.accept,
@@ -127,11 +163,13 @@ where
         waits_at_first: false,
         waits_early: false,
     };
-    let (report, _executed) = serve(rt, alloc, sizes(rt), port, &OpenGate);
-    assert!(*rt; report.port.is_served());
-    assert!(*rt; report.port.was_shut == (peer.wanted == 0));
+    let (report, executed) = serve(rt, alloc, sizes(rt), port, gate);
+    assert!(*rt; report.port.patience > 0);
+    assert!(*rt; report.port.given == peer.wanted);
+    assert!(*rt; report.port.was_shut == peer.is_shut);
     assert!(*rt; report.port.waits_at_first);
     assert!(*rt; !report.port.waits_early);
+    executed
 }
 
 /// Peers that send these bytes, are given so many, and take so many at once.
@@ -142,11 +180,14 @@ where
     for (input, wanted, accept) in rows {
         let peer = Peer {
             input,
+            piece: MAX_PIECE,
+            ends_input: false,
             wanted: *wanted,
+            is_shut: input.ends_with(b"quit\r\n"),
             accept: *accept,
             slow_gives: 0,
         };
-        check_served(rt, alloc, peer);
+        check_served(rt, alloc, peer, &OpenGate);
     }
 }
 
@@ -160,31 +201,122 @@ fn an_open_session_is_served(rt: HostRuntime) {
         (many.as_slice(), 1500, usize::MAX),
         (b"get a\r\n", 5, 2),
         (b"quit\r\n", 0, usize::MAX),
-        (b"get a\r\nquit\r\n", 0, usize::MAX),
+        (b"get a\r\nquit\r\n", 5, usize::MAX),
     ];
     check_rows(&rt, alloc, &rows);
 }
 
-#[test]
-fn an_open_session_with_much_output_is_asked_again(rt: HostRuntime) {
-    let alloc: Global = rt.alloc();
-    let value = repeated(&rt, alloc, b"v", 8000);
-    let gets = repeated(&rt, alloc, b"get a\r\n", 1000);
+/// A value of 8,000 bytes is stored, and asked for a thousand times: 8,023,008 bytes answer it.
+fn much_output<R: Abort>(rt: &R, alloc: Global) -> Vec<u8> {
+    let value = repeated(rt, alloc, b"v", 8000);
+    let gets = repeated(rt, alloc, b"get a\r\n", 1000);
     let parts: [&[u8]; 4] = [
         b"set a 0 0 8000\r\n",
         value.as_slice(),
         b"\r\n",
         gets.as_slice(),
     ];
-    let input = joined(&rt, alloc, &parts);
+    joined(rt, alloc, &parts)
+}
+
+#[test]
+fn an_open_session_with_much_output_is_asked_again(rt: HostRuntime) {
+    let alloc: Global = rt.alloc();
+    let input = much_output(&rt, alloc);
     check_served(
         &rt,
         alloc,
         Peer {
             input: input.as_slice(),
+            piece: MAX_PIECE,
+            ends_input: false,
             wanted: 8_023_008,
+            is_shut: false,
             accept: usize::MAX,
             slow_gives: 3000,
         },
+        &OpenGate,
     );
+}
+
+/// What a client sends before its input ends, how many bytes answer it, how many of them it takes at once, and how many
+/// requests are executed: an unfinished line is no request, and what follows `quit` isn't read.
+type HalfClosed<'a> = (&'a [u8], usize, usize, u64);
+
+/// Each is shut once it was given all its answers, and not before.
+fn check_half_closed<R>(rt: &R, alloc: Global, rows: &[HalfClosed], slow_gives: u64)
+where
+    R: Abort + Threads + Wait + Clock + Copy + Drop + Send + Sync + 'static,
+{
+    for (input, wanted, accept, executed) in rows {
+        let peer = Peer {
+            input,
+            piece: MAX_PIECE,
+            ends_input: true,
+            wanted: *wanted,
+            is_shut: true,
+            accept: *accept,
+            slow_gives,
+        };
+        let served = check_served(rt, alloc, peer, &OpenGate);
+        check_same(rt, served, *executed, *wanted);
+    }
+}
+
+#[test]
+fn a_half_closed_session_is_answered_and_shut(rt: HostRuntime) {
+    let alloc: Global = rt.alloc();
+    let two_windows = repeated(&rt, alloc, b"get a\r\n", 128);
+    let rows: [HalfClosed; 9] = [
+        (b"", 0, usize::MAX, 0),
+        (b"get a\r\n", 5, usize::MAX, 1),
+        (b"get a\r\n", 5, 1, 1),
+        (b"get a\r\nget", 5, usize::MAX, 1),
+        (b"get a\r\nset a 0 0 1 noreply\r\nx\r\n", 5, usize::MAX, 2),
+        (b"set a 0 0 1 noreply\r\nx\r\n", 0, usize::MAX, 1),
+        (b"foo\r\n", 7, 1, 0),
+        (b"get a\r\nquit\r\nget a\r\n", 5, usize::MAX, 1),
+        (two_windows.as_slice(), 640, usize::MAX, 128),
+    ];
+    check_half_closed(&rt, alloc, &rows, 0);
+}
+
+#[test]
+fn a_half_closed_session_with_a_held_piece_is_read_to_its_end(rt: HostRuntime) {
+    let alloc: Global = rt.alloc();
+    let many = repeated(&rt, alloc, b"get a\r\n", 60_000);
+    check_half_closed(
+        &rt,
+        alloc,
+        &[(many.as_slice(), 300_000, usize::MAX, 60_000)],
+        1000,
+    );
+}
+
+#[test]
+fn a_half_closed_session_with_much_output_is_given_all(rt: HostRuntime) {
+    let alloc: Global = rt.alloc();
+    let input = much_output(&rt, alloc);
+    check_half_closed(
+        &rt,
+        alloc,
+        &[(input.as_slice(), 8_023_008, usize::MAX, 1001)],
+        3000,
+    );
+}
+
+#[test]
+fn a_half_closed_session_that_is_read_later_is_shut(rt: HostRuntime) {
+    let peer = Peer {
+        input: b"get a\r\nget",
+        piece: 7,
+        ends_input: true,
+        wanted: 5,
+        is_shut: true,
+        accept: usize::MAX,
+        slow_gives: 0,
+    };
+    let gate = RefusingGate::new();
+    let executed = check_served(&rt, rt.alloc(), peer, &gate);
+    check_same(&rt, executed, 1, "executed");
 }

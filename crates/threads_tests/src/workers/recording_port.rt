@@ -1,9 +1,11 @@
 //! A port of the tests' own, which plays a list of steps and keeps its records.
 
-ghost use Rattle.std.specs.Prelude.{◌≡◌, ◌==◌, ◌++◌, ◌∷◌, [], false, ℕ, if◌then◌else◌, None};
+ghost use Rattle.std.specs.Prelude.{◌≡◌, ◌==◌, ◌++◌, ◌∷◌, [], true, false, ℕ, if◌then◌else◌, None};
 ghost use Rattle.std.specs.Option.{option_map_or};
+ghost use Rattle.worker_port.specs.declared.events.PortRecord.TheVariants.{EndOfInput};
+ghost use Rattle.worker_port.specs.Ports.{is_in, is_open};
 
-use crate::workers::records::{has_ended_in, is_new_in, is_open_in};
+use crate::workers::records::{has_ended_in, is_new_in, is_open_in, is_over_in};
 use crate::workers::serving::sizes;
 use bytes::Bytes;
 use proto::Geometry;
@@ -18,6 +20,7 @@ use worker_port::{Gone, MAX_PIECE, Port, PortEvent, PortRecord, ToldHistory};
 pub(crate) enum Step {
     Open(u64),
     Send(u64, Bytes),
+    EndOfInput(u64),
     Gone(u64),
 }
 
@@ -93,9 +96,22 @@ impl<R: Abort + Drop> RecordingPort<R> {
     // Whether the next step has to wait until its session is resumed.
     fn is_paused(&self) -> bool {
         match self.steps.front() {
-            Some(Step::Send(session, _)) => self.paused == Some(*session),
+            Some(Step::Send(session, _) | Step::EndOfInput(session)) => {
+                self.paused == Some(*session)
+            }
             _ => false,
         }
+    }
+
+    // Whether input of the session may be told.
+    fn may_read(&self, session: u64) -> bool
+        ensures open { result ≡ true → is_open session self.now.records.items ≡ true }
+        ensures resumed { result ≡ true → option_map_or (λ t. t == session) self.now.paused false ≡ false }
+        ensures going_on { result ≡ true → is_in (EndOfInput session) self.now.records.items ≡ false }
+    {
+        self.paused != Some(session)
+            && is_open_in(self.records.as_slice(), session)
+            && !is_over_in(self.records.as_slice(), session)
     }
 
     fn note(&mut self, entry: PortRecord)
@@ -110,11 +126,12 @@ impl<R: Abort + Drop> Port for RecordingPort<R> {
     ghost use Rattle.std.specs.Prelude.{Some, false, ◌==◌, []};
     ghost use Rattle.proto.specs.declared.dialect.Dialect.TheVariants.{Strict};
     ghost use Rattle.std.specs.Option.{option_map_or, unwrap_or};
+    ghost use Rattle.worker_port.specs.Giving.{by_any_clock};
 
     ghost told = { λ p. Some (record {
       events = p.records.items;
       paused = λ s. option_map_or (λ t. t == s) p.paused false;
-      sizes = p.geometry;
+      terms = by_any_clock p.geometry;
       dialect = Strict;
       worker = 0;
       history = unwrap_or p.history.value [];
@@ -135,15 +152,19 @@ impl<R: Abort + Drop> Port for RecordingPort<R> {
                 PortEvent::Opened(session)
             }
             Some(Step::Send(session, bytes)) => {
-                if bytes.len() > MAX_PIECE
-                    || self.paused == Some(session)
-                    || !is_open_in(self.records.as_slice(), session)
-                {
+                if bytes.len() > MAX_PIECE || !self.may_read(session) {
                     return PortEvent::Idle;
                 }
                 let copy = bytes.clone().expect(&self.rt, "memory");
                 self.note(PortRecord::Data(session, copy));
                 PortEvent::Data(session, bytes)
+            }
+            Some(Step::EndOfInput(session)) => {
+                if !self.may_read(session) {
+                    return PortEvent::Idle;
+                }
+                self.note(PortRecord::EndOfInput(session));
+                PortEvent::EndOfInput(session)
             }
             Some(Step::Gone(session)) => {
                 if !is_open_in(self.records.as_slice(), session) {

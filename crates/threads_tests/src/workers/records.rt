@@ -1,7 +1,7 @@
 //! What a port's records say of a session.
 
 ghost use Rattle.std.specs.Prelude.{◌≡◌, ℕ, ◌<◌, ◌≤◌, true};
-ghost use Rattle.worker_port.specs.declared.events.PortRecord.TheVariants.{Opened, Ended};
+ghost use Rattle.worker_port.specs.declared.events.PortRecord.TheVariants.{Opened, EndOfInput, Ended};
 ghost use Rattle.worker_port.specs.Ports.{is_in, is_open};
 
 use worker_port::PortRecord;
@@ -18,7 +18,10 @@ pub(crate) fn is_open_in(records: &[PortRecord], session: u64) -> bool
             PortRecord::Opened(number) => opened = opened || number == session,
             PortRecord::Gone(number) => gone = gone || number == session,
             PortRecord::Shut(number) => shut = shut || number == session,
-            PortRecord::Data(_, _) | PortRecord::Accepted(_, _) | PortRecord::Ended => {}
+            PortRecord::Data(_, _)
+            | PortRecord::EndOfInput(_)
+            | PortRecord::Accepted(_, _)
+            | PortRecord::Ended => {}
         }
     }
     opened && !(gone || shut)
@@ -43,6 +46,19 @@ pub(crate) fn is_new_in(records: &[PortRecord], session: u64) -> bool
     ensures newer { result ≡ true → (t : ℕ) → is_in (Opened t) records.now ≡ true → t < session }
 {
     newest_in(records) < session
+}
+
+/// Whether the session's input has ended.
+pub(crate) fn is_over_in(records: &[PortRecord], session: u64) -> bool
+    ensures { result ≡ is_in (EndOfInput session) records.now }
+{
+    let mut over = false;
+    for entry in records {
+        if let PortRecord::EndOfInput(number) = *entry {
+            over = over || number == session;
+        }
+    }
+    over
 }
 
 /// Whether the port has ended.

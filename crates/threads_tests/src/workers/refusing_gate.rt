@@ -14,6 +14,16 @@ pub(crate) struct RefusingGate {
     pub(crate) answered: AtomicU64,
 }
 
+impl RefusingGate {
+    pub(crate) fn new() -> RefusingGate {
+        RefusingGate {
+            asked: AtomicU64::new(0),
+            told: AtomicU64::new(0),
+            answered: AtomicU64::new(0),
+        }
+    }
+}
+
 impl Gate for RefusingGate {
     fn may_post(&self, _worker: usize, _number: u64) -> bool {
         self.asked.fetch_add(1, Ordering::SeqCst) % 4 == 3

@@ -3,13 +3,12 @@
 use crate::same::check_same;
 use crate::workers::recording_port::{Manners, RecordingPort};
 use crate::workers::refusing_gate::RefusingGate;
-use crate::workers::running::{Outcome, run};
+use crate::workers::running::{Ending, Outcome, run};
 use crate::workers::scripts::{Script, joined, repeated};
-use session_book::EndCause;
 use std::alloc::Global;
 use std::process::Abort;
 use std::sync::Wait;
-use std::sync::atomic::{AtomicU64, Ordering};
+use std::sync::atomic::Ordering;
 use std::thread::Threads;
 use std::time::Clock;
 use worker::OpenGate;
@@ -29,32 +28,27 @@ const SLOW: Manners = Manners {
     gone_at: 0,
 };
 
-/// A session's bytes, and what it is given before it is shut with this cause.
-const ENDINGS: [(&[u8], &[u8], EndCause); 5] = [
+/// A session's bytes, and what it is given before it is shut.
+const ENDINGS: [(&[u8], &[u8]); 5] = [
     (
         b"set a 0 0 1\r\nx\r\nget a\r\nfoo\r\nget b\r\nquit\r\nget a\r\n",
         b"STORED\r\nVALUE a 0 1\r\nx\r\nEND\r\nERROR\r\nEND\r\n",
-        EndCause::Quit,
     ),
     (
         b"set a 0 0 1 noreply\r\nx\r\nset a 0 0 1\r\ny\r\nquit\r\nget a\r\n",
         b"STORED\r\n",
-        EndCause::Quit,
     ),
     (
         b"get a\r\nget b\r\nset a 0 0 2\r\nxyz\r\nget a\r\n",
         b"END\r\nEND\r\nCLIENT_ERROR bad data chunk\r\n",
-        EndCause::Fatal,
     ),
     (
         b"get a\r\nset a 00 0 1\r\nget a\r\n",
         b"END\r\nCLIENT_ERROR bad command line format\r\n",
-        EndCause::Fatal,
     ),
     (
         b"delete a\r\nset a 0 0 131073\r\nget a\r\n",
         b"NOT_FOUND\r\nSERVER_ERROR object too large for cache\r\n",
-        EndCause::Fatal,
     ),
 ];
 
@@ -122,12 +116,7 @@ where
     assert!(*rt; outcome.port.pauses >= 1);
     check_same(rt, outcome.port.resumes, outcome.port.pauses, "resumes");
     check_same(rt, outcome.executed, executed, "executed");
-    check_same(
-        rt,
-        outcome.cause_of(1),
-        Some(EndCause::Drained),
-        "the cause",
-    );
+    check_same(rt, outcome.ending_of(1), Ending::Open, "the ending");
     outcome
 }
 
@@ -181,27 +170,22 @@ fn a_slow_peer_is_given_all(rt: HostRuntime) {
     let hit = joined(&rt, alloc, &parts);
     let hits = repeated(&rt, alloc, hit.as_slice(), 1000);
     assert!(rt; output.as_slice().ends_with(hits.as_slice()));
-    check_same(
-        &rt,
-        outcome.cause_of(1),
-        Some(EndCause::Drained),
-        "the cause",
-    );
+    check_same(&rt, outcome.ending_of(1), Ending::Open, "the ending");
 }
 
-/// A session that sends this is given that and shut with this cause, and nothing follows.
-fn check_ending<R>(rt: &R, alloc: Global, row: &(&[u8], &[u8], EndCause))
+/// A session that sends this is given that and shut, and nothing follows.
+fn check_ending<R>(rt: &R, alloc: Global, row: &(&[u8], &[u8]))
 where
     R: Abort + Threads + Wait + Clock + Copy + Drop + Send + Sync + 'static,
 {
-    let (input, expected, cause) = row;
+    let (input, expected) = row;
     let mut script = Script::new(rt, alloc);
     script.open(1);
     script.send(1, input);
     let outcome = run_script(rt, alloc, script, SLOW);
     let output = outcome.given_to(rt, alloc, 1);
     check_same(rt, output.as_slice(), *expected, *input);
-    check_same(rt, outcome.cause_of(1), Some(*cause), *input);
+    check_same(rt, outcome.ending_of(1), Ending::Shut, *input);
     check_same(rt, outcome.is_shut_last(), true, *input);
 }
 
@@ -216,7 +200,7 @@ fn nothing_follows_quit_or_a_fatal_line(rt: HostRuntime) {
 fn sessions_have_answers_of_their_own(rt: HostRuntime) {
     let alloc: Global = rt.alloc();
     let outcome = play_pieces(&rt, alloc, None, PLAIN);
-    check_pieces(&rt, alloc, &outcome, FIRST_OUTPUT.len(), EndCause::Drained);
+    check_pieces(&rt, alloc, &outcome, FIRST_OUTPUT.len(), Ending::Open);
 }
 
 /// Session 1 was given so many bytes of its output, and session 2 all of its own.
@@ -225,20 +209,15 @@ fn check_pieces<R: Abort + Drop>(
     alloc: Global,
     outcome: &Outcome<R>,
     given: usize,
-    cause: EndCause,
+    ending: Ending,
 ) {
     let first = outcome.given_to(rt, alloc, 1);
     check_same(rt, first.len(), given, "the first");
     assert!(rt; FIRST_OUTPUT.starts_with(first.as_slice()));
-    check_same(rt, outcome.cause_of(1), Some(cause), "the cause");
+    check_same(rt, outcome.ending_of(1), ending, "the ending");
     let second = outcome.given_to(rt, alloc, 2);
     check_same(rt, second.as_slice(), SECOND_OUTPUT, "the second");
-    check_same(
-        rt,
-        outcome.cause_of(2),
-        Some(EndCause::Drained),
-        "the second cause",
-    );
+    check_same(rt, outcome.ending_of(2), Ending::Open, "the second ending");
 }
 
 #[test]
@@ -252,7 +231,7 @@ fn a_peer_goes_before_each_piece(rt: HostRuntime) {
     for place in 0..=PIECES.len() {
         let outcome = play_pieces(&rt, alloc, Some(place), dribble);
         let first = outcome.given_to(&rt, alloc, 1);
-        check_pieces(&rt, alloc, &outcome, first.len(), EndCause::Gone);
+        check_pieces(&rt, alloc, &outcome, first.len(), Ending::Gone);
     }
 }
 
@@ -266,18 +245,14 @@ fn a_peer_goes_at_each_give(rt: HostRuntime) {
             gone_at: given as u64 + 1,
         };
         let outcome = play_pieces(&rt, alloc, None, leaving);
-        check_pieces(&rt, alloc, &outcome, given, EndCause::Gone);
+        check_pieces(&rt, alloc, &outcome, given, Ending::Gone);
     }
 }
 
 #[test]
 fn a_held_request_is_posted_once(rt: HostRuntime) {
     let alloc: Global = rt.alloc();
-    let gate = RefusingGate {
-        asked: AtomicU64::new(0),
-        told: AtomicU64::new(0),
-        answered: AtomicU64::new(0),
-    };
+    let gate = RefusingGate::new();
     let mut script = Script::new(&rt, alloc);
     script.open(1);
     script.send(1, repeated(&rt, alloc, b"get a\r\n", 100).as_slice());

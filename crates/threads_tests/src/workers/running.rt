@@ -4,20 +4,27 @@ ghost use Rattle.std.specs.Prelude.{◌≡◌, [], None};
 
 use crate::workers::recording_port::RecordingPort;
 use crate::workers::serving::serve;
-use session_book::EndCause;
 use std::alloc::Global;
 use std::process::Abort;
 use std::sync::Wait;
 use std::thread::Threads;
 use std::time::Clock;
-use worker::{Gate, SessionList};
+use worker::Gate;
 use worker_port::PortRecord;
+
+/// How a session ended at its port.
+#[derive(Clone, Copy, Debug, PartialEq, Eq)]
+pub(crate) enum Ending {
+    /// It was open still when the port ended.
+    Open,
+    Shut,
+    Gone,
+}
 
 /// What a run leaves.
 #[derive(Drop)]
 pub(crate) struct Outcome<R: Abort + Drop> {
     pub(crate) port: RecordingPort<R>,
-    pub(crate) sessions: SessionList,
     pub(crate) sent: u64,
     pub(crate) executed: u64,
 }
@@ -33,21 +40,22 @@ where
     assert!(*rt; report.unopened == 0);
     Outcome {
         port: report.port,
-        sessions: report.sessions,
         sent: report.worker_end.sent(),
         executed,
     }
 }
 
 impl<R: Abort + Drop> Outcome<R> {
-    /// Why the session ended, by the report.
-    pub(crate) fn cause_of(&self, session: u64) -> Option<EndCause> {
-        for entry in self.sessions.entries().unwrap_or(&[]) {
-            if entry.0 == session {
-                return Some(entry.1);
+    /// How the session ended at its port.
+    pub(crate) fn ending_of(&self, session: u64) -> Ending {
+        for entry in self.port.records.as_slice() {
+            match entry {
+                PortRecord::Gone(number) if *number == session => return Ending::Gone,
+                PortRecord::Shut(number) if *number == session => return Ending::Shut,
+                _ => {}
             }
         }
-        None
+        Ending::Open
     }
 
     /// The bytes that were given to the session.

@@ -27,6 +27,10 @@ impl<R: Abort + Copy + Drop> Script<R> {
         self.push(Step::Open(session));
     }
 
+    pub(crate) fn end_input(&mut self, session: u64) {
+        self.push(Step::EndOfInput(session));
+    }
+
     pub(crate) fn gone(&mut self, session: u64) {
         self.push(Step::Gone(session));
     }

@@ -6,39 +6,21 @@ ghost use Rattle.proto.specs.Cache.{empty_cache};
 ghost use Rattle.engine.specs.PlainState.{plain_sizes, plain_cache, plain_moment};
 ghost use Rattle.storage_thread.specs.Serving.{IsUnused};
 ghost use Rattle.worker_port.specs.Ports.{PortStory};
+ghost use Rattle.worker_port.specs.Giving.{by_any_clock};
 
+use crate::clock::SteadyClock;
 use crate::signals::signals_of;
-use engine::{Clock, PlainStore};
+use engine::PlainStore;
 use exchange::{StorageEnd, WorkerEnd, make};
-use proto::{Dialect, Geometry};
+use proto::{Dialect, Geometry, Terms};
 use std::alloc::Global;
 use std::process::Abort;
 use std::sync::{Arc, Wait};
 use std::thread::Threads;
 use std::{thread, time};
 use storage_thread::{StorageReport, run_storage};
-use worker::{Gate, SessionList, WorkerReport, run_worker};
+use worker::{Gate, WorkerReport, run_worker};
 use worker_port::Port;
-
-/// It is 1000 at all times.
-#[derive(Drop)]
-struct SteadyClock;
-
-impl Clock for SteadyClock {
-    ghost use Rattle.std.specs.Prelude.{⊤, None};
-
-    ghost told = { λ _. None };
-
-    ghost leads_to = { λ _ _. ⊤ };
-
-    ghost leads_reflexive = { λ _. tt };
-
-    ghost leads_transitive = { λ _ _ _ _ _. tt };
-
-    fn now(&mut self) -> u64 {
-        1000
-    }
-}
 
 /// The sizes of the store in the tests of workers.
 pub(crate) fn sizes<R: Abort>(rt: &R) -> Geometry {
@@ -48,12 +30,17 @@ pub(crate) fn sizes<R: Abort>(rt: &R) -> Geometry {
 /// The ends of an exchange of one worker, and an empty store.
 fn made<R: Abort>(rt: &R, alloc: Global, geometry: Geometry) -> (WorkerEnd, StorageEnd, PlainStore)
     ensures worker { (result.0.sent ≡ []) × (result.0.back ≡ []) × (result.0.said_bye ≡ false) }
-    ensures whose { (result.0.worker ≡ 0) × (result.0.geometry ≡ geometry) × (result.0.seen ≡ []) }
+    ensures whose { (result.0.worker ≡ 0) × (result.0.terms ≡ by_any_clock geometry) × (result.0.seen ≡ []) }
     ensures storage { IsUnused result.1 }
-    ensures sizes { plain_sizes result.2 ≡ result.1.geometry }
+    ensures sizes { plain_sizes result.2 ≡ result.1.terms.geometry }
+    ensures any_clock { result.1.terms.system_clock ≡ false }
     ensures store { (plain_cache result.2 ≡ empty_cache 0) × (plain_moment result.2 ≡ 0) }
 {
-    let (mut ends, storage) = make(alloc, 1, geometry).expect(rt, "an exchange");
+    let terms = Terms {
+        geometry,
+        system_clock: false,
+    };
+    let (mut ends, storage) = make(alloc, 1, terms).expect(rt, "an exchange");
     let end = ends.pop().expect(rt, "an end");
     let store = PlainStore::new(alloc, geometry).expect(rt, "memory");
     (end, storage, store)
@@ -74,7 +61,7 @@ where
     requires spelled { (story : PortStory) → P.told port ≡ Some story → story.dialect ≡ Strict }
     requires silent { (story : PortStory) → P.told port ≡ Some story → story.events ≡ [] }
     requires whose { (story : PortStory) → P.told port ≡ Some story
-        → (story.worker ≡ 0) × (story.sizes ≡ geometry) × (story.history ≡ []) }
+        → (story.worker ≡ 0) × (story.terms ≡ by_any_clock geometry) × (story.history ≡ []) }
 {
     let handle = *rt;
     let signals = signals_of(rt, alloc, 1);
@@ -84,20 +71,12 @@ where
         rt,
         move || -> StorageReport<SteadyClock>
             requires empty { (plain_cache store ≡ empty_cache 0) × (plain_moment store ≡ 0) }
-            requires sizes { plain_sizes store ≡ storage_end.geometry }
+            requires sizes { plain_sizes store ≡ storage_end.terms.geometry }
+            requires any_clock { storage_end.terms.system_clock ≡ false }
             requires unused { IsUnused storage_end }
         { run_storage(&handle, store, SteadyClock, storage_end, &of_storage) },
     )
     .expect(rt, "a thread");
-    let report = run_worker(
-        rt,
-        alloc,
-        port,
-        end,
-        SessionList::stored(alloc),
-        Dialect::Strict,
-        gate,
-        &signals,
-    );
+    let report = run_worker(rt, alloc, port, end, Dialect::Strict, gate, &signals);
     (report, child.join(rt).executed)
 }

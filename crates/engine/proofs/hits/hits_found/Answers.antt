@@ -34,11 +34,11 @@ push-requires g c =
     let e = entry_of c.entry_at.result in
     let there : Some e ≡ map.get entries f.key.now =
     c.entry_at.ensures ∙ ap (λ (es : Entries). map.get es f.key.now) c.loop-i.invariant.entries in
-    let hits = found_there entries found i c.index-found-i.result e c.loop-i-test.true there in
-    let rest = hits_of entries (keys_found (drop (i + 1) found)) in
+    let hits = found_there c.args.with_cas entries found i c.index-found-i.result e c.loop-i-test.true there in
+    let rest = hits_of c.args.with_cas entries (keys_found (drop (i + 1) found)) in
     let room = c.loop-i.invariant.room ∙ ap (sum_by hit_room) hits in
-    subst (λ (h : Hit). hit_room h ≤ c.loop-i.hits.room) (sym c.hit_of.ensures)
-    (room_first c.loop-i.hits.room (hit_of f.key.now e) rest room)
+    subst (λ (h : Hit). hit_room h ≤ c.loop-i.hits.room) (sym c.hit_of.ensures.hit)
+    (room_first c.loop-i.hits.room (hit_of c.args.with_cas f.key.now e) rest room)
 
 pub count_read-requires : goal.count_read-requires
 count_read-requires g c =
@@ -57,12 +57,12 @@ loop-i-preserved g c =
     let i = c.loop-i.i in
     let f = get_or found i c.index-found-i.result in
     let e = entry_of c.entry_at.result in
-    let hit : Hit = hit_of f.key.now e in
+    let hit : Hit = hit_of c.args.with_cas f.key.now e in
     let there : Some e ≡ map.get entries f.key.now =
     c.entry_at.ensures ∙ ap (λ (es : Entries). map.get es f.key.now) inv.entries in
-    let hits = found_there entries found i c.index-found-i.result e c.loop-i-test.true there in
-    let rest = hits_of entries (keys_found (drop (i + 1) found)) in
-    let all = hits_of entries (keys_found found) in
+    let hits = found_there c.args.with_cas entries found i c.index-found-i.result e c.loop-i-test.true there in
+    let rest = hits_of c.args.with_cas entries (keys_found (drop (i + 1) found)) in
+    let all = hits_of c.args.with_cas entries (keys_found found) in
     let whole = ap (λ (hs : List Hit). c.loop-i.hits.hits ++ hs) (sym hits) ∙ inv.found in
     let room = inv.room ∙ ap (sum_by hit_room) hits in
     let pushed : c.push.new.self ≡ record {
@@ -73,7 +73,7 @@ loop-i-preserved g c =
     ∙ ap (λ (h : Hit). let w : Writing = record {
       hits = c.loop-i.hits.hits ++ h ∷ [];
       room = c.loop-i.hits.room - hit_room h;
-    } in w) c.hit_of.ensures in
+    } in w) c.hit_of.ensures.hit in
     let counted = counts_hit m.reads c.args.map.now c.loop-i.hits.hits c.loop-i.map hit c.count_read.new.self
     inv.counted c.count_read.ensures.counted in
     record {

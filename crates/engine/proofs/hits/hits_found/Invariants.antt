@@ -10,10 +10,10 @@ use Rattle.engine.proofs.hits.hits_found.Given as goal
 abbrev pub invariant-loop-i : goal.invariant-loop-i
 invariant-loop-i g l = record {
   are_found : AreFound g.M.LiveMap l.map l.found;
-  found : l.hits.hits ++ hits_of (g.M.LiveMap.entries l.initial.map) (keys_found (drop l.i l.found))
-      ≡ hits_of (g.M.LiveMap.entries l.initial.map) (keys_found l.found);
+  found : l.hits.hits ++ hits_of l.with_cas (g.M.LiveMap.entries l.initial.map) (keys_found (drop l.i l.found))
+      ≡ hits_of l.with_cas (g.M.LiveMap.entries l.initial.map) (keys_found l.found);
   room : l.hits.room
-      ≡ sum_by hit_room (hits_of (g.M.LiveMap.entries l.initial.map) (keys_found (drop l.i l.found)));
+      ≡ sum_by hit_room (hits_of l.with_cas (g.M.LiveMap.entries l.initial.map) (keys_found (drop l.i l.found)));
   counted : CountsEach g.M.LiveMap.reads l.initial.map (keys_of l.hits.hits) l.map;
   entries : g.M.LiveMap.entries l.map ≡ g.M.LiveMap.entries l.initial.map;
   sizes : g.M.LiveMap.sizes l.map ≡ g.M.LiveMap.sizes l.initial.map;

@@ -36,7 +36,7 @@ store-requires c = let room = c.requires.room in let d : WorkerState = worker_st
       search rules,
       posts_bye_as _ _ _ _ (holding_slot d (suc k)) _ _
           (exchanged _ _ _ _ _ None (Some Bye) c.put_message.ensures.put did slot)
-          (ap (λ (z : ℕ). 16 * z) (sym room.1)) (omega arith) c.requires.none_put refl room.4 c.requires.quiet,
+          (ap (λ (z : ℕ). 16 * z) (sym room.1)) (omega arith) c.requires.none_put refl room.4 c.requires.all_back,
     )
 
 pub returns-clause-sent : goal.returns-clause-sent

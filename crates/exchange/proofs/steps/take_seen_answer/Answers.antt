@@ -1,6 +1,7 @@
 use Rattle.std.proofs.Common.{rules, ◌≡◌, ◌+◌, length, refl, sym, ap, ◌∙◌, Some, None}
 use mathlib.Core.Option.{some}
 use Rattle.atomic_table.specs.Table.{rest}
+use Rattle.proto.specs.declared.limits.TheConstants.{WINDOW}
 use Rattle.proto.specs.declared.history.Answered.{Answered}
 use Rattle.proto.specs.History.{worker_share}
 use Rattle.exchange.specs.declared.messages.LaneMessage.TheVariants.{Answer}
@@ -39,7 +40,7 @@ load-requires-2 c = let h = c.requires.seen in let d : WorkerState = worker_stat
     (alone _ _ _ _ _ told (ap (λ (m : SeatState). m.1) h.0)) slot in (
       search rules,
       search rules,
-      returns_as _ _ _ _ d' _ (length d.back + 64) _ me refl (next_round d.worker (length d.back)),
+      returns_as _ _ _ _ d' _ (length d.back + WINDOW) _ me refl (next_round d.worker (length d.back)),
     )
 
 pub returns-clause-next : goal.returns-clause-next

@@ -10,22 +10,22 @@ start_workers-requires-clause-ends g c κs within =
 
 pub start_workers-requires-clause-ports : goal.start_workers-requires-clause-ports
 start_workers-requires-clause-ports g c κs within =
-    ports_at g.P.Port.told _ c.args.config.geometry c.args.config.dialect c.args.ports.items c.in_ok-ends.ends.items c.in_ok-ends.storage_end
+    ports_at g.P.Port.told _ c.args.context.now.config.terms c.args.context.now.config.dialect c.args.ports.items c.in_ok-ends.ends.items c.in_ok-ends.storage_end
     c.in_ok-ends.ensures.made (search rules) c.requires.ports
 
 pub join_workers-reports-requires-clause-began : goal.join_workers-reports-requires-clause-began
 join_workers-reports-requires-clause-began g c =
     (λ k d low. c.announce_start-told.ensures ∙ sym (c.in-Ok.ensures.start k d low), search rules)
 
-pub finish-requires-clause-together : goal.finish-requires-clause-together
-finish-requires-clause-together g c =
+pub gather_report-report-requires-clause-together : goal.gather_report-report-requires-clause-together
+gather_report-report-requires-clause-together g c =
     let made = c.in_ok-ends.ensures.made in let storage = c.join_storage-storage.result.storage_end in
     let same : storage.exchange ≡ c.in_ok-ends.storage_end.exchange = c.join_storage-storage.ensures.same.0
     ∙ ap (λ e. e.exchange) c.in_ok-storage.ensures.given.2 in
-    together g.P.Port.told g.P.Port.leads_to c.args.config.geometry storage c.args.ports.items
+    together g.P.Port.told g.P.Port.leads_to c.args.context.now.config.terms storage c.args.ports.items
     c.join_workers-reports.result.items
     (joined g.P.Port.told g.P.Port.leads_to (λ h. h.promise.port.value)
-    (λ h. h.promise.end.value) _ c.args.config.geometry c.in_ok-ends.ends.items c.in_ok-ends.storage_end storage
+    (λ h. h.promise.end.value) _ c.args.context.now.config.terms c.in_ok-ends.ends.items c.in_ok-ends.storage_end storage
     made same
     c.args.ports.items c.in-Ok.handles.items c.join_workers-reports.result.items c.in-Ok.ensures.ports
     c.in-Ok.ensures.ends c.join_workers-reports.ensures)
@@ -39,9 +39,9 @@ returns-else-not-value-clause-run g c =
     let keeps = g.E.StorageEngine.keeps c.args.store [] in
     subst (λ sizes. IsRun g.P.Port.told g.P.Port.leads_to g.C.Clock.told g.C.Clock.leads_to keeps sizes
     c.args.ports.items
-    c.args.clock c.finish.result) (sym c.requires.sizes)
-    (c.finish.ensures c.args.store c.args.config.geometry c.args.ports.items c.args.clock
-    (stored g.P.Port.told g.P.Port.leads_to g.C.Clock.told g.C.Clock.leads_to keeps _ c.args.config.geometry
+    c.args.clock c.gather_report-report.result) (sym c.requires.sizes)
+    (c.gather_report-report.ensures c.args.store c.args.context.now.config.terms c.args.ports.items c.args.clock
+    (stored g.P.Port.told g.P.Port.leads_to g.C.Clock.told g.C.Clock.leads_to keeps _ c.args.context.now.config.terms
     c.in_ok-ends.ends.items c.in_ok-ends.storage_end made c.args.ports.items (search rules)
     c.args.clock c.in_ok-storage.storage.promise.clock.value c.in_ok-storage.storage.promise.end.value storage
     given.1 given.2
@@ -50,7 +50,7 @@ returns-else-not-value-clause-run g c =
     storage)
     given.0 c.join_storage-storage.ensures))
     (joined g.P.Port.told g.P.Port.leads_to (λ h. h.promise.port.value)
-    (λ h. h.promise.end.value) _ c.args.config.geometry c.in_ok-ends.ends.items c.in_ok-ends.storage_end
+    (λ h. h.promise.end.value) _ c.args.context.now.config.terms c.in_ok-ends.ends.items c.in_ok-ends.storage_end
     storage.storage_end made same
     c.args.ports.items c.in-Ok.handles.items c.join_workers-reports.result.items c.in-Ok.ensures.ports
     c.in-Ok.ensures.ends c.join_workers-reports.ensures))

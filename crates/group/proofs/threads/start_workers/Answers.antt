@@ -6,7 +6,7 @@ use Rattle.group.proofs.threads.start_workers.Goals as goal
 
 pub start_worker-requires-clause-port : goal.start_worker-requires-clause-port
 start_worker-requires-clause-port g c κs within = (first_of_each
-    (IsPortAt g.P.Port.told c.args.dialect) c.loop-end.ports.rest.items c.loop-end.end-iterator.rest.items c.in-Some-next.port
+    (IsPortAt g.P.Port.told c.args.context.now.config.dialect) c.loop-end.ports.rest.items c.loop-end.end-iterator.rest.items c.in-Some-next.port
     c.in-Some.end c.next-in-loop-end.new.self.rest.items c.next.new.self.rest.items
     c.in-Some-next.ensures.items c.in-Some.ensures.steps.0 c.loop-end.invariant.placed).0
 
@@ -29,13 +29,13 @@ loop-end-preserved g c =
           ∙ i.ported;
       lengths = omega (arith, c.in-Some.ensures.steps.1, c.in-Some-next.ensures.len, i.lengths);
       placed = (first_of_each
-          (IsPortAt g.P.Port.told c.args.dialect) c.loop-end.ports.rest.items c.loop-end.end-iterator.rest.items c.in-Some-next.port
+          (IsPortAt g.P.Port.told c.args.context.now.config.dialect) c.loop-end.ports.rest.items c.loop-end.end-iterator.rest.items c.in-Some-next.port
           c.in-Some.end c.next-in-loop-end.new.self.rest.items c.next.new.self.rest.items
           c.in-Some-next.ensures.items c.in-Some.ensures.steps.0 i.placed).1;
       fresh = (first_of_all HasSentNothing c.loop-end.end-iterator.rest.items c.in-Some.end c.next.new.self.rest.items
           c.in-Some.ensures.steps.0 i.fresh).1;
-      started = subst (All (λ h. h.promise.start.now.id ≡ c.args.start.now.id)) (sym pushed)
-          (all_more (λ h. h.promise.start.now.id ≡ c.args.start.now.id) c.loop-end.handles.items h i.started
+      started = subst (All (λ h. h.promise.start.now.id ≡ c.args.context.now.start.now.id)) (sym pushed)
+          (all_more (λ h. h.promise.start.now.id ≡ c.args.context.now.start.now.id) c.loop-end.handles.items h i.started
           c.in_ok-handle.ensures.start);
       ends = more ∙ ap (λ l. l ++ h.promise.end.value ∷ []) i.ends
           ∙ ap (λ e. y ++ e ∷ []) c.in_ok-handle.ensures.given.1;

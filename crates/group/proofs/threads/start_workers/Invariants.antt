@@ -7,9 +7,9 @@ invariant-loop-end g l = record {
   ended : l.yielded ++ l.end-iterator.rest.items ≡ l.fn.ends.items;
   ported : map (λ h. h.promise.port.value) l.handles.items ++ l.ports.rest.items ≡ l.fn.ports.items;
   lengths : l.ports.rest.len ≡ l.end-iterator.rest.len;
-  placed : AreEach (IsPortAt g.P.Port.told l.dialect) l.ports.rest.items l.end-iterator.rest.items;
+  placed : AreEach (IsPortAt g.P.Port.told l.fn.context.config.dialect) l.ports.rest.items l.end-iterator.rest.items;
   fresh : All HasSentNothing l.end-iterator.rest.items;
-  started : All (λ h. h.promise.start.now.id ≡ l.fn.start.id) l.handles.items;
+  started : All (λ h. h.promise.start.now.id ≡ l.fn.context.start.now.id) l.handles.items;
   ends : map (λ h. h.promise.end.value) l.handles.items ≡ l.yielded;
   room : vec_len l.handles + l.end-iterator.rest.len ≤ vec_capacity l.handles;
 }

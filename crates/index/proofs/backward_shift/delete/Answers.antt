@@ -3,7 +3,7 @@ use Rattle.std.specs.Prelude.{slice_set}
 use Rattle.std.proofs.Common.{get_or-set_other, length-set}
 use Rattle.std.proofs.lemmas.List.{set-set}
 use Rattle.index.specs.declared.slot.Slot.{Slot}
-use Rattle.index.specs.Layouts.{Row}
+use Rattle.index.specs.Layouts.{SlotArray}
 use Rattle.index.specs.Keys.{key_at, KeysOf, home_of, hash_of}
 use Rattle.index.specs.Slots.{is_used, slot_at, place_of, distance, behind, empty_slot}
 use Rattle.index.specs.Table.{hashing, Hashing}
@@ -106,11 +106,11 @@ scan-preserved c =
           let new = slice_set c.if-distance.slots.slots c.if-distance.hole empty_slot in
           let slots_are : c.if-distance.slots.slots
           ≡ slice_set c.scan.slots.slots hole (slot_at c.scan.slots.slots next) =
-          ap (λ (r : Row). r.slots) (w.slots-is ∙ w.copy.ensures) in
+          ap (λ (r : SlotArray). r.slots) (w.slots-is ∙ w.copy.ensures) in
           let layout : c.if-distance.slots.layout ≡ c.args.slots.now.layout =
-          ap (λ (r : Row). r.layout) (w.slots-is ∙ w.copy.ensures) ∙ inv.3 in
+          ap (λ (r : SlotArray). r.layout) (w.slots-is ∙ w.copy.ensures) ∙ inv.3 in
           let room : c.if-distance.slots.room ≡ c.args.slots.now.room =
-          ap (λ (r : Row). r.room) (w.slots-is ∙ w.copy.ensures) ∙ inv.4 in
+          ap (λ (r : SlotArray). r.room) (w.slots-is ∙ w.copy.ensures) ∙ inv.4 in
           let stays_used : is_used (slot_at c.if-distance.slots.slots next) ≡ true =
           ap (λ (l : List Slot). is_used (slot_at l next)) slots_are
           ∙ ap is_used (get_or-set_other c.scan.slots.slots hole next (slot_at c.scan.slots.slots next) empty_slot inv.2.ahead)
@@ -164,13 +164,13 @@ returns-clause-without c =
     c.requires.indexed)
 
 pub returns-clause-layout : goal.returns-clause-layout
-returns-clause-layout c = ap (λ (r : Row). r.layout) c.empty.ensures ∙ c.scan.invariant.3
+returns-clause-layout c = ap (λ (r : SlotArray). r.layout) c.empty.ensures ∙ c.scan.invariant.3
 
 pub returns-clause-room : goal.returns-clause-room
-returns-clause-room c = ap (λ (r : Row). r.room) c.empty.ensures ∙ c.scan.invariant.4
+returns-clause-room c = ap (λ (r : SlotArray). r.room) c.empty.ensures ∙ c.scan.invariant.4
 
 pub returns-clause-count : goal.returns-clause-count
 returns-clause-count c =
     let is : length c.empty.new.self.slots ≡ length (slice_set c.scan.slots.slots c.scan.hole empty_slot) =
-    ap (λ (r : Row). length r.slots) c.empty.ensures in
+    ap (λ (r : SlotArray). length r.slots) c.empty.ensures in
     is ∙ c.scan.invariant.2.len

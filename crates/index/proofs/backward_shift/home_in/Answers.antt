@@ -1,5 +1,4 @@
-use Rattle.std.proofs.Common.{◌≡◌, ℕ, ◌+◌, ◌-◌, ◌*◌, ◌%◌, ◌^◌, ◌≤◌, length, refl, sym, ap, ◌∙◌, arith}
-use Rattle.std.specs.Prelude.{bit_and}
+use Rattle.std.proofs.Common.{◌≡◌, ℕ, ◌+◌, ◌*◌, ◌%◌, ◌^◌, ◌≤◌, length, sym, ap, ◌∙◌, arith}
 use Rattle.index.specs.declared.slot.Slot.{Slot}
 use Rattle.index.specs.declared.layout.Layout.{Layout}
 use Rattle.index.specs.Keys.{key_at, KeysOf, hash_of}
@@ -8,7 +7,7 @@ use Rattle.index.specs.Table.{hashing, Hashing}
 use Rattle.std.proofs.lemmas.Nat.{one_shl}
 use Rattle.index.proofs.SplitHomes.{home_below, low_home}
 use Rattle.index.proofs.NearestHomes.{home_near}
-use Rattle.index.proofs.SlotWords.{some_tag, tag_low}
+use Rattle.index.proofs.PackedSlots.{some_tag, tag_low}
 use Rattle.index.proofs.backward_shift.home_in.Goals as goal
 
 pub low_in-requires-clause-some : goal.low_in-requires-clause-some
@@ -24,18 +23,15 @@ returns-then-has_gap-clause-value c =
     let h : Hashing = hashing (length slots) l c.args.hasher in
     let f = c.requires.found in
     let hash : ℕ = hash_of c.args.hasher f.0 in
-    let at = c.args.at in
     let r = c.requires.at in
-    let b = c.home_bits.result in
-    let few = c.home_bits.ensures.few in
-    let low = c.low_in.result in
-    let apart : ℕ = 1 * 2 ^ b % 2 ^ 64 in
-    let back : ℕ = bit_and (bit_and at (apart - 1) + apart - low) (apart - 1) in
-    let room : back + apart ≤ at = c.if-back-apart.true in
-    let power : apart ≡ 2 ^ b = one_shl b 64 (omega (arith, few)) in
-    let bits : b ≡ home_bits l = c.home_bits.ensures.value ∙ ap home_bits c.layout-layout.ensures.value in
+    let b = c.home_bits-bits.result in
+    let few = c.home_bits-bits.ensures.few in
+    let next : ℕ = c.back_to_low-back.result + 1 * 2 ^ b % 2 ^ 64 in
+    let power : 1 * 2 ^ b % 2 ^ 64 ≡ 2 ^ b = one_shl b 64 (omega (arith, few)) in
+    let room : next ≤ c.args.at = c.if-next-at.true in
+    let bits : b ≡ home_bits l = c.home_bits-bits.ensures.value ∙ ap home_bits c.layout-layout.ensures.value in
     let enough : 2 ^ b ≤ length slots = omega (arith, room, power, r) in
-    let low_is : low ≡ h.home f.0 % 2 ^ b =
+    let low_is : c.low_in.result ≡ h.home f.0 % 2 ^ b =
     c.low_in.ensures.value
     ∙ ap (λ (y : Layout). low_in y c.get-slot.result.tag) c.layout-layout.ensures.value
     ∙ ap (low_in l) (ap (λ (s : Slot). s.tag) c.get-slot.ensures ∙ f.1.tag)
@@ -43,5 +39,6 @@ returns-then-has_gap-clause-value c =
     ∙ ap (λ i. hash % 2 ^ i) (sym bits)
     ∙ sym (low_home (length slots) hash b enough) in
     rw f.1.of_key
-    (sym (home_near h keys slots at f.0 b apart low back r (home_below (length slots) hash (omega (arith, r))) f.1
-    (omega (arith, few)) refl low_is refl room (c.has_gap.ensures c.if-has_gap.true)))
+    (sym (home_near h keys slots c.args.at f.0 b c.low_in.result c.back_to_low-back.result next r
+    (home_below (length slots) hash (omega (arith, r))) f.1 low_is c.back_to_low-back.ensures
+    (ap (λ i. c.back_to_low-back.result + i) power) room (c.has_gap.ensures c.if-has_gap.true)))

@@ -1,7 +1,7 @@
 use Rattle.std.proofs.Common.{◌≡◌, ◌⊎◌, ◌+◌, ◌-◌, ◌<◌, false, List, length, inl, inr, sym, ap, ◌∙◌, arith}
 use Rattle.index.specs.declared.slot.Slot.{Slot}
 use Rattle.index.specs.Keys.{key_at, KeysOf}
-use Rattle.index.specs.Layouts.{Row}
+use Rattle.index.specs.Layouts.{SlotArray}
 use Rattle.index.specs.Reinserting.{AreNear}
 use Rattle.index.specs.Slots.{used_in, is_used, slot_at}
 use Rattle.index.specs.Table.{hashing, places_in}
@@ -17,8 +17,8 @@ reinsert-requires c =
     let keys : KeysOf = key_at c.args.pool.now in
     let n = c.len-count.ensures in
     let gap = c.requires.gap in
-    let slots_are : c.push.new.self.slots ≡ longer slots = ap (λ (r : Row). r.slots) c.push.ensures in
-    let layout_is : c.push.new.self.layout ≡ l = ap (λ (r : Row). r.layout) c.push.ensures in
+    let slots_are : c.push.new.self.slots ≡ longer slots = ap (λ (r : SlotArray). r.slots) c.push.ensures in
+    let layout_is : c.push.new.self.layout ≡ l = ap (λ (r : SlotArray). r.layout) c.push.ensures in
     let long : length c.push.new.self.slots ≡ length slots + 1 = ap length slots_are ∙ longer_length slots in
     let used : used_in c.push.new.self.slots ≡ used_in slots = ap used_in slots_are ∙ longer_used slots in
     let end_in : length slots - 1 < length slots = omega (arith, gap) in
@@ -45,7 +45,7 @@ pub reinsert-requires-2-clause-near : goal.reinsert-requires-2-clause-near
 reinsert-requires-2-clause-near c =
     let n = c.len-count.ensures in
     let gap = c.requires.gap in
-    let slots_are : c.push.new.self.slots ≡ longer c.args.slots.now.slots = ap (λ (r : Row). r.slots) c.push.ensures in
+    let slots_are : c.push.new.self.slots ≡ longer c.args.slots.now.slots = ap (λ (r : SlotArray). r.slots) c.push.ensures in
     let more : c.len-more.result ≡ c.len-count.result + 1 =
     c.len-more.ensures ∙ c.reinsert.ensures.count ∙ ap length slots_are ∙ longer_length c.args.slots.now.slots
     ∙ ap (λ m. m + 1) (sym n) in
@@ -57,4 +57,4 @@ pub returns-clause-places : goal.returns-clause-places
 returns-clause-places c =
     let keys : KeysOf = key_at c.args.pool.now in
     c.reinsert-2.ensures.places ∙ c.reinsert.ensures.places
-    ∙ ap (λ (r : Row). places_in keys r.slots) c.push.ensures ∙ longer_places keys c.args.slots.now.slots
+    ∙ ap (λ (r : SlotArray). places_in keys r.slots) c.push.ensures ∙ longer_places keys c.args.slots.now.slots

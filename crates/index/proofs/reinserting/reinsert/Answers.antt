@@ -1,7 +1,7 @@
 use Rattle.std.proofs.Common.{◌≡◌, ℕ, ◌+◌, ◌*◌, ◌<◌, true, false, List, length, refl, sym, ap, ◌∙◌, arith, subst}
 use Rattle.std.specs.Prelude.{slice_set}
 use Rattle.index.specs.declared.slot.Slot.{Slot}
-use Rattle.index.specs.Layouts.{Row}
+use Rattle.index.specs.Layouts.{SlotArray}
 use Rattle.index.specs.Keys.{key_at, KeysOf}
 use Rattle.index.specs.Slots.{is_used, slot_at, distance, behind, empty_slot, used_in, AreUsedUpTo}
 use Rattle.index.specs.Reinserting.{IsFirstStop}
@@ -45,14 +45,14 @@ step c =
           omega (arith, b, count, len)) in
           let slots_are : c.if-gap-at.slots.slots
           ≡ slice_set (slice_set slots c.search-known.result.end (slot_at slots at)) at empty_slot =
-          ap (λ (r : Row). r.slots) (w.slots-is ∙ w.empty.ensures)
-          ∙ ap (λ (r : Row). slice_set r.slots at empty_slot) w.copy.ensures in
+          ap (λ (r : SlotArray). r.slots) (w.slots-is ∙ w.empty.ensures)
+          ∙ ap (λ (r : SlotArray). slice_set r.slots at empty_slot) w.copy.ensures in
           step_moves h keys slots c.if-gap-at.slots.slots at c.search-known.result.end f.0 inv.near r used less in_row
           f.1.of_key stop w.if-gap-at.true slots_are
       | else-gap-at w ↦
           let up : AreUsedUpTo slots (h.home f.0) at =
           subst (λ (x : ℕ). AreUsedUpTo slots (h.home f.0) x) w.if-gap-at.false stop.up_to in
-          subst (λ (l : Row). IsStep h keys slots l.slots at) (sym w.slots-is)
+          subst (λ (l : SlotArray). IsStep h keys slots l.slots at) (sym w.slots-is)
           (step_stays h keys slots at f.0 inv.near r used less f.1.of_key up)
     ]
 
@@ -62,14 +62,14 @@ kept : (c : goal.After-behind-at)
 kept c =
     elim c.if-gap-at.branch [
       | then-gap-at w ↦ (
-        ap (λ (r : Row). r.layout) (w.slots-is ∙ w.empty.ensures) ∙ ap (λ (r : Row). r.layout) w.copy.ensures
+        ap (λ (r : SlotArray). r.layout) (w.slots-is ∙ w.empty.ensures) ∙ ap (λ (r : SlotArray). r.layout) w.copy.ensures
             ∙ c.cluster.invariant.layout,
-        ap (λ (r : Row). r.room) (w.slots-is ∙ w.empty.ensures) ∙ ap (λ (r : Row). r.room) w.copy.ensures
+        ap (λ (r : SlotArray). r.room) (w.slots-is ∙ w.empty.ensures) ∙ ap (λ (r : SlotArray). r.room) w.copy.ensures
             ∙ c.cluster.invariant.room,
       )
       | else-gap-at w ↦ (
-        ap (λ (r : Row). r.layout) w.slots-is ∙ c.cluster.invariant.layout,
-        ap (λ (r : Row). r.room) w.slots-is ∙ c.cluster.invariant.room,
+        ap (λ (r : SlotArray). r.layout) w.slots-is ∙ c.cluster.invariant.layout,
+        ap (λ (r : SlotArray). r.room) w.slots-is ∙ c.cluster.invariant.room,
       )
     ]
 

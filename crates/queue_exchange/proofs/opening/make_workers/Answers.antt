@@ -1,5 +1,5 @@
 use Rattle.std.proofs.Common.{◌≡◌, ◌*◌, [], ◌∷◌, length, arith, length-append, ap, sym, subst, ◌∙◌}
-use Rattle.queue_exchange.specs.Queues.{StorageQueues, WorkerQueues, new_storage_queues}
+use Rattle.queue_exchange.specs.Queues.{StorageQueues, WorkerQueues, new_storage_queues, room_for}
 use Rattle.queue_exchange.proofs.Making.{made_more, with_replies}
 use Rattle.queue_exchange.proofs.opening.make_workers.Goals as goal
 
@@ -22,6 +22,6 @@ loop-preserved c =
       ends = made_more s c.one_more.new.self c.loop.ends.items c.push.new.self.items e
           (count.0 ∙ sym count.1) inv.ends more.1 more.0 items;
       storage = subst (λ (z : StorageQueues). z
-          ≡ new_storage_queues z.requests (65 * c.args.workers) z.replies c.args.storage.now.geometry) (sym more.0)
+          ≡ new_storage_queues z.requests (room_for c.args.workers) z.replies c.args.storage.now.geometry) (sym more.0)
           (ap (λ (z : StorageQueues). with_replies z e.replies) inv.storage);
     }

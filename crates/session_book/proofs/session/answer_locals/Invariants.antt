@@ -7,6 +7,7 @@ abbrev pub invariant-loop-pending : goal.invariant-loop-pending
 invariant-loop-pending l = record {
   queue : left l.queue.items [] ≡ left l.fn.queue.items [];
   out : l.out ++ said l.queue.items [] ≡ l.fn.out ++ said l.fn.queue.items [];
+  silent : said l.fn.queue.items [] ≡ [] → said l.queue.items [] ≡ [];
 }
 
 abbrev pub decreases-loop-pending : goal.decreases-loop-pending

@@ -1,12 +1,16 @@
-use Rattle.std.proofs.Common.{◌≡◌, rules, ℕ, sym, subst}
+use Rattle.std.proofs.Common.{◌≡◌, rules, ℕ, List, [], ◌∷◌, ◌++◌, ap, ◌∙◌, sym, subst}
 use Rattle.proto.specs.declared.history.Answered.{Answered}
 use Rattle.proto.specs.declared.message.Request.{Request}
+use Rattle.proto.specs.ClockAnswers.{GivenAnswer}
+use Rattle.proto.specs.History.{answers_by}
 use Rattle.proto.specs.Sizes.{Sizes}
 use Rattle.proto.specs.Steps.{Step}
 use Rattle.exchange.specs.Ends.{StorageView}
 use Rattle.engine.specs.Reaching.{Reaches}
+use Rattle.storage_thread.specs.Serving.{IsReadSince}
 use Rattle.storage_thread.specs.Keeping.{LeadsKeeping}
 use Rattle.engine.proofs.ReachingLemmas.{reaches_more, legal_of}
+use Rattle.storage_thread.proofs.Turns.{read_more}
 use Rattle.storage_thread.proofs.Kept.{KeepsStep, leads_more}
 use Rattle.storage_thread.proofs.serving.execute.Goals as goal
 
@@ -18,15 +22,24 @@ answer_later-requires-clause-legal g c = let p = c.args.posted in
       number = p.number;
       request = c.handle-reply.new.request;
       moment = c.next_moment-moment.result;
+      clock = c.answers-told.result;
       reply = c.handle-reply.result;
     } in
-    legal_of _ _ _ _
-    (reaches_more c.args.end.now.end.geometry c.args.end.now.end.history (g.S.StorageEngine.cache c.args.store.now)
+    let by : e.clock ≡ answers_by [] c.args.end.now.end.history ++ c.next_moment-moment.ensures.moment.0 ∷ [] =
+    c.answers-told.ensures ∙ c.next_moment-moment.ensures.moment.2
+    ∙ ap (λ (l : List GivenAnswer). l ++ c.next_moment-moment.ensures.moment.0 ∷ []) c.requires.answers in
+    let legal = legal_of _ _ _ _
+    (reaches_more c.args.end.now.end.terms.geometry c.args.end.now.end.history (g.S.StorageEngine.cache c.args.store.now)
     (g.S.StorageEngine.cache c.handle-reply.new.self) (g.S.StorageEngine.moment c.args.store.now) e c.requires.reaches
     (subst (λ (z : Sizes × Request). Step z.0 (g.S.StorageEngine.cache c.args.store.now) e.moment z.1 e.reply
     (g.S.StorageEngine.cache c.handle-reply.new.self))
     (λ i. (c.requires.sizes i, sym c.handle-reply.ensures.request i)) c.handle-reply.ensures.step)
-    (search rules) (search rules) c.requires.next)
+    (search rules) c.next_moment-moment.ensures.moment.0 (c.answers-told.ensures ∙ c.next_moment-moment.ensures.moment.2
+    ∙ ap (λ (l : List GivenAnswer). l ++ c.next_moment-moment.ensures.moment.0 ∷ []) c.requires.answers) (search rules) c.requires.next) in record {
+      legal = legal;
+      read = λ is. let f = read_more _ _ _ c.args.end.now.end.history e c.next_moment-moment.ensures.moment.0 by c.requires.read
+          c.next_moment-moment.ensures.moment.4 c.next_moment-moment.ensures.moment.5 is in (f.0, f.2);
+    }
 
 pub returns-clause-reaches : goal.returns-clause-reaches
 returns-clause-reaches g c = let p = c.args.posted in
@@ -36,16 +49,18 @@ returns-clause-reaches g c = let p = c.args.posted in
       number = p.number;
       request = c.handle-reply.new.request;
       moment = c.next_moment-moment.result;
+      clock = c.answers-told.result;
       reply = c.handle-reply.result;
     } in
-    let more = reaches_more c.args.end.now.end.geometry c.args.end.now.end.history
+    let more = reaches_more c.args.end.now.end.terms.geometry c.args.end.now.end.history
     (g.S.StorageEngine.cache c.args.store.now)
     (g.S.StorageEngine.cache c.handle-reply.new.self) (g.S.StorageEngine.moment c.args.store.now) e c.requires.reaches
     (subst (λ (z : Sizes × Request). Step z.0 (g.S.StorageEngine.cache c.args.store.now) e.moment z.1 e.reply
     (g.S.StorageEngine.cache c.handle-reply.new.self))
     (λ i. (c.requires.sizes i, sym c.handle-reply.ensures.request i)) c.handle-reply.ensures.step)
-    (search rules) (search rules) c.requires.next in
-    subst (λ (z : StorageView × ℕ). Reaches z.0.geometry z.0.history
+    (search rules) c.next_moment-moment.ensures.moment.0 (c.answers-told.ensures ∙ c.next_moment-moment.ensures.moment.2
+    ∙ ap (λ (l : List GivenAnswer). l ++ c.next_moment-moment.ensures.moment.0 ∷ []) c.requires.answers) (search rules) c.requires.next in
+    subst (λ (z : StorageView × ℕ). Reaches z.0.terms.geometry z.0.history
     (g.S.StorageEngine.cache c.handle-reply.new.self) z.1)
     (λ i. (sym c.answer_later.ensures.answered i, sym c.handle-reply.ensures.moment i)) more
 
@@ -57,16 +72,36 @@ returns-clause-kept g c l = let p = c.args.posted in let m = g.S.StorageEngine i
       number = p.number;
       request = c.handle-reply.new.request;
       moment = c.next_moment-moment.result;
+      clock = c.answers-told.result;
       reply = c.handle-reply.result;
     } in
     let old = m.cache c.args.store.now in let after = m.cache c.handle-reply.new.self in
-    let sizes : m.sizes c.args.store.now ≡ c.args.end.now.end.geometry = c.requires.sizes in
+    let sizes : m.sizes c.args.store.now ≡ c.args.end.now.end.terms.geometry = c.requires.sizes in
     let request : p.request ≡ c.handle-reply.new.request = sym c.handle-reply.ensures.request in
-    let more = leads_more c.args.end.now.end.geometry c.args.end.now.end.history old after e (m.keeps c.args.store.now)
+    let more = leads_more c.args.end.now.end.terms.geometry c.args.end.now.end.history old after e (m.keeps c.args.store.now)
     (m.keeps c.handle-reply.new.self) l
     (subst (λ (z : Sizes × Request). Step z.0 old e.moment z.1 e.reply after)
     (λ i. (sizes i, request i)) c.handle-reply.ensures.step)
     (subst (λ (z : Sizes × Request). KeepsStep z.0 old (record e { request = z.1 }) after (m.keeps c.args.store.now)
     (m.keeps c.handle-reply.new.self)) (λ i. (sizes i, request i)) c.handle-reply.ensures.kept) in
-    subst (λ (z : StorageView). LeadsKeeping z.geometry z.history after (m.keeps c.handle-reply.new.self))
+    subst (λ (z : StorageView). LeadsKeeping z.terms.geometry z.history after (m.keeps c.handle-reply.new.self))
     (sym c.answer_later.ensures.answered) more
+
+pub returns-clause-read : goal.returns-clause-read
+returns-clause-read g c = let p = c.args.posted in
+    let e : Answered = record {
+      worker = c.args.worker;
+      session = p.session;
+      number = p.number;
+      request = c.handle-reply.new.request;
+      moment = c.next_moment-moment.result;
+      clock = c.answers-told.result;
+      reply = c.handle-reply.result;
+    } in
+    let by : e.clock ≡ answers_by [] c.args.end.now.end.history ++ c.next_moment-moment.ensures.moment.0 ∷ [] =
+    c.answers-told.ensures ∙ c.next_moment-moment.ensures.moment.2
+    ∙ ap (λ (l : List GivenAnswer). l ++ c.next_moment-moment.ensures.moment.0 ∷ []) c.requires.answers in
+    subst (λ (z : StorageView). IsReadSince z.terms.system_clock (g.C.Clock.start c.next_moment-moment.new.clock.clock) z.history)
+    (sym c.answer_later.ensures.answered)
+    (read_more _ _ _ c.args.end.now.end.history e c.next_moment-moment.ensures.moment.0 by c.requires.read
+    c.next_moment-moment.ensures.moment.4 c.next_moment-moment.ensures.moment.5)

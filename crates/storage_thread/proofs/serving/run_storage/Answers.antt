@@ -1,24 +1,34 @@
-use Rattle.std.proofs.Common.{rules, arith, ℕ, ◌<◌, All, ap, sym, subst, ◌∙◌}
+use Rattle.std.proofs.Common.{◌≡◌, true, rules, arith, ℕ, ◌<◌, List, All, IsSome, refl, ap, sym, subst, ◌∙◌}
 use Rattle.proto.specs.declared.history.Posted.{Posted}
 use Rattle.exchange.specs.Ends.{StorageView}
-use Rattle.storage_thread.specs.Serving.{SaidBye}
+use Rattle.proto.specs.declared.terms.Terms.{Terms}
+use Rattle.proto.specs.ClockAnswers.{GivenAnswer}
+use Rattle.storage_thread.specs.Serving.{IsReadSince, SaidBye, GetsNone, IsStorageServing}
 use Rattle.storage_thread.specs.Keeping.{LeadsKeeping, MayForgetNothing}
 use Rattle.storage_thread.proofs.Kept.{leads_first, none_forgotten}
-use Rattle.storage_thread.proofs.Turns.{longer, same_sizes, same_byes, same_workers, serving_asked, timed_asked, all_said}
+use Rattle.storage_thread.proofs.Turns.{serving_first, longer, same_sizes, same_byes, same_workers, serving_asked, serving_none, serving_bye, asked_read, answers_asked, read_first, timed_asked, all_said}
 use Rattle.storage_thread.proofs.serving.run_storage.Goals as goal
 
 pub loop-init : goal.loop-init
-loop-init g c = let same = c.batched-end.ensures in let unused = c.requires.unused in (
-  tt,
-  tt,
-  search rules,
-  search rules,
-  search rules,
-  search rules,
-  search rules,
-  search rules,
-  leads_first _ _ _ _ (ap (λ (z : StorageView). z.history) (ap (λ batch. batch.end) same) ∙ unused.2) c.requires.empty.0,
-)
+loop-init g c = let unused = c.requires.unused in
+    let same : c.batched-end.result.end ≡ c.args.storage_end = ap (λ batch. batch.end) c.batched-end.ensures in (
+      tt,
+      tt,
+      subst (λ (z : StorageView). IsStorageServing c.args.storage_end z (g.S.StorageEngine.cache c.args.store)
+          (g.S.StorageEngine.moment c.args.store)) (sym same)
+          (serving_first c.args.storage_end _ _ unused c.requires.empty.0 c.requires.empty.1),
+      c.requires.sizes ∙ ap (λ (z : StorageView). z.terms.geometry) (sym same),
+      search rules,
+      search rules,
+      search rules,
+      search rules,
+      leads_first _ _ _ _ (ap (λ (z : StorageView). z.history) same ∙ unused.2) c.requires.empty.0,
+      search rules,
+      read_first _ (ap (λ (z : StorageView). z.terms.system_clock) same)
+          (subst (λ s. c.args.storage_end.terms.system_clock ≡ true → IsSome s) (sym (ap g.C.Clock.start c.new-clock.ensures.clock))
+          c.requires.system_clock)
+          (ap (λ (z : StorageView). z.history) same ∙ unused.2),
+    )
 
 pub loop-preserved-in-Some-Asked : goal.loop-preserved-in-Some-Asked
 loop-preserved-in-Some-Asked g c = let i = c.loop.invariant in
@@ -26,23 +36,64 @@ loop-preserved-in-Some-Asked g c = let i = c.loop.invariant in
     let mid : StorageView = c.take_next.new.end.end in let new : StorageView = c.execute.new.end.end in
     let w : ℕ = c.in-Some-Asked.worker in let p : Posted = c.in-Some-Asked.posted in
     let m : ℕ = g.S.StorageEngine.moment c.execute.new.store in let a = c.execute.ensures.answered in
-    let long = longer now mid w p f new m a in let added = c.saturating_add-executed.ensures in let so_far = i.7 in
+    let told : List GivenAnswer = c.execute.new.clock.answers in
+    let long = longer now mid w p f new m told a in let added = c.saturating_add-executed.ensures in let so_far = i.7 in
     let all = i.4 in
-    let byes = same_byes now mid w p f new m a in let workers = same_workers now mid w p f new m a in (
+    let byes = same_byes now mid w p f new m told a in let workers = same_workers now mid w p f new m told a in (
       tt,
       tt,
-      serving_asked now mid w p f new m a c.args.storage_end (g.S.StorageEngine.cache c.loop.store)
+      serving_asked now mid w p f new m told a c.args.storage_end (g.S.StorageEngine.cache c.loop.store)
           (g.S.StorageEngine.cache c.execute.new.store)
           (g.S.StorageEngine.moment c.loop.store) i.2 c.execute.ensures.reaches,
-      c.execute.ensures.sizes ∙ (i.3 ∙ same_sizes now mid w p f new m a),
+      c.execute.ensures.sizes ∙ (i.3 ∙ same_sizes now mid w p f new m told a),
       omega (arith, all, byes, workers),
-      g.met.C.Clock.leads_transitive c.args.clock c.loop.clock c.execute.new.clock i.5 c.execute.ensures.leads,
-      timed_asked now mid w p f new m a _ _ _
-          (g.S.StorageEngine.moment c.loop.store) i.2.reaches.moment_is i.6 c.execute.ensures.moment,
+      g.met.C.Clock.leads_transitive c.args.clock c.loop.clock.clock c.execute.new.clock.clock i.5 c.execute.ensures.leads,
+      timed_asked now mid w p f new m told a g.C.Clock.told g.C.Clock.start (g.C.Clock.told c.args.clock) c.loop.clock c.execute.new.clock
+          (g.S.StorageEngine.moment c.loop.store) i.2.reaches.moment_is i.9 refl i.6 c.execute.ensures.moment,
       omega (arith, added, so_far, long),
       λ start. c.execute.ensures.kept
-          (subst (λ (z : StorageView). LeadsKeeping z.geometry z.history (g.S.StorageEngine.cache c.loop.store)
+          (subst (λ (z : StorageView). LeadsKeeping z.terms.geometry z.history (g.S.StorageEngine.cache c.loop.store)
           (g.S.StorageEngine.keeps c.loop.store)) (sym f.after) (i.8 start)),
+      answers_asked now mid w p f new m told a,
+      c.execute.ensures.read,
+    )
+
+pub execute-requires-clause-read : goal.execute-requires-clause-read
+execute-requires-clause-read g c = let f = rw c.in-Some-Asked.field-0-is at c.in-Some-Asked.ensures.taken in
+    asked_read c.loop.end.end c.take_next.new.end.end c.in-Some-Asked.worker c.in-Some-Asked.posted f _ c.loop.invariant.10
+
+pub loop-preserved : goal.loop-preserved
+loop-preserved g c = let i = c.loop.invariant in let now : StorageView = c.loop.end.end in
+    let new : StorageView = c.take_next.new.end.end in
+    let f : GetsNone now new = search rules in (
+      tt,
+      tt,
+      serving_none c.args.storage_end now new _ _ i.2 f,
+      search rules,
+      search rules,
+      i.5,
+      search rules,
+      search rules,
+      search rules,
+      search rules,
+      subst (λ (z : StorageView). IsReadSince z.terms.system_clock (g.C.Clock.start c.loop.clock.clock) z.history) (sym f.1) i.10,
+    )
+
+pub loop-preserved-in-Some-Bye : goal.loop-preserved-in-Some-Bye
+loop-preserved-in-Some-Bye g c = let i = c.loop.invariant in let now : StorageView = c.loop.end.end in
+    let new : StorageView = c.take_next.new.end.end in
+    let f = rw c.in-Some-Bye.field-0-is at c.in-Some-Bye.ensures.taken in (
+      tt,
+      tt,
+      serving_bye c.args.storage_end now new _ _ i.2 _ f,
+      search rules,
+      search rules,
+      i.5,
+      search rules,
+      search rules,
+      search rules,
+      search rules,
+      subst (λ (z : StorageView). IsReadSince z.terms.system_clock (g.C.Clock.start c.loop.clock.clock) z.history) (sym f.after) i.10,
     )
 
 pub returns-then-left-eq0-clause-bye : goal.returns-then-left-eq0-clause-bye
@@ -59,6 +110,6 @@ returns-then-left-eq0-clause-inside g c = let i = c.loop.invariant in
 pub returns-then-left-eq0-clause-bounded : goal.returns-then-left-eq0-clause-bounded
 returns-then-left-eq0-clause-bounded g c start = let i = c.loop.invariant in
     let same = c.into_end.ensures ∙ c.tell.ensures.end in
-    subst (λ (z : StorageView). MayForgetNothing c.args.storage_end.geometry z.history) (sym same)
-    (subst (λ sizes. MayForgetNothing sizes c.loop.end.end.history) i.2.same.2
-    (none_forgotten c.loop.end.end.geometry c.loop.end.end.history _ _ (i.8 start)))
+    subst (λ (z : StorageView). MayForgetNothing c.args.storage_end.terms.geometry z.history) (sym same)
+    (subst (λ (j : Terms). MayForgetNothing j.geometry c.loop.end.end.history) i.2.same.2
+    (none_forgotten c.loop.end.end.terms.geometry c.loop.end.end.history _ _ (i.8 start)))

@@ -5,6 +5,6 @@ use Rattle.subcommands.proofs.service.make_ports.Given as goal
 -- the ports so far are those of the first workers, and have told nothing
 abbrev pub invariant-loop-worker : goal.invariant-loop-worker
 invariant-loop-worker g l = record {
-  new : AreNewPorts l.fn.geometry l.fn.dialect l.ports.items;
+  new : AreNewPorts l.fn.geometry l.fn.options.dialect l.ports.items;
   count : length l.ports.items ≡ l.worker;
 }

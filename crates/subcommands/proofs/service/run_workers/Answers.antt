@@ -8,7 +8,7 @@ use Rattle.subcommands.proofs.ReplayLemmas.{keeping_run}
 use Rattle.subcommands.proofs.service.run_workers.Goals as goal
 
 pub run_group-requires-clause-ports : goal.run_group-requires-clause-ports
-run_group-requires-clause-ports g c κs within = new_of c.args.geometry c.args.dialect c.args.ports.items c.requires.ports
+run_group-requires-clause-ports g c κs within = new_of c.args.geometry c.args.options.now.dialect c.args.ports.items c.requires.ports
 
 pub returns : goal.returns
 returns g c = record {
@@ -22,5 +22,4 @@ returns g c = record {
   run = keeping_run socket_told (λ _ _. ⊤) clock_told (λ _ _. ⊤) (KeepsStored c.args.store.map []) (sizes_in c.args.store)
       c.args.geometry c.args.ports.items c.new-clock.result c.in_ok-report.report c.in_ok-report.ensures.run
       c.requires.store.sizes_are c.requires.store.keeps;
-  seconds = c.agrees.ensures;
 }

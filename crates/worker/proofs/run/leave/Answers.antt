@@ -33,7 +33,7 @@ returns-clause-whose g c =
     λ story e.
     let k = (c.worker.invariant.whose story e).0 in let bye = c.say_bye.ensures in record {
       worker_is = k.worker_is ∙ sym (ap (λ (e : WorkerView). e.worker) bye);
-      sizes_are = k.sizes_are ∙ sym (ap (λ (e : WorkerView). e.geometry) bye);
+      terms_are = k.terms_are ∙ sym (ap (λ (e : WorkerView). e.terms) bye);
       later = (k.later.0, ap (λ (e : WorkerView). e.seen) bye ∙ k.later.1);
     }
 

@@ -4,13 +4,13 @@ use mathlib.Core.Option.{some}
 use lib.ListN.{get_elem?}
 use Rattle.proto.specs.declared.history.Posted.{Posted}
 use Rattle.proto.specs.declared.history.Answered.{Answered}
-use Rattle.proto.specs.History.{Legal, worker_share, asked_posted}
+use Rattle.proto.specs.History.{LegalBy, worker_share, asked_posted}
 use Rattle.exchange.specs.Beginnings.{StartsWith, posted_of}
 use Rattle.exchange.specs.Ends.{WorkerView, WorkerBatchView, TakesAnswer, TakesSeen, IsToldDone, flushed}
 use Rattle.exchange.proofs.Lists.{starts_take, starts_longer, starts_more}
 use Rattle.worker.specs.Workers.{TakesNone, TakesBack, WasToldOfHistory, IsLaterEnd}
 use Rattle.worker.proofs.WorkerSteps.{later_view}
-use Rattle.proto.specs.Sizes.{Sizes}
+use Rattle.proto.specs.declared.terms.Terms.{Terms}
 use Rattle.worker.proofs.SettleSteps.{at_append}
 use Rattle.worker.proofs.sending.take_answer.Goals as goal
 
@@ -25,11 +25,11 @@ IsFirst old a = (a.worker ≡ old.end.worker) × (get_elem? old.end.sent (length
 
 -- the history that a look told of
 looked : (old new : WorkerBatchView) (done : ℕ) (told : List Answered) → IsToldDone old.end done told
-    → new.end.geometry ≡ old.end.geometry → new.end.worker ≡ old.end.worker → new.end.seen ≡ told
+    → new.end.terms ≡ old.end.terms → new.end.worker ≡ old.end.worker → new.end.seen ≡ told
     → (flushed new).end.sent ≡ (flushed old).end.sent
     → StartsWith (worker_share told old.end.worker) new.end.back → WasToldOfHistory (flushed new).end
-looked old new done told k geometry worker seen sent back = record {
-  legal = subst (λ (y : Sizes × List Answered). Legal y.0 y.1) (λ i. (sym geometry i, sym seen i)) k.legal;
+looked old new done told k terms worker seen sent back = record {
+  legal = subst (λ (y : Terms × List Answered). LegalBy y.0 y.1) (λ i. (sym terms i, sym seen i)) k.legal;
   asked = subst (λ (y : List Posted × ℕ × List Answered). StartsWith y.0 (asked_posted (worker_share y.2 y.1)))
       (λ i. (sym sent i, sym worker i, sym seen i))
       (subst (λ (l : List Posted). StartsWith (old.end.sent ++ old.put) l) (sym k.asked)
@@ -39,34 +39,34 @@ looked old new done told k geometry worker seen sent back = record {
 }
 
 -- the end after a look, which told of this history
-later_looked : (old new : WorkerView) (told : List Answered) → new.worker ≡ old.worker → new.geometry ≡ old.geometry
+later_looked : (old new : WorkerView) (told : List Answered) → new.worker ≡ old.worker → new.terms ≡ old.terms
     → new.seen ≡ told → StartsWith told old.seen → IsLaterEnd old new
-later_looked old new told worker geometry seen later =
-    record { worker = worker; geometry = geometry; later = subst (λ l. StartsWith l old.seen) (sym seen) later }
+later_looked old new told worker terms seen later =
+    record { worker = worker; terms = terms; later = subst (λ l. StartsWith l old.seen) (sym seen) later }
 
 by_look : (old new : WorkerBatchView) (result : Option Answered) → TakesAnswer old.end result new.end
     → new.put ≡ old.put
     → IfSome result (IsFirst old) → Takes old result new
 by_look old new None k put own = let e = k.3.1 in record {
   later = later_looked (flushed old).end (flushed new).end k.1 (ap (λ (w : WorkerView). w.worker) e)
-      (ap (λ (w : WorkerView). w.geometry) e) (ap (λ (w : WorkerView). w.seen) e) k.2.later;
+      (ap (λ (w : WorkerView). w.terms) e) (ap (λ (w : WorkerView). w.seen) e) k.2.later;
   sent = λ i. (e i).sent ++ put i;
   back = ap (λ (w : WorkerView). w.back) e;
   running = ap (λ (w : WorkerView). w.said_bye) e;
   same = record { exchange = ap (λ (w : WorkerView). w.exchange) e; worker = ap (λ (w : WorkerView). w.worker) e };
-  told = λ t. looked old new k.0 k.1 k.2 (ap (λ (w : WorkerView). w.geometry) e) (ap (λ (w : WorkerView). w.worker) e)
+  told = λ t. looked old new k.0 k.1 k.2 (ap (λ (w : WorkerView). w.terms) e) (ap (λ (w : WorkerView). w.worker) e)
       (ap (λ (w : WorkerView). w.seen) e) (λ i. (e i).sent ++ put i)
       (subst (λ l. StartsWith (worker_share k.1 old.end.worker) l) (sym (ap (λ (w : WorkerView). w.back) e)) k.2.back);
 }
 by_look old new (Some a) k put own = let e = k.3.1 in record {
   later = later_looked (flushed old).end (flushed new).end k.1 (ap (λ (w : WorkerView). w.worker) e)
-      (ap (λ (w : WorkerView). w.geometry) e) (ap (λ (w : WorkerView). w.seen) e) k.2.later;
+      (ap (λ (w : WorkerView). w.terms) e) (ap (λ (w : WorkerView). w.seen) e) k.2.later;
   own = at_append old.end.sent old.put (length old.end.back) (posted_of a) own.1;
   sent = λ i. (e i).sent ++ put i;
   back = ap (λ (w : WorkerView). w.back) e;
   running = ap (λ (w : WorkerView). w.said_bye) e;
   same = record { exchange = ap (λ (w : WorkerView). w.exchange) e; worker = ap (λ (w : WorkerView). w.worker) e };
-  told = λ t. looked old new k.0 k.1 k.2 (ap (λ (w : WorkerView). w.geometry) e) (ap (λ (w : WorkerView). w.worker) e)
+  told = λ t. looked old new k.0 k.1 k.2 (ap (λ (w : WorkerView). w.terms) e) (ap (λ (w : WorkerView). w.worker) e)
       (ap (λ (w : WorkerView). w.seen) e) (λ i. (e i).sent ++ put i)
       (subst (λ l. StartsWith (worker_share k.1 old.end.worker) l) (sym (ap (λ (w : WorkerView). w.back) e))
       (starts_more (worker_share k.1 old.end.worker) old.end.back a k.2.back k.3.0));
@@ -76,14 +76,14 @@ seen_before : (old new : WorkerBatchView) (a : Answered) → TakesSeen old.end (
     → IsFirst old a → Takes old (Some a) new
 seen_before old new a k put own = let e = k.1.1 in record {
   later = later_view (flushed old).end (flushed new).end (ap (λ (w : WorkerView). w.worker) e)
-      (ap (λ (w : WorkerView). w.geometry) e) (ap (λ (w : WorkerView). w.seen) e);
+      (ap (λ (w : WorkerView). w.terms) e) (ap (λ (w : WorkerView). w.seen) e);
   own = at_append old.end.sent old.put (length old.end.back) (posted_of a) own.1;
   sent = λ i. (e i).sent ++ put i;
   back = ap (λ (w : WorkerView). w.back) e;
   running = ap (λ (w : WorkerView). w.said_bye) e;
   same = record { exchange = ap (λ (w : WorkerView). w.exchange) e; worker = ap (λ (w : WorkerView). w.worker) e };
   told = λ t. let was = k.0 in record {
-    legal = subst (λ (y : Sizes × List Answered). Legal y.0 y.1) (λ i. ((sym e i).geometry, (sym e i).seen)) was.legal;
+    legal = subst (λ (y : Terms × List Answered). LegalBy y.0 y.1) (λ i. ((sym e i).terms, (sym e i).seen)) was.legal;
     asked = subst (λ (y : List Posted × ℕ × List Answered). StartsWith y.0 (asked_posted (worker_share y.2 y.1)))
         (λ i. ((sym e i).sent ++ sym put i, (sym e i).worker, (sym e i).seen))
         (subst (λ (l : List Posted). StartsWith (old.end.sent ++ old.put) l) (sym was.asked)

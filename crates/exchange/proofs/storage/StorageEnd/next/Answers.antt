@@ -5,9 +5,9 @@ use Rattle.exchange.proofs.Looks.{next_history}
 use Rattle.exchange.proofs.storage.StorageEnd.next.Goals as goal
 
 pub invariant_of-self : goal.invariant_of-self
-invariant_of-self c = let did = c.next.ensures in did.told ∙ (c.self.invariant
+invariant_of-self g c = let did = c.next.ensures in did.told ∙ (c.self.invariant
     ∙ sym (next_history c.self.inside.batch.end c.next.new.self.end c.next.result did.next))
 
 pub returns-clause-every_lane : goal.returns-clause-every_lane
-returns-clause-every_lane c = subst (λ (z : StorageView). IfNone c.next.result ((w : ℕ) → w < z.workers
+returns-clause-every_lane g c = subst (λ (z : StorageView). IfNone c.next.result ((w : ℕ) → w < z.workers
     → LookedOnce z c.next.new.self.end w)) c.self.view_is c.next.ensures.every_lane

@@ -3,7 +3,7 @@ use Rattle.exchange.proofs.Looks.{found_above, found_below, vain_above, vain_bel
 use Rattle.exchange.proofs.storage_batch.StorageBatch.next.Goals as goal
 
 pub loop-lane-preserved : goal.loop-lane-preserved
-loop-lane-preserved c = let inv = c.loop-lane.invariant in let l = c.in_default.ensures.looks in
+loop-lane-preserved g c = let inv = c.loop-lane.invariant in let l = c.in_default.ensures.looks in
     let small = c.loop-lane-test.true in let e = inv.looks.1 in record {
       same = inv.same;
       told = c.in_default.ensures.told ∙ inv.told;
@@ -17,7 +17,7 @@ loop-lane-preserved c = let inv = c.loop-lane.invariant in let l = c.in_default.
     }
 
 pub loop-lane-2-preserved : goal.loop-lane-2-preserved
-loop-lane-2-preserved c = let inv = c.loop-lane-2.invariant in let l = c.in_default-look.ensures.looks in
+loop-lane-2-preserved g c = let inv = c.loop-lane-2.invariant in let l = c.in_default-look.ensures.looks in
     let small = c.loop-lane-2-test.true in record {
       same = inv.same;
       told = c.in_default-look.ensures.told ∙ inv.told;
@@ -26,17 +26,17 @@ loop-lane-2-preserved c = let inv = c.loop-lane-2.invariant in let l = c.in_defa
     }
 
 pub returns-in-Some-clause-next : goal.returns-in-Some-clause-next
-returns-in-Some-clause-next c = let inv = c.loop-lane.invariant in
+returns-in-Some-clause-next g c = let inv = c.loop-lane.invariant in
     found_above _ _ _ _ _ c.loop-lane.lane inv.same.0 inv.same.1 inv.looks.0 _ inv.looks.1 c.loop-lane-test.true
     inv.looks.3 c.in-Some.ensures.looks
 
 pub returns-in-Some-look-clause-next : goal.returns-in-Some-look-clause-next
-returns-in-Some-look-clause-next c = let inv = c.loop-lane-2.invariant in
+returns-in-Some-look-clause-next g c = let inv = c.loop-lane-2.invariant in
     found_below _ _ _ _ _ c.loop-lane-2.lane inv.same.0 inv.same.1 _ c.loop-lane-2-test.true inv.same.2 inv.looks.1
     c.in-Some-look.ensures.looks
 
 pub returns-clause-every_lane : goal.returns-clause-every_lane
-returns-clause-every_lane c = let inv = c.loop-lane-2.invariant in
+returns-clause-every_lane g c = let inv = c.loop-lane-2.invariant in
     λ w l. each_once c.args.self.now.end c.loop-lane-2.self.end w (let a = inv.same.0 in
     let b = inv.same.1 in let d = inv.same.2 in omega arith) l
     (all_looked _ _ c.loop-lane-2.self.end _ _ c.loop-lane-2.lane inv.same.0 inv.same.1 inv.looks.0

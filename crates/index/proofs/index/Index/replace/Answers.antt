@@ -11,7 +11,7 @@ use Rattle.index.proofs.SlotsAsMap.{stands_from_get}
 use Rattle.std.proofs.Common.{sym}
 use Rattle.index.specs.Table.{Table}
 use Rattle.index.specs.Layouts.{tag_of, IsInLayout}
-use Rattle.index.proofs.SlotWords.{some_tag, can_hold}
+use Rattle.index.proofs.PackedSlots.{some_tag, can_hold}
 use Rattle.index.proofs.KeySlots.{can_replace, put_indexed, put_places, set_at, no_place_found, slot_of_key, some_found, found_is}
 use Rattle.index.proofs.index.Index.replace.Goals as goal
 

@@ -1,6 +1,6 @@
 use Rattle.std.proofs.Common.{◌-◌, ◌%◌, ◌^◌, ap, ◌∙◌, arith}
 use Rattle.index.specs.Layouts.{low_in}
-use Rattle.index.proofs.SlotWords.{low_bits}
+use Rattle.index.proofs.PackedSlots.{low_bits}
 use Rattle.index.proofs.layout.Layout.low_in.Goals as goal
 
 pub returns-clause-value : goal.returns-clause-value

@@ -1,16 +1,16 @@
 use Rattle.std.proofs.Common.{◌≡◌, ◌^◌, ◌-◌, ◌%◌, arith, ap, ◌∙◌, refl}
 use Rattle.index.specs.Layouts.{slot_of}
-use Rattle.index.proofs.SlotWords.{low_bits, offset_small, tag_counts}
+use Rattle.index.proofs.PackedSlots.{low_bits, offset_small, tag_counts}
 use Rattle.index.proofs.layout.Layout.slot_of.Goals as goal
 
-pub returns-then-word-eq0 : goal.returns-then-word-eq0
+pub returns-then-packed-eq0 : goal.returns-then-packed-eq0
 unfolding slot_of
-returns-then-word-eq0 c = rw c.if-word-eq0.true refl
+returns-then-packed-eq0 c = rw c.if-packed-eq0.true refl
 
 pub overflow_add-result : goal.overflow_add-result
 overflow_add-result c = record {
-  fits = tag_counts c.args.word c.args.self.place_bits c.requires.some
-      c.ranges.word.fits;
+  fits = tag_counts c.args.packed c.args.self.place_bits c.requires.some
+      c.ranges.packed.fits;
 }
 
 pub overflow_mul-result : goal.overflow_mul-result
@@ -25,7 +25,7 @@ returns c =
     let few = c.requires.places in
     let le = c.requires.offsets in
     let places = c.args.self.place_bits in
-    let number : c.saturating_sub-number.result ≡ c.args.word % 2 ^ places - 1 =
-    c.saturating_sub-number.ensures ∙ ap (λ n. n - 1) (low_bits c.args.word places (omega (arith, few))) in
+    let number : c.saturating_sub-number.result ≡ c.args.packed % 2 ^ places - 1 =
+    c.saturating_sub-number.ensures ∙ ap (λ n. n - 1) (low_bits c.args.packed places (omega (arith, few))) in
     let e = low_bits c.saturating_sub-number.result c.args.self.offset_bits (omega (arith, le)) in
-    rw (e, number) (grind (arith, c.if-word-eq0.false))
+    rw (e, number) (grind (arith, c.if-packed-eq0.false))

@@ -1,5 +1,5 @@
 use Rattle.index.specs.Layouts.{tag_of, tag_shift, home_bits}
-use Rattle.index.proofs.SlotWords.{tag_said}
+use Rattle.index.proofs.PackedSlots.{tag_said}
 use Rattle.index.proofs.layout.Layout.tag_of.Goals as goal
 
 pub returns-clause-value : goal.returns-clause-value

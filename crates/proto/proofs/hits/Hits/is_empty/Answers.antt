@@ -10,9 +10,9 @@ returns c =
     let shown = c.self.view_is in (
       (λ (h : IsTrue c.is_empty.result).
           let e : length c.self.inside.text.items ≡ 0 = grind (arith, c.is_empty.ensures, h) in
-          sym shown ∙ no_text c.self.inside.with_cas c.self.inside.shown.items (sym (ap length text) ∙ e)),
+          sym shown ∙ no_text c.self.inside.shown.items (sym (ap length text) ∙ e)),
       (λ (e : c.args.self.now ≡ []).
           let none : c.self.inside.text.items ≡ [] =
-          text ∙ ap (flat_map (hit_bytes c.self.inside.with_cas)) (shown ∙ e) in
+          text ∙ ap (flat_map hit_bytes) (shown ∙ e) in
           grind (arith, c.is_empty.ensures, none)),
     )

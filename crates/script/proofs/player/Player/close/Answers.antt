@@ -23,8 +23,8 @@ use Rattle.script.proofs.PlayerLemmas.{none_ready, ready_closed}
 use Rattle.script.proofs.player.Player.close.Goals as goal
 use Rattle.proto.proofs.CountLemmas.{either_way}
 
-pub returns-then-change-clause-consistent : goal.returns-then-change-clause-consistent
-returns-then-change-clause-consistent c =
+pub returns-then-change-clause-goes_on : goal.returns-then-change-clause-goes_on
+returns-then-change-clause-goes_on c =
     let p = c.args.self.now in let k = c.requires.consistent in let s = c.args.session in let e = c.args.entry in
     let ss = p.sessions in let ss' = c.change.new.self in let l = p.records in let l' = c.write.new.self in
     let a = c.change.ensures.changes c.if-change.true in
@@ -48,44 +48,51 @@ returns-then-change-clause-consistent c =
     (λ (q : e ≡ was.Shut s). ap (is_entry was.Ended) q) c.requires.ends in
     let left = left_without ss ss' s (in_order p.events)
     (test_here (λ (y : ScriptSessionState). is_closed y.stage) ss ss' s (with_stage Closed) x.0 a x.1)
-    (test_other (λ (y : ScriptSessionState). is_closed y.stage) ss ss' s (with_stage Closed) a) in record {
-      each = each_step ss ss' l l' e s k.each l_is apart a.others here;
-      opened_are = a.numbers_are ∙ k.opened_are ∙ sym (opened_more l l' e l_is none);
-      rising = rising_at ss ss' s (with_stage Closed) a k.rising;
-      at_end = ap (is_in was.Ended) l_is ∙ ended_same l e no_end ∙ k.at_end;
-      plays = λ tells. (λ i. plays_from (ap (last_from 0) a.numbers_are i) (is_session_open ss') (left i))
-          ∙ leave_out (newest ss) (is_session_open ss) (is_session_open ss') s (events_left ss (in_order p.events))
-          (k.rising s x.0 x.1)
-          (test_other (λ (y : ScriptSessionState). not (is_closed y.stage)) ss ss' s (with_stage Closed) a)
-          (k.plays tells);
-      follows = λ tells.
-          let nothing : (t : ℕ)
-          → fed t (e ∷ []) ≡ [] = λ t. ⊎_elim (λ (q : e ≡ was.Gone s). ap (λ (x : PortRecord). fed t (x ∷ [])) q)
-          (λ (q : e ≡ was.Shut s). ap (λ (x : PortRecord). fed t (x ∷ [])) q) c.requires.ends in
-          follows_close p.script.value.items (events_left ss (in_order p.events))
-          (events_left ss' (in_order p.events)) l l' e s
-          (was_closed ss) (was_closed ss') p.can_fail left l_is none nothing
-          (λ t leaves. ⊎_elim
-          (λ (q : e ≡ was.Gone s).
-          either_way s t
-          (λ eq. subst (MayGo p.script.value.items p.can_fail) eq (c.requires.caused tells q))
-          (λ ne. absurd (true≢false (sym leaves ∙ ap (is_entry (was.Gone t)) q ∙ ne_eqb s t ne))))
-          (λ (q : e ≡ was.Shut s). absurd (true≢false (sym leaves ∙ ap (is_entry (was.Gone t)) q)))
-          c.requires.ends)
-          (opens_without (newest ss) (is_session_open ss) s (events_left ss (in_order p.events)) (k.rising s x.0 x.1)
-          (k.plays tells))
-          (ap (is_some_and (λ (y : ScriptSessionState). is_closed y.stage)) x.1 ∙ x.2)
-          (test_here (λ (y : ScriptSessionState). is_closed y.stage) ss ss' s (with_stage Closed) x.0 a x.1)
-          (test_other (λ (y : ScriptSessionState). is_closed y.stage) ss ss' s (with_stage Closed) a)
-          (k.follows tells);
-      aside = none_ready ss ss' p.events.aside
-          (ready_closed ss ss' s
-          (test_here (λ (y : ScriptSessionState). is_closed y.stage) ss ss' s (with_stage Closed) x.0 a x.1)
-          (test_other (λ (y : ScriptSessionState). is_closed y.stage) ss ss' s (with_stage Closed) a)
-          (test_other (λ (y : ScriptSessionState). is_waiting y.stage) ss ss' s (with_stage Closed) a)) k.aside;
-      finished = k.finished;
-      may_fail = k.may_fail;
-    }
+    (test_other (λ (y : ScriptSessionState). is_closed y.stage) ss ss' s (with_stage Closed) a) in (
+      record {
+        each = each_step ss ss' l l' e s k.each l_is apart a.others here;
+        opened_are = a.numbers_are ∙ k.opened_are ∙ sym (opened_more l l' e l_is none);
+        rising = rising_at ss ss' s (with_stage Closed) a k.rising;
+        at_end = ap (is_in was.Ended) l_is ∙ ended_same l e no_end ∙ k.at_end;
+        plays = λ tells. (λ i. plays_from (ap (last_from 0) a.numbers_are i) (is_session_open ss') (left i))
+            ∙ leave_out (newest ss) (is_session_open ss) (is_session_open ss') s (events_left ss (in_order p.events))
+            (k.rising s x.0 x.1)
+            (test_other (λ (y : ScriptSessionState). not (is_closed y.stage)) ss ss' s (with_stage Closed) a)
+            (k.plays tells);
+        follows = λ tells.
+            let nothing : (t : ℕ)
+            → fed t (e ∷ []) ≡ [] = λ t. ⊎_elim (λ (q : e ≡ was.Gone s). ap (λ (x : PortRecord). fed t (x ∷ [])) q)
+            (λ (q : e ≡ was.Shut s). ap (λ (x : PortRecord). fed t (x ∷ [])) q) c.requires.ends in
+            follows_close p.script.value.items (events_left ss (in_order p.events))
+            (events_left ss' (in_order p.events)) l l' e s
+            (was_closed ss) (was_closed ss') p.can_fail left l_is none nothing
+            (λ t leaves. ⊎_elim
+            (λ (q : e ≡ was.Gone s).
+            either_way s t
+            (λ eq. subst (MayGo p.script.value.items p.can_fail) eq (c.requires.caused tells q))
+            (λ ne. absurd (true≢false (sym leaves ∙ ap (is_entry (was.Gone t)) q ∙ ne_eqb s t ne))))
+            (λ (q : e ≡ was.Shut s). absurd (true≢false (sym leaves ∙ ap (is_entry (was.Gone t)) q)))
+            c.requires.ends)
+            (λ t. ⊎_elim (λ (q : e ≡ was.Gone s). ap (is_entry (was.EndOfInput t)) q)
+            (λ (q : e ≡ was.Shut s). ap (is_entry (was.EndOfInput t)) q) c.requires.ends)
+            (opens_without (newest ss) (is_session_open ss) s (events_left ss (in_order p.events)) (k.rising s x.0 x.1)
+            (k.plays tells))
+            (ap (is_some_and (λ (y : ScriptSessionState). is_closed y.stage)) x.1 ∙ x.2)
+            (test_here (λ (y : ScriptSessionState). is_closed y.stage) ss ss' s (with_stage Closed) x.0 a x.1)
+            (test_other (λ (y : ScriptSessionState). is_closed y.stage) ss ss' s (with_stage Closed) a)
+            (k.follows tells);
+        aside = none_ready ss ss' p.events.aside
+            (ready_closed ss ss' s
+            (test_here (λ (y : ScriptSessionState). is_closed y.stage) ss ss' s (with_stage Closed) x.0 a x.1)
+            (test_other (λ (y : ScriptSessionState). is_closed y.stage) ss ss' s (with_stage Closed) a)
+            (test_other (λ (y : ScriptSessionState). is_waiting y.stage) ss ss' s (with_stage Closed) a)) k.aside;
+        finished = k.finished;
+        may_fail = k.may_fail;
+      },
+      refl,
+      refl,
+      refl,
+    )
 
 pub returns-then-change-clause-closes : goal.returns-then-change-clause-closes
 returns-then-change-clause-closes c _ =

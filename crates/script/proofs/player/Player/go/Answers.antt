@@ -23,24 +23,28 @@ pub close-requires-clause-caused : goal.close-requires-clause-caused
 close-requires-clause-caused c = goes_by_line c.args.self.now c.args.session c.requires.consistent
     c.requires.first
 
-pub returns-clause-consistent : goal.returns-clause-consistent
-returns-clause-consistent c =
-    let p = c.args.self.now in let m = c.close.new.self in let s = c.args.session in
-    bool_cases (is_session_open p.sessions s)
-    (λ active. let closes = c.close.ensures.closes active in
-    gone_consistent p m _ s c.requires.consistent c.requires.first closes
-    (goes c closes) c.close.ensures.consistent)
-    (λ not_open.
-    let same = c.close.ensures.same not_open in
-    odd_consistent p _ c.requires.consistent (ap (λ (x : Player). x.sessions) same)
-    (ap (λ (x : Player). x.records) same)
-    (ap (λ (x : Player). x.ended) same) (ap (λ (x : Player). x.script) same)
-    (ap (λ (x : Player). x.fail_give) same) (ap (λ (x : Player). x.can_fail) same)
-    (ap (λ (e : RemainingState). e.aside) (first_dropped c.close.new.self.events c.drop_first.new.self (Gone s)
-    c.requires.first.after (ap (λ (x : Player). x.events.rest) same ∙ c.requires.first.rest_is)
-    c.drop_first.ensures.rest) ∙ ap (λ (x : Player). x.events.aside) same)
-    (λ over. absurd (true≢false (sym over ∙ ap (λ (x : Player). x.ended) same ∙ c.requires.running)))
-    (λ tells. true≢false (sym (goes_open p s c.requires.consistent c.requires.first tells) ∙ not_open)))
+pub returns-clause-goes_on : goal.returns-clause-goes_on
+returns-clause-goes_on c =
+    let p = c.args.self.now in let m = c.close.new.self in let s = c.args.session in (
+      bool_cases (is_session_open p.sessions s)
+          (λ active. let closes = c.close.ensures.closes active in
+          gone_consistent p m _ s c.requires.consistent c.requires.first closes
+          (goes c closes) c.close.ensures.goes_on.0)
+          (λ not_open.
+          let same = c.close.ensures.same not_open in
+          odd_consistent p _ c.requires.consistent (ap (λ (x : Player). x.sessions) same)
+          (ap (λ (x : Player). x.records) same)
+          (ap (λ (x : Player). x.ended) same) (ap (λ (x : Player). x.script) same)
+          (ap (λ (x : Player). x.fail_give) same) (ap (λ (x : Player). x.can_fail) same)
+          (ap (λ (e : RemainingState). e.aside) (first_dropped c.close.new.self.events c.drop_first.new.self (Gone s)
+          c.requires.first.after (ap (λ (x : Player). x.events.rest) same ∙ c.requires.first.rest_is)
+          c.drop_first.ensures.rest) ∙ ap (λ (x : Player). x.events.aside) same)
+          (λ over. absurd (true≢false (sym over ∙ ap (λ (x : Player). x.ended) same ∙ c.requires.running)))
+          (λ tells. true≢false (sym (goes_open p s c.requires.consistent c.requires.first tells) ∙ not_open))),
+      c.close.ensures.goes_on.1,
+      c.close.ensures.goes_on.2,
+      c.close.ensures.goes_on.3,
+    )
 
 pub returns-clause-played : goal.returns-clause-played
 returns-clause-played c tells =

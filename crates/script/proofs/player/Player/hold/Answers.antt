@@ -25,20 +25,28 @@ resumes c = record {
   order = ap in_order c.bring_back.ensures ∙ brought_back c.before_first_of-stay.result c.args.self.now.events;
 }
 
-pub returns-then-is_paused-clause-consistent : goal.returns-then-is_paused-clause-consistent
-returns-then-is_paused-clause-consistent c =
-    let p = c.args.self.now in let ss' = c.change.new.self in
-    held_consistent p ss' p.events c.args.session c.args.stage c.requires.consistent (pauses c)
-    (paused_aside p ss' p.events c.args.session c.args.stage c.requires.consistent (pauses c)
-    (sym c.is_paused.ensures ∙ c.if-is_paused.true))
+pub returns-then-is_paused-clause-goes_on : goal.returns-then-is_paused-clause-goes_on
+returns-then-is_paused-clause-goes_on c =
+    let p = c.args.self.now in let ss' = c.change.new.self in (
+      held_consistent p ss' p.events c.args.session c.args.stage c.requires.consistent (pauses c)
+          (paused_aside p ss' p.events c.args.session c.args.stage c.requires.consistent (pauses c)
+          (sym c.is_paused.ensures ∙ c.if-is_paused.true)),
+      refl,
+      refl,
+      refl,
+    )
 
-pub returns-clause-consistent : goal.returns-clause-consistent
-returns-clause-consistent c =
-    let p = c.args.self.now in let ss' = c.change.new.self in let r = c.bring_back.new.self in
-    held_consistent p ss' r c.args.session c.args.stage c.requires.consistent (resumes c)
-    (subst (λ (q : RemainingState). NoneReady ss' q.aside) (sym c.bring_back.ensures)
-    (resumed_aside p ss' r c.args.session c.before_first_of-stay.result c.args.stage c.requires.consistent (resumes c)
-    c.before_first_of-stay.ensures.others))
+pub returns-clause-goes_on : goal.returns-clause-goes_on
+returns-clause-goes_on c =
+    let p = c.args.self.now in let ss' = c.change.new.self in let r = c.bring_back.new.self in (
+      held_consistent p ss' r c.args.session c.args.stage c.requires.consistent (resumes c)
+          (subst (λ (q : RemainingState). NoneReady ss' q.aside) (sym c.bring_back.ensures)
+          (resumed_aside p ss' r c.args.session c.before_first_of-stay.result c.args.stage c.requires.consistent (resumes c)
+          c.before_first_of-stay.ensures.others)),
+      refl,
+      refl,
+      refl,
+    )
 
 pub returns-clause-held : goal.returns-clause-held
 returns-clause-held c active =

@@ -42,7 +42,7 @@ returns-clause-consistent c =
           follows_still p.script.value.items (events_left ss (in_order p.events))
           (events_left ss' (in_order p.events)) l l'
           (was.Accepted s b) (was_closed ss) (was_closed ss') p.can_fail
-          (left_same ss ss' (in_order p.events) same) l_is refl (λ t. refl) (λ t. refl) same (k.follows tells);
+          (left_same ss ss' (in_order p.events) same) l_is refl (λ t. refl) (λ t. refl) (λ t. refl) same (k.follows tells);
       aside = none_ready ss ss' p.events.aside
           (ready_same ss ss'
           (test_same (λ (y : ScriptSessionState). is_closed y.stage) ss ss' s (with_output b) x.0 a.at x.1 refl)

@@ -31,24 +31,32 @@ opens c =
           (Open s) f.after f.rest_is c.drop_first-2.ensures.rest;
     }
 
-pub returns-clause-consistent : goal.returns-clause-consistent
-returns-clause-consistent c = open_consistent c.args.self.now _ c.args.session c.requires.consistent
-    c.requires.first (opens c)
+pub returns-clause-goes_on : goal.returns-clause-goes_on
+returns-clause-goes_on c = (
+  open_consistent c.args.self.now _ c.args.session c.requires.consistent c.requires.first (opens c),
+  refl,
+  refl,
+  refl,
+)
 
 pub returns-clause-played : goal.returns-clause-played
 returns-clause-played c tells = open_told c.args.self.now _ c.args.session c.requires.consistent
     c.requires.first (opens c) c.requires.running tells
 
-pub returns-then-session-newest-clause-consistent : goal.returns-then-session-newest-clause-consistent
-returns-then-session-newest-clause-consistent c =
-    odd_consistent c.args.self.now _ c.requires.consistent
-    refl refl refl refl refl refl
-    (ap (λ (e : RemainingState). e.aside) (first_dropped c.args.self.now.events c.drop_first.new.self
-    (Open c.args.session) c.requires.first.after c.requires.first.rest_is c.drop_first.ensures.rest))
-    (λ over. absurd (true≢false (sym over ∙ c.requires.running)))
-    (λ tells. let lt = opens_new c.args.self.now c.args.session c.requires.consistent c.requires.first
-    tells in
-    omega (arith, lt, c.newest.ensures, c.if-session-newest.true))
+pub returns-then-session-newest-clause-goes_on : goal.returns-then-session-newest-clause-goes_on
+returns-then-session-newest-clause-goes_on c = (
+  odd_consistent c.args.self.now _ c.requires.consistent
+      refl refl refl refl refl refl
+      (ap (λ (e : RemainingState). e.aside) (first_dropped c.args.self.now.events c.drop_first.new.self
+      (Open c.args.session) c.requires.first.after c.requires.first.rest_is c.drop_first.ensures.rest))
+      (λ over. absurd (true≢false (sym over ∙ c.requires.running)))
+      (λ tells. let lt = opens_new c.args.self.now c.args.session c.requires.consistent c.requires.first
+      tells in
+      omega (arith, lt, c.newest.ensures, c.if-session-newest.true)),
+  refl,
+  refl,
+  refl,
+)
 
 pub returns-then-session-newest-clause-played : goal.returns-then-session-newest-clause-played
 returns-then-session-newest-clause-played c tells =

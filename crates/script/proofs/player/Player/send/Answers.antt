@@ -21,9 +21,13 @@ sends c =
       events_are = c.take_piece.ensures s bytes f.after f.rest_is;
     }
 
-pub returns-clause-consistent : goal.returns-clause-consistent
-returns-clause-consistent c = send_consistent c.args.self.now _ c.args.session c.requires.first.0
-    c.requires.consistent c.requires.first.1 (sends c)
+pub returns-clause-goes_on : goal.returns-clause-goes_on
+returns-clause-goes_on c = (
+  send_consistent c.args.self.now _ c.args.session c.requires.first.0 c.requires.consistent c.requires.first.1 (sends c),
+  refl,
+  refl,
+  refl,
+)
 
 pub returns-clause-played : goal.returns-clause-played
 returns-clause-played c tells =

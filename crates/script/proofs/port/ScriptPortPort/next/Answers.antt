@@ -15,7 +15,7 @@ returns-clause-told c =
       worker = ap (λ (p : PortState). p.worker) c.self.view_is;
       history = ap (λ (p : PortState). p.history) c.self.view_is;
     })
-    (ap (λ sn. sn.value.items) c.next.ensures.script ∙ ap (λ (p : PlayerState). p.script) player_is)
+    (ap (λ sn. sn.value.items) c.next.ensures.goes_on.1 ∙ ap (λ (p : PlayerState). p.script) player_is)
     (λ yes. subst (λ (p : PlayerState). TellsNext p c.next.result (player_state c.next.new.self)) player_is
     (c.next.ensures.played (ap (λ (p : PlayerState). is_playable p.script) player_is ∙ yes)))
 

@@ -21,5 +21,5 @@ returns-clause-told c =
       worker = ap (λ (p : PortState). p.worker) c.self.view_is;
       history = ap (λ (p : PortState). p.history) c.self.view_is;
     })
-    (ap (λ sn. sn.value.items) c.hold.ensures.script ∙ ap (λ (p : PlayerState). p.script) player_is)
+    (ap (λ sn. sn.value.items) c.hold.ensures.goes_on.1 ∙ ap (λ (p : PlayerState). p.script) player_is)
     (returns-clause-held c)

@@ -22,7 +22,7 @@ returns-clause-told c =
       worker = ap (λ (p : PortState). p.worker) c.self.view_is;
       history = ap (λ (p : PortState). p.history) c.self.view_is;
     })
-    (ap (λ sn. sn.value.items) c.close.ensures.script ∙ ap (λ (p : PlayerState). p.script) player_is)
+    (ap (λ sn. sn.value.items) c.close.ensures.goes_on.1 ∙ ap (λ (p : PlayerState). p.script) player_is)
     (λ tells. (
       (c.close.ensures.closes (open_in_table c.args.self.now c.self.inside.player c.args.session player_is
           c.self.invariant c.requires tells)).records_are

@@ -17,13 +17,13 @@ invariant_of-self c =
     let b = c.self-in-Some.inside in
     let n = c.in-Some.segment in
     let pool : b.pool ≡ a.pool = ap (λ (m : MapState). m.pool) c.self-in-Some.view_is
-    ∙ c.leave_segment.ensures.same.pool ∙ sym (ap (λ (m : MapState). m.pool) c.self.view_is) in
+    ∙ c.unindex_segment.ensures.same.pool ∙ sym (ap (λ (m : MapState). m.pool) c.self.view_is) in
     let moment : b.moment ≡ a.moment = ap (λ (m : MapState). m.moment) c.self-in-Some.view_is
-    ∙ c.leave_segment.ensures.moment ∙ sym (ap (λ (m : MapState). m.moment) c.self.view_is) in
+    ∙ c.unindex_segment.ensures.moment ∙ sym (ap (λ (m : MapState). m.moment) c.self.view_is) in
     let tied : IsTied a.pool b.index b.marks =
     subst (λ (q : PoolState). IsTied q b.index b.marks) pool c.self-in-Some.invariant.tied in
     let left : HasLeft n (current a.pool a.index) (current b.pool b.index) =
-    (let h = c.leave_segment.ensures.left in rw (← c.self.view_is, ← c.self-in-Some.view_is) at h) in
+    (let h = c.unindex_segment.ensures.left in rw (← c.self.view_is, ← c.self-in-Some.view_is) at h) in
     let gone : HasLeft n (current a.pool a.index) (current a.pool b.index) =
     subst (λ (q : PoolState). HasLeft n (current a.pool a.index) (current q b.index)) pool left in
     let is : c.clear.new.self ≡ cleared a.pool n =
@@ -43,11 +43,11 @@ returns-in-Some-clause-made c =
     let b = c.self-in-Some.inside in
     let n = c.in-Some.segment in
     let pool : b.pool ≡ a.pool = ap (λ (m : MapState). m.pool) c.self-in-Some.view_is
-    ∙ c.leave_segment.ensures.same.pool ∙ sym (ap (λ (m : MapState). m.pool) c.self.view_is) in
+    ∙ c.unindex_segment.ensures.same.pool ∙ sym (ap (λ (m : MapState). m.pool) c.self.view_is) in
     let tied : IsTied a.pool b.index b.marks =
     subst (λ (q : PoolState). IsTied q b.index b.marks) pool c.self-in-Some.invariant.tied in
     let left : HasLeft n (current a.pool a.index) (current b.pool b.index) =
-    (let h = c.leave_segment.ensures.left in rw (← c.self.view_is, ← c.self-in-Some.view_is) at h) in
+    (let h = c.unindex_segment.ensures.left in rw (← c.self.view_is, ← c.self-in-Some.view_is) at h) in
     let gone : HasLeft n (current a.pool a.index) (current a.pool b.index) =
     subst (λ (q : PoolState). HasLeft n (current a.pool a.index) (current q b.index)) pool left in
     let is : c.clear.new.self ≡ cleared a.pool n =
@@ -63,11 +63,11 @@ returns-in-Some-clause-evicted c =
     let b = c.self-in-Some.inside in
     let n = c.in-Some.segment in
     let pool : b.pool ≡ a.pool = ap (λ (m : MapState). m.pool) c.self-in-Some.view_is
-    ∙ c.leave_segment.ensures.same.pool ∙ sym (ap (λ (m : MapState). m.pool) c.self.view_is) in
+    ∙ c.unindex_segment.ensures.same.pool ∙ sym (ap (λ (m : MapState). m.pool) c.self.view_is) in
     let tied : IsTied a.pool b.index b.marks =
     subst (λ (q : PoolState). IsTied q b.index b.marks) pool c.self-in-Some.invariant.tied in
     let left : HasLeft n (current a.pool a.index) (current b.pool b.index) =
-    (let h = c.leave_segment.ensures.left in rw (← c.self.view_is, ← c.self-in-Some.view_is) at h) in
+    (let h = c.unindex_segment.ensures.left in rw (← c.self.view_is, ← c.self-in-Some.view_is) at h) in
     let gone : HasLeft n (current a.pool a.index) (current a.pool b.index) =
     subst (λ (q : PoolState). HasLeft n (current a.pool a.index) (current q b.index)) pool left in
     let is : c.clear.new.self ≡ cleared a.pool n =

@@ -21,12 +21,12 @@ invariant_of-self c =
     let new = c.give_back.new.self in
     let b : MapState = record { pool = a.pool; index = a.index; marks = a.marks; moment = a.moment } in
     let pool : a.pool ≡ s.pool =
-    ap (λ (m : MapState). m.pool) c.self.view_is ∙ c.leave_expired.ensures.same.pool in
+    ap (λ (m : MapState). m.pool) c.self.view_is ∙ c.unindex_expired.ensures.same.pool in
     let moment : a.moment ≡ s.moment =
-    ap (λ (m : MapState). m.moment) c.self.view_is ∙ c.leave_expired.ensures.moment in
+    ap (λ (m : MapState). m.moment) c.self.view_is ∙ c.unindex_expired.ensures.moment in
     let left : HaveExpiredLeft s.pool s.moment (current s.pool s.index) (current a.pool a.index) =
-    (let h = c.leave_expired.ensures.left in rw (← c.self.view_is) at h) in
-    let w = swept_left s b new c.leave_expired.ensures.kept c.self.invariant pool moment left c.give_back.ensures.pool
+    (let h = c.unindex_expired.ensures.left in rw (← c.self.view_is) at h) in
+    let w = swept_left s b new c.unindex_expired.ensures.kept c.self.invariant pool moment left c.give_back.ensures.pool
     c.give_back.ensures.freed in
     record {
       tied = w.tied;
@@ -40,12 +40,12 @@ invariant_of-self-else-give_back-eq0 c =
     let new = c.give_back.new.self in
     let b : MapState = record { pool = a.pool; index = a.index; marks = a.marks; moment = a.moment } in
     let pool : a.pool ≡ s.pool =
-    ap (λ (m : MapState). m.pool) c.self.view_is ∙ c.leave_expired.ensures.same.pool in
+    ap (λ (m : MapState). m.pool) c.self.view_is ∙ c.unindex_expired.ensures.same.pool in
     let moment : a.moment ≡ s.moment =
-    ap (λ (m : MapState). m.moment) c.self.view_is ∙ c.leave_expired.ensures.moment in
+    ap (λ (m : MapState). m.moment) c.self.view_is ∙ c.unindex_expired.ensures.moment in
     let left : HaveExpiredLeft s.pool s.moment (current s.pool s.index) (current a.pool a.index) =
-    (let h = c.leave_expired.ensures.left in rw (← c.self.view_is) at h) in
-    let w = swept_left s b new c.leave_expired.ensures.kept c.self.invariant pool moment left c.give_back.ensures.pool
+    (let h = c.unindex_expired.ensures.left in rw (← c.self.view_is) at h) in
+    let w = swept_left s b new c.unindex_expired.ensures.kept c.self.invariant pool moment left c.give_back.ensures.pool
     c.give_back.ensures.freed in
     record {
       tied = w.tied;
@@ -59,12 +59,12 @@ evict-requires-clause-full c =
     let new = c.give_back.new.self in
     let b : MapState = record { pool = a.pool; index = a.index; marks = a.marks; moment = a.moment } in
     let pool : a.pool ≡ s.pool =
-    ap (λ (m : MapState). m.pool) c.self.view_is ∙ c.leave_expired.ensures.same.pool in
+    ap (λ (m : MapState). m.pool) c.self.view_is ∙ c.unindex_expired.ensures.same.pool in
     let moment : a.moment ≡ s.moment =
-    ap (λ (m : MapState). m.moment) c.self.view_is ∙ c.leave_expired.ensures.moment in
+    ap (λ (m : MapState). m.moment) c.self.view_is ∙ c.unindex_expired.ensures.moment in
     let left : HaveExpiredLeft s.pool s.moment (current s.pool s.index) (current a.pool a.index) =
-    (let h = c.leave_expired.ensures.left in rw (← c.self.view_is) at h) in
-    let w = swept_left s b new c.leave_expired.ensures.kept c.self.invariant pool moment left c.give_back.ensures.pool
+    (let h = c.unindex_expired.ensures.left in rw (← c.self.view_is) at h) in
+    let w = swept_left s b new c.unindex_expired.ensures.kept c.self.invariant pool moment left c.give_back.ensures.pool
     c.give_back.ensures.freed in
     let full : IsPoolFull a.pool = subst IsPoolFull (sym pool) c.requires.full in
     full_given (lives_by a.marks) a.pool new c.self.invariant.tied.known.pool full c.give_back.ensures.freed
@@ -77,12 +77,12 @@ evict-requires-clause-crowded c =
     let new = c.give_back.new.self in
     let b : MapState = record { pool = a.pool; index = a.index; marks = a.marks; moment = a.moment } in
     let pool : a.pool ≡ s.pool =
-    ap (λ (m : MapState). m.pool) c.self.view_is ∙ c.leave_expired.ensures.same.pool in
+    ap (λ (m : MapState). m.pool) c.self.view_is ∙ c.unindex_expired.ensures.same.pool in
     let moment : a.moment ≡ s.moment =
-    ap (λ (m : MapState). m.moment) c.self.view_is ∙ c.leave_expired.ensures.moment in
+    ap (λ (m : MapState). m.moment) c.self.view_is ∙ c.unindex_expired.ensures.moment in
     let left : HaveExpiredLeft s.pool s.moment (current s.pool s.index) (current a.pool a.index) =
-    (let h = c.leave_expired.ensures.left in rw (← c.self.view_is) at h) in
-    let w = swept_left s b new c.leave_expired.ensures.kept c.self.invariant pool moment left c.give_back.ensures.pool
+    (let h = c.unindex_expired.ensures.left in rw (← c.self.view_is) at h) in
+    let w = swept_left s b new c.unindex_expired.ensures.kept c.self.invariant pool moment left c.give_back.ensures.pool
     c.give_back.ensures.freed in
     let full : IsPoolFull a.pool = subst IsPoolFull (sym pool) c.requires.full in
     let live = alive_given a.marks a.pool new c.self.invariant.tied.known.pool c.give_back.ensures.pool full
@@ -97,12 +97,12 @@ returns-then-give_back-eq0-clause-made c =
     let new = c.give_back.new.self in
     let b : MapState = record { pool = a.pool; index = a.index; marks = a.marks; moment = a.moment } in
     let pool : a.pool ≡ s.pool =
-    ap (λ (m : MapState). m.pool) c.self.view_is ∙ c.leave_expired.ensures.same.pool in
+    ap (λ (m : MapState). m.pool) c.self.view_is ∙ c.unindex_expired.ensures.same.pool in
     let moment : a.moment ≡ s.moment =
-    ap (λ (m : MapState). m.moment) c.self.view_is ∙ c.leave_expired.ensures.moment in
+    ap (λ (m : MapState). m.moment) c.self.view_is ∙ c.unindex_expired.ensures.moment in
     let left : HaveExpiredLeft s.pool s.moment (current s.pool s.index) (current a.pool a.index) =
-    (let h = c.leave_expired.ensures.left in rw (← c.self.view_is) at h) in
-    let w = swept_left s b new c.leave_expired.ensures.kept c.self.invariant pool moment left c.give_back.ensures.pool
+    (let h = c.unindex_expired.ensures.left in rw (← c.self.view_is) at h) in
+    let w = swept_left s b new c.unindex_expired.ensures.kept c.self.invariant pool moment left c.give_back.ensures.pool
     c.give_back.ensures.freed in
     swept_evicted s.pool s.index s.moment new a.index a.marks c.evict.new.self.pool c.evict.new.self.index w
     (subst (λ (t : ℕ). IsRoomMade new a.index t c.evict.new.self.pool c.evict.new.self.index) moment
@@ -115,12 +115,12 @@ returns-else-give_back-eq0-clause-made c =
     let new = c.give_back.new.self in
     let b : MapState = record { pool = a.pool; index = a.index; marks = a.marks; moment = a.moment } in
     let pool : a.pool ≡ s.pool =
-    ap (λ (m : MapState). m.pool) c.self.view_is ∙ c.leave_expired.ensures.same.pool in
+    ap (λ (m : MapState). m.pool) c.self.view_is ∙ c.unindex_expired.ensures.same.pool in
     let moment : a.moment ≡ s.moment =
-    ap (λ (m : MapState). m.moment) c.self.view_is ∙ c.leave_expired.ensures.moment in
+    ap (λ (m : MapState). m.moment) c.self.view_is ∙ c.unindex_expired.ensures.moment in
     let left : HaveExpiredLeft s.pool s.moment (current s.pool s.index) (current a.pool a.index) =
-    (let h = c.leave_expired.ensures.left in rw (← c.self.view_is) at h) in
-    let w = swept_left s b new c.leave_expired.ensures.kept c.self.invariant pool moment left c.give_back.ensures.pool
+    (let h = c.unindex_expired.ensures.left in rw (← c.self.view_is) at h) in
+    let w = swept_left s b new c.unindex_expired.ensures.kept c.self.invariant pool moment left c.give_back.ensures.pool
     c.give_back.ensures.freed in
     let count = c.give_back.ensures.count in
     let some = c.if-give_back-eq0.false in
@@ -135,18 +135,18 @@ returns-then-give_back-eq0-clause-room c =
     let new = c.give_back.new.self in
     let b : MapState = record { pool = a.pool; index = a.index; marks = a.marks; moment = a.moment } in
     let pool : a.pool ≡ s.pool =
-    ap (λ (m : MapState). m.pool) c.self.view_is ∙ c.leave_expired.ensures.same.pool in
+    ap (λ (m : MapState). m.pool) c.self.view_is ∙ c.unindex_expired.ensures.same.pool in
     let moment : a.moment ≡ s.moment =
-    ap (λ (m : MapState). m.moment) c.self.view_is ∙ c.leave_expired.ensures.moment in
+    ap (λ (m : MapState). m.moment) c.self.view_is ∙ c.unindex_expired.ensures.moment in
     let left : HaveExpiredLeft s.pool s.moment (current s.pool s.index) (current a.pool a.index) =
-    (let h = c.leave_expired.ensures.left in rw (← c.self.view_is) at h) in
-    let w = swept_left s b new c.leave_expired.ensures.kept c.self.invariant pool moment left c.give_back.ensures.pool
+    (let h = c.unindex_expired.ensures.left in rw (← c.self.view_is) at h) in
+    let w = swept_left s b new c.unindex_expired.ensures.kept c.self.invariant pool moment left c.give_back.ensures.pool
     c.give_back.ensures.freed in
     let tied : IsTied s.pool a.index a.marks =
     subst (λ (q : PoolState). IsTied q a.index a.marks) pool c.self.invariant.tied in
     let gone : HaveExpiredLeft s.pool s.moment (current s.pool s.index) (current s.pool a.index) =
     subst (λ (q : PoolState). HaveExpiredLeft s.pool s.moment (current s.pool s.index) (current q a.index)) pool left in
-    let agree = expired_agree s.pool s.index a.index s.marks a.marks s.moment c.leave_expired.ensures.kept.tied tied
+    let agree = expired_agree s.pool s.index a.index s.marks a.marks s.moment c.unindex_expired.ensures.kept.tied tied
     gone in
     let given : IsGivenBack (lives_by a.marks) s.pool new =
     subst (λ (q : PoolState). IsGivenBack (lives_by a.marks) q new) pool c.give_back.ensures.freed in
@@ -155,7 +155,7 @@ returns-then-give_back-eq0-clause-room c =
     λ bucket i full.
     room_evicted s.pool s.index (lives_by a.marks)
     (live_marks s.marks s.moment) bucket s.moment i new a.index a.marks
-    c.evict.new.self.pool c.evict.new.self.index c.leave_expired.ensures.kept.tied.known.pool agree full
+    c.evict.new.self.pool c.evict.new.self.index c.unindex_expired.ensures.kept.tied.known.pool agree full
     (sym count ∙ c.if-give_back-eq0.true) given w c.evict.ensures.evicted
 
 pub returns-else-give_back-eq0-clause-room : goal.returns-else-give_back-eq0-clause-room
@@ -165,18 +165,18 @@ returns-else-give_back-eq0-clause-room c =
     let new = c.give_back.new.self in
     let b : MapState = record { pool = a.pool; index = a.index; marks = a.marks; moment = a.moment } in
     let pool : a.pool ≡ s.pool =
-    ap (λ (m : MapState). m.pool) c.self.view_is ∙ c.leave_expired.ensures.same.pool in
+    ap (λ (m : MapState). m.pool) c.self.view_is ∙ c.unindex_expired.ensures.same.pool in
     let moment : a.moment ≡ s.moment =
-    ap (λ (m : MapState). m.moment) c.self.view_is ∙ c.leave_expired.ensures.moment in
+    ap (λ (m : MapState). m.moment) c.self.view_is ∙ c.unindex_expired.ensures.moment in
     let left : HaveExpiredLeft s.pool s.moment (current s.pool s.index) (current a.pool a.index) =
-    (let h = c.leave_expired.ensures.left in rw (← c.self.view_is) at h) in
-    let w = swept_left s b new c.leave_expired.ensures.kept c.self.invariant pool moment left c.give_back.ensures.pool
+    (let h = c.unindex_expired.ensures.left in rw (← c.self.view_is) at h) in
+    let w = swept_left s b new c.unindex_expired.ensures.kept c.self.invariant pool moment left c.give_back.ensures.pool
     c.give_back.ensures.freed in
     let tied : IsTied s.pool a.index a.marks =
     subst (λ (q : PoolState). IsTied q a.index a.marks) pool c.self.invariant.tied in
     let gone : HaveExpiredLeft s.pool s.moment (current s.pool s.index) (current s.pool a.index) =
     subst (λ (q : PoolState). HaveExpiredLeft s.pool s.moment (current s.pool s.index) (current q a.index)) pool left in
-    let agree = expired_agree s.pool s.index a.index s.marks a.marks s.moment c.leave_expired.ensures.kept.tied tied
+    let agree = expired_agree s.pool s.index a.index s.marks a.marks s.moment c.unindex_expired.ensures.kept.tied tied
     gone in
     let given : IsGivenBack (lives_by a.marks) s.pool new =
     subst (λ (q : PoolState). IsGivenBack (lives_by a.marks) q new) pool c.give_back.ensures.freed in

@@ -21,52 +21,52 @@ pub append_to_freed-requires-clause-storable : goal.append_to_freed-requires-cla
 append_to_freed-requires-clause-storable c =
     let first = was_refused c.append.result _ _ c.append.ensures.appended
     (sym c.is_err.ensures.value ∙ c.if-is_err.true) in
-    let pool : c.leave_key.new.self.pool ≡ c.args.self.now.pool =
-    c.leave_key.ensures.same.pool ∙ ap (λ (x : MapState). x.pool) first.1 in
+    let pool : c.remove_key.new.self.pool ≡ c.args.self.now.pool =
+    c.remove_key.ensures.same.pool ∙ ap (λ (x : MapState). x.pool) first.1 in
     subst (λ (q : PoolState). IsStorable (item_limit q.sizes) (item_of c.args.item)) (sym pool) c.requires.storable
 
 pub append_to_freed-requires-clause-absent : goal.append_to_freed-requires-clause-absent
 append_to_freed-requires-clause-absent c =
     let key = c.args.item.key.now in
-    ap (λ (m : Places). finite.get m key) c.leave_key.ensures.left
+    ap (λ (m : Places). finite.get m key) c.remove_key.ensures.left
     ∙ get-remove (current c.append.new.self.pool c.append.new.self.index) key key
     ∙ (let z = (bytes_eq-Decides key key).1 refl in rw z refl)
 
 pub append_to_freed-requires-clause-no_room : goal.append_to_freed-requires-clause-no_room
 append_to_freed-requires-clause-no_room c =
-    let left = c.leave_key.new.self in
+    let left = c.remove_key.new.self in
     let i = item_of c.args.item in
     let first = was_refused c.append.result _ _ c.append.ensures.appended
     (sym c.is_err.ensures.value ∙ c.if-is_err.true) in
     let pool : left.pool ≡ c.args.self.now.pool =
-    c.leave_key.ensures.same.pool ∙ ap (λ (x : MapState). x.pool) first.1 in
-    let moment : left.moment ≡ c.args.self.now.moment = c.leave_key.ensures.moment ∙ c.append.ensures.moment in
+    c.remove_key.ensures.same.pool ∙ ap (λ (x : MapState). x.pool) first.1 in
+    let moment : left.moment ≡ c.args.self.now.moment = c.remove_key.ensures.moment ∙ c.append.ensures.moment in
     subst (λ (q : PoolState). HasNoRoom q c.args.bucket left.moment i) (sym pool)
     (subst (λ (t : ℕ). HasNoRoom c.args.self.now.pool c.args.bucket t i) (sym moment) first.0)
 
 pub append_to_freed-requires-clause-waits : goal.append_to_freed-requires-clause-waits
 append_to_freed-requires-clause-waits c =
     subst (λ (t : ℕ). has_arrived c.args.item.deadline t ≡ false)
-    (sym (c.leave_key.ensures.moment ∙ c.append.ensures.moment)) c.requires.waits
+    (sym (c.remove_key.ensures.moment ∙ c.append.ensures.moment)) c.requires.waits
 
 pub append_to_freed-requires-clause-of_bucket : goal.append_to_freed-requires-clause-of_bucket
 append_to_freed-requires-clause-of_bucket c =
     subst (λ (t : ℕ). c.args.bucket ≡ bucket_of (time_to_live c.args.item.deadline t))
-    (sym (c.leave_key.ensures.moment ∙ c.append.ensures.moment)) c.requires.of_bucket
+    (sym (c.remove_key.ensures.moment ∙ c.append.ensures.moment)) c.requires.of_bucket
 
 pub returns-then-is_err-clause-put : goal.returns-then-is_err-clause-put
 returns-then-is_err-clause-put c =
     let s = c.args.self.now in
     let i = item_of c.args.item in
-    let left = c.leave_key.new.self in
+    let left = c.remove_key.new.self in
     let first = was_refused c.append.result _ _ c.append.ensures.appended
     (sym c.is_err.ensures.value ∙ c.if-is_err.true) in
     let is : current left.pool left.index ≡ finite.remove (current s.pool s.index) i.key =
     subst (λ (x : MapState). current left.pool left.index ≡ finite.remove (current x.pool x.index) i.key) first.1
-    c.leave_key.ensures.left in
+    c.remove_key.ensures.left in
     put_left s left i c.args.item.deadline c.append_to_freed.new.self.pool c.append_to_freed.new.self.index
-    (c.leave_key.ensures.same.pool ∙ ap (λ (x : MapState). x.pool) first.1)
-    (c.leave_key.ensures.moment ∙ c.append.ensures.moment) is c.append_to_freed.ensures.put
+    (c.remove_key.ensures.same.pool ∙ ap (λ (x : MapState). x.pool) first.1)
+    (c.remove_key.ensures.moment ∙ c.append.ensures.moment) is c.append_to_freed.ensures.put
 
 pub returns-else-is_err-clause-put : goal.returns-else-is_err-clause-put
 returns-else-is_err-clause-put c =
@@ -82,15 +82,15 @@ pub returns-then-is_err-clause-placed : goal.returns-then-is_err-clause-placed
 returns-then-is_err-clause-placed c =
     let s = c.args.self.now in
     let i = item_of c.args.item in
-    let left = c.leave_key.new.self in
+    let left = c.remove_key.new.self in
     let first = was_refused c.append.result _ _ c.append.ensures.appended
     (sym c.is_err.ensures.value ∙ c.if-is_err.true) in
     let is : current left.pool left.index ≡ finite.remove (current s.pool s.index) i.key =
     subst (λ (x : MapState). current left.pool left.index ≡ finite.remove (current x.pool x.index) i.key) first.1
-    c.leave_key.ensures.left in
+    c.remove_key.ensures.left in
     placed_left s left c.args.bucket i c.append_to_freed.new.self.pool c.append_to_freed.new.self.index c.append.ensures.kept
-    c.leave_key.ensures.same.kept (c.leave_key.ensures.same.pool ∙ ap (λ (x : MapState). x.pool) first.1)
-    (c.leave_key.ensures.moment ∙ c.append.ensures.moment) is c.append_to_freed.ensures.placed
+    c.remove_key.ensures.same.kept (c.remove_key.ensures.same.pool ∙ ap (λ (x : MapState). x.pool) first.1)
+    (c.remove_key.ensures.moment ∙ c.append.ensures.moment) is c.append_to_freed.ensures.placed
 
 pub returns-else-is_err-clause-placed : goal.returns-else-is_err-clause-placed
 returns-else-is_err-clause-placed c =

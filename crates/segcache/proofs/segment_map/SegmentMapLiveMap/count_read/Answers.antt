@@ -1,14 +1,16 @@
-use Rattle.std.proofs.Common.{◌≡◌, Some, sym, ap, subst, ◌∙◌}
+use Rattle.std.proofs.Common.{◌≡◌, Some, refl, sym, ap, subst, ◌∙◌}
 use Rattle.std.specs.FinMap as finite
 use Rattle.index.specs.Table.{Places}
 use Rattle.segments.specs.Pools.{PoolState}
 use Rattle.segcache.specs.Kept.{IsPast}
 use Rattle.segcache.specs.State.{MapState}
-use Rattle.segcache.proofs.KeptEntries.{keeps_read}
+use Rattle.segments.specs.Items.{read_again}
+use Rattle.segments.proofs.ItemChanges.{keeps_read}
+use Rattle.segcache.proofs.KeptEntries.{keeps_changed}
 use Rattle.segcache.specs.Shown.{current, live_entries}
 use Rattle.segcache.proofs.ShownItems.{shown_same, touched_entry}
-use Rattle.segcache.proofs.TiedParts.{tied_touched, current_some}
-use Rattle.segcache.proofs.OpeningMoments.{past_touched}
+use Rattle.segcache.proofs.TiedParts.{tied_changed, current_some}
+use Rattle.segcache.proofs.OpeningMoments.{past_changed}
 use Rattle.segcache.proofs.segment_map.SegmentMapLiveMap.count_read.Goals as goal
 
 pub touch-requires : goal.touch-requires
@@ -25,10 +27,10 @@ invariant_of-self c =
     (let h = c.requires in rw (← c.self.view_is) at h) in
     let some = current_some a.pool a.index c.args._key.now c.args.place there in
     record {
-      tied = (tied_touched a.pool c.touch.new.self a.index a.marks c.args.place c.self.invariant.tied some
-          c.touch.ensures.pool c.touch.ensures.touched).0;
+      tied = (tied_changed read_again a.pool c.touch.new.self a.index a.marks c.args.place c.self.invariant.tied
+          (record { sized = keeps_read _ some; key = λ i _. refl }) c.touch.ensures.pool c.touch.ensures.touched).0;
       past = subst (λ (q : PoolState). IsPast q a.moment) (sym c.touch.ensures.touched)
-          (past_touched a.pool a.moment c.args.place c.self.invariant.past some);
+          (past_changed read_again a.pool a.moment c.args.place c.self.invariant.past some);
     }
 
 pub returns-clause-entries : goal.returns-clause-entries
@@ -37,8 +39,8 @@ returns-clause-entries c =
     let there : finite.get (current a.pool a.index) c.args._key.now ≡ Some c.args.place =
     (let h = c.requires in rw (← c.self.view_is) at h) in
     let some = current_some a.pool a.index c.args._key.now c.args.place there in
-    let same = (tied_touched a.pool c.touch.new.self a.index a.marks c.args.place c.self.invariant.tied some
-    c.touch.ensures.pool c.touch.ensures.touched).1 in
+    let same = (tied_changed read_again a.pool c.touch.new.self a.index a.marks c.args.place c.self.invariant.tied
+    (record { sized = keeps_read _ some; key = λ i _. refl }) c.touch.ensures.pool c.touch.ensures.touched).1 in
     rw (← c.self.view_is)
     (ap (λ (m : Places). live_entries c.touch.new.self m a.moment) same
     ∙ ap (λ (q : PoolState). live_entries q (current a.pool a.index) a.moment) c.touch.ensures.touched
@@ -63,8 +65,8 @@ returns-clause-kept c =
     let some = current_some a.pool a.index c.args._key.now c.args.place there in
     let new : MapState = record { pool = c.touch.new.self; index = a.index; marks = a.marks; moment = a.moment } in
     rw (← c.self.view_is)
-    (keeps_read (record { pool = a.pool; index = a.index; marks = a.marks; moment = a.moment }) new c.args.place some
-    c.touch.ensures.touched)
+    (keeps_changed read_again (record { pool = a.pool; index = a.index; marks = a.marks; moment = a.moment }) new c.args.place
+    (keeps_read _ some) c.touch.ensures.touched)
 
 pub returns-clause-stands : goal.returns-clause-stands
 returns-clause-stands c =
@@ -72,6 +74,6 @@ returns-clause-stands c =
     let there : finite.get (current a.pool a.index) c.args._key.now ≡ Some c.args.place =
     (let h = c.requires in rw (← c.self.view_is) at h) in
     let some = current_some a.pool a.index c.args._key.now c.args.place there in
-    let same = (tied_touched a.pool c.touch.new.self a.index a.marks c.args.place c.self.invariant.tied some
-    c.touch.ensures.pool c.touch.ensures.touched).1 in
+    let same = (tied_changed read_again a.pool c.touch.new.self a.index a.marks c.args.place c.self.invariant.tied
+    (record { sized = keeps_read _ some; key = λ i _. refl }) c.touch.ensures.pool c.touch.ensures.touched).1 in
     rw (← c.self.view_is) (λ key place h. ap (λ (m : Places). finite.get m key) same ∙ h)

@@ -8,6 +8,6 @@ unfolding no_marks
 returns c =
     let g = c.args.geometry in
     ap (λ (rs : List (List Bool)). record { sizes = g; rows = rs })
-    (c.in_ok-empty_rows.ensures ∙ ap (λ n. replicate n (replicate (c.segment_size.result / 32) false))
+    (c.in_ok-unmarked_segments.ensures ∙ ap (λ n. replicate n (replicate (c.segment_size.result / 32) false))
     c.segments.ensures.value
     ∙ ap (λ n. replicate g.segments (replicate (n / 32) false)) c.segment_size.ensures.value)

@@ -9,4 +9,4 @@ invariant_of-self-2 c =
     stays_unsettled _ _ c.args.session c.in-Some.open.now t c.self.invariant (sym c.in-Some.ensures.value)
     (written_only c.self.inside.sessions (c.get_mut.follows.lender t) _ _ _
     (c.get_mut.follows.holds t) c.in-Some.ensures.value)
-    refl refl (same_queue c.in-Some.open.now t (ap (λ (s : SessionState). s.queue) c.gave.ensures.gave))
+    refl refl (same_queue c.in-Some.open.now t (ap (λ (s : SessionState). s.queue) c.gave.ensures))

@@ -22,7 +22,7 @@ returns-then-is_full-clause-open c =
       | then-is_full-via-else-is_full+then-self-ge-MAX_POSTS w ↦
           subst (λ (b : BookState). GivesNone b s) c.self.view_is
           (spent (omega (arith, w.if-self-ge-MAX_POSTS.true)))
-    ])
+    ]) (λ f e. absurd cc)
 
 pub invariant_of-self : goal.invariant_of-self
 invariant_of-self c =
@@ -35,7 +35,7 @@ returns-in_err-request-clause-open c =
     λ s open_now.
     asks_none _ _ c.args.self.now c.args.session s c.ask_session-read.result c.from_residual.result c.self.view_is
     c.ask_session-read.ensures.open (ap given_request c.in_err-request.was) (ap given_in p.1)
-    (λ e. absurd (let failed = p.1 in cc)) (rw c.ask_session-read.ensures.kept refl) open_now
+    (λ e. absurd (let failed = p.1 in cc)) (λ f e. c.in_err-request.was) (rw c.ask_session-read.ensures.kept refl) open_now
 
 pub invariant_of-self-in_default : goal.invariant_of-self-in_default
 invariant_of-self-in_default c =
@@ -49,7 +49,7 @@ returns-in_default-clause-open c =
     let none = c.in_ok-request.was ∙ ap (λ (o : Option Request). Ok o) c.in_default.is in
     λ s open_now.
     asks_none _ _ c.args.self.now c.args.session s c.ask_session-read.result (Ok None) c.self.view_is
-    c.ask_session-read.ensures.open (ap given_request none) refl (λ e. none)
+    c.ask_session-read.ensures.open (ap given_request none) refl (λ e. none) (λ f e. absurd cc)
     (rw c.ask_session-read.ensures.kept refl) open_now
 
 pub invariant_of-self-2 : goal.invariant_of-self-2
@@ -68,8 +68,9 @@ returns-clause-open c =
     c.in_ok-push_back.ensures.items
     ∙ ap (λ (us : List Unsettled). us ++ given ∷ []) c.ask_session-read.ensures.kept in
     λ s open_now.
-    asks_given _ _ c.args.self.now c.args.session s c.in-Some.request c.ask_session-read.result c.self.view_is
+    rw c.lend_hits.ensures
+    (asks_given _ _ c.args.self.now c.args.session s c.in-Some.request c.ask_session-read.result c.self.view_is
     c.ask_session-read.ensures.open (c.in_ok-request.was ∙ ap (λ (o : Option Request). Ok o) c.in-Some.is)
     (subst (λ (b : BookState). length b.unsettled < WINDOW) (sym c.self.view_is)
     (OnFalse_at c.if-is_full.false c.is_full.ensures.room)) (omega (arith, c.if-self-ge-MAX_POSTS.false))
-    (rw unsettled refl) open_now
+    (rw unsettled refl) open_now)

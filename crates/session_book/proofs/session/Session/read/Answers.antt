@@ -19,4 +19,4 @@ returns-in_ok-put_behind-in-Found c =
     c.as_slice.ensures c.in-Found.ensures.view.1
     c.in_ok-message-in-Found.ensures c.requires.not_ended c.discard.ensures c.cause_of-self-inside.ensures
     c.in_ok-put_behind-in-Found.ensures.queue
-    c.in_ok-put_behind-in-Found.ensures.out refl refl refl
+    c.in_ok-put_behind-in-Found.ensures.out refl refl refl refl

@@ -1,6 +1,4 @@
 use Rattle.std.proofs.Common.{refl, ap, subst, ◌∙◌, Some, Ok}
-use Rattle.proto.specs.declared.message.Request.{Request}
-use Rattle.proto.specs.declared.history.Posted.{Posted}
 use Rattle.session_book.specs.Book.{session_of, NextAsk, given_in}
 use Rattle.worker.proofs.WorkerSteps.{continues, no_memory_goes_on, open_at}
 use Rattle.worker.proofs.OutputSteps.{some_known}
@@ -12,11 +10,10 @@ pub invariant_of-self : goal.invariant_of-self
 invariant_of-self g c = let w = c.self.inside.state in let t = c.args.session in let b = c.next_ask.new.self in
     (let a = c.in-Ok-Some in
     let is = a.is ∙ ap Ok a.field-0-is in
-    let held : Request → Posted = λ q. record { session = t; number = a.number; request = q } in
-    let new = record w { book = b; request = c.hold.new.held; reply_buffers = c.lend.new.self } in
+    let new = record w { book = b; request = c.hold.new.held } in
     let s = some_known (session_of w.book t) (λ none. let bad = (c.next_ask.ensures.closed none).0 in absurd (cc)) in
     one_goes_on g.P.Port.told w new t s.0 a.request a.number refl refl (rw c.self.view_is c.requires)
-    (c.hold.ensures ∙ ap (λ (q : Request). Some (held q)) c.lend.ensures) refl refl refl refl c.self.invariant s.1
+    c.hold.ensures refl refl refl refl c.self.invariant s.1
     (subst (λ r. NextAsk w.book t s.0 r b) is (c.next_ask.ensures.open s.0 s.1))).serving
 
 pub returns-in-Ok-Some : goal.returns-in-Ok-Some
@@ -25,11 +22,10 @@ returns-in-Ok-Some g c = let w = c.self.inside.state in let t = c.args.session i
     (g.met.P.Port.leads_reflexive _)
     (let a = c.in-Ok-Some in
     let is = a.is ∙ ap Ok a.field-0-is in
-    let held : Request → Posted = λ q. record { session = t; number = a.number; request = q } in
-    let new = record w { book = b; request = c.hold.new.held; reply_buffers = c.lend.new.self } in
+    let new = record w { book = b; request = c.hold.new.held } in
     let s = some_known (session_of w.book t) (λ none. let bad = (c.next_ask.ensures.closed none).0 in absurd (cc)) in
     one_goes_on g.P.Port.told w new t s.0 a.request a.number refl refl (rw c.self.view_is c.requires)
-    (c.hold.ensures ∙ ap (λ (q : Request). Some (held q)) c.lend.ensures) refl refl refl refl c.self.invariant s.1
+    c.hold.ensures refl refl refl refl c.self.invariant s.1
     (subst (λ r. NextAsk w.book t s.0 r b) is (c.next_ask.ensures.open s.0 s.1)))
 
 pub invariant_of-self-in-Ok-None : goal.invariant_of-self-in-Ok-None

@@ -4,7 +4,7 @@ use Rattle.session_book.specs.Session.{SessionState, gave}
 use Rattle.session_book.specs.Book.{BookState, session_of}
 use Rattle.worker_port.specs.Ports.{then_gave, fed, given}
 use Rattle.proto.specs.declared.history.Answered.{Answered}
-use Rattle.proto.specs.Sizes.{Sizes}
+use Rattle.proto.specs.declared.terms.Terms.{Terms}
 use Rattle.worker.specs.EndCauses.{piece_of}
 use Rattle.worker.specs.Workers.{run_view}
 use Rattle.worker.proofs.StoryLaws.{paused_kept}
@@ -28,8 +28,8 @@ give-requires g c =
           subst (λ (y : List ℕ × List Answered). MayBeGiven story y.1 c.args.session y.0) (λ i. (sym s.2 i, sym c.of-history.ensures i))
           (record {
             later = whose.0.later;
-            may = subst (λ (y : ℕ × Sizes). MayBeSent y.1 story.dialect y.0 (end_of w).seen c.args.session (fed c.args.session story.events)
-                (given c.args.session story.events) s.0.out) (λ i. (sym whose.0.worker_is i, sym whose.0.sizes_are i))
+            may = subst (λ (y : ℕ × Terms). MayBeSent y.1 story.dialect y.0 (end_of w).seen c.args.session (fed c.args.session story.events)
+                (given c.args.session story.events) s.0.out) (λ i. (sym whose.0.worker_is i, sym whose.0.terms_are i))
                 (may_be_given (run_view story w) (end_of w) w.request c.args.session s.0
                 ((c.self.invariant.known story e).each c.args.session) s.1 refl refl c.self.invariant.steady.told);
           });

@@ -1,0 +1,133 @@
+//! The options whose values are numbers.
+
+use proto::{MAX_SEGMENT_SIZE, MAX_SEGMENTS, MAX_WORKERS, MIN_SEGMENT_SIZE, MIN_SEGMENTS};
+
+/// An option whose value is a number from `least` to `most`.
+#[derive(Drop)]
+pub(crate) struct NumberOption {
+    pub(crate) name: &'static str,
+    pub(crate) value_name: &'static str,
+    pub(crate) help: &'static str,
+    pub(crate) least: u64,
+    pub(crate) most: u64,
+    /// Its value if it isn't given; empty if it then has none.
+    pub(crate) default: &'static [&'static str],
+}
+
+/// How many workers run. Both jobs have this option, each with a default of its own.
+pub(crate) const WORKERS: NumberOption = NumberOption {
+    name: "workers",
+    value_name: "COUNT",
+    help: "Number of worker threads, 1 to 8",
+    least: 1,
+    most: MAX_WORKERS as u64,
+    default: &[],
+};
+
+pub(crate) const SEGMENT_SIZE: NumberOption = NumberOption {
+    name: "segment-size",
+    value_name: "BYTES",
+    help: "Bytes of a segment, a power of two from 4096 to 1048576",
+    least: MIN_SEGMENT_SIZE as u64,
+    most: MAX_SEGMENT_SIZE as u64,
+    default: &["65536"],
+};
+
+pub(crate) const SEGMENTS: NumberOption = NumberOption {
+    name: "segments",
+    value_name: "COUNT",
+    help: "Number of segments, 8 to 65536. If no request sets a TTL, nothing is evicted while the items take at most 7/8 of all segments but one",
+    least: MIN_SEGMENTS as u64,
+    most: MAX_SEGMENTS as u64,
+    default: &["64"],
+};
+
+pub(crate) const NOW: NumberOption = NumberOption {
+    name: "now",
+    value_name: "SECONDS",
+    help: "The clock's first answer",
+    least: 0,
+    most: u64::MAX,
+    default: &["1000"],
+};
+
+pub(crate) const TICK: NumberOption = NumberOption {
+    name: "tick",
+    value_name: "SECONDS",
+    help: "How much more each further answer of the clock is",
+    least: 0,
+    most: u64::MAX,
+    default: &["0"],
+};
+
+pub(crate) const ACCEPT: NumberOption = NumberOption {
+    name: "accept",
+    value_name: "BYTES",
+    help: "Each give accepts at most BYTES bytes, 1 to 65536",
+    least: 1,
+    most: 65_536,
+    default: &[],
+};
+
+pub(crate) const FAIL_GIVE: NumberOption = NumberOption {
+    name: "fail-give",
+    value_name: "N",
+    help: "At each worker the Nth give finds its peer gone",
+    least: 1,
+    most: u64::MAX,
+    default: &[],
+};
+
+pub(crate) const SESSIONS: NumberOption = NumberOption {
+    name: "sessions",
+    value_name: "COUNT",
+    help: "Accept COUNT connections, and end once their sessions have ended",
+    least: 1,
+    most: u64::MAX,
+    default: &[],
+};
+
+pub(crate) const IDLE: NumberOption = NumberOption {
+    name: "idle",
+    value_name: "SECONDS",
+    help: "Close a connection that has sent and taken nothing for SECONDS seconds, 1 to 4294967295",
+    least: 1,
+    most: u32::MAX as u64,
+    default: &[],
+};
+
+pub(crate) const SPIN: NumberOption = NumberOption {
+    name: "spin",
+    value_name: "MICROSECONDS",
+    help: "How long each thread looks for work before it sleeps, 0 to 1000000. Single requests are answered faster, and each worker and the storage thread keep a processor busy",
+    least: 0,
+    most: 1_000_000,
+    default: &[],
+};
+
+/// The options of a replay: the workers, the segments, the clock, and the faults of the ports.
+pub(crate) static REPLAY_OPTIONS: [NumberOption; 7] = [
+    NumberOption {
+        default: &["1"],
+        ..WORKERS
+    },
+    SEGMENT_SIZE,
+    SEGMENTS,
+    NOW,
+    TICK,
+    ACCEPT,
+    FAIL_GIVE,
+];
+
+/// The options of a server beside its address.
+pub(crate) static SERVE_OPTIONS: [NumberOption; 6] = [
+    NumberOption {
+        default: &["2"],
+        ..WORKERS
+    },
+    SESSIONS,
+    IDLE,
+    SPIN,
+    SEGMENT_SIZE,
+    SEGMENTS,
+];

@@ -1,0 +1,21 @@
+use Rattle.std.proofs.Common.{◌≡◌, List, [], refl, sym, subst}
+use Rattle.std.specs.Prelude.{slice_index}
+use mathlib.Core.Option.{some}
+use lib.ListN.{get_elem?}
+use Rattle.exchange.specs.Ends.{WorkerView, AreTogether, AreCounted}
+use Rattle.group.proofs.Runs.{run}
+use Rattle.group.proofs.run.gather_report.Goals as goal
+
+pub gather-gathered-requires : goal.gather-gathered-requires
+gather-gathered-requires g c = subst (λ (l : List WorkerView). AreTogether l c.args.storage.storage_end)
+    (sym c.split_reports-workers.ensures.1) c.requires.together
+
+pub returns : goal.returns
+returns g c = λ store sizes ports clock stored joined.
+    run g.P.Port.told g.P.Port.leads_to g.C.Clock.told g.C.Clock.leads_to
+    (g.E.StorageEngine.keeps store []) sizes ports clock c.args.reports.items c.args.storage _ stored joined
+    c.split_reports-workers.ensures.0 refl refl
+    (subst (λ (l : List WorkerView). (i : _) (v : WorkerView) → get_elem? l i ≡ some v
+    → AreCounted c.args.storage.storage_end v (slice_index c.gather-gathered.result.sent v.worker)
+    (slice_index c.gather-gathered.result.back v.worker)) c.split_reports-workers.ensures.1 c.gather-gathered.ensures.counted)
+    c.gather-gathered.ensures.beyond

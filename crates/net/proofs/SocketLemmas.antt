@@ -1,0 +1,65 @@
+-- How the sessions of a port keep their sockets.
+use Rattle.std.proofs.Common.{◌≡◌, ℕ, zero, suc, ◌+◌, ◌-◌, Bool, true, false, cond, List, [], ◌∷◌, ◌++◌, length, length-append, refl, sym, ap, ◌∙◌, arith}
+use Rattle.std.specs.Prelude.{ℤ, Option, None, Some, is_some, slice_get}
+use Rattle.std.specs.Option.{option_map}
+use Rattle.std.specs.Bool.{nat_eq}
+use Rattle.std.proofs.lemmas.Bool.{both_ways, eqb-true}
+use Rattle.net.specs.Seen.{Seen, IsSet, fresh, socket_of}
+use Rattle.net.specs.Ties.{SocketsAgree, SocketTies}
+
+found_more : (l : List ℤ) (k : ℕ) (x y : ℤ) → slice_get l k ≡ Some x → slice_get (l ++ y ∷ []) k ≡ Some x
+found_more [] k x y h = absurd (both_ways false refl (ap is_some h))
+found_more (z ∷ l) zero x y h = h
+found_more (z ∷ l) (suc k) x y h = found_more l k x y h
+
+found_last : (l : List ℤ) (y : ℤ) → slice_get (l ++ y ∷ []) (length l) ≡ Some y
+found_last [] y = refl
+found_last (z ∷ l) y = found_last l y
+
+-- a socket behind the others changes no other session's
+more_at : (l : List ℤ) (k : ℕ) (y : ℤ) (n : Option Seen) → is_some n ≡ true → slice_get l k ≡ socket_of n
+    → slice_get (l ++ y ∷ []) k ≡ socket_of n
+more_at l k y None some h = absurd (both_ways false refl some)
+more_at l k y (Some x) some h = found_more l k x.socket y h
+
+-- what leaves a stream's socket leaves its place
+same_at : (f : Seen → Seen) → ((x : Seen) → (f x).socket ≡ x.socket) → (place : Option ℤ) (n : Option Seen)
+    → (is_some n ≡ true → place ≡ socket_of n) → is_some (option_map f n) ≡ true → place ≡ socket_of (option_map f n)
+same_at f same place None h some = absurd (both_ways false refl some)
+same_at f same place (Some x) h some = h refl ∙ ap Some (sym (same x))
+
+-- one stream is set
+module _ (streams next : ℕ → Option Seen) (s : ℕ) (now : Option Seen) (sockets : List ℤ) where
+  set_case : (o : ℕ) → next o ≡ cond (nat_eq s o) now (streams o) → (is_some now ≡ true → slice_get sockets (s - 1) ≡ socket_of now)
+      → (is_some (streams o) ≡ true → slice_get sockets (o - 1) ≡ socket_of (streams o)) → (b : Bool) → nat_eq s o ≡ b
+      → is_some (next o) ≡ true → slice_get sockets (o - 1) ≡ socket_of (next o)
+  set_case o set here old true is some =
+      let now_it_is : next o ≡ now = set ∙ ap (λ c. cond c now (streams o)) is in
+      ap (λ (k : ℕ). slice_get sockets (k - 1)) (sym (eqb-true s o is)) ∙ here (sym (ap is_some now_it_is) ∙ some) ∙ sym (ap socket_of now_it_is)
+  set_case o set here old false is some =
+      let as_before : next o ≡ streams o = set ∙ ap (λ c. cond c now (streams o)) is in
+      old (sym (ap is_some as_before) ∙ some) ∙ sym (ap socket_of as_before)
+
+  sockets_set : IsSet s now streams next → (is_some now ≡ true → slice_get sockets (s - 1) ≡ socket_of now)
+      → SocketsAgree streams sockets → SocketsAgree next sockets
+  sockets_set set here old o = set_case o (set o) here (old o) (nat_eq s o) refl
+
+module _ (streams next : ℕ → Option Seen) (last : ℕ) (sockets : List ℤ) (s : ℕ) (t : SocketTies streams last sockets) where
+  pub kept_set : (f : Seen → Seen) → ((x : Seen) → (f x).socket ≡ x.socket) → IsSet s (option_map f (streams s)) streams next
+      → SocketTies next last sockets
+  kept_set f same set = (
+    sockets_set streams next s (option_map f (streams s)) sockets set (same_at f same (slice_get sockets (s - 1)) (streams s) (t.0 s)) t.0,
+    t.1,
+  )
+
+  pub kept_closed : IsSet s None streams next → SocketTies next last sockets
+  kept_closed set = (sockets_set streams next s None sockets set (λ h. absurd (both_ways false refl h)) t.0, t.1)
+
+  pub kept_opened : (y : ℤ) → s ≡ last + 1 → IsSet s (Some (fresh y)) streams next → SocketTies next s (sockets ++ y ∷ [])
+  kept_opened y n set =
+      let place : s - 1 ≡ length sockets = omega (arith, t.1) in (
+        sockets_set streams next s (Some (fresh y)) (sockets ++ y ∷ []) set
+            (λ _. ap (slice_get (sockets ++ y ∷ [])) place ∙ found_last sockets y)
+            (λ o h. more_at sockets (o - 1) y (streams o) h (t.0 o h)),
+        omega (arith, length-append sockets (y ∷ []), t.1),
+      )

@@ -1,0 +1,257 @@
+//! One open session's stream: what its input and its output are doing.
+
+ghost use Rattle.std.specs.Prelude.{◌≡◌, ◌≤◌, ℤ, true, false, length, take, IsTrue, IfOk};
+ghost use Rattle.net.specs.Seen.{fresh, then_sent, then_paused};
+ghost use Rattle.net.specs.Sockets.{IsNewLog};
+ghost use Rattle.net.specs.Shown.{seen_of, Arrives};
+ghost use Rattle.worker_port.specs.Giving.{MayBeSent, by_system_clock};
+
+use crate::owner::Owner;
+use crate::sockets::{EndedStream, ServedStream};
+use bytes::Bytes;
+use mio::event::Event;
+use std::alloc::Global;
+use std::collections::VecDeque;
+use std::io::ErrorKind;
+use worker_port::{Gone, ToldHistory};
+
+/// A session that was idle at this many looks in a row, and at one more, is ended.
+const LOOKS: u64 = 8;
+
+/// What the input of a stream is doing.
+#[derive(Clone, Copy)]
+pub(crate) enum Input {
+    /// Nothing is known to be there: an event tells when something comes.
+    Waiting,
+    /// Something may be there: the stream stands in the list of those to read.
+    Listed,
+    /// The same, and the stream is read until nothing is there, as no further event may tell of what is.
+    Draining,
+    /// The worker wants no input. The stream may stand in the list still.
+    Paused { is_listed: bool },
+}
+
+/// What the output of a stream is doing.
+#[derive(Clone, Copy)]
+enum Output {
+    /// The last write was whole.
+    Free,
+    /// The last write was short, and no room was told since.
+    Blocked,
+    /// The last write was short, and room was told since.
+    Freed,
+}
+
+/// What a read brought.
+pub(crate) enum Reading {
+    Bytes(Bytes),
+    Nothing,
+    /// The peer sends no more, and may still read.
+    Ended,
+    Gone,
+}
+
+/// One open stream.
+#[derive(Drop)]
+pub(crate) struct OpenStream {
+    pub(crate) stream: ServedStream,
+    pub(crate) input: Input,
+    output: Output,
+    // How many looks for idle sessions came before its last activity: it sent something, or took some of what it is owed.
+    active: u64,
+}
+
+impl OpenStream {
+    // The stream of a session that was just opened, after this many looks for idle sessions.
+    pub(crate) fn new(stream: ServedStream, looks: u64) -> OpenStream
+        ensures { (socket : ℤ) → IsNewLog socket stream → seen_of result ≡ fresh socket }
+    {
+        OpenStream {
+            stream,
+            input: Input::Waiting,
+            output: Output::Free,
+            active: looks,
+        }
+    }
+
+    // The stream with its sending half ended, to be read a little longer; none if all of its input was read.
+    pub(crate) fn into_ended(self) -> Option<EndedStream> {
+        if self.stream.has_ended {
+            return None;
+        }
+        EndedStream::of(self.stream)
+    }
+
+    // Takes note of what an event of the session's stream tells, and lists it if it is to be read. True if it has room that it
+    // had not; one that failed has some, so that a write says so.
+    pub(crate) fn hear(&mut self, event: &Event, session: u64, ready: &mut VecDeque<u64>) -> bool
+        ensures { seen_of self.new ≡ seen_of self.old }
+    {
+        let has_failed = event.is_error();
+        let has_closed = has_failed || event.is_read_closed();
+        if has_closed || event.is_readable() {
+            self.hear_input(has_closed, session, ready);
+        }
+        let is_freed = matches!(self.output, Output::Blocked)
+            && (has_failed || event.is_writable());
+        if is_freed {
+            self.output = Output::Freed;
+        }
+        is_freed
+    }
+
+    // Something may be there to be read: all that comes, or more.
+    fn hear_input(&mut self, has_closed: bool, session: u64, ready: &mut VecDeque<u64>)
+        ensures { seen_of self.new ≡ seen_of self.old }
+    {
+        match self.input {
+            Input::Waiting if !self.stream.has_ended => {
+                self.input = if has_closed {
+                    Input::Draining
+                } else {
+                    Input::Listed
+                };
+                self.list(session, ready);
+            }
+            Input::Listed if has_closed => self.input = Input::Draining,
+            _ => {}
+        }
+    }
+
+    // Puts the stream in the list of those to read. Without memory it waits for another event.
+    fn list(&mut self, session: u64, ready: &mut VecDeque<u64>)
+        ensures { seen_of self.new ≡ seen_of self.old }
+    {
+        if ready.push_back(session).is_err() {
+            self.unlist();
+        }
+    }
+
+    // Whether the stream stands in the list of those to read, and is to be read.
+    pub(crate) fn is_listed(&self) -> bool
+        ensures { IsTrue result → (seen_of self.now).paused ≡ false }
+    {
+        matches!(self.input, Input::Listed | Input::Draining)
+    }
+
+    // It stands in the list no longer.
+    pub(crate) fn unlist(&mut self)
+        ensures { seen_of self.new ≡ seen_of self.old }
+    {
+        self.input = match self.input {
+            Input::Paused { .. } => Input::Paused { is_listed: false },
+            Input::Waiting | Input::Listed | Input::Draining => Input::Waiting,
+        };
+    }
+
+    // Puts it in the list again if more may be there.
+    pub(crate) fn relist(&mut self, session: u64, ready: &mut VecDeque<u64>)
+        ensures { seen_of self.new ≡ seen_of self.old }
+    {
+        if self.is_listed() {
+            self.list(session, ready);
+        }
+    }
+
+    // Reads once, after this many looks for idle sessions. It is to be listed again if more may be there.
+    pub(crate) fn read(&mut self, alloc: Global, scratch: &mut [u8], looks: u64) -> Reading
+        requires ready { (seen_of self.old).paused ≡ false }
+        requires room { length scratch.old ≡ 16384 }
+        ensures { Arrives (seen_of self.old) result (seen_of self.new) }
+    {
+        let input = self.input;
+        self.input = Input::Waiting;
+        if self.stream.has_ended {
+            return Reading::Nothing;
+        }
+        match self.stream.read(scratch) {
+            Ok(0) => Reading::Ended,
+            Ok(count) => {
+                if count == scratch.len() || matches!(input, Input::Draining) {
+                    self.input = input;
+                }
+                if matches!(self.output, Output::Free) {
+                    self.active = looks;
+                }
+                match Bytes::copy_from_slice(alloc, &scratch[..count]) {
+                    Ok(piece) => Reading::Bytes(piece),
+                    Err(_) => Reading::Gone,
+                }
+            }
+            Err(error) if error.kind() == ErrorKind::WouldBlock => Reading::Nothing,
+            Err(_) => Reading::Gone,
+        }
+    }
+
+    // Writes once, after this many looks for idle sessions, unless the stream is known to have no room.
+    pub(crate) fn write(
+        &mut self,
+        owner: Owner,
+        session: u64,
+        bytes: &[u8],
+        history: &ToldHistory,
+        looks: u64,
+    ) -> Result<usize, Gone>
+        requires { MayBeSent (by_system_clock owner.geometry) owner.dialect owner.worker history.now session
+            (seen_of self.old).received (seen_of self.old).sent bytes.now }
+        ensures within { IfOk result (λ n. n ≤ length bytes.now) }
+        ensures sends { IfOk result (λ n. seen_of self.new ≡ then_sent (take n bytes.now) (seen_of self.old)) }
+    {
+        if matches!(self.output, Output::Blocked) || bytes.is_empty() {
+            return Ok(0);
+        }
+        match self.stream.write(owner, session, bytes, history) {
+            Ok(count) => {
+                self.output = if count < bytes.len() {
+                    Output::Blocked
+                } else {
+                    Output::Free
+                };
+                if count > 0 {
+                    self.active = looks;
+                }
+                Ok(count)
+            }
+            Err(error) if error.kind() == ErrorKind::WouldBlock => {
+                self.output = Output::Blocked;
+                Ok(0)
+            }
+            Err(_) => Err(Gone),
+        }
+    }
+
+    pub(crate) fn pause(&mut self)
+        ensures { seen_of self.new ≡ then_paused true (seen_of self.old) }
+    {
+        self.input = match self.input {
+            Input::Waiting => Input::Paused { is_listed: false },
+            Input::Listed | Input::Draining => Input::Paused { is_listed: true },
+            Input::Paused { is_listed } => Input::Paused { is_listed },
+        };
+    }
+
+    // What came meanwhile may not be told again, so the stream is listed, and read until nothing is there.
+    pub(crate) fn resume(&mut self, session: u64, ready: &mut VecDeque<u64>)
+        ensures { seen_of self.new ≡ then_paused false (seen_of self.old) }
+    {
+        let Input::Paused { is_listed } = self.input else {
+            return;
+        };
+        if self.stream.has_ended {
+            self.input = Input::Waiting;
+            return;
+        }
+        self.input = Input::Draining;
+        if !is_listed {
+            self.list(session, ready);
+        }
+    }
+
+    // Whether the session is to be ended at this look: for long enough it took nothing of what it is owed, or is owed nothing,
+    // sent nothing, and nothing of it waits to be read.
+    pub(crate) fn is_idle(&self, looks: u64) -> bool {
+        let is_owed = !matches!(self.output, Output::Free);
+        let is_waiting = matches!(self.input, Input::Waiting);
+        looks.saturating_sub(self.active) > LOOKS && (is_owed || is_waiting)
+    }
+}

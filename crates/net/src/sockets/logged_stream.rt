@@ -1,0 +1,109 @@
+//! A stream that knows, for clauses alone, which bytes were read from it and which it took. Its `read` and `write` are proved
+//! for any stream inside, so they can't alter, drop or double a byte of it; no clause says what a socket delivers.
+
+ghost use Rattle.std.specs.Prelude.{◌≡◌, ◌≤◌, ◌<◌, ◌++◌, ◌∷◌, [], false, ◌==◌, length, take, IfOk, OnErr};
+ghost use Rattle.worker_port.specs.Giving.{MayBeSent, by_system_clock};
+ghost use Rattle.std.specs.Io.KnownBytes.{ReadConsumes, WriteAppends};
+
+use crate::owner::Owner;
+use mio::net::TcpStream;
+use proto::{Noted, Trace};
+use std::io::{self, Read, Write};
+use worker_port::ToldHistory;
+
+/// A session's stream.
+pub(crate) type ServedStream = LoggedStream<TcpStream>;
+
+/// Stands for a stream as it was at first.
+#[derive(Drop)]
+struct Origin<'a, S> {
+    stream: &'a S,
+}
+
+impl<S> Noted<S> for Origin<'_, S> {
+    ghost use Rattle.std.specs.Prelude.{[], ◌∷◌};
+
+    ghost noted = { λ note. note.stream.now ∷ [] };
+}
+
+/// A stream.
+#[derive(Drop)]
+pub(crate) struct LoggedStream<S: Drop> {
+    stream: S,
+    /// The stream as it was at first, for clauses alone: it tells which socket it is.
+    pub(crate) origin: Trace<S>,
+    pub(crate) received: Trace<u8>,
+    pub(crate) sent: Trace<u8>,
+    /// A read of no bytes came: no more come.
+    pub(crate) has_ended: bool,
+}
+
+impl<S: Read + Write + Drop> LoggedStream<S> {
+    pub(super) fn new(stream: S) -> LoggedStream<S>
+        ensures origin { result.origin.items ≡ stream ∷ [] }
+        ensures received { result.received.items ≡ [] }
+        ensures sent { result.sent.items ≡ [] }
+        ensures goes_on { result.has_ended ≡ false }
+    {
+        let mut origin = Trace::new();
+        origin.note_as(&Origin { stream: &stream });
+        LoggedStream {
+            stream,
+            origin,
+            received: Trace::new(),
+            sent: Trace::new(),
+            has_ended: false,
+        }
+    }
+
+    pub(super) fn into_stream(self) -> S {
+        self.stream
+    }
+
+    /// What was read stands first in the buffer. A read of no bytes is the end of the input.
+    pub(crate) fn read(&mut self, buf: &mut [u8]) -> io::Result<usize>
+        requires goes_on { self.old.has_ended ≡ false }
+        requires room { 0 < length buf.old }
+        ensures within { IfOk result (λ n. n ≤ length buf.new) }
+        ensures received { IfOk result (λ n. self.new.received.items ≡ self.old.received.items ++ take n buf.new) }
+        ensures ended { IfOk result (λ n. self.new.has_ended ≡ (n == 0)) }
+        ensures failed { OnErr result (self.new.received.items ≡ self.old.received.items) }
+        ensures failed_on { OnErr result (self.new.has_ended ≡ false) }
+        ensures sent { self.new.sent.items ≡ self.old.sent.items }
+        ensures origin { self.new.origin.items ≡ self.old.origin.items }
+        ensures given { ReadConsumes (S.remaining self.old.stream) (S.remaining self.new.stream) result buf.new }
+    {
+        let answer = self.stream.read(buf);
+        if let Ok(count) = answer {
+            self.received.note(&buf[..count]);
+            self.has_ended = count == 0;
+        }
+        answer
+    }
+
+    /// It took the first of the bytes. In the history that its worker was told of, they are due to this session by what was
+    /// read from it and what it took before.
+    pub(crate) fn write(
+        &mut self,
+        _owner: Owner,
+        _session: u64,
+        bytes: &[u8],
+        _history: &ToldHistory,
+    ) -> io::Result<usize>
+        requires { MayBeSent (by_system_clock _owner.geometry) _owner.dialect _owner.worker _history.now _session
+            self.old.received.items self.old.sent.items bytes.now }
+        ensures within { IfOk result (λ n. n ≤ length bytes.now) }
+        ensures sent { IfOk result (λ n. self.new.sent.items ≡ self.old.sent.items ++ take n bytes.now) }
+        ensures failed { OnErr result (self.new.sent.items ≡ self.old.sent.items) }
+        ensures received { self.new.received.items ≡ self.old.received.items }
+        ensures input { self.new.has_ended ≡ self.old.has_ended }
+        ensures origin { self.new.origin.items ≡ self.old.origin.items }
+        ensures took { WriteAppends (S.contents self.old.stream) (S.contents self.new.stream) result bytes.now }
+    {
+        let answer = self.stream.write(bytes);
+        if let Ok(count) = answer {
+            self.sent.note(&bytes[..count]);
+        }
+        answer
+    }
+}

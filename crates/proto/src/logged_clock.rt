@@ -1,0 +1,107 @@
+//! The system's clock, which knows, for clauses alone, what was read of it. All that is proved of its times rests on `new` and
+//! `read`, which note what the system answered; no clause says that what it answers goes on.
+
+ghost use Rattle.std.specs.Prelude.{◌≡◌, ◌++◌, ◌∷◌, [], IfSome};
+ghost use Rattle.std.specs.Time.{system_time_nanos, instant_nanos, FitsClock};
+
+use crate::trace::Trace;
+use std::marker::Model;
+use std::slice;
+use std::time::{self, Instant, SystemTime};
+
+/// What was read at the start: the Unix time and the monotonic clock, None where they couldn't be read. Only `LoggedClock` makes
+/// one.
+#[derive(Clone, Copy)]
+pub struct ClockStart {
+    unix: Option<SystemTime>,
+    monotonic: Option<Instant>,
+}
+
+/// One reading of the monotonic clock, None where it couldn't be read, with the start. Only `LoggedClock` makes one.
+#[derive(Clone, Copy)]
+pub struct ClockReading {
+    start: ClockStart,
+    now: Option<Instant>,
+}
+
+/// The system's clock. Its value is its start and the list of its readings; nothing but `read` adds to it.
+#[derive(Drop)]
+pub struct LoggedClock<R: Drop> {
+    rt: R,
+    start: ClockStart,
+    readings: Trace<Option<Instant>>,
+}
+
+impl<R: Drop> Model for LoggedClock<R> {
+    ghost use Rattle.proto.specs.ClockAnswers.{ClockLog};
+
+    ghost Value = { ClockLog };
+
+    ghost view = { λ c. record { start = c.start; readings = c.readings.items } };
+}
+
+impl<R: time::Clock + Drop> LoggedClock<R> {
+    /// Reads the Unix time and the monotonic clock, once for all.
+    pub(crate) fn new(rt: R) -> LoggedClock<R>
+        ensures readings { result.readings ≡ [] }
+        ensures fits { IfSome result.start.unix (λ time. FitsClock (system_time_nanos time)) }
+    {
+        let start = ClockStart {
+            unix: SystemTime::now(&rt).ok(),
+            monotonic: Instant::now(&rt).ok(),
+        };
+        LoggedClock {
+            rt,
+            start,
+            readings: Trace::new(),
+        }
+    }
+
+    /// Reads the monotonic clock once.
+    pub(crate) fn read(&mut self) -> ClockReading
+        ensures start { (result.start ≡ self.old.start) × (self.new.start ≡ self.old.start) }
+        ensures readings { self.new.readings ≡ self.old.readings ++ result.now ∷ [] }
+        ensures fits { IfSome result.now (λ now. FitsClock (instant_nanos now)) }
+    {
+        let now = Instant::now(&self.rt).ok();
+        self.readings.note(slice::from_ref(&now));
+        ClockReading {
+            start: self.start,
+            now,
+        }
+    }
+
+    pub(crate) fn start(&self) -> ClockStart
+        ensures { result ≡ self.now.start }
+    {
+        self.start
+    }
+}
+
+impl ClockStart {
+    pub(crate) fn unix(self) -> Option<SystemTime>
+        ensures { result ≡ self.unix }
+    {
+        self.unix
+    }
+
+    pub(crate) fn monotonic(self) -> Option<Instant>
+        ensures { result ≡ self.monotonic }
+    {
+        self.monotonic
+    }
+}
+
+impl ClockReading {
+    pub(crate) fn start(self) -> ClockStart
+        ensures { result ≡ self.start }
+    {
+        self.start
+    }
+
+    pub(crate) fn now(self) -> Option<Instant>
+        ensures { result ≡ self.now }
+    {
+        self.now
+    }
+}

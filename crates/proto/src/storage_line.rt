@@ -1,0 +1,94 @@
+//! The line of a storage command, and how it is read.
+
+ghost use Rattle.std.specs.Prelude.{◌≡◌, option_map};
+ghost use Rattle.proto.specs.PlainReader.{storage, quiet_in, plain_tail, storage_in};
+ghost use Rattle.proto.specs.Heads.{storage_line_of, tail_of};
+
+use crate::command_word::StorageWord;
+use crate::parse::MAX_TEN_DIGITS;
+use crate::words::Words;
+
+/// How a storage command stores; `Cas` has the cas number that the entry is to have. `append` and `prepend` are refused.
+#[derive(Clone, Copy)]
+pub enum StoreMode {
+    Set,
+    Add,
+    Replace,
+    Cas(u64),
+    Refused,
+}
+
+/// What a storage line says; the key is lent from the line.
+#[derive(Drop)]
+pub struct StorageLineView<'a> {
+    pub mode: StoreMode,
+    pub key: &'a [u8],
+    pub flags: u32,
+    pub exptime: i64,
+    /// The length of the data block in bytes.
+    pub size: u64,
+    /// Whether `noreply` was given.
+    pub noreply: bool,
+}
+
+/// Whether `noreply` is what is left of the line; None where something else is.
+pub(crate) fn noreply(words: Words) -> Option<bool>
+    ensures { result ≡ quiet_in words.entry }
+{
+    match words.rest() {
+        None => Some(false),
+        Some(rest) => {
+            if rest == b"noreply".as_slice() {
+                Some(true)
+            } else {
+                None
+            }
+        }
+    }
+}
+
+/// Whether `noreply` follows, beside a mode.
+fn with_noreply(mode: StoreMode, words: Words) -> Option<(StoreMode, bool)>
+    ensures { result ≡ plain_tail mode words.entry }
+{
+    let noreply = noreply(words)?;
+    Some((mode, noreply))
+}
+
+/// Reads the words after the size of a storage line.
+fn tail(word: StorageWord, mut words: Words) -> Option<(StoreMode, bool)>
+    ensures { result ≡ tail_of word words.entry }
+{
+    match word {
+        StorageWord::Set => with_noreply(StoreMode::Set, words),
+        StorageWord::Add => with_noreply(StoreMode::Add, words),
+        StorageWord::Replace => with_noreply(StoreMode::Replace, words),
+        StorageWord::Append | StorageWord::Prepend => with_noreply(StoreMode::Refused, words),
+        StorageWord::Cas => {
+            let unique = words.next_number(u64::MAX)?;
+            with_noreply(StoreMode::Cas(unique), words)
+        }
+    }
+}
+
+/// Reads the words after the command word of a storage line.
+pub(crate) fn storage_line<'a>(
+    word: StorageWord,
+    mut words: Words<'a>,
+) -> Option<StorageLineView<'a>>
+    ensures { option_map (λ h. storage (storage_line_of h)) result ≡ storage_in (tail_of word) words.entry }
+{
+    let key = words.next_key()?;
+    let flags = words.next_number(u32::MAX as u64)?;
+    let exptime = words.next_signed()?;
+    let size = words.next_number(MAX_TEN_DIGITS)?;
+    let (mode, noreply) = tail(word, words)?;
+    Some(StorageLineView {
+        mode,
+        key,
+        flags: flags as u32,
+        exptime,
+        size,
+        noreply,
+    })
+}

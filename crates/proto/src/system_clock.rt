@@ -1,0 +1,108 @@
+//! The answers of a clock, and the system's clock.
+
+ghost use Rattle.std.specs.Prelude.{◌≡◌, ◌++◌, [], ◌∷◌, Option};
+ghost use Rattle.std.specs.declared.time.Instant.{Instant};
+ghost use Rattle.proto.specs.ClockAnswers.{unix_seconds, seconds_between, seconds_since};
+
+use crate::logged_clock::{ClockReading, LoggedClock};
+use crate::trace::Trace;
+use std::marker::Model;
+use std::slice;
+use std::time::{self, Instant, SystemTime, UNIX_EPOCH};
+
+/// One answer of a clock. By whom it was given it says for clauses alone: only `SystemClock` makes one with a reading.
+#[derive(Drop)]
+pub struct ClockAnswer {
+    seconds: u64,
+    read: Trace<ClockReading>,
+}
+
+impl Model for ClockAnswer {
+    ghost use Rattle.proto.specs.ClockAnswers.{GivenAnswer};
+
+    ghost Value = { GivenAnswer };
+
+    ghost view = { λ a. record { seconds = a.seconds; read = a.read.items } };
+}
+
+impl ClockAnswer {
+    /// The answer of another clock than the system's.
+    pub fn given(seconds: u64) -> ClockAnswer
+        ensures { result ≡ record { seconds = seconds; read = [] } }
+    {
+        ClockAnswer {
+            seconds,
+            read: Trace::new(),
+        }
+    }
+
+    pub fn seconds(&self) -> u64
+        ensures { result ≡ self.now.seconds }
+    {
+        self.seconds
+    }
+}
+
+/// The whole seconds from 1970 to a reading of the Unix time, 0 where it couldn't be read.
+fn unix_seconds(reading: Option<SystemTime>) -> u64
+    ensures { result ≡ unix_seconds reading }
+{
+    match reading.and_then(|time| time.duration_since(UNIX_EPOCH).ok()) {
+        Some(since) => since.as_secs(),
+        None => 0,
+    }
+}
+
+/// The whole seconds between two readings of the monotonic clock, 0 where one of them couldn't be read.
+fn seconds_between(first: Option<Instant>, now: Option<Instant>) -> u64
+    ensures { result ≡ seconds_between first now }
+{
+    match (first, now) {
+        (Some(first), Some(now)) => now.duration_since(first).as_secs(),
+        _ => 0,
+    }
+}
+
+/// The system's clock, in whole seconds: the Unix time of its start, counted on by the monotonic clock, so that its answers
+/// don't jump with the system's time. Its value is what was read.
+#[derive(Drop)]
+pub struct SystemClock<R: Drop> {
+    log: LoggedClock<R>,
+    /// The Unix seconds of its start.
+    began: u64,
+}
+
+impl<R: Drop> Model for SystemClock<R> {
+    ghost use Rattle.std.specs.Prelude.{◌≡◌, ◌<◌, ◌^◌};
+    ghost use Rattle.proto.specs.ClockAnswers.{ClockLog, unix_seconds};
+
+    ghost Value = { ClockLog };
+
+    ghost view = { λ c. c.log };
+
+    ghost invariant = { λ c. (c.began ≡ unix_seconds c.log.start.unix) × (c.began < 2 ^ 63) };
+}
+
+impl<R: time::Clock + Drop> SystemClock<R> {
+    /// Reads the clock's start.
+    pub fn new(rt: R) -> SystemClock<R>
+        ensures { result.readings ≡ [] }
+    {
+        let log = LoggedClock::new(rt);
+        let began = unix_seconds(log.start().unix());
+        SystemClock { log, began }
+    }
+
+    /// The whole seconds of one reading. They are 0 or more after the Unix seconds of the start.
+    pub fn now(&mut self) -> ClockAnswer
+        ensures start { self.new.start ≡ self.old.start }
+        ensures reading { (now : Option Instant) × (self.new.readings ≡ self.old.readings ++ now ∷ [])
+            × (result ≡ record { seconds = seconds_since self.old.start now; read = record { start = self.old.start; now = now } ∷ [] }) }
+    {
+        let reading = self.log.read();
+        let seconds = self.began + seconds_between(reading.start().monotonic(), reading.now());
+        let mut read = Trace::new();
+        read.note(slice::from_ref(&reading));
+        ClockAnswer { seconds, read }
+    }
+}

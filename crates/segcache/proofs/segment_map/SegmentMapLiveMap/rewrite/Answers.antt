@@ -1,0 +1,92 @@
+use Rattle.std.proofs.Common.{List, ℕ, sym, subst, inl, rules}
+use Rattle.proto.specs.Cache.{Entry}
+use Rattle.engine.specs.Written.{IsWritten}
+use Rattle.engine.specs.Keeping.{KeepsEntry}
+use Rattle.engine.specs.Shown.{entry_of}
+use Rattle.segments.specs.Shown.{item_of}
+use Rattle.segcache.specs.Shown.{shown_entries}
+use Rattle.segcache.specs.State.{MapState}
+use Rattle.segcache.specs.Keeping.{KeepsStored}
+use Rattle.segcache.specs.Writes.{ChangesSegments}
+use Rattle.segcache.proofs.TiedParts.{current_some}
+use Rattle.segcache.proofs.ChangedItems.{AsksRewrite, storable_over, rewritten}
+use Rattle.segcache.proofs.segment_map.SegmentMapLiveMap.rewrite.Goals as goal
+
+pub item-requires : goal.item-requires
+item-requires c =
+    let a = c.self.inside in
+    let key : List ℕ = c.args.key.now in
+    let m : MapState = record { pool = a.pool; index = a.index; marks = a.marks; moment = a.moment } in
+    let asks : AsksRewrite m key (entry_of c.args.entry) c.args.place =
+    subst (λ (s : MapState). AsksRewrite s key (entry_of c.args.entry) c.args.place) (sym c.self.view_is) (search rules) in
+    current_some a.pool a.index key c.args.place asks.stands
+
+pub fits_over-requires-clause-storable : goal.fits_over-requires-clause-storable
+fits_over-requires-clause-storable c =
+    let a = c.self.inside in
+    let key : List ℕ = c.args.key.now in
+    let m : MapState = record { pool = a.pool; index = a.index; marks = a.marks; moment = a.moment } in
+    let asks : AsksRewrite m key (entry_of c.args.entry) c.args.place =
+    subst (λ (s : MapState). AsksRewrite s key (entry_of c.args.entry) c.args.place) (sym c.self.view_is) (search rules) in
+    storable_over m key (entry_of c.args.entry) c.args.place (item_of c.item.result) asks c.self.invariant
+    c.item.ensures.item (search rules) (search rules)
+
+pub overwrite-requires-clause-storable : goal.overwrite-requires-clause-storable
+overwrite-requires-clause-storable c =
+    let a = c.self.inside in
+    let key : List ℕ = c.args.key.now in
+    let m : MapState = record { pool = a.pool; index = a.index; marks = a.marks; moment = a.moment } in
+    let asks : AsksRewrite m key (entry_of c.args.entry) c.args.place =
+    subst (λ (s : MapState). AsksRewrite s key (entry_of c.args.entry) c.args.place) (sym c.self.view_is) (search rules) in
+    storable_over m key (entry_of c.args.entry) c.args.place (item_of c.item.result) asks c.self.invariant
+    c.item.ensures.item (search rules) (search rules)
+
+pub invariant_of-self : goal.invariant_of-self
+invariant_of-self c =
+    let a = c.self.inside in
+    let key : List ℕ = c.args.key.now in
+    let m : MapState = record { pool = a.pool; index = a.index; marks = a.marks; moment = a.moment } in
+    let asks : AsksRewrite m key (entry_of c.args.entry) c.args.place =
+    subst (λ (s : MapState). AsksRewrite s key (entry_of c.args.entry) c.args.place) (sym c.self.view_is) (search rules) in
+    (rewritten m key (entry_of c.args.entry) c.args.place (item_of c.item.result) c.overwrite.new.self asks
+    c.self.invariant c.item.ensures.item (search rules) c.overwrite.ensures.overwritten c.overwrite.ensures.pool).kept
+
+pub returns-clause-written : goal.returns-clause-written
+returns-clause-written c =
+    let a = c.self.inside in
+    let key : List ℕ = c.args.key.now in
+    let e : Entry = entry_of c.args.entry in
+    let m : MapState = record { pool = a.pool; index = a.index; marks = a.marks; moment = a.moment } in
+    let asks : AsksRewrite m key e c.args.place =
+    subst (λ (s : MapState). AsksRewrite s key e c.args.place) (sym c.self.view_is) (search rules) in
+    let r = rewritten m key e c.args.place (item_of c.item.result) c.overwrite.new.self asks
+    c.self.invariant c.item.ensures.item (search rules) c.overwrite.ensures.overwritten c.overwrite.ensures.pool in
+    subst (λ (s : MapState). IsWritten s.pool.sizes s.moment (shown_entries s.pool s.index s.moment) key e
+    (shown_entries c.overwrite.new.self a.index a.moment)) c.self.view_is r.written
+
+pub returns-clause-exactly : goal.returns-clause-exactly
+returns-clause-exactly c =
+    let a = c.self.inside in
+    let key : List ℕ = c.args.key.now in
+    let e : Entry = entry_of c.args.entry in
+    let m : MapState = record { pool = a.pool; index = a.index; marks = a.marks; moment = a.moment } in
+    let asks : AsksRewrite m key e c.args.place =
+    subst (λ (s : MapState). AsksRewrite s key e c.args.place) (sym c.self.view_is) (search rules) in
+    let r = rewritten m key e c.args.place (item_of c.item.result) c.overwrite.new.self asks
+    c.self.invariant c.item.ensures.item (search rules) c.overwrite.ensures.overwritten c.overwrite.ensures.pool in
+    subst (λ (s : MapState). ChangesSegments s key e (record m { pool = c.overwrite.new.self })) c.self.view_is
+    (inl r.changed)
+
+pub returns-clause-kept : goal.returns-clause-kept
+returns-clause-kept c =
+    let a = c.self.inside in
+    let key : List ℕ = c.args.key.now in
+    let e : Entry = entry_of c.args.entry in
+    let m : MapState = record { pool = a.pool; index = a.index; marks = a.marks; moment = a.moment } in
+    let asks : AsksRewrite m key e c.args.place =
+    subst (λ (s : MapState). AsksRewrite s key e c.args.place) (sym c.self.view_is) (search rules) in
+    let r = rewritten m key e c.args.place (item_of c.item.result) c.overwrite.new.self asks
+    c.self.invariant c.item.ensures.item (search rules) c.overwrite.ensures.overwritten c.overwrite.ensures.pool in
+    subst (λ (s : MapState). KeepsEntry (λ (n : MapState). n.pool.sizes)
+    (λ (n : MapState). shown_entries n.pool n.index n.moment) (λ (n : MapState). n.moment) KeepsStored s key e
+    (record m { pool = c.overwrite.new.self })) c.self.view_is r.keeps

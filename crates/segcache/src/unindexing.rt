@@ -1,0 +1,88 @@
+//! Takes items out of the index, with their marks: one, those of a segment, those whose deadline has come, and all.
+
+ghost use Rattle.std.specs.Prelude.{◌≡◌, ◌<◌, Some};
+ghost use Rattle.std.specs.FinMap as map;
+ghost use Rattle.segcache.specs.Kept.{IsTied};
+ghost use Rattle.segcache.specs.Shown.{current};
+ghost use Rattle.segcache.specs.State.{IsSegmentedMap};
+ghost use Rattle.segcache.specs.Writes.{HasSamePool};
+ghost use Rattle.segcache.specs.Leaving.{HasLeft, HaveExpiredLeft};
+
+use crate::segment_map::SegmentMap;
+use engine::has_arrived;
+use index::Index;
+use segments::{LiveMarks, Place, Pool};
+
+/// Takes the current item of a key, which stands at the place, out. The key may be borrowed from the pool.
+fn unindex(pool: &Pool, index: &mut Index, marks: &mut LiveMarks, key: &[u8], place: Place)
+    requires tied { IsTied pool.now index.old marks.old }
+    requires there { map.get (current pool.now index.old) key.now ≡ Some place }
+    ensures tied { IsTied pool.now index.new marks.new }
+    ensures left { current pool.now index.new ≡ map.remove (current pool.now index.old) key.now }
+{
+    index.remove(pool, key, place);
+    marks.unmark(place);
+}
+
+impl SegmentMap {
+    /// Takes the item of a key out, if there is one.
+    pub fn remove_key(&mut self, key: &[u8])
+        ensures left { current self.new.pool self.new.index
+            ≡ map.remove (current self.old.pool self.old.index) key.now }
+        ensures same { HasSamePool self.old self.new }
+        ensures moment { self.new.moment ≡ self.old.moment }
+    {
+        if let Some(place) = self.index.look_up(&self.pool, key) {
+            unindex(&self.pool, &mut self.index, &mut self.marks, key, place);
+        }
+    }
+
+    /// Takes the current items of a segment out.
+    pub fn unindex_segment(&mut self, segment: u32)
+        requires in_range { segment < self.old.pool.sizes.segments }
+        ensures left { HasLeft segment (current self.old.pool self.old.index) (current self.new.pool self.new.index) }
+        ensures same { HasSamePool self.old self.new }
+        ensures moment { self.new.moment ≡ self.old.moment }
+    {
+        let mut walk = self.pool.walk(segment);
+        while let Some((place, item)) = walk.next() {
+            if self.marks.is_marked(place) {
+                unindex(
+                    &self.pool,
+                    &mut self.index,
+                    &mut self.marks,
+                    item.key,
+                    place,
+                );
+            }
+        }
+    }
+
+    /// Takes the current items out whose deadline has come.
+    pub fn unindex_expired(&mut self)
+        ensures left { HaveExpiredLeft self.old.pool self.old.moment (current self.old.pool self.old.index)
+            (current self.new.pool self.new.index) }
+        // for callers that read no field
+        ensures kept { IsSegmentedMap self.old }
+        ensures same { HasSamePool self.old self.new }
+        ensures moment { self.new.moment ≡ self.old.moment }
+    {
+        for segment in 0..self.pool.geometry().segments() {
+            if has_arrived(self.pool.deadline(segment), self.moment) {
+                self.unindex_segment(segment);
+            }
+        }
+    }
+
+    /// Takes all current items out.
+    pub fn remove_all(&mut self)
+        ensures left { current self.new.pool self.new.index ≡ map.empty }
+        ensures same { HasSamePool self.old self.new }
+        ensures moment { self.new.moment ≡ self.old.moment }
+    {
+        self.index.clear();
+        for segment in 0..self.pool.geometry().segments() {
+            self.marks.clear_segment(segment);
+        }
+    }
+}

@@ -1,0 +1,36 @@
+use Rattle.std.proofs.Common.{◌∙◌, ℕ, List, Bool, false, get_or, sym, ap}
+use Rattle.std.proofs.Math.ListN.{set}
+use Rattle.segments.specs.MarkBits.{bit_of}
+use Rattle.segments.proofs.MarkBitLemmas.{in_row, bit_there, set_there, bits_written, marks_unmarked}
+use Rattle.segments.proofs.segment_marks.SegmentMarks.unmark.Goals as goal
+
+pub overflow_sub-self : goal.overflow_sub-self
+overflow_sub-self c =
+    let lt = in_row c.self.inside.len c.self.inside.words.items c.args.self.now c.args.n c.self.view_is c.requires in
+    (marks_unmarked c.self.inside.words.items c.clear_bit.new.words.items c.self.inside.len c.self.inside.count c.args.n
+    c.self.invariant lt
+    (ap (λ (ws : List ℕ). bit_of ws c.args.n) (sym c.as_slice.ensures.value) ∙ sym c.has_bit.ensures ∙ c.if-not-has_bit.false)
+    c.clear_bit.ensures.cleared c.clear_bit.ensures.len).0
+
+pub invariant_of-self : goal.invariant_of-self
+invariant_of-self c =
+    let lt = in_row c.self.inside.len c.self.inside.words.items c.args.self.now c.args.n c.self.view_is c.requires in
+    (marks_unmarked c.self.inside.words.items c.clear_bit.new.words.items c.self.inside.len c.self.inside.count c.args.n
+    c.self.invariant lt
+    (ap (λ (ws : List ℕ). bit_of ws c.args.n) (sym c.as_slice.ensures.value) ∙ sym c.has_bit.ensures ∙ c.if-not-has_bit.false)
+    c.clear_bit.ensures.cleared c.clear_bit.ensures.len).1
+
+pub returns : goal.returns
+returns c =
+    let lt = in_row c.self.inside.len c.self.inside.words.items c.args.self.now c.args.n c.self.view_is c.requires in
+    bits_written c.self.inside.len c.self.inside.words.items c.clear_bit.new.words.items c.args.n false
+    c.clear_bit.ensures.cleared lt
+    ∙ ap (λ (bs : List Bool). set bs c.args.n false) c.self.view_is
+
+pub returns-then-not-has_bit : goal.returns-then-not-has_bit
+returns-then-not-has_bit c =
+    let lt = in_row c.self.inside.len c.self.inside.words.items c.args.self.now c.args.n c.self.view_is c.requires in
+    set_there c.args.self.now c.args.n false
+    (ap (λ (bs : List Bool). get_or bs c.args.n false) (sym c.self.view_is)
+    ∙ bit_there c.self.inside.len c.self.inside.words.items c.args.n lt
+    ∙ ap (λ (ws : List ℕ). bit_of ws c.args.n) (sym c.as_slice.ensures.value) ∙ sym c.has_bit.ensures ∙ c.if-not-has_bit.true)

@@ -1,0 +1,127 @@
+//! The marks of one segment.
+
+ghost use Rattle.std.specs.Prelude.{◌≡◌, ◌==◌, ℕ, ◌*◌, ◌<◌, ◌≤◌, false, true, length, replicate, slice_index_or, slice_set};
+ghost use Rattle.std.specs.Prelude.{IfOk, if◌then◌else◌};
+ghost use Rattle.segments.specs.Marks.{marked};
+ghost use Rattle.segments.specs.MarkBits.{bit_of, bits_of};
+
+use proto::NoMemory;
+use std::alloc::Global;
+use std::marker::Model;
+
+/// Marks as bits in words, and how many of them are set.
+#[derive(Drop)]
+pub struct SegmentMarks {
+    words: Vec<u64>,
+    len: u32,
+    count: u32,
+}
+
+impl Model for SegmentMarks {
+    ghost use Rattle.std.specs.Prelude.{Bool, List};
+    ghost use Rattle.segments.specs.MarkBits.{bits_of, AreMarkBits};
+
+    ghost Value = { List Bool };
+
+    ghost view = { λ a. bits_of a.len a.words.items };
+
+    ghost invariant = { λ a. AreMarkBits a.words.items a.len a.count };
+}
+
+/// Words for `count` bits, none set. NoMemory if memory is refused.
+fn no_bits(alloc: Global, count: u32) -> Result<Vec<u64>, NoMemory>
+    ensures none { IfOk result (λ v. bits_of count v.items ≡ replicate count false) }
+    ensures enough { IfOk result (λ v. count ≤ 64 * length v.items) }
+{
+    Ok(vec![in alloc; 0; count.div_ceil(64) as usize]?)
+}
+
+/// Whether the bit is set; false beyond the last one.
+fn has_bit(words: &[u64], n: u32) -> bool
+    ensures { result ≡ bit_of words.now n }
+{
+    match words.get((n / 64) as usize) {
+        Some(word) => (*word >> (n % 64)) & 1 == 1,
+        None => false,
+    }
+}
+
+/// Sets a bit.
+fn set_bit(words: &mut Vec<u64>, n: u32)
+    requires { n < 64 * length words.old.items }
+    ensures set { (k : ℕ) → bit_of words.new.items k ≡ (if k == n then true else bit_of words.old.items k) }
+    ensures len { length words.new.items ≡ length words.old.items }
+{
+    words[(n / 64) as usize] |= 1 << (n % 64);
+}
+
+/// Takes a bit away.
+fn clear_bit(words: &mut Vec<u64>, n: u32)
+    requires { n < 64 * length words.old.items }
+    ensures cleared { (k : ℕ) → bit_of words.new.items k ≡ (if k == n then false else bit_of words.old.items k) }
+    ensures len { length words.new.items ≡ length words.old.items }
+{
+    words[(n / 64) as usize] &= !(1 << (n % 64));
+}
+
+impl SegmentMarks {
+    /// `count` marks, none set. NoMemory if memory is refused.
+    pub fn new(alloc: Global, count: u32) -> Result<SegmentMarks, NoMemory>
+        requires { count ≤ 32768 }
+        ensures { IfOk result (λ r. r ≡ replicate count false) }
+    {
+        Ok(SegmentMarks {
+            words: no_bits(alloc, count)?,
+            len: count,
+            count: 0,
+        })
+    }
+
+    /// Whether the mark is set; false beyond the last one.
+    pub fn is_marked(&self, n: u32) -> bool
+        ensures { result ≡ slice_index_or self.now n false }
+    {
+        n < self.len && has_bit(self.words.as_slice(), n)
+    }
+
+    /// How many marks are set.
+    pub fn count(&self) -> u32
+        ensures { result ≡ marked self.now }
+    {
+        self.count
+    }
+
+    /// Sets a mark.
+    pub fn mark(&mut self, n: u32)
+        requires { n < length self.old }
+        ensures { self.new ≡ slice_set self.old n true }
+    {
+        if has_bit(self.words.as_slice(), n) {
+            return;
+        }
+        set_bit(&mut self.words, n);
+        self.count += 1;
+    }
+
+    /// Takes a mark away.
+    pub fn unmark(&mut self, n: u32)
+        requires { n < length self.old }
+        ensures { self.new ≡ slice_set self.old n false }
+    {
+        if !has_bit(self.words.as_slice(), n) {
+            return;
+        }
+        clear_bit(&mut self.words, n);
+        self.count -= 1;
+    }
+
+    /// Takes all marks away. If none is set, nothing is written.
+    pub fn clear(&mut self)
+        ensures { self.new ≡ replicate (length self.old) false }
+    {
+        if self.count > 0 {
+            self.count = 0;
+            self.words.fill(0);
+        }
+    }
+}

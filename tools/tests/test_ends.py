@@ -1,0 +1,177 @@
+"""How sessions of a served program end: half-closed clients, quitting ones, pieces of exactly a read's size, and what they leave."""
+import contextlib
+import os
+import signal
+import socket
+import subprocess
+import sys
+import threading
+import time
+
+import pytest
+import served
+from asking import ask, hit
+from served import read_exactly, read_to_end
+
+# The most bytes of a session that a worker reads at a time.
+PIECE = 16_384
+
+
+def read_till_closed(stream):
+    """All that came until the stream was closed, by a reset too."""
+    got = b""
+    with contextlib.suppress(ConnectionResetError):
+        while piece := stream.recv(1 << 16):
+            got += piece
+    return got
+
+
+# ---- pieces of exactly a read's size
+
+def requests_of(count):
+    """Whole requests of this number of bytes, and what they are answered."""
+    short, long = divmod(count, 7)[0] - 1, 7 + count % 7
+    requests = b"get a\r\n" * short + b"get %b\r\n" % (b"b" * (long - 6))
+    assert len(requests) == count
+    return requests, b"END\r\n" * (short + 1)
+
+
+@pytest.mark.parametrize("pieces", [1, 2])
+def test_a_pipeline_of_exactly_what_is_read_at_a_time_is_answered_and_goes_on(serve, pieces):
+    requests, answers = requests_of(pieces * PIECE)
+    server = serve("--workers", "1")
+    for _ in range(20):
+        with server.connect() as stream:
+            ask(stream, requests, answers)
+            ask(stream, b"get a\r\n", b"END\r\n")
+
+
+# ---- clients that send no more
+
+def half_closed(server, number, storing):
+    """A client that has sent 2,000 requests and then no more, half of them before the process stood still: its stream, and its answers."""
+    stream = server.connect(30)
+    ask(stream, b"get a\r\n", b"END\r\n")
+    if storing:
+        requests = [b"set s%d-%d 0 0 1\r\nx\r\n" % (number, key) for key in range(2000)]
+        answers = b"STORED\r\n" * 2000
+    else:
+        requests, answers = [b"get g%d-%d\r\n" % (number, key) for key in range(2000)], b"END\r\n" * 2000
+    return stream, requests, answers
+
+
+def test_a_client_that_sends_no_more_gets_all_answers_of_a_process_that_stood_still(serve):
+    """Some of them closed their sending half before the process stopped, and some while it stood still."""
+    server = serve("--workers", "2")
+    clients = [half_closed(server, number, storing=number % 2 == 0) for number in range(8)]
+    for number, (stream, requests, _) in enumerate(clients):
+        stream.sendall(b"".join(requests if number < 4 else requests[:1000]))
+        if number < 4:
+            stream.shutdown(socket.SHUT_WR)
+    server.process.send_signal(signal.SIGSTOP)
+    for stream, requests, _ in clients[4:]:
+        stream.sendall(b"".join(requests[1000:]))
+        stream.shutdown(socket.SHUT_WR)
+    time.sleep(2.2)
+    server.process.send_signal(signal.SIGCONT)
+    for stream, _, answers in clients:
+        is_right = read_to_end(stream) == answers
+        assert is_right
+        stream.close()
+    with server.connect() as stream:
+        for number in range(0, 8, 2):
+            for at in range(0, 2000, 100):
+                keys = [b"s%d-%d" % (number, key) for key in range(at, at + 100)]
+                wanted = b"".join(hit(key, b"x").removesuffix(b"END\r\n") for key in keys) + b"END\r\n"
+                ask(stream, b"get %b\r\n" % b" ".join(keys), wanted)
+
+
+@pytest.mark.parametrize("requests, answers", [
+    (b"get a\r\n", b"END\r\n"), (b"set a 0 0 1 noreply\r\nx\r\n", b""), (b"", b""), (b"get a\r\nget", b"END\r\n"),
+], ids=["one request", "one that isn't answered", "none", "one and a half"])
+def test_a_client_that_sends_no_more_is_closed_with_its_last_answer(serve, say, requests, answers):
+    took, server = [], serve("--workers", "1")
+    for _ in range(11):
+        with server.connect() as stream:
+            stream.sendall(requests)
+            stream.shutdown(socket.SHUT_WR)
+            began = time.monotonic()
+            assert read_to_end(stream) == answers
+            took.append(time.monotonic() - began)
+    say(f"{sorted(took)[5] * 1e3:.1f} ms at the median")
+    # (a timer of 20 milliseconds would be in all of them)
+    assert min(took) < 0.015
+
+
+def test_a_late_reader_that_sends_no_more_gets_all_answers(serve):
+    """24 MB of answers, of which the server may keep a part alone while nobody reads."""
+    value = b"v" * 60_000
+    with serve("--workers", "1", "--segment-size", "1048576").connect(30, receive_buffer=65536) as stream:
+        ask(stream, b"set big 0 0 60000\r\n" + value + b"\r\n", b"STORED\r\n")
+        stream.sendall(b"get big\r\n" * 400)
+        stream.shutdown(socket.SHUT_WR)
+        time.sleep(1)
+        is_right = read_to_end(stream) == hit(b"big", value) * 400
+        assert is_right
+
+
+# ---- clients that quit
+
+def test_each_of_eighty_that_quit_and_stay_gets_its_answer_and_nothing_more(serve):
+    """A worker drops what still comes from 64 of them at a time; the others are closed at once."""
+    server = serve("--workers", "1")
+    streams = [server.connect() for _ in range(80)]
+    for stream in streams:
+        stream.sendall(b"get a\r\nquit\r\n")
+    for stream in streams:
+        assert read_exactly(stream, 5) == b"END\r\n"
+    for stream in streams:
+        # (one that was closed already may be told so)
+        with contextlib.suppress(OSError):
+            stream.sendall(b"get a\r\nbogus\r\n")
+    for stream in streams:
+        assert read_till_closed(stream) == b""
+        stream.close()
+
+
+# ---- what they leave
+
+# Opens and ends sessions in each way, from several addresses, since the ports of one are used up: those of 127.0.0.2 and so on are this
+# machine's as well.
+COMERS = """
+import socket, struct, sys
+port, count, at_once = int(sys.argv[1]), int(sys.argv[2]), 40
+for number in range(0, count, at_once):
+    streams = []
+    for _ in range(at_once):
+        stream = socket.socket()
+        stream.bind((f"127.0.0.{2 + number // at_once % 40}", 0))
+        stream.connect(("127.0.0.1", port))
+        streams.append(stream)
+    for at, stream in enumerate(streams):
+        stream.sendall((b"get a\\r\\n", b"get a\\r\\n", b"get a\\r\\nquit\\r\\n", b"get a\\r\\nget")[at % 4])
+    for at, stream in enumerate(streams):
+        assert stream.recv(5) == b"END\\r\\n"
+        if at % 2:
+            stream.setsockopt(socket.SOL_SOCKET, socket.SO_LINGER, struct.pack("ii", 1, 0))
+        stream.close()
+"""
+
+
+def come_and_go(server, count):
+    return subprocess.Popen([sys.executable, "-c", COMERS, str(server.port), str(count)])
+
+
+def test_sessions_that_came_and_went_leave_no_memory(serve, say):
+    """150,000 of them: with 16 bytes a session it would be 2.4 MB, and with 32 until a limit on silence has passed 4.8 MB."""
+    servers = [serve("--workers", "1"), serve("--workers", "1", "--idle", "86400")]
+    resident = []
+    # (the first ones take what is kept for later ones)
+    for count in (20_000, 150_000):
+        comers = [come_and_go(server, count) for server in servers]
+        assert [it.wait(300) for it in comers] == [0, 0]
+        time.sleep(0.2)
+        resident.append([server.kilobytes("VmRSS") for server in servers])
+    grown = [after - before for before, after in zip(*resident)]
+    say(f"memory grew by {grown[0]} kB, and by {grown[1]} kB with a limit on silence")
+    assert max(grown) <= 512

@@ -1,0 +1,103 @@
+"""`serve --idle 1`: which connections are closed, and which aren't. (All waits are in one test, which takes five seconds.)"""
+import threading
+import time
+
+from asking import ask, hit
+from served import read_exactly
+
+VALUE = b"v" * 8000
+
+
+class Watched:
+    """Runs a client in a thread of its own, and keeps what was wrong with it."""
+
+    def __init__(self, client, *given):
+        self.trouble = None
+        self.thread = threading.Thread(target=self.run, args=(client, *given))
+        self.thread.start()
+
+    def run(self, client, *given):
+        try:
+            client(*given)
+        except Exception as trouble:  # (it is the test's)
+            self.trouble = trouble
+
+    def join(self):
+        self.thread.join()
+        if self.trouble:
+            raise self.trouble
+
+
+def speaks_every(server, seconds, until):
+    """A client that is silent for less than the limit each time isn't closed."""
+    with server.connect() as stream:
+        while time.monotonic() < until:
+            ask(stream, b"get none\r\n", b"END\r\n")
+            time.sleep(seconds)
+
+
+def sends_a_byte_every(server, seconds, until):
+    """Each byte counts, also of a request that isn't whole for long."""
+    with server.connect() as stream:
+        while time.monotonic() < until:
+            for byte in b"get none\r\n":
+                stream.sendall(bytes([byte]))
+                time.sleep(seconds)
+            assert read_exactly(stream, 5) == b"END\r\n"
+
+
+def reads_slowly(server, seconds, until):
+    """A client that is owed answers and takes some of them again and again isn't closed, though it sends nothing."""
+    with server.connect(receive_buffer=65536) as stream:
+        answer, times = hit(b"big", VALUE), 4000
+        stream.sendall(b"get big\r\n" * times)
+        at_a_time = int(times * seconds / (until - time.monotonic())) + 1
+        left = times
+        while left:
+            count = min(left, at_a_time)
+            is_right = read_exactly(stream, count * len(answer)) == count * answer
+            assert is_right
+            left -= count
+            time.sleep(seconds)
+
+
+def is_silent(server):
+    """A client that sends nothing is closed, and so is one that got all its answers and then sends nothing."""
+    with server.connect() as silent, server.connect() as served:
+        ask(served, b"get none\r\n", b"END\r\n")
+        for stream in (silent, served):
+            began = time.monotonic()
+            stream.settimeout(10)
+            assert stream.recv(1) == b""
+            assert time.monotonic() - began < 10
+
+
+def is_closed(server, stream):
+    """Whether the server has closed its end of a connection, of which the client may still have to read much: as the system lists it."""
+    ends = f":{server.port:04X}", f":{stream.getsockname()[1]:04X}"
+    with open("/proc/net/tcp", encoding="ascii") as file:
+        listed = [line.split() for line in file]
+    return not any((it[1][-5:], it[2][-5:], it[3]) == (*ends, "01") for it in listed)
+
+
+def reads_nothing(server):
+    """A client that is owed answers and takes none of them for longer than the limit is closed."""
+    with server.connect(receive_buffer=4096) as stream:
+        began = time.monotonic()
+        stream.sendall(b"get big\r\n" * 4000)
+        while not is_closed(server, stream):
+            assert time.monotonic() - began < 10
+            time.sleep(0.05)
+        assert time.monotonic() - began > 1
+
+
+def test_who_is_silent_or_reads_nothing_is_closed_and_no_one_else(serve):
+    server = serve("--workers", "1", "--idle", "1")
+    with server.connect() as stream:
+        ask(stream, b"set big 0 0 8000\r\n" + VALUE + b"\r\n", b"STORED\r\n")
+    until = time.monotonic() + 4.2
+    clients = [Watched(speaks_every, server, seconds, until) for seconds in (0.2, 0.35, 0.45, 0.55, 0.65, 0.75, 0.9)]
+    clients += [Watched(sends_a_byte_every, server, 0.4, until), Watched(reads_slowly, server, 0.3, until)]
+    clients += [Watched(is_silent, server), Watched(reads_nothing, server)]
+    for client in clients:
+        client.join()

@@ -1,0 +1,78 @@
+"""Items of a served program expire by seconds of its clock. (All waits are in three tests, of twelve seconds, five and four.)"""
+import threading
+import time
+
+from asking import ask, hit
+
+
+def test_items_are_hits_until_they_expire_and_then_misses(serve):
+    # The server counts whole seconds from its start, so it starts early in a second of Unix time. (An item
+    # of up to 7 seconds may expire after one: it is written early in a second of the server, too.)
+    time.sleep(1.05 - time.time() % 1)
+    with serve("--workers", "1").connect() as stream:
+        time.sleep(1.3 - time.time() % 1)
+        began = time.time()
+        second = int(began)
+        # By key: the exptime, and when it is still a hit. A TTL is rounded down, here to 8 or 56 seconds.
+        entries = {
+            b"of-3-unix": (second + 3, 0), b"of-10": (10, 4), b"of-10-unix": (second + 10, 4),
+            b"of-60": (60, 11), b"of-60-unix": (second + 60, 11), b"lasting": (0, 11),
+            b"over": (-1, -1), b"over-unix": (second - 1, -1),
+        }
+        for key, (exptime, until) in entries.items():
+            answer = hit(key, b"x") if until >= 0 else b"END\r\n"
+            ask(stream, b"set %b 0 %d 1\r\nx\r\nget %b\r\n" % (key, exptime, key), b"STORED\r\n" + answer)
+        for after in (4, 11):
+            time.sleep(max(0, began + after - time.time()))
+            for key, (_, until) in entries.items():
+                ask(stream, b"get %b\r\n" % key, hit(key, b"x") if until >= after else b"END\r\n")
+
+
+def look_for_late_ones(server, rate, late):
+    """A client with this rate of requests a second, sets and gets in turn, and in the middle two of one kind: notes its rate for each item that
+    it sees after it expired. An item of up to 7 seconds expires within one."""
+    sets, ticks = [], 5 * rate
+    with server.connect() as stream:
+        for tick in range(ticks):
+            key = b"tick-%d" % tick
+            if (tick + (tick >= ticks // 2)) % 2 == 0:
+                ask(stream, b"set %b 0 7 1\r\nx\r\n" % key, b"STORED\r\n")
+                sets.append((time.monotonic(), key))
+            else:
+                over = [key for at, key in sets if time.monotonic() - at >= 1]
+                if over:
+                    stream.sendall(b"get %b\r\n" % over[-1])
+                    if stream.recv(100) != b"END\r\n":
+                        late.append(rate)
+                else:
+                    ask(stream, b"get none\r\n", b"END\r\n")
+            time.sleep(1.03 / rate)
+
+
+def test_an_item_expires_however_few_requests_come(serve):
+    """A clock that is read at each eighth request alone shows it for eight seconds more at one request a second, and for one at seven."""
+    late, servers = [], {rate: serve("--workers", "1") for rate in range(1, 8)}
+    threads = [threading.Thread(target=look_for_late_ones, args=(server, rate, late)) for rate, server in servers.items()]
+    for thread in threads:
+        thread.start()
+    for thread in threads:
+        thread.join()
+    assert late == []
+
+
+def test_a_counter_keeps_its_ttl_if_it_is_counted_in_place(serve):
+    """Written anew at each count, a counter of 16 seconds is one of 8 after the first, and of one second after the next."""
+    servers = {is_in_place: serve("--workers", "1", *["--counters-in-place"] * is_in_place) for is_in_place in (False, True)}
+    with servers[False].connect() as anew, servers[True].connect() as in_place:
+        for stream in (anew, in_place):
+            ask(stream, b"set n 0 16 1\r\n1\r\n", b"STORED\r\n")
+        counts = {anew: 1, in_place: 1}
+        for _ in range(9):
+            time.sleep(0.4)
+            counts[in_place] += 1
+            ask(in_place, b"incr n 1\r\n", b"%d\r\n" % counts[in_place])
+            anew.sendall(b"incr n 1\r\n")
+            assert anew.recv(100) in (b"%d\r\n" % (counts[anew] + 1), b"NOT_FOUND\r\n")
+            counts[anew] += 1
+        ask(anew, b"get n\r\n", b"END\r\n")
+        ask(in_place, b"get n\r\n", hit(b"n", b"10"))

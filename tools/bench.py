@@ -12,7 +12,7 @@ briefly, with 2 workers. --only takes loads whose names have a WORD, and no miss
 misses, --misses these alone, --segments those of segcached by the size of its segments, which is in no other run. --program names
 another build to measure, --against one of segcached that takes memcached's place: a change for speed is judged by that, and ratios
 above 1 say that the program does more, or takes longer, than the one it is against. Loads with an option that the other build hasn't
-got are left out. --tunables gives the program that is measured another GLIBC_TUNABLES than the units do.
+got are left out. --tunables gives the program that is measured another GLIBC_TUNABLES than huge pages alone.
 """
 import argparse
 import datetime

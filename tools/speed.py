@@ -48,6 +48,7 @@ SPIN = ("--spin", 100)
 # Those that write come last of their values, since what they write makes segcached merge segments.
 LOADS = (
     Load("pipeline 1"),
+    Load("pipeline 1, --spin 100", options=SPIN),
     Load("pipeline 16", ("--pipeline", 16)),
     Load("pipeline 64", ("--pipeline", 64)),
     Load("one connection", ("--connections", 1)),
@@ -58,6 +59,7 @@ LOADS = (
     Load("keys by Zipf's law, pipeline 16", ("--pipeline", 16, "--zipf", 0.99)),
     Load("first answer after a pause of 10 ms", ("--connections", 1, "--rate", 100)),
     Load("1,000 a second", ("--rate", 1000)),
+    Load("1,000 a second, --spin 2000", ("--rate", 1000), options=("--spin", 2000)),
     Load("20,000 a second", ("--rate", 20000)),
     Load("20,000 a second, --spin 100", ("--rate", 20000), options=SPIN),
     Load("80,000 a second", ("--rate", 80000)),

@@ -64,7 +64,7 @@ FAULTS = {b"fault: out of memory", b"fault: cannot start a thread"}
 @pytest.mark.parametrize("words", [
     ["--help"], ["nonsense"], ["replay", f"{TOP}/crates/none"], ["replay", SCRIPT], None,
 ], ids=["help", "bad words", "a missing script", "a script", "two workers"])
-def test_segcached_ends_as_without_a_refusal_or_names_want_of_memory(program, refuse, two_workers, say, words):
+def test_segcached_ends_as_without_a_refusal_or_says_out_of_memory(program, refuse, two_workers, say, words):
     words = words or two_workers
     wanted = subprocess.run([program, *words], capture_output=True, timeout=60)
     wanted_lines = beginnings(wanted.stdout)

@@ -36,7 +36,7 @@ pub(crate) const SEGMENT_SIZE: NumberOption = NumberOption {
 pub(crate) const SEGMENTS: NumberOption = NumberOption {
     name: "segments",
     value_name: "COUNT",
-    help: "Number of segments, 8 to 65536. If no request sets a TTL, nothing is evicted while the items take at most 7/8 of all segments but one",
+    help: "Number of segments, 8 to 65536. If no request sets a TTL, nothing is evicted while all that was written since the start, overwrites included, takes at most 7/8 of all segments but one",
     least: MIN_SEGMENTS as u64,
     most: MAX_SEGMENTS as u64,
     default: &["64"],

@@ -1,6 +1,6 @@
 //! The program's version.
 
-/// What `segcached --version` shows behind the program's name: its version, which stands here alone; the kit that it is
+/// What `segcached --version` shows after the program's name: its version, which stands here alone; the kit that it is
 /// proved with, by the line of `rt version`; and where the package says the rest.
 pub(crate) const VERSION: &str = "0.1.0
 proved with rattle-kit-13f logic dac8208d650f15bf

@@ -1,4 +1,4 @@
--- What an engine makes of a request is a step, and only want of memory is answered by `NoMemory`.
+-- What an engine makes of a request is a step, and `NoMemory` is answered only out of memory.
 use Rattle.std.proofs.Common.{◌≡◌, ◌≢◌, ℕ, Bool, true, false, List, [], Option, Some, None, refl, sym, subst, ◌∙◌, inl, inr}
 use Rattle.std.specs.Prelude.{◌⊎◌, ◌||◌, ◌&&◌, is_some}
 use Rattle.std.specs.FinMap as map
@@ -8,7 +8,7 @@ use Rattle.proto.specs.declared.message.Reply.TheVariants.{NoMemory}
 use Rattle.proto.specs.Sizes.{Sizes, item_limit}
 use Rattle.proto.specs.Cache.{Entry, Entries, Cache, found_at}
 use Rattle.proto.specs.Commands.{Outcome, act}
-use Rattle.proto.specs.Steps.{Step, MayEvict, IsDated, IsRefused, has_hits, without}
+use Rattle.proto.specs.Steps.{Step, MayEvict, IsDated, IsRefused, has_hits, without_keys}
 use Rattle.proto.proofs.CacheLemmas.{without-nil, remove-insert}
 use Rattle.proto.proofs.StepLemmas.{dated-insert}
 use Rattle.proto.proofs.DeadlineLemmas.{may_be_exact}
@@ -69,7 +69,7 @@ record IsReached (sizes : Sizes) (t : ℕ) (asked : Entries) (stored : Option (L
   is_dated : IsDated t asked stored dated
   forgotten : List (List ℕ)
   may_forget : (forgotten ≡ []) ⊎ ((key : List ℕ) × (stored ≡ Some key) × MayEvict sizes (map.remove dated key) forgotten)
-  entries : new ≡ without dated forgotten
+  entries : new ≡ without_keys dated forgotten
 
 -- what a write forgets is forgotten beside the entry that it leaves
 forgets_beside : (sizes : Sizes) (old : Entries) (key : List ℕ) (e : Entry) (forgotten : List (List ℕ))

@@ -71,7 +71,7 @@ pub hits_more : (old : List Hit) (hit : Hit) (rest all : List Hit) → old ++ (h
     → (old ++ hit ∷ []) ++ rest ≡ all
 hits_more old hit rest all is = append_assoc old (hit ∷ []) rest ∙ is
 
--- the room that is left behind it
+-- the room that is left after it
 pub room_less : (room : ℕ) (hit : Hit) (rest : List Hit) → room ≡ sum_by hit_room (hit ∷ rest)
     → room - hit_room hit ≡ sum_by hit_room rest
 room_less room hit rest is =

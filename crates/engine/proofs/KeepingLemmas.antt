@@ -21,7 +21,7 @@ use Rattle.engine.specs.Engines.{cache_in, Changes, IsStored, IsHandled}
 use Rattle.engine.proofs.Refusals.{answers_act}
 use Rattle.engine.proofs.NoDeadlines.{AddsNone, none_act}
 
--- want of memory stores no item, and any other reply the outcome's
+-- a request that is out of memory stores no item, and any other the outcome's
 pub answered_item : (reply : Reply) (items : List StoredItem) → (reply ≡ NoMemory → ⊥)
     → (if is_no_memory reply then [] else items) ≡ items
 answered_item Stored items other = refl

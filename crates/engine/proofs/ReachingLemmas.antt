@@ -22,7 +22,7 @@ chain_more sizes before [] (x ∷ caches) e after c s = absurd c
 chain_more sizes before (b ∷ h) [] e after c s = absurd c
 chain_more sizes before (b ∷ h) (x ∷ caches) e after c s = (c.0, chain_more sizes x h caches e after c.1 s)
 
--- the cache behind that step is the last one
+-- the cache after that step is the last one
 pub last_more : (before : Cache) (caches : List Cache) (after : Cache)
     → last_cache before (caches ++ after ∷ []) ≡ after
 last_more before [] after = refl

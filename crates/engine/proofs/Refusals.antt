@@ -1,4 +1,4 @@
--- No outcome is want of memory.
+-- No outcome is out of memory.
 use Rattle.std.proofs.Common.{◌≢◌, ℕ, ◌+◌, ◌-◌, ◌%◌, ◌^◌, Bool, true, false, List, Option, Some, None}
 use Rattle.std.specs.Prelude.{decimal, if◌then◌else◌, ◌==◌}
 use Rattle.std.specs.Str.Parse.{digits_value}
@@ -11,11 +11,11 @@ use Rattle.proto.specs.declared.message.Reply.TheVariants.{NoMemory, Stored, Num
 use Rattle.proto.specs.Cache.{Entry, Cache, has_arrived, deadline_of}
 use Rattle.proto.specs.Commands.{Outcome, write, put, is_too_large, put_same, is_number, change, act}
 
--- the outcome isn't answered with a want of memory
+-- the outcome isn't answered as out of memory
 abbrev pub Answers : Outcome → Type 0
 Answers done = done.reply ≢ NoMemory
 
--- of two outcomes that aren't a want of memory, either
+-- of two outcomes that aren't out of memory, either
 answers_if : (b : Bool) (x y : Outcome) → Answers x → Answers y → Answers (if b then x else y)
 answers_if true x y on off = on
 answers_if false x y on off = off
@@ -50,7 +50,7 @@ answers_change new (Some e) cache key =
     (λ cas. record { value = decimal n; flags = e.flags; deadline = e.deadline; cas = cas }) (Number n) (λ e. cc))
     (λ e. cc)
 
--- no outcome is a want of memory
+-- no outcome is out of memory
 pub answers_act : (limit : ℕ) (cache : Cache) (t : ℕ) (q : Request) → Answers (act limit cache t q)
 answers_act limit cache t (Get keys with_cas) = λ e. cc
 answers_act limit cache t (Set p) = answers_if (is_too_large limit p) _ _ (λ e. cc) (answers_put cache t p)

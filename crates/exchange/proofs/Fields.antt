@@ -9,7 +9,8 @@ use native.Mathlib.Decide.{ℕ_discrete}
 use Rattle.std.specs.Prelude.{IfSome}
 use Rattle.atomic_table.proofs.Lists.{at_map}
 use Rattle.proto.specs.History.{asked_posted, NumbersFrom}
-use Rattle.std.proofs.Common.{◌≡◌, ◌≢◌, ◌⊎◌, ℕ, zero, suc, ◌+◌, ◌<◌, ◌≤◌, List, [], ◌∷◌, ◌++◌, length, get_or, replicate, Option, Some, None, Bool, true, false}
+use Rattle.std.proofs.Common.{◌≡◌, ◌≢◌, ◌⊎◌, ℕ, zero, suc, ◌+◌, ◌<◌, ◌≤◌, List, [], ◌∷◌, ◌++◌, length}
+use Rattle.std.proofs.Common.{get_or, replicate, Option, Some, None, Bool, true, false}
 use Rattle.std.proofs.Common.{true≢false}
 use Rattle.std.proofs.Common.{refl, sym, ap, ◌∙◌, subst, ⊎_elim, arith, length-append}
 use Rattle.std.specs.Prelude.{is_some}
@@ -24,13 +25,15 @@ use Rattle.exchange.specs.Beginnings.{StartsWith, posted_of}
 use Rattle.proto.proofs.HistoryLemmas.{legal_none}
 use Rattle.proto.specs.History.{worker_share}
 use Rattle.exchange.specs.Lanes.{SeatState, first_worker_state}
-use Rattle.exchange.specs.Steps.{Learnt, holding_slot, took_seen, put_on, all_sent, with_bye, replied, all_told, settled}
+use Rattle.exchange.specs.Steps.{Learnt, holding_slot, took_seen, put_on, all_sent, with_bye, with_held_answered}
+use Rattle.exchange.specs.Steps.{all_told, settled_count}
 use Rattle.exchange.specs.declared.messages.LaneMessage.{LaneMessage}
 use Rattle.exchange.specs.declared.messages.LaneMessage.TheVariants.{Ask, Bye, Answer}
 use Rattle.std.specs.Prelude.{option_map}
 use Rattle.exchange.specs.Seats.{open_in, lane_request, worker_state_in, HasToldOf, WorkerAgrees, StateTakes, worker_view, storage_state_in, StorageAgrees}
 use Rattle.exchange.specs.Seats.{IsWaiting, IsNamed}
-use Rattle.exchange.specs.Ends.{WorkerView, WorkerBatchView, max_posts, flushed, IsToldDone, WasTold, TakesAnswer, new_worker_view, new_storage_view, AreNew}
+use Rattle.exchange.specs.Ends.{WorkerView, WorkerBatchView, max_posts, with_put_sent, IsToldDone, WasTold, TakesAnswer}
+use Rattle.exchange.specs.Ends.{new_worker_view, new_storage_view, AreNew}
 use Rattle.exchange.specs.Ends.{AreMade}
 use Rattle.exchange.specs.Ends.{StorageView}
 use Rattle.exchange.proofs.Known.{last_look_at}
@@ -278,7 +281,7 @@ new_agrees me g w is = subst (λ (z : SeatState). WorkerAgrees z w 0 0 0 0 false
 }
 
 -- nothing put, nothing sent
-pub none_flushed : (v : WorkerBatchView) → length v.put ≡ 0 → v ≡ flushed v
+pub none_flushed : (v : WorkerBatchView) → length v.put ≡ 0 → v ≡ with_put_sent v
 none_flushed v none_put = let e = none_of v.put none_put in
     let s : v.end.sent ≡ v.end.sent ++ v.put = sym (append-nil v.end.sent)
     ∙ ap (λ (l : List Posted). v.end.sent ++ l) (sym e) in
@@ -468,7 +471,7 @@ told_waits d lane workers inside = record { none_waits = λ _. refl; others = λ
 -- with one more answer to the lane
 pub waits_more : (d : StorageState) (a : Answered) (workers : ℕ) → a.worker < workers
     → ((j : ℕ) → j ≢ a.worker → worker_share d.history j ≡ worker_share d.told j)
-    → IsWaiting (replied d a) true a.worker workers
+    → IsWaiting (with_held_answered d a) true a.worker workers
 waits_more d a workers inside others = record {
   none_waits = λ y. absurd (true≢false y);
   others = λ j other. share_other d.history a j (λ e. other (sym e))
@@ -478,8 +481,8 @@ waits_more d a workers inside others = record {
 
 -- the look that named a message that isn't settled
 pub named_look : (d : StorageState) (lane named workers count : ℕ) → IsNamed d lane named workers
-    → count ≡ settled d lane → count < named
-    → (k p : ℕ) × (get_elem? d.looks k ≡ some (lane, p)) × (settled d lane < p)
+    → count ≡ settled_count d lane → count < named
+    → (k p : ℕ) × (get_elem? d.looks k ≡ some (lane, p)) × (settled_count d lane < p)
 named_look d lane named workers count is count_is more =
     ⊎_elim (λ (h : (d.looks ≡ []) × (named ≡ 0)). let z : named ≡ 0 = h.1 in absurd (omega arith))
     (λ (l : LastLook d.looks lane named). (

@@ -5,7 +5,7 @@ use lib.ListN.{get_elem?}
 use Rattle.proto.specs.declared.terms.Terms.{Terms}
 use Rattle.exchange.specs.Ends.{WorkerView, StorageView, AreMade, new_worker_view}
 
--- an element put behind a list stands at the place whose number is the list's length
+-- an element put after a list stands at the place whose number is the list's length
 last_at : {A : Type 0} (xs : List A) (x : A) → get_elem? (xs ++ x ∷ []) (length xs) ≡ some x
 last_at [] x = refl
 last_at (y ∷ xs) x = last_at xs x

@@ -19,7 +19,8 @@ use Rattle.exchange.specs.declared.views.LaneView.TheVariants.{Worker, Storage}
 use Rattle.exchange.specs.Beginnings.{posted_of}
 use Rattle.proto.specs.History.{LegalBy, worker_share}
 use Rattle.exchange.specs.Lanes.{SeatState, lane_slot, LanesHold}
-use Rattle.exchange.specs.Steps.{placed, request_put, posted, bye_posted, done_loaded, slot_returned, settled, answered, told_done, settle_bye}
+use Rattle.exchange.specs.Steps.{placed_count, request_put, tells_post, bye_posted, done_loaded, slot_returned}
+use Rattle.exchange.specs.Steps.{settled_count, tells_answer, told_done, settle_bye}
 use Rattle.exchange.proofs.WorkerSteps.{item_or, answer_or, puts_it, posts_it, posts_bye, loads_done, returns_it}
 use Rattle.exchange.proofs.StorageSteps.{answers_it, tells_it, settles_bye_it}
 
@@ -32,26 +33,27 @@ exchanged now was v q q' x y e was_is q_is = e ∙ (λ j. ((was_is j).0, (q_is j
 module _ (key : LaneKey) (n id : ℕ) (me : SeatState) where
   -- a request is put into its slot
   pub puts_as : (c : WorkerState) (p : Posted) (i : ℕ)
-      → me ≡ (Worker c, (lane_slot c.worker (placed c), Some (Ask p)) ∷ []) → p.number ≡ suc (placed c)
-      → c.slot_held ≡ suc (placed c) → c.said_bye ≡ false
+      → me ≡ (Worker c, (lane_slot c.worker (placed_count c), Some (Ask p)) ∷ []) → p.number ≡ suc (placed_count c)
+      → c.slot_held ≡ suc (placed_count c) → c.said_bye ≡ false
       → Allows (LanesHold key) n id me i (λ x. x) (request_put (step n i 0 0 none) me)
   puts_as c p i is next slot_held open_ =
       subst (λ (z : SeatState). Allows (LanesHold key) n id z i (λ x. x) (request_put (step n i 0 0 none) z)) (sym is)
       (puts_it key n id c p i next slot_held open_)
 
   -- the store of posted
-  pub posts_as : (c : WorkerState) (i new : ℕ) → me ≡ (Worker c, []) → i ≡ 16 * c.worker → new ≡ placed c
+  pub posts_as : (c : WorkerState) (i new : ℕ) → me ≡ (Worker c, []) → i ≡ 16 * c.worker → new ≡ placed_count c
       → c.slot_held ≡ 0 → c.said_bye ≡ false
-      → Allows (LanesHold key) n id me i (λ _. new) (λ _. posted (step n i new 0 none) me new)
+      → Allows (LanesHold key) n id me i (λ _. new) (λ _. tells_post (step n i new 0 none) me new)
   posts_as c i new is i_is new_is idle open_ =
       subst (λ (z : SeatState × ℕ × ℕ). Allows (LanesHold key) n id z.0 z.1 (λ _. z.2)
-      (λ _. posted (step n z.1 z.2 0 none) z.0 z.2)) (λ j. (sym is j, sym i_is j, sym new_is j))
+      (λ _. tells_post (step n z.1 z.2 0 none) z.0 z.2)) (λ j. (sym is j, sym i_is j, sym new_is j))
       (posts_it key n id c idle open_)
 
   -- the store of posted, with a bye
-  pub posts_bye_as : (c : WorkerState) (i new : ℕ) → me ≡ (Worker c, (lane_slot c.worker (placed c), Some Bye) ∷ [])
-      → i ≡ 16 * c.worker → new ≡ suc (placed c)
-      → c.put ≡ [] → c.slot_held ≡ suc (placed c) → c.said_bye ≡ false → length c.back ≡ length c.sent
+  pub posts_bye_as : (c : WorkerState) (i new : ℕ)
+      → me ≡ (Worker c, (lane_slot c.worker (placed_count c), Some Bye) ∷ [])
+      → i ≡ 16 * c.worker → new ≡ suc (placed_count c)
+      → c.put ≡ [] → c.slot_held ≡ suc (placed_count c) → c.said_bye ≡ false → length c.back ≡ length c.sent
       → Allows (LanesHold key) n id me i (λ _. new) (λ _. bye_posted (step n i new 0 none) me new)
   posts_bye_as c i new is i_is new_is none_put slot_held open_ all = subst (λ (z : SeatState × ℕ
       × ℕ). Allows (LanesHold key) n id z.0 z.1 (λ _. z.2) (λ _. bye_posted (step n z.1 z.2 0 none) z.0 z.2))
@@ -67,16 +69,16 @@ module _ (key : LaneKey) (n id : ℕ) (me : SeatState) where
 
   -- the store of done, with an answer
   pub answers_as : (d : StorageState) (w : ℕ) (p : Posted) (a : Answered) (i : ℕ)
-      → me ≡ (Storage d, (lane_slot w (settled d w), Some (Answer a)) ∷ [])
+      → me ≡ (Storage d, (lane_slot w (settled_count d w), Some (Answer a)) ∷ [])
       → d.holding ≡ Some (w, Ask p) → a.worker ≡ w → posted_of a ≡ p → w < key.workers
       → LegalBy d.terms (d.history ++ a ∷ [])
-      → Allows (LanesHold key) n id me i (λ x. x) (answered (step n i 0 0 none) me)
+      → Allows (LanesHold key) n id me i (λ x. x) (tells_answer (step n i 0 0 none) me)
   answers_as d w p a i is held mine for inside legal = subst (λ (z : SeatState). Allows (LanesHold key) n id z i
-      (λ x. x) (answered (step n i 0 0 none) z)) (sym is)
+      (λ x. x) (tells_answer (step n i 0 0 none) z)) (sym is)
       (answers_it key n id d w p a i held mine for inside legal)
 
   -- the answers to lane w are told of
-  pub tells_as : (d : StorageState) (w i new : ℕ) → me.0 ≡ Storage d → i ≡ 16 * w + 8 → new ≡ settled d w
+  pub tells_as : (d : StorageState) (w i new : ℕ) → me.0 ≡ Storage d → i ≡ 16 * w + 8 → new ≡ settled_count d w
       → w < key.workers
       → ((j : ℕ) → j ≢ w → worker_share d.history j ≡ worker_share d.told j)
       → Allows (LanesHold key) n id me i (λ _. new) (λ _. told_done (step n i new 0 none) me new)
@@ -85,9 +87,10 @@ module _ (key : LaneKey) (n id : ℕ) (me : SeatState) where
       (tells_it key n id me d w is inside others)
 
   -- the store of done, after a bye
-  pub settles_bye_as : (d : StorageState) (w : ℕ) (i new : ℕ) → me ≡ (Storage d, (lane_slot w (settled d w), None) ∷ [])
+  pub settles_bye_as : (d : StorageState) (w : ℕ) (i new : ℕ)
+      → me ≡ (Storage d, (lane_slot w (settled_count d w), None) ∷ [])
       → i ≡ 16 * w + 8
-      → new ≡ suc (settled d w) → d.holding ≡ Some (w, Bye) → w < key.workers
+      → new ≡ suc (settled_count d w) → d.holding ≡ Some (w, Bye) → w < key.workers
       → Allows (LanesHold key) n id me i (λ _. new) (λ _. settle_bye (step n i new 0 none) me new)
   settles_bye_as d w i new is i_is new_is held inside = subst
       (λ (z : SeatState × ℕ × ℕ). Allows (LanesHold key) n id z.0 z.1 (λ _. z.2)

@@ -17,7 +17,7 @@ use Rattle.exchange.specs.declared.views.WorkerState.{WorkerState}
 use Rattle.exchange.specs.Beginnings.{StartsWith, posted_of}
 use Rattle.proto.specs.History.{asked_posted}
 use Rattle.exchange.specs.Lanes.{bye_at_end, messages, count_of, At, LaneOk}
-use Rattle.exchange.specs.Steps.{holding_slot, placed, put_on, all_sent, with_bye, learnt_of, took_seen}
+use Rattle.exchange.specs.Steps.{holding_slot, placed_count, put_on, all_sent, with_bye, learnt_of, took_seen}
 use Rattle.exchange.proofs.Lists.{at_below, at_end, at_either, starts_at, starts_more, starts_longer, starts_below, starts_self, starts_trans, take_more}
 use Rattle.exchange.proofs.Lists.{take_front, take_whole}
 use Rattle.std.proofs.lemmas.List.{append-nil}
@@ -50,7 +50,7 @@ posted_or p (Answer a) = p
 pub ask_injective : (p q : Posted) → Ask p ≡ Ask q → p ≡ q
 ask_injective p q e = ap (posted_or p) e
 
--- a message is the request at its place, or the bye behind the last one
+-- a message is the request at its place, or the bye after the last one
 abbrev pub SentAt : List Posted → Bool → ℕ → LaneMessage → Type 0
 SentAt l b t m = ((p : Posted) × (m ≡ Ask p) × (get_elem? l t ≡ some p)) ⊎ ((m ≡ Bye) × (b ≡ true) × (t ≡ length l))
 
@@ -72,7 +72,7 @@ ask_at l b t p e = ⊎_elim (λ (h : (q : Posted) × (Ask p ≡ Ask q) × (get_e
     (λ (h : (Ask p ≡ Bye) × (b ≡ true) × (t ≡ length l)). let e : 0 ≡ 1 = ap kind h.0 in absurd (omega arith))
     (sent_at l b t (Ask p) e)
 
--- a bye stands behind all requests, and was said
+-- a bye stands after all requests, and was said
 pub bye_at : (l : List Posted) (b : Bool) (t : ℕ) → get_elem? (map Ask l ++ bye_at_end b) t ≡ some Bye
     → (b ≡ true) × (t ≡ length l)
 bye_at l b t e = ⊎_elim (λ (h : (q : Posted) × (Bye ≡ Ask q) × (get_elem? l t ≡ some q)). let e : 1 ≡ 0 = ap kind h.1 in
@@ -99,7 +99,7 @@ pub at_most_one : (b : Bool) → bye_count b ≤ 1
 at_most_one true = omega arith
 at_most_one false = omega arith
 
--- the requests that were put are messages behind the others, once they are sent
+-- the requests that were put are messages after the others, once they are sent
 pub all_more : (c : WorkerState) → c.said_bye ≡ false → messages (all_sent c) ≡ messages c ++ map Ask c.put
 all_more c e = subst (λ (b : Bool). map Ask (c.sent ++ c.put) ++ bye_at_end b
     ≡ (map Ask c.sent ++ bye_at_end b) ++ map Ask c.put) (sym e)
@@ -167,10 +167,11 @@ module _ (c : WorkerState) (mine told : List Answered) (byes : ℕ) (held : mayb
   told_below = starts_below mine told r.told_is
 
   -- the worker takes the slot of its next message
-  pub begins : (at' : At) → c.slot_held ≡ 0 → c.said_bye ≡ false → placed c < length c.back + WINDOW
-      → Else at at' (placed c)
-      → LaneOk (holding_slot c (suc (placed c))) mine told byes held posted done at'
-  begins at' idle open_ room same = let n : ℕ = placed c in let b : ℕ = length c.back in let q : ℕ = length c.put in
+  pub begins : (at' : At) → c.slot_held ≡ 0 → c.said_bye ≡ false → placed_count c < length c.back + WINDOW
+      → Else at at' (placed_count c)
+      → LaneOk (holding_slot c (suc (placed_count c))) mine told byes held posted done at'
+  begins at' idle open_ room same = let n : ℕ = placed_count c in let b : ℕ = length c.back in
+      let q : ℕ = length c.put in
       let n_is : n ≡ length c.sent + q = refl in
       let e : length (messages c) ≡ length c.sent = count c ∙ (omega (arith, ap bye_count open_)) in
       let low : b ≤ length mine = back_below in let high : length mine ≤ length c.sent = r.answered in
@@ -207,10 +208,11 @@ module _ (c : WorkerState) (mine told : List Answered) (byes : ℕ) (held : mayb
       }
 
   -- the worker gives the slot back, with a request in it
-  pub puts : (at' : At) (p : Posted) → p.number ≡ suc (placed c) → c.slot_held ≡ suc (placed c) → c.said_bye ≡ false
-      → at' (placed c) ≡ some (some (Some (Ask p))) → Else at at' (placed c)
+  pub puts : (at' : At) (p : Posted) → p.number ≡ suc (placed_count c) → c.slot_held ≡ suc (placed_count c)
+      → c.said_bye ≡ false
+      → at' (placed_count c) ≡ some (some (Some (Ask p))) → Else at at' (placed_count c)
       → LaneOk (put_on c p) mine told byes held posted done at'
-  puts at' p next mineis open_ here same = let n : ℕ = placed c in let b : ℕ = length c.back in
+  puts at' p next mineis open_ here same = let n : ℕ = placed_count c in let b : ℕ = length c.back in
       let q : ℕ = length c.put in
       let n_is : n ≡ length c.sent + q = refl in
       let e : length (messages c) ≡ length c.sent = count c ∙ (omega (arith, ap bye_count open_)) in
@@ -257,8 +259,8 @@ module _ (c : WorkerState) (mine told : List Answered) (byes : ℕ) (held : mayb
       }
 
   -- the store of posted
-  pub sends : c.slot_held ≡ 0 → c.said_bye ≡ false → LaneOk (all_sent c) mine told byes held (placed c) done at
-  sends idle open_ = let n : ℕ = placed c in let b : ℕ = length c.back in let q : ℕ = length c.put in
+  pub sends : c.slot_held ≡ 0 → c.said_bye ≡ false → LaneOk (all_sent c) mine told byes held (placed_count c) done at
+  sends idle open_ = let n : ℕ = placed_count c in let b : ℕ = length c.back in let q : ℕ = length c.put in
       let n_is : n ≡ length c.sent + q = refl in
       let e : length (messages c) ≡ length c.sent = count c ∙ (omega (arith, ap bye_count open_)) in
       let low : b ≤ length mine = back_below in let high : length mine ≤ length c.sent = r.answered in
@@ -302,11 +304,11 @@ module _ (c : WorkerState) (mine told : List Answered) (byes : ℕ) (held : mayb
       }
 
   -- the store of posted, with the Bye
-  pub posts_last : (at' : At) → c.put ≡ [] → c.slot_held ≡ suc (placed c) → c.said_bye ≡ false
+  pub posts_last : (at' : At) → c.put ≡ [] → c.slot_held ≡ suc (placed_count c) → c.said_bye ≡ false
       → length c.back ≡ length c.sent
-      → at' (placed c) ≡ some (some (Some Bye)) → Else at at' (placed c)
+      → at' (placed_count c) ≡ some (some (Some Bye)) → Else at at' (placed_count c)
       → LaneOk (with_bye c) mine told byes held (suc posted) done at'
-  posts_last at' none_put mineis open_ all here same = let n : ℕ = placed c in let b : ℕ = length c.back in
+  posts_last at' none_put mineis open_ all here same = let n : ℕ = placed_count c in let b : ℕ = length c.back in
       let q : ℕ = length c.put in
       let n_is : n ≡ length c.sent + q = refl in let empty_put : q ≡ 0 = ap length none_put in
       let sent_is : length c.sent ≡ n = omega arith in

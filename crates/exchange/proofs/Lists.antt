@@ -1,5 +1,6 @@
 -- Lists read by `get_elem?`, and beginnings.
-use Rattle.std.proofs.Common.{◌≡◌, ◌⊎◌, ℕ, zero, suc, ◌+◌, ◌<◌, ◌≤◌, List, [], ◌∷◌, ◌++◌, length, take, refl, sym, ap, ◌∙◌, subst, inl, inr, ⊎_elim, arith}
+use Rattle.std.proofs.Common.{◌≡◌, ◌⊎◌, ℕ, zero, suc, ◌+◌, ◌<◌, ◌≤◌, List, [], ◌∷◌, ◌++◌, length, take, refl}
+use Rattle.std.proofs.Common.{sym, ap, ◌∙◌, subst, inl, inr, ⊎_elim, arith}
 use Rattle.std.proofs.Common.{length-append, append_assoc}
 use mathlib.Core.Option.{some, some-injective, some-ne-none}
 use lib.ListN.{get_elem?}
@@ -37,7 +38,7 @@ module _ {A : Type 0} where
   at_some (x ∷ l) zero h = (x, refl)
   at_some (x ∷ l) (suc k) h = at_some l k (omega arith)
 
-  -- what stands behind a list at its length is the next element
+  -- what stands after a list at its length is the next element
   pub next_of : (l m : List A) (a : A) → get_elem? (l ++ m) (length l) ≡ some a → StartsWith (l ++ m) (l ++ a ∷ [])
   next_of [] [] a e = absurd (some-ne-none a (sym e))
   next_of [] (x ∷ m) a e = (m, λ i. some-injective x a e i ∷ m)
@@ -66,7 +67,7 @@ module _ {A : Type 0} where
   empty [] e = refl
   empty (x ∷ l) e = absurd (omega arith)
 
-  -- nothing behind a list changes nothing
+  -- nothing after a list changes nothing
   append_empty : (l : List A) → l ++ [] ≡ l
   append_empty [] = refl
   append_empty (x ∷ l) = λ i. x ∷ append_empty l i

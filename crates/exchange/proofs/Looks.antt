@@ -1,5 +1,6 @@
 -- The looks of one call of `next`.
-use Rattle.std.proofs.Common.{◌≡◌, ◌≢◌, ◌⊎◌, ℕ, zero, suc, ◌+◌, ◌-◌, ◌<◌, ◌≤◌, List, [], ◌∷◌, ◌++◌, map, Option, Some, None, Bool, cond, refl, sym, ap, ◌∙◌}
+use Rattle.std.proofs.Common.{◌≡◌, ◌≢◌, ◌⊎◌, ℕ, zero, suc, ◌+◌, ◌-◌, ◌<◌, ◌≤◌, List, [], ◌∷◌, ◌++◌}
+use Rattle.std.proofs.Common.{map, Option, Some, None, Bool, cond, refl, sym, ap, ◌∙◌}
 use Rattle.std.proofs.Common.{subst, inl}
 use Rattle.std.proofs.Common.{inr, ⊎_elim, arith, append_assoc, eq-eqb, ne_eqb}
 use Rattle.std.specs.Prelude.{◌==◌, MatchOption}
@@ -13,7 +14,8 @@ use Rattle.exchange.specs.declared.messages.Taken.{Taken}
 use Rattle.exchange.specs.declared.messages.Taken.TheVariants.{Asked, Bye}
 use Rattle.proto.specs.Counts.{times}
 use Rattle.exchange.specs.Beginnings.{StartsWith}
-use Rattle.exchange.specs.Ends.{StorageView, looked, lanes_of, lanes_in_turn, done_in, FoundNone, LookedOnce, IsNextMessage, with_taken, LooksAt, FindsNone}
+use Rattle.exchange.specs.Ends.{StorageView, looks_of_lane, lanes_of, lanes_in_turn, done_in, FoundNone, LookedOnce}
+use Rattle.exchange.specs.Ends.{IsNextMessage, with_taken, LooksAt, FindsNone}
 use Rattle.exchange.specs.Ends.{FindsOne}
 use Rattle.proto.proofs.CountLemmas.{one_more_time, no_more_time, times-append, range_more_from, range_more}
 
@@ -22,28 +24,28 @@ abbrev Pairs : Type 0
 Pairs = List (ℕ × ℕ)
 
 -- one look at this lane
-one_here : (w n : ℕ) → looked ((w, n) ∷ []) w ≡ n ∷ []
+one_here : (w n : ℕ) → looks_of_lane ((w, n) ∷ []) w ≡ n ∷ []
 one_here w n = ap (λ (b : Bool). let l : Pairs = cond b ((w, n) ∷ []) [] in map (λ (x : ℕ × ℕ). x.1) l)
     (eq-eqb w w refl)
 
 -- one look at another lane
-one_else : (w n v : ℕ) → w ≢ v → looked ((w, n) ∷ []) v ≡ []
+one_else : (w n v : ℕ) → w ≢ v → looks_of_lane ((w, n) ∷ []) v ≡ []
 one_else w n v e = ap (λ (b : Bool). let l : Pairs = cond b ((w, n) ∷ []) [] in map (λ (x : ℕ × ℕ). x.1) l)
     (ne_eqb w v e)
 
 -- the words read in both lists of looks
-pub looked-append : (xs ys : Pairs) (w : ℕ) → looked (xs ++ ys) w ≡ looked xs w ++ looked ys w
+pub looked-append : (xs ys : Pairs) (w : ℕ) → looks_of_lane (xs ++ ys) w ≡ looks_of_lane xs w ++ looks_of_lane ys w
 looked-append xs ys w = ap (map (λ (x : ℕ × ℕ). x.1)) (filter-append (λ (x : ℕ × ℕ). x.0 == w) xs ys)
     ∙ map-append (λ (x : ℕ × ℕ). x.1) (filter (λ (x : ℕ × ℕ). x.0 == w) xs) (filter (λ (x : ℕ × ℕ). x.0 == w) ys)
 
 -- one more look at this lane
-pub looked_here : (xs : Pairs) (w n : ℕ) → looked (xs ++ (w, n) ∷ []) w ≡ looked xs w ++ n ∷ []
-looked_here xs w n = looked-append xs ((w, n) ∷ []) w ∙ ap (λ (l : List ℕ). looked xs w ++ l) (one_here w n)
+pub looked_here : (xs : Pairs) (w n : ℕ) → looks_of_lane (xs ++ (w, n) ∷ []) w ≡ looks_of_lane xs w ++ n ∷ []
+looked_here xs w n = looked-append xs ((w, n) ∷ []) w ∙ ap (λ (l : List ℕ). looks_of_lane xs w ++ l) (one_here w n)
 
 -- one more look at another lane changes nothing here
-pub looked_else : (xs : Pairs) (w n v : ℕ) → w ≢ v → looked (xs ++ (w, n) ∷ []) v ≡ looked xs v
+pub looked_else : (xs : Pairs) (w n v : ℕ) → w ≢ v → looks_of_lane (xs ++ (w, n) ∷ []) v ≡ looks_of_lane xs v
 looked_else xs w n v e = looked-append xs ((w, n) ∷ []) v
-    ∙ (ap (λ (l : List ℕ). looked xs v ++ l) (one_else w n v e) ∙ append-nil (looked xs v))
+    ∙ (ap (λ (l : List ℕ). looks_of_lane xs v ++ l) (one_else w n v e) ∙ append-nil (looks_of_lane xs v))
 
 -- Looks, at these lanes, which found no message that isn't done
 pub record InVain (old now : StorageView) (lanes : List ℕ) : Type 0 where
@@ -154,7 +156,7 @@ once_in_turn workers last w inside small =
     let b = times_range_out w 0 (last + 1) (inr (omega arith)) in omega (arith, a, b))
 
 -- no word of a lane that was not looked at
-none_there : (looks : Pairs) (w : ℕ) → times w (lanes_of looks) ≡ 0 → looked looks w ≡ []
+none_there : (looks : Pairs) (w : ℕ) → times w (lanes_of looks) ≡ 0 → looks_of_lane looks w ≡ []
 none_there [] w e = refl
 none_there (x ∷ looks) w e = dite (ℕ_discrete x.0 w)
     (λ same. absurd (let one = one_more_time w x.0 (lanes_of looks) same in omega (arith, one)))
@@ -165,7 +167,7 @@ none_there (x ∷ looks) w e = dite (ℕ_discrete x.0 w)
 
 -- one word of a lane that was looked at once
 one_there : (P : ℕ × ℕ → Type 0) (looks : Pairs) (w : ℕ) → times w (lanes_of looks) ≡ 1 → All P looks
-    → (n : ℕ) × P (w, n) × (looked looks w ≡ n ∷ [])
+    → (n : ℕ) × P (w, n) × (looks_of_lane looks w ≡ n ∷ [])
 one_there P [] w e all = absurd (omega arith)
 one_there P (x ∷ looks) w e all = dite (ℕ_discrete x.0 w)
     (λ same. (
@@ -193,8 +195,8 @@ each_once old new w inside small f = let one = one_there (λ (x : ℕ × ℕ). x
     (ap (times w) f.1 ∙ once_in_turn old.workers old.last w inside small) f.2 in (
       one.0,
       one.1,
-      ap (λ (z : StorageView). looked z.looks w) f.3
-          ∙ (looked-append old.looks f.0 w ∙ ap (λ (l : List ℕ). looked old.looks w ++ l) one.2),
+      ap (λ (z : StorageView). looks_of_lane z.looks w) f.3
+          ∙ (looked-append old.looks f.0 w ∙ ap (λ (l : List ℕ). looks_of_lane old.looks w ++ l) one.2),
     )
 
 -- the next lane in turn
@@ -212,7 +214,7 @@ range_split a (suc k) m = ap (range_with_len a) (let e : suc k + m ≡ suc (k + 
     (range_split (a + 1) k m ∙ ap (λ (z : ℕ). range_with_len (a + 1) k ++ range_with_len z m)
     (let e : a + 1 + k ≡ a + suc k = omega arith in e))
 
--- the lane after k looks behind the last one
+-- the lane after k looks after the last one
 pub turn_above : (workers last k : ℕ) → last + 1 + k < workers
     → StartsWith (lanes_in_turn workers last) (range_with_len (last + 1) k ++ (last + 1 + k) ∷ [])
 turn_above workers last k small = let small' : last + 1 + k < workers = small in
@@ -227,7 +229,7 @@ turn_above workers last k small = let small' : last + 1 + k < workers = small in
           (range_with_len 0 (last + 1))),
     )
 
--- the lanes behind the last one and the first k
+-- the lanes after the last one and the first k
 abbrev pub up_to : ℕ → ℕ → ℕ → List ℕ
 up_to workers last k = range_with_len (last + 1) (workers - (last + 1)) ++ range_with_len 0 k
 

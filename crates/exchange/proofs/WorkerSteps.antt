@@ -22,7 +22,8 @@ use Rattle.exchange.specs.Beginnings.{StartsWith}
 use Rattle.proto.specs.History.{worker_share, LegalBy}
 use Rattle.exchange.specs.Lanes.{Homes, SeatState, messages, open_at, count_of, lane_slot, at_home, LaneIs, LanesHold}
 use Rattle.proto.specs.Counts.{times}
-use Rattle.exchange.specs.Steps.{holding_slot, placed, put_on, all_sent, with_bye, learnt_of, took_seen, took_out, begun, request_put, posted, bye_posted}
+use Rattle.exchange.specs.Steps.{holding_slot, placed_count, put_on, all_sent, with_bye, learnt_of, took_seen, took_out}
+use Rattle.exchange.specs.Steps.{tells_begin, request_put, tells_post, bye_posted}
 use Rattle.exchange.specs.Steps.{seen_taken, Learnt, DoneTells, done_loaded, slot_returned}
 use Rattle.exchange.proofs.Lists.{at_some, starts_at, starts_below, starts_whole, starts_self, take_whole}
 use Rattle.exchange.proofs.Lane.{all_more, one_bye, begins, puts, sends, posts_last, takes_back, is_told, returns_slot}
@@ -102,9 +103,9 @@ module _ (key : LaneKey) where
 
   -- the worker takes the slot of its next message
   pub begins_post : (n id : ℕ) (me : SeatState) (c : WorkerState) (i : ℕ) → me.0 ≡ Worker c → c.slot_held ≡ 0
-      → c.said_bye ≡ false → placed c < length c.back + WINDOW
-      → Allows (LanesHold key) n id me i (λ x. x) (begun (step n i 0 0 none) me)
-  begins_post n id me c i is idle open_ room s r _ at _ = let w : ℕ = c.worker in let k : ℕ = placed c in
+      → c.said_bye ≡ false → placed_count c < length c.back + WINDOW
+      → Allows (LanesHold key) n id me i (λ x. x) (tells_begin (step n i 0 0 none) me)
+  begins_post n id me c i is idle open_ room s r _ at _ = let w : ℕ = c.worker in let k : ℕ = placed_count c in
       let k_is : k ≡ length c.sent + length c.put = refl in
       let f = worker_of key s r id me.0 c at is in let lane = lane_of key s r c f.1 f.2 in
       let c' : WorkerState = holding_slot c (suc k) in let long : length (messages c) ≡ length c.sent = count c
@@ -119,17 +120,17 @@ module _ (key : LaneKey) where
             (seen_of s r c f.1 f.2),
         λ c₂ is₂. let e : c ≡ c₂ = ap (worker_state_or c) (sym is ∙ is₂) in
             ap (λ (z : WorkerState). let m : SeatState = (
-              Worker (holding_slot z (suc (placed z))),
-              (lane_slot z.worker (placed z), None) ∷ me.1,
+              Worker (holding_slot z (suc (placed_count z))),
+              (lane_slot z.worker (placed_count z), None) ∷ me.1,
             ) in m) e,
       )
 
   -- the worker gives the slot back, with a request in it
-  pub puts_it : (n id : ℕ) (c : WorkerState) (p : Posted) (i : ℕ) → p.number ≡ suc (placed c)
-      → c.slot_held ≡ suc (placed c) → c.said_bye ≡ false
-      → Allows (LanesHold key) n id (Worker c, (lane_slot c.worker (placed c), Some (Ask p)) ∷ []) i
-      (λ x. x) (request_put (step n i 0 0 none) (Worker c, (lane_slot c.worker (placed c), Some (Ask p)) ∷ []))
-  puts_it n id c p i next slot_held open_ s r _ at _ = let w : ℕ = c.worker in let k : ℕ = placed c in
+  pub puts_it : (n id : ℕ) (c : WorkerState) (p : Posted) (i : ℕ) → p.number ≡ suc (placed_count c)
+      → c.slot_held ≡ suc (placed_count c) → c.said_bye ≡ false
+      → Allows (LanesHold key) n id (Worker c, (lane_slot c.worker (placed_count c), Some (Ask p)) ∷ []) i
+      (λ x. x) (request_put (step n i 0 0 none) (Worker c, (lane_slot c.worker (placed_count c), Some (Ask p)) ∷ []))
+  puts_it n id c p i next slot_held open_ s r _ at _ = let w : ℕ = c.worker in let k : ℕ = placed_count c in
       let f = r.each_view id (Worker c) at in
       let lane = lane_of key s r c f.1 f.2 in let deep = r.deep in
       let c' : WorkerState = put_on c p in let v : Option LaneMessage = Some (Ask p) in
@@ -149,10 +150,10 @@ module _ (key : LaneKey) where
 
   -- the store of posted
   pub posts_it : (n id : ℕ) (c : WorkerState) → c.slot_held ≡ 0 → c.said_bye ≡ false
-      → Allows (LanesHold key) n id (Worker c, []) (16 * c.worker) (λ _. placed c)
-      (λ _. posted (step n (16 * c.worker) (placed c) 0 none) (Worker c, [])
-      (placed c))
-  posts_it n id c idle open_ s r _ at _ = let w : ℕ = c.worker in let k : ℕ = placed c in
+      → Allows (LanesHold key) n id (Worker c, []) (16 * c.worker) (λ _. placed_count c)
+      (λ _. tells_post (step n (16 * c.worker) (placed_count c) 0 none) (Worker c, [])
+      (placed_count c))
+  posts_it n id c idle open_ s r _ at _ = let w : ℕ = c.worker in let k : ℕ = placed_count c in
       let f = r.each_view id (Worker c) at in
       let lane = lane_of key s r c f.1 f.2 in let wide = r.wide in let inside : w < key.workers = f.2 in
       let c' : WorkerState = all_sent c in
@@ -178,14 +179,14 @@ module _ (key : LaneKey) where
       )
 
   -- the same with the Bye
-  pub posts_bye : (n id : ℕ) (c : WorkerState) → c.put ≡ [] → c.slot_held ≡ suc (placed c) → c.said_bye ≡ false
+  pub posts_bye : (n id : ℕ) (c : WorkerState) → c.put ≡ [] → c.slot_held ≡ suc (placed_count c) → c.said_bye ≡ false
       → length c.back ≡ length c.sent
-      → Allows (LanesHold key) n id (Worker c, (lane_slot c.worker (placed c), Some Bye) ∷ []) (16 * c.worker)
-      (λ _. suc (placed c))
-      (λ _. bye_posted (step n (16 * c.worker) (suc (placed c)) 0 none)
-      (Worker c, (lane_slot c.worker (placed c), Some Bye) ∷ [])
-      (suc (placed c)))
-  posts_bye n id c none_put slot_held open_ all s r _ at _ = let w : ℕ = c.worker in let k : ℕ = placed c in
+      → Allows (LanesHold key) n id (Worker c, (lane_slot c.worker (placed_count c), Some Bye) ∷ []) (16 * c.worker)
+      (λ _. suc (placed_count c))
+      (λ _. bye_posted (step n (16 * c.worker) (suc (placed_count c)) 0 none)
+      (Worker c, (lane_slot c.worker (placed_count c), Some Bye) ∷ [])
+      (suc (placed_count c)))
+  posts_bye n id c none_put slot_held open_ all s r _ at _ = let w : ℕ = c.worker in let k : ℕ = placed_count c in
       let k_is : k ≡ length c.sent + length c.put = refl in let f = r.each_view id (Worker c) at in
       let lane = lane_of key s r c f.1 f.2 in let wide = r.wide in let deep = r.deep in
       let inside : w < key.workers = f.2 in let c' : WorkerState = with_bye c in

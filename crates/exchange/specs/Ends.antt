@@ -133,8 +133,8 @@ given_answer view done told answered = record view {
       ++ answered ∷ [];
 }
 
--- What a `take` tells: the worker is told of a history. An answer is the next one of its entries there; none
--- comes exactly where it took all of them back before.
+-- A `take` tells the worker a history. An answer is the next one of its entries there; none comes exactly where it
+-- took all of them back before.
 abbrev pub TakesAnswer : WorkerView → Option Answered → WorkerView → Type 0
 TakesAnswer old result new = (done : ℕ) × (told : List Answered) × IsToldDone old done told × MatchOption result
     ((old.back ≡ worker_share told old.worker) × (new ≡ told_of old done told))
@@ -162,8 +162,8 @@ CanPut view = (length view.end.sent + length view.put < length view.end.back + W
     × (length view.end.sent + length view.put < max_posts)
 
 -- with all that was put sent, in order
-abbrev pub flushed : WorkerBatchView → WorkerBatchView
-flushed view = record { end = record view.end { sent = view.end.sent ++ view.put }; put = [] }
+abbrev pub with_put_sent : WorkerBatchView → WorkerBatchView
+with_put_sent view = record { end = record view.end { sent = view.end.sent ++ view.put }; put = [] }
 
 -- Storage's calls
 
@@ -180,8 +180,8 @@ abbrev pub lanes_of : List (ℕ × ℕ) → List ℕ
 lanes_of looks = map (λ (look : ℕ × ℕ). look.0) looks
 
 -- the counts of posted messages that storage read in this lane
-abbrev pub looked : List (ℕ × ℕ) → ℕ → List ℕ
-looked looks lane = map (λ (look : ℕ × ℕ). look.1) (filter (λ (look : ℕ × ℕ). look.0 == lane) looks)
+abbrev pub looks_of_lane : List (ℕ × ℕ) → ℕ → List ℕ
+looks_of_lane looks lane = map (λ (look : ℕ × ℕ). look.1) (filter (λ (look : ℕ × ℕ). look.0 == lane) looks)
 
 -- no look found a message that isn't done
 abbrev pub FoundNone : StorageView → List (ℕ × ℕ) → Type 0
@@ -190,7 +190,7 @@ FoundNone view looks = All (λ (look : ℕ × ℕ). look.1 ≤ done_in view look
 -- one more look at this lane, which found no message that isn't done
 abbrev pub LookedOnce : StorageView → StorageView → ℕ → Type 0
 LookedOnce old new lane = (count : ℕ) × (count ≤ done_in old lane)
-    × (looked new.looks lane ≡ looked old.looks lane ++ count ∷ [])
+    × (looks_of_lane new.looks lane ≡ looks_of_lane old.looks lane ++ count ∷ [])
 
 -- The next message of this lane: no bye of it came before, and a request has the number after that of the
 -- worker's last entry.

@@ -75,7 +75,7 @@ at_home homes lane = λ number. get_elem? homes (lane_slot lane number)
 -- stands in its slots. Posted counts the worker's messages, done the entries that it can know of and the bye, and at
 -- most WINDOW lie between. The entries are the first of the requests, and the answers that were taken back are the first
 -- of the entries. The answers that weren't taken back stand in their slots, and so do the messages that storage
--- hasn't taken, and behind the messages the requests that the worker put and hasn't sent. All other slots of the
+-- hasn't taken, and after the messages the requests that the worker put and hasn't sent. All other slots of the
 -- window are empty, but for the one that the worker holds.
 pub record LaneOk (worker : WorkerState) (mine told : List Answered) (byes : ℕ) (held : maybe.Option LaneMessage)
     (posted done : ℕ) (at : At) : Type 0 where

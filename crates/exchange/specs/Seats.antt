@@ -1,5 +1,6 @@
 -- What the fields of the two ends have to do with their seats, and what each of them shows.
-use Rattle.std.specs.Prelude.{◌≡◌, ◌≢◌, ◌⊎◌, ℕ, ◌+◌, ◌*◌, ◌^◌, ◌<◌, ◌≤◌, List, [], ◌∷◌, ◌++◌, length, take, Option, Some, None, MatchOption, is_some, Bool}
+use Rattle.std.specs.Prelude.{◌≡◌, ◌≢◌, ◌⊎◌, ℕ, ◌+◌, ◌*◌, ◌^◌, ◌<◌, ◌≤◌, List, [], ◌∷◌, ◌++◌}
+use Rattle.std.specs.Prelude.{length, take, Option, Some, None, MatchOption, is_some, Bool}
 use Rattle.std.specs.Prelude.{true, false}
 use Rattle.std.specs.Prelude.{slice_index}
 use mathlib.Core.Option.{some}
@@ -20,7 +21,7 @@ use Rattle.exchange.specs.declared.views.StorageState.{StorageState}
 use Rattle.exchange.specs.declared.views.LaneView.{LaneView}
 use Rattle.exchange.specs.declared.views.LaneView.TheVariants.{Nobody, Worker, Storage, Comparing}
 use Rattle.exchange.specs.Lanes.{SeatState, known_by, slots_of, lane_slot, first_worker_state, first_storage_state}
-use Rattle.exchange.specs.Steps.{placed, learnt_of, settled, Learnt, looked_at, with_opened, IsSent}
+use Rattle.exchange.specs.Steps.{placed_count, learnt_of, settled_count, Learnt, looked_at, with_message_held, IsSent}
 use Rattle.exchange.specs.Ends.{WorkerView, WorkerBatchView, StorageView, StorageBatchView, max_posts, LastLook}
 
 -- The views
@@ -154,14 +155,14 @@ pub record WorkerAgrees (me : SeatState) (worker sent put back known : ℕ) (sai
 -- the seat is this worker's, has sent or put this many requests, and may put one more message
 abbrev pub MayPost : SeatState → ℕ → ℕ → Type 0
 MayPost me worker count = (me ≡ (Worker (worker_at me), [])) × ((worker_at me).worker ≡ worker)
-    × (placed (worker_at me) ≡ count)
+    × (placed_count (worker_at me) ≡ count)
     × ((worker_at me).slot_held ≡ 0) × ((worker_at me).said_bye ≡ false)
-    × (placed (worker_at me) < length (worker_at me).back + WINDOW) × (count < 2 ^ 63)
+    × (placed_count (worker_at me) < length (worker_at me).back + WINDOW) × (count < 2 ^ 63)
 
 -- the seat is this worker's, has sent or put `count` requests, and holds no slot
 abbrev pub MayPut : SeatState → ℕ → ℕ → Type 0
 MayPut me worker count = (me ≡ (Worker (worker_at me), [])) × ((worker_at me).worker ≡ worker)
-    × (placed (worker_at me) ≡ count)
+    × (placed_count (worker_at me) ≡ count)
     × ((worker_at me).slot_held ≡ 0) × ((worker_at me).said_bye ≡ false)
 
 -- the seat is this worker's, has taken back `back` answers, holds no slot, and saw a further one
@@ -199,14 +200,14 @@ StateTakes worker done result after = (told : List Answered) × Learnt worker do
 
 -- storage's seat holds no slot, and has settled `count` messages of the lane
 abbrev pub MayLook : SeatState → ℕ → ℕ → Type 0
-MayLook me lane count = (me ≡ (Storage (storage_at me), [])) × (settled (storage_at me) lane ≡ count)
+MayLook me lane count = (me ≡ (Storage (storage_at me), [])) × (settled_count (storage_at me) lane ≡ count)
     × ((storage_at me).holding ≡ None)
 
 -- the same, and an earlier look at the lane named a message that isn't settled
 abbrev pub HasSeenMessage : SeatState → ℕ → ℕ → Type 0
 HasSeenMessage me lane count = MayLook me lane count × ((place posted : ℕ)
     × (get_elem? (storage_at me).looks place ≡ some (lane, posted))
-    × (settled (storage_at me) lane < posted))
+    × (settled_count (storage_at me) lane < posted))
 
 -- The look that came last is one at this lane which found this posted word, or there was none
 abbrev pub IsNamed : StorageState → ℕ → ℕ → ℕ → Type 0
@@ -215,20 +216,23 @@ IsNamed storage lane named workers = (((storage.looks ≡ []) × (named ≡ 0)) 
 
 -- What a look at a lane tells: the posted word names no message beyond those settled, or the next message is out
 abbrev pub Looks : StorageState → ℕ → ℕ → Option LaneMessage → SeatState → Type 0
-Looks storage lane posted result me = (posted < 2 ^ 64) × MatchOption result ((posted ≤ settled storage lane)
+Looks storage lane posted result me = (posted < 2 ^ 64) × MatchOption result ((posted ≤ settled_count storage lane)
     × (me ≡ (Storage (looked_at storage lane posted), [])))
-    (λ message. (settled storage lane < posted) × IsSent storage lane message
-    × (me ≡ (Storage (with_opened storage lane posted message), (lane_slot lane (settled storage lane), None) ∷ [])))
+    (λ message. (settled_count storage lane < posted) × IsSent storage lane message
+    × (me ≡ (
+      Storage (with_message_held (looked_at storage lane posted) lane message),
+      (lane_slot lane (settled_count storage lane), None) ∷ [],
+    )))
 
 -- storage's seat holds the slot of this message of the lane, of which `count` were settled before
 abbrev pub HoldsTaken : SeatState → ℕ → ℕ → LaneMessage → Type 0
 HoldsTaken me lane count message = (me ≡ (Storage (storage_at me), (lane_slot lane count, None) ∷ []))
-    × (settled (storage_at me) lane ≡ count)
+    × (settled_count (storage_at me) lane ≡ count)
     × ((storage_at me).holding ≡ Some (lane, message)) × (count + 1 < 2 ^ 64)
 
 -- storage's seat has settled `count` messages of this lane, and the answers that weren't told of are all of it
 abbrev pub MayTell : SeatState → ℕ → ℕ → Type 0
-MayTell me lane count = (known_by me ≡ Storage (storage_at me)) × (settled (storage_at me) lane ≡ count)
+MayTell me lane count = (known_by me ≡ Storage (storage_at me)) × (settled_count (storage_at me) lane ≡ count)
     × ((other : ℕ) → other ≢ lane → worker_share (storage_at me).history other
     ≡ worker_share (storage_at me).told other)
 
@@ -241,7 +245,7 @@ pub record IsWaiting (storage : StorageState) (waiting : Bool) (lane workers : �
 -- the slot that storage holds
 abbrev pub carried_by : StorageState → Option (ℕ × LaneMessage) → List (ℕ × Option LaneMessage)
 carried_by storage None = []
-carried_by storage (Some held) = (lane_slot held.0 (settled storage held.0), None) ∷ []
+carried_by storage (Some held) = (lane_slot held.0 (settled_count storage held.0), None) ∷ []
 
 -- The fields of storage's end agree with what its seat knows
 pub record StorageAgrees (me : SeatState) (workers last : ℕ) (counts : List ℕ) (open_now : Bool) : Type 0 where
@@ -251,10 +255,11 @@ pub record StorageAgrees (me : SeatState) (workers last : ℕ) (counts : List �
   )
   pub few : (0 < workers) × (workers ≤ 8) × (last < workers)
   pub room : length counts ≡ 8
-  pub counts_are : (lane : ℕ) → lane < workers → slice_index counts lane ≡ settled (storage_at me) lane
+  pub counts_are : (lane : ℕ) → lane < workers → slice_index counts lane ≡ settled_count (storage_at me) lane
   pub open_is : open_now ≡ is_some (open_in (storage_at me).holding)
   pub holds : (lane : ℕ) (message : LaneMessage) → (storage_at me).holding ≡ Some (lane, message)
-      → (lane < workers) × (settled (storage_at me) lane + 1 < 2 ^ 64) × ((posted : Posted) × (message ≡ Ask posted))
+      → (lane < workers) × (settled_count (storage_at me) lane + 1 < 2 ^ 64)
+      × ((posted : Posted) × (message ≡ Ask posted))
 
 -- what storage knows once it has made `made` workers
 abbrev pub made_storage_state : Terms → ℕ → StorageState

@@ -26,8 +26,8 @@ abbrev pub holding_slot : WorkerState → ℕ → WorkerState
 holding_slot worker number = record worker { slot_held = number }
 
 -- how many requests were sent or put
-abbrev pub placed : WorkerState → ℕ
-placed worker = length worker.sent + length worker.put
+abbrev pub placed_count : WorkerState → ℕ
+placed_count worker = length worker.sent + length worker.put
 
 -- with one more request in its slot
 abbrev pub put_on : WorkerState → Posted → WorkerState
@@ -62,11 +62,11 @@ took_seen worker answer = record worker {
 }
 
 -- the worker takes the slot of its next message
-abbrev pub begun : StepTells
-begun step before found after = (worker : WorkerState) → known_by before ≡ Worker worker
+abbrev pub tells_begin : StepTells
+tells_begin step before found after = (worker : WorkerState) → known_by before ≡ Worker worker
     → after ≡ (
-      Worker (holding_slot worker (suc (placed worker))),
-      (lane_slot worker.worker (placed worker), None) ∷ slots_of before,
+      Worker (holding_slot worker (suc (placed_count worker))),
+      (lane_slot worker.worker (placed_count worker), None) ∷ slots_of before,
     )
 
 -- the worker gives the slot back, with a request in it
@@ -76,8 +76,8 @@ request_put step before found after = (worker : WorkerState) (request : Posted) 
     → after ≡ (Worker (put_on worker request), [])
 
 -- the store of posted
-abbrev pub posted : StepTells
-posted step before found after = (worker : WorkerState) → before ≡ (Worker worker, [])
+abbrev pub tells_post : StepTells
+tells_post step before found after = (worker : WorkerState) → before ≡ (Worker worker, [])
     → after ≡ (Worker (all_sent worker), [])
 
 -- the worker takes the slot of the next answer of the history that it saw
@@ -127,8 +127,8 @@ slot_returned step before found after = (worker : WorkerState) → known_by befo
     → after ≡ (Worker (holding_slot worker 0), rest (slots_of before))
 
 -- how many messages of this lane storage has settled
-abbrev pub settled : StorageState → ℕ → ℕ
-settled storage lane = length (worker_share storage.history lane) + times lane storage.byes
+abbrev pub settled_count : StorageState → ℕ → ℕ
+settled_count storage lane = length (worker_share storage.history lane) + times lane storage.byes
 
 -- with a look at this lane, whose posted word is the count
 abbrev pub looked_at : StorageState → ℕ → ℕ → StorageState
@@ -140,25 +140,17 @@ requests_in_message lane (Ask request) = (lane, request) ∷ []
 requests_in_message lane Bye = []
 requests_in_message lane (Answer answer) = []
 
--- with a look at this lane, and the message taken from it
-abbrev pub with_opened : StorageState → ℕ → ℕ → LaneMessage → StorageState
-with_opened storage lane count message = record storage {
-  looks = storage.looks ++ (lane, count) ∷ [];
-  holding = Some (lane, message);
-  taken = storage.taken ++ requests_in_message lane message;
-}
-
 -- with the message taken from this lane
-abbrev pub reopened : StorageState → ℕ → LaneMessage → StorageState
-reopened storage lane message = record storage {
+abbrev pub with_message_held : StorageState → ℕ → LaneMessage → StorageState
+with_message_held storage lane message = record storage {
   holding = Some (lane, message);
   taken = storage.taken
       ++ requests_in_message lane message;
 }
 
 -- with an answer to what is held
-abbrev pub replied : StorageState → Answered → StorageState
-replied storage answer = record storage { history = storage.history ++ answer ∷ []; holding = None }
+abbrev pub with_held_answered : StorageState → Answered → StorageState
+with_held_answered storage answer = record storage { history = storage.history ++ answer ∷ []; holding = None }
 
 -- with all answers told of
 abbrev pub all_told : StorageState → StorageState
@@ -174,38 +166,37 @@ abbrev pub IsSent : StorageState → ℕ → LaneMessage → Type 0
 IsSent storage lane message = (times lane storage.byes ≡ 0) × (((request : Posted) × (message ≡ Ask request)
     × (request.number ≡ suc (length (worker_share storage.history lane)))) ⊎ (message ≡ Bye))
 
+-- storage takes the next message of the lane
+abbrev pub SeenTells : StorageState → ℕ → List (ℕ × Option LaneMessage) → SeatState → Type 0
+SeenTells storage lane slots after = (message : LaneMessage) × IsSent storage lane message
+    × (after ≡ (
+      Storage (with_message_held storage lane message),
+      (lane_slot lane (settled_count storage lane), Some message) ∷ slots,
+    ))
+
 -- at the load of posted: no message beyond those settled, or the next message's slot is taken
 abbrev pub PostedTells : StorageState → ℕ → ℕ → List (ℕ × Option LaneMessage) → SeatState → Type 0
 PostedTells storage lane count slots after =
-    (count ≤ settled storage lane → after ≡ (Storage (looked_at storage lane count), slots))
-    × (settled storage lane < count → (message : LaneMessage) × IsSent storage lane message
-    × (after ≡ (
-      Storage (with_opened storage lane count message),
-      (lane_slot lane (settled storage lane), Some message) ∷ slots,
-    )))
+    (count ≤ settled_count storage lane → after ≡ (Storage (looked_at storage lane count), slots))
+    × (settled_count storage lane < count → SeenTells (looked_at storage lane count) lane slots after)
 
 -- the load of the posted word of a lane
 abbrev pub posted_loaded : StepTells
 posted_loaded step before count after = (storage : StorageState) (lane : ℕ) → known_by before ≡ Storage storage
     → step.word ≡ 16 * lane → PostedTells storage lane count (slots_of before) after
 
--- storage takes the next message of the lane
-abbrev pub SeenTells : StorageState → ℕ → List (ℕ × Option LaneMessage) → SeatState → Type 0
-SeenTells storage lane slots after = (message : LaneMessage) × IsSent storage lane message
-    × (after ≡ (Storage (reopened storage lane message), (lane_slot lane (settled storage lane), Some message) ∷ slots))
-
 -- a load, where an earlier look at the lane named a message that isn't settled
 abbrev pub seen_opened : StepTells
 seen_opened step before found after = (storage : StorageState) (lane place count : ℕ)
     → known_by before ≡ Storage storage → step.word ≡ 16 * lane + 8
     → get_elem? storage.looks place ≡ some (lane, count)
-    → settled storage lane < count → SeenTells storage lane (slots_of before) after
+    → settled_count storage lane < count → SeenTells storage lane (slots_of before) after
 
 -- a load of done, with an answer
-abbrev pub answered : StepTells
-answered step before found after = (storage : StorageState) (answer : Answered) (slot : ℕ)
+abbrev pub tells_answer : StepTells
+tells_answer step before found after = (storage : StorageState) (answer : Answered) (slot : ℕ)
     → before ≡ (Storage storage, (slot, Some (Answer answer)) ∷ [])
-    → after ≡ (Storage (replied storage answer), [])
+    → after ≡ (Storage (with_held_answered storage answer), [])
 
 -- the store of done, for all answers of its lane
 abbrev pub told_done : StepTells
@@ -242,6 +233,6 @@ comparing (Worker worker) view = Worker worker
 comparing (Comparing storage worker) view = Comparing storage worker
 
 -- what the two find then, and storage goes on alone
-abbrev pub compared : StepTells
-compared step before found after = (storage : StorageState) (worker : WorkerState)
+abbrev pub tells_comparison : StepTells
+tells_comparison step before found after = (storage : StorageState) (worker : WorkerState)
     → known_by before ≡ Comparing storage worker → Agree storage worker × (after ≡ (Storage storage, slots_of before))

@@ -1,7 +1,8 @@
 //! The rule of the table, and what each step tells.
-ghost use Rattle.exchange.specs.Steps.{begun, request_put, posted, seen_taken, bye_posted, done_loaded, slot_returned};
-ghost use Rattle.exchange.specs.Steps.{posted_loaded, answered, told_done, seen_opened, settle_bye, with_one_more};
-ghost use Rattle.exchange.specs.Steps.{new_worker, comparing, compared};
+ghost use Rattle.exchange.specs.Steps.{tells_begin, request_put, tells_post, seen_taken, bye_posted, done_loaded};
+ghost use Rattle.exchange.specs.Steps.{slot_returned};
+ghost use Rattle.exchange.specs.Steps.{posted_loaded, tells_answer, told_done, seen_opened, settle_bye, with_one_more};
+ghost use Rattle.exchange.specs.Steps.{new_worker, comparing, tells_comparison};
 
 use crate::messages::{LaneKey, LaneMessage};
 use crate::views::LaneView;
@@ -25,7 +26,7 @@ pub type LaneSeat = Seat<Option<LaneMessage>, LaneView>;
 pub struct Begins;
 
 impl Play<Option<LaneMessage>, LaneView> for Begins {
-    ghost then = { begun };
+    ghost then = { tells_begin };
 }
 
 pub struct PutsRequest;
@@ -43,7 +44,7 @@ impl Play<Option<LaneMessage>, LaneView> for TakesSeen {
 pub struct Posts;
 
 impl Play<Option<LaneMessage>, LaneView> for Posts {
-    ghost then = { posted };
+    ghost then = { tells_post };
 }
 
 pub struct PostsBye;
@@ -73,7 +74,7 @@ impl Play<Option<LaneMessage>, LaneView> for LoadsPosted {
 pub struct Answers;
 
 impl Play<Option<LaneMessage>, LaneView> for Answers {
-    ghost then = { answered };
+    ghost then = { tells_answer };
 }
 
 pub struct OpensSeen;
@@ -97,7 +98,7 @@ impl Play<Option<LaneMessage>, LaneView> for SettlesBye {
 pub struct Compares;
 
 impl Play<Option<LaneMessage>, LaneView> for Compares {
-    ghost then = { compared };
+    ghost then = { tells_comparison };
 }
 
 pub struct MakesWorker;

@@ -7,8 +7,9 @@ ghost use mathlib.Core.Option.{some};
 ghost use lib.ListN.{get_elem?};
 ghost use Rattle.proto.specs.History.{LegalBy, worker_share};
 ghost use Rattle.exchange.specs.Lanes.{slots_of, lane_slot};
-ghost use Rattle.exchange.specs.Steps.{put_on, all_sent, holding_slot, took_seen, with_bye, replied, all_told};
-ghost use Rattle.exchange.specs.Steps.{bye_settled, reopened, settled, IsSent};
+ghost use Rattle.exchange.specs.Steps.{put_on, all_sent, holding_slot, took_seen, with_bye, with_held_answered};
+ghost use Rattle.exchange.specs.Steps.{all_told};
+ghost use Rattle.exchange.specs.Steps.{bye_settled, with_message_held, settled_count, IsSent};
 ghost use Rattle.exchange.specs.Seats.{worker_at, storage_at, IsLane, SameSeat, MayPost, MayPut, MayTake, HasSeen};
 ghost use Rattle.exchange.specs.Seats.{MayLook, HasSeenMessage, StateTakes, Looks, HoldsTaken, MayTell};
 
@@ -20,8 +21,8 @@ use crate::rule::{
 use crate::slots::{put_in_answer, put_message, take_out_answer, take_out_message};
 use proto::{Answered, Posted};
 
-/// A lane has two words that its two threads store, posted first and done behind it, each with so many words of eight bytes
-/// to itself that no two share a line of a processor's cache.
+/// A lane has two words that its two threads store, posted first and then done. Each is followed by enough unused words of
+/// eight bytes that no two share a line of a processor's cache.
 const DONE: usize = 8;
 
 /// The words of a lane.
@@ -155,8 +156,8 @@ pub(crate) fn take_seen_message(
     ensures table { SameSeat seat.old seat.new }
     ensures sent { IsSent (storage_at seat.old.me) lane result }
     ensures opened { seat.new.me ≡ (
-      Storage (reopened (storage_at seat.old.me) lane result),
-      (lane_slot lane (settled (storage_at seat.old.me) lane), None) ∷ [],
+      Storage (with_message_held (storage_at seat.old.me) lane result),
+      (lane_slot lane (settled_count (storage_at seat.old.me) lane), None) ∷ [],
     ) }
 {
     lane_table
@@ -177,7 +178,7 @@ pub(crate) fn put_answer(
     requires held { HoldsTaken seat.old.me answered.worker count (Ask (posted_of answered)) }
     requires legal { LegalBy (storage_at seat.old.me).terms ((storage_at seat.old.me).history ++ answered ∷ []) }
     ensures table { SameSeat seat.old seat.new }
-    ensures answered { seat.new.me ≡ (Storage (replied (storage_at seat.old.me) answered), []) }
+    ensures answered { seat.new.me ≡ (Storage (with_held_answered (storage_at seat.old.me) answered), []) }
 {
     let lane = answered.worker;
     put_in_answer(lane_table, seat, lane, count, answered);

@@ -121,7 +121,8 @@ impl StorageBatch {
     fn make_way(&mut self, lane: usize)
         ensures end { self.new.end ≡ self.old.end }
         ensures told { (self.new.told ≡ self.old.told) ⊎ (self.new.told ≡ self.old.end.history) }
-        ensures others { (j : ℕ) → j ≢ lane → worker_share self.new.end.history j ≡ worker_share self.new.told j }
+        ensures others { (j : ℕ) → j ≢ lane
+            → worker_share self.new.end.history j ≡ worker_share self.new.told j }
     {
         if self.waiting && self.waiting_lane != lane {
             self.flush_answers();

@@ -76,7 +76,8 @@ impl WorkerEnd {
 
     /// The seat, and the numbers of requests and of answers.
     pub(crate) fn into_seat(self) -> (LaneSeat, u64, u64)
-        ensures seated { (c : WorkerState) × (result.0.me ≡ (Worker c, [])) × (self ≡ worker_view result.0.table_id c) }
+        ensures seated { (c : WorkerState) × (result.0.me ≡ (Worker c, []))
+            × (self ≡ worker_view result.0.table_id c) }
         ensures lane { IsLane result.0.table_id self.worker }
         ensures counts { (result.1 ≡ length self.sent) × (result.2 ≡ length self.back) }
     {

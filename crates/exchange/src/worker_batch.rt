@@ -51,7 +51,7 @@ impl WorkerBatch {
     ghost use Rattle.exchange.specs.declared.views.WorkerState.{WorkerState};
     ghost use Rattle.exchange.specs.Beginnings.{StartsWith, posted_of};
     ghost use Rattle.exchange.specs.Lanes.{first_worker_state};
-    ghost use Rattle.exchange.specs.Ends.{new_worker_view, max_posts, CanPut, flushed, TakesAnswer, TakesSeen};
+    ghost use Rattle.exchange.specs.Ends.{new_worker_view, max_posts, CanPut, with_put_sent, TakesAnswer, TakesSeen};
     ghost use Rattle.exchange.specs.Seats.{IsLane, worker_view};
 
     pub(crate) fn over(
@@ -159,7 +159,7 @@ impl WorkerBatch {
 
     /// Sends all requests that were put, in their order, in one step. Waits for nobody and takes no memory.
     pub fn flush(&mut self)
-        ensures { self.new ≡ flushed self.old }
+        ensures { self.new ≡ with_put_sent self.old }
     {
         if self.put > 0 {
             let number = self.sent + self.put;
@@ -212,7 +212,8 @@ impl WorkerBatch {
 
     /// Says that no request comes any more. Waits for nobody and takes no memory.
     pub fn bye(&mut self)
-        requires all_back { (self.old.end.said_bye ≡ false) × (length self.old.end.back ≡ length self.old.end.sent) }
+        requires all_back { (self.old.end.said_bye ≡ false)
+            × (length self.old.end.back ≡ length self.old.end.sent) }
         requires flushed { self.old.put ≡ [] }
         ensures { self.new ≡ record self.old { end = record self.old.end { said_bye = true } } }
     {

@@ -13,7 +13,7 @@ use Rattle.exchange.specs.declared.gathering.Gathered.{Gathered}
 use Rattle.exchange.specs.Ends.{WorkerView, StorageView, AreMade, AreTogether, AreCounted, new_worker_view, new_storage_view}
 use Rattle.exchange.proofs.Lists.{at_below, at_some, starts_trans}
 use Rattle.storage_thread.specs.declared.serving.StorageReport.{StorageReport}
-use Rattle.worker_port.specs.Ports.{PortStory}
+use Rattle.worker_port.specs.Ports.{PortTrace}
 use Rattle.worker.specs.declared.report.WorkerReport.{WorkerReport}
 use Rattle.worker.specs.Reports.{IsSessionAnswered}
 use Rattle.group.specs.declared.report.GroupReport.{GroupReport}
@@ -23,7 +23,7 @@ use Rattle.group.specs.Headline.{IsHistoryOf, IsWorkerOf, IsRun}
 use Rattle.group.proofs.Places.{at_map, at_mapped}
 use Rattle.storage_thread.proofs.Callers.{or_at}
 
-module _ {P : Type 0} (told : P → Option PortStory) (leads_to : P → P → Type 0) where
+module _ {P : Type 0} (told : P → Option PortTrace) (leads_to : P → P → Type 0) where
   module _ (terms : Terms) (storage : StorageView) (ports : List P) (reports : List (WorkerReport P))
       (joined : AreJoined told leads_to terms storage ports reports) where
     -- the report at a place, and the port there
@@ -83,12 +83,12 @@ module _ {P : Type 0} (told : P → Option PortStory) (leads_to : P → P → Ty
             } in p))
             ∙ ap length kept.over.all_back);
         strangers = kept.strangers;
-        listed = λ story tells. (kept.reported story tells).listed;
-        answered = λ story tells t cause messages rest listed reads.
-            subst (λ n. IsSessionAnswered story.events s.history n t cause messages) is
-            ((kept.reported story tells).answered s.history (sym all.0) sent t cause messages rest listed reads);
-        given_by = λ story tells. starts_trans s.history r.worker_end.seen story.history counted.compared.seen
-            (kept.whose story tells).later;
+        listed = λ trace tells. (kept.reported trace tells).listed;
+        answered = λ trace tells t cause messages rest listed reads.
+            subst (λ n. IsSessionAnswered trace.events s.history n t cause messages) is
+            ((kept.reported trace tells).answered s.history (sym all.0) sent t cause messages rest listed reads);
+        given_by = λ trace tells. starts_trans s.history r.worker_end.seen trace.history counted.compared.seen
+            (kept.whose trace tells).later;
         spelled = kept.spelled;
       }
 
@@ -135,19 +135,19 @@ module _ {P : Type 0} (told : P → Option PortStory) (leads_to : P → P → Ty
       }
 
 -- the ports are those of the ends, as they were made
-pub ports_at : {P : Type 0} (told : P → Option PortStory) (n : ℕ) (g : Terms) (d : Dialect) (ports : List P) (ends : List WorkerView)
+pub ports_at : {P : Type 0} (told : P → Option PortTrace) (n : ℕ) (g : Terms) (d : Dialect) (ports : List P) (ends : List WorkerView)
     (s : StorageView) → AreMade n g ends s → length ports ≡ n → ArePortsOf told g d ports
     → AreEach (IsPortAt told d) ports ends
 ports_at told n g d ports ends s made long h = (
   long ∙ sym made.0,
   λ w port end at there. subst (IsPortAt told d port) (sym (made.1 w end there)) (record {
-    silent = λ story e. (h w port at story e).3;
-    whose = λ story e. let k = h w port at story e in record {
+    silent = λ trace e. (h w port at trace e).3;
+    whose = λ trace e. let k = h w port at trace e in record {
       worker_is = k.0;
       terms_are = k.1;
-      later = ([], sym k.4 ∙ sym (append-nil story.history));
+      later = ([], sym k.4 ∙ sym (append-nil trace.history));
     };
-    spelled = λ story e. (h w port at story e).2;
+    spelled = λ trace e. (h w port at trace e).2;
   }),
 )
 

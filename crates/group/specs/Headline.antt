@@ -12,13 +12,13 @@ use Rattle.exchange.specs.Beginnings.{StartsWith}
 use Rattle.storage_thread.specs.Keeping.{MayForgetNothing}
 use Rattle.storage_thread.specs.Serving.{IsTimed}
 use Rattle.session_book.specs.declared.causes.EndCause.{EndCause}
-use Rattle.worker_port.specs.Ports.{PortStory, fed}
+use Rattle.worker_port.specs.Ports.{PortTrace, fed}
 use Rattle.worker.specs.Sessions.{cause_of}
 use Rattle.worker.specs.Reports.{AreListed, IsSessionAnswered}
 use Rattle.group.specs.declared.report.GroupWorker.{GroupWorker}
 use Rattle.group.specs.declared.report.GroupReport.{GroupReport}
 
--- so many workers made this legal history, at the moments of this clock; the count stays at the greatest number
+-- this number of workers made this legal history, at the moments of this clock; the count stays at the greatest number
 pub record IsHistoryOf {C : Type 0} (told : C → Option (List ℕ)) (leads_to : C → C → Type 0) (sizes : Sizes)
     (workers : ℕ) (clock after : C) (executed : ℕ) (history : List Answered) : Type 0 where
   pub legal : Legal sizes history
@@ -27,8 +27,9 @@ pub record IsHistoryOf {C : Type 0} (told : C → Option (List ℕ)) (leads_to :
   pub moments : IsTimed (told clock) (told after) history
   pub leads : leads_to clock after
 
--- what holds of worker w, whose port this was: the history has what it sent, once and in order, and its sessions were answered
-pub record IsWorkerOf {P : Type 0} (told : P → Option PortStory) (leads_to : P → P → Type 0) (history : List Answered)
+-- what holds of worker w, whose port this was: the history has what it sent, once and in order, and its sessions were answered.
+-- No answer came that it hadn't asked for. The port still tells if it told before, and keeps its dialect.
+pub record IsWorkerOf {P : Type 0} (told : P → Option PortTrace) (leads_to : P → P → Type 0) (history : List Answered)
     (gathered : Gathered) (port : P) (w : ℕ) (worker : GroupWorker P) : Type 0 where
   pub exactly : asked_posted (worker_share history w) ≡ worker.sent
   pub sent : slice_index gathered.sent w ≡ length worker.sent
@@ -36,18 +37,19 @@ pub record IsWorkerOf {P : Type 0} (told : P → Option PortStory) (leads_to : P
   pub strangers : worker.strangers ≡ 0
   pub leads : leads_to port worker.port
   pub tells : is_some (told worker.port) ≡ is_some (told port)
-  pub listed : (story : PortStory) → told worker.port ≡ Some story
-      → AreListed story.events worker.sent worker.sessions.items worker.unopened
-  pub answered : (story : PortStory) → told worker.port ≡ Some story
+  pub listed : (trace : PortTrace) → told worker.port ≡ Some trace
+      → AreListed trace.events worker.sent worker.sessions.items worker.unopened
+  pub answered : (trace : PortTrace) → told worker.port ≡ Some trace
       → (s : ℕ) (cause : EndCause) (messages : List Message) (rest : List ℕ)
-      → cause_of worker.sessions.items s ≡ Some cause → Reads story.dialect (fed s story.events) messages rest
-      → IsSessionAnswered story.events history w s cause messages
-  pub spelled : (first story : PortStory) → told port ≡ Some first → told worker.port ≡ Some story
-      → story.dialect ≡ first.dialect
-  pub given_by : (story : PortStory) → told worker.port ≡ Some story → StartsWith history story.history
+      → cause_of worker.sessions.items s ≡ Some cause → Reads trace.dialect (fed s trace.events) messages rest
+      → IsSessionAnswered trace.events history w s cause messages
+  pub spelled : (first trace : PortTrace) → told port ≡ Some first → told worker.port ≡ Some trace
+      → trace.dialect ≡ first.dialect
+  pub given_by : (trace : PortTrace) → told worker.port ≡ Some trace → StartsWith history trace.history
 
--- the headline: some history was made, each port's worker was answered in it and no other, and a store that keeps forgot nothing
-pub record IsRun {P C : Type 0} (told : P → Option PortStory) (leads_to : P → P → Type 0)
+-- The headline: there is a history that was made. Each port's worker was answered in it, and no other worker was. For a store that
+-- keeps, some chain of this history forgets nothing, if it stores little and sets no deadline.
+pub record IsRun {P C : Type 0} (told : P → Option PortTrace) (leads_to : P → P → Type 0)
     (clock_told : C → Option (List ℕ)) (clock_leads : C → C → Type 0) (keeps : Type 0) (sizes : Sizes) (ports : List P)
     (clock : C) (report : GroupReport P C) : Type 0 where
   pub history : List Answered

@@ -8,8 +8,8 @@ use Rattle.exchange.specs.Ends.{WorkerView, StorageView, new_worker_view, new_st
 use Rattle.storage_thread.specs.Keeping.{MayForgetNothing}
 use Rattle.storage_thread.specs.Serving.{IsSameExchange}
 use Rattle.storage_thread.specs.declared.serving.StorageReport.{StorageReport}
-use Rattle.worker_port.specs.Ports.{PortStory}
-use Rattle.worker_port.specs.Giving.{IsStoryOf}
+use Rattle.worker_port.specs.Ports.{PortTrace}
+use Rattle.worker_port.specs.Giving.{IsTraceOf}
 use Rattle.worker.specs.declared.report.WorkerReport.{WorkerReport}
 use Rattle.worker.specs.Reports.{IsReported, IsOver}
 use Rattle.group.specs.declared.start.Finished.{Finished}
@@ -17,18 +17,18 @@ use Rattle.group.specs.declared.report.GroupWorker.{GroupWorker}
 use Rattle.group.specs.Headline.{IsHistoryOf}
 
 -- what a worker's thread leaves of the port and the end that it was given
-pub record KeepsWorker {P : Type 0} (told : P → Option PortStory) (leads_to : P → P → Type 0) (port : P)
+pub record KeepsWorker {P : Type 0} (told : P → Option PortTrace) (leads_to : P → P → Type 0) (port : P)
     (end : WorkerView)
     (report : WorkerReport P) : Type 0 where
   pub leads : leads_to port report.port
   pub tells : is_some (told report.port) ≡ is_some (told port)
   pub over : IsOver end report.worker_end
   pub strangers : report.strangers ≡ 0
-  pub reported : (story : PortStory) → told report.port ≡ Some story
-      → IsReported story.dialect story.events report.worker_end report.sessions.items report.unopened
-  pub whose : (story : PortStory) → told report.port ≡ Some story → IsStoryOf story report.worker_end
-  pub spelled : (first story : PortStory) → told port ≡ Some first → told report.port ≡ Some story
-      → story.dialect ≡ first.dialect
+  pub reported : (trace : PortTrace) → told report.port ≡ Some trace
+      → IsReported trace.dialect trace.events report.worker_end report.sessions.items report.unopened
+  pub whose : (trace : PortTrace) → told report.port ≡ Some trace → IsTraceOf trace report.worker_end
+  pub spelled : (first trace : PortTrace) → told port ≡ Some first → told report.port ≡ Some trace
+      → trace.dialect ≡ first.dialect
 
 -- what the storage thread leaves of the clock and the end that it was given, over a store that keeps what it stores where
 -- `keeps` says so
@@ -52,17 +52,17 @@ abbrev pub HasSentNothing : WorkerView → Type 0
 HasSentNothing end = (end.sent ≡ []) × (end.back ≡ []) × (end.said_bye ≡ false) × (end.seen ≡ [])
 
 -- the ports of workers 0, 1 and so on, by these terms and in this dialect, at which nothing has happened yet
-abbrev pub ArePortsOf : {P : Type 0} → (P → Option PortStory) → Terms → Dialect → List P → Type 0
+abbrev pub ArePortsOf : {P : Type 0} → (P → Option PortTrace) → Terms → Dialect → List P → Type 0
 ArePortsOf {P} told terms d ports =
-    (w : ℕ) (port : P) → get_elem? ports w ≡ some port → (story : PortStory) → told port ≡ Some story
-    → (story.worker ≡ w) × (story.terms ≡ terms) × (story.dialect ≡ d) × (story.events ≡ []) × (story.history ≡ [])
+    (w : ℕ) (port : P) → get_elem? ports w ≡ some port → (trace : PortTrace) → told port ≡ Some trace
+    → (trace.worker ≡ w) × (trace.terms ≡ terms) × (trace.dialect ≡ d) × (trace.events ≡ []) × (trace.history ≡ [])
 
 -- the port of this end's worker, at which nothing has happened yet, read in this dialect
-pub record IsPortAt {P : Type 0} (told : P → Option PortStory) (d : Dialect) (port : P)
+pub record IsPortAt {P : Type 0} (told : P → Option PortTrace) (d : Dialect) (port : P)
     (end : WorkerView) : Type 0 where
-  pub silent : (story : PortStory) → told port ≡ Some story → story.events ≡ []
-  pub whose : (story : PortStory) → told port ≡ Some story → IsStoryOf story end
-  pub spelled : (story : PortStory) → told port ≡ Some story → story.dialect ≡ d
+  pub silent : (trace : PortTrace) → told port ≡ Some trace → trace.events ≡ []
+  pub whose : (trace : PortTrace) → told port ≡ Some trace → IsTraceOf trace end
+  pub spelled : (trace : PortTrace) → told port ≡ Some trace → trace.dialect ≡ d
 
 -- two lists of one length, whose elements go together place by place
 abbrev pub AreEach : {A B : Type 0} → (A → B → Type 0) → List A → List B → Type 0
@@ -87,7 +87,7 @@ abbrev pub workers_of : {P : Type 0} → List (WorkerReport P) → List (GroupWo
 workers_of reports = map worker_of reports
 
 -- What all workers' threads left, which were given these ports and the ends of storage's exchange.
-pub record AreJoined {P : Type 0} (told : P → Option PortStory) (leads_to : P → P → Type 0) (terms : Terms)
+pub record AreJoined {P : Type 0} (told : P → Option PortTrace) (leads_to : P → P → Type 0) (terms : Terms)
     (storage : StorageView)
     (ports : List P) (reports : List (WorkerReport P)) : Type 0 where
   pub one_each : length reports ≡ length ports

@@ -92,7 +92,7 @@ struct Room<P> {
     ends: Vec<WorkerEnd>,
 }
 
-/// Room for a group of so many workers.
+/// Room for a group of `count` workers.
 fn make_room<P: Port>(alloc: Global, count: usize) -> Result<Room<P>, GroupFault>
     ensures reports { IfOk result (λ room. (room.reports.items ≡ []) × (count ≤ vec_capacity room.reports)) }
     ensures workers { IfOk result (λ room. (room.workers.items ≡ []) × (count ≤ vec_capacity room.workers)) }

@@ -10,7 +10,7 @@ pub struct Finished<'a, T> {
     pub ran: Option<T>,
 }
 
-/// Waits until it is said whether to begin.
+/// Waits until it is told whether to begin.
 pub fn wait_for_start<'a, R: Wait>(rt: &R, start: &'a OnceLock<bool>) -> OnceToken<'a, bool>
     ensures { result.of ≡ start.now.id }
 {

@@ -80,7 +80,7 @@ module _ (before after : KeysOf) (moves : List Move) (m : Move) (rest : List Mov
   pub key_held : place_at h.keys t key ≡ Some m.source
   key_held = at_held h.keys t key m.source h.index held_source own
 
-  -- the target has the key behind the moves
+  -- the target has the key after the moves
   target_key : after target ≡ Some key
   target_key =
       subst (λ (o : Option Place). IfSome o (λ place. after place ≡ h.keys m.source)) is
@@ -119,12 +119,12 @@ module _ (before after : KeysOf) (moves : List Move) (m : Move) (rest : List Mov
       (All-head (λ (l : Move). IfSome l.target (IsInLayout t.layout)) m rest h.can.inside)
 
   module _ (u : Table) (put : IsMap (rekeyed h.keys target key) u (map.insert (places h.keys t) key target)) where
-    -- where a key is behind the move
+    -- where a key is after the move
     place_put : (q : List ℕ) → place_at (rekeyed h.keys target key) u q
         ≡ cond (bytes_eq q key) (Some target) (place_at h.keys t q)
     place_put q = ap (λ ps. map.get ps q) put.places_are ∙ get-insert (places h.keys t) key target q
 
-    -- a place that is held behind the move is the target, or was held by another key
+    -- a place that is held after the move is the target, or was held by another key
     put_cases : (p : Place) → HasPlace u p → (p ≡ target)
         ⊎ ((q : List ℕ) × (q ≢ key) × (place_at h.keys t q ≡ Some p) × (rekeyed h.keys target key p ≡ Some q))
     put_cases p held =

@@ -17,12 +17,12 @@ use Rattle.segments.proofs.MovedPlaces.{merged_once, in_numbers}
 use Rattle.index.specs.Relocating.{AreInTurn}
 
 -- One item stands before another: at lower bytes where both are in one segment; and none stands in the first segment
--- behind one that doesn't.
+-- after one that doesn't.
 pub record IsBefore (first : ℕ) (s r : Standing) : Type 0 where
   pub below : s.place.segment ≡ r.place.segment → s.place.offset + size_of_item s.item ≤ r.place.offset
   pub led : r.place.segment ≡ first → s.place.segment ≡ first
 
--- each stands before those behind it
+-- each stands before those after it
 abbrev pub AreLaid : ℕ → List Standing → Type 0
 AreLaid first [] = ⊤
 AreLaid first (s ∷ ss) = All (IsBefore first s) ss × AreLaid first ss
@@ -37,7 +37,7 @@ at_offset n off (i ∷ items) =
     (standing_from n (off + size_of_item i) items) (omega arith)
     (λ k d lt. let h = at_offset n (off + size_of_item i) items k d lt in omega arith)
 
--- the items of a segment stand each before those behind it
+-- the items of a segment stand each before those after it
 segment_laid : (first n off : ℕ) (items : List Item) → AreLaid first (standing_from n off items)
 segment_laid first n off [] = tt
 segment_laid first n off (i ∷ items) = (
@@ -48,7 +48,7 @@ segment_laid first n off (i ∷ items) = (
   segment_laid first n (off + size_of_item i) items,
 )
 
--- items that stand each before those behind it still do where some are left out
+-- items that stand each before those after it still do where some are left out
 filter_laid : (first : ℕ) (p : Standing → Bool) (ss : List Standing) → AreLaid first ss → AreLaid first (filter p ss)
 filter_laid first p [] h = tt
 filter_laid first p (s ∷ ss) h =

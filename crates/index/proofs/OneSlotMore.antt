@@ -25,7 +25,7 @@ use Rattle.index.proofs.RowDistances.{distance_cases}
 true_false : true ≡ false → ⊥
 true_false e = cc
 
--- the row with an empty slot behind the others
+-- the row with an empty slot after the others
 abbrev pub longer : List Slot → List Slot
 longer slots = slots ++ empty_slot ∷ []
 

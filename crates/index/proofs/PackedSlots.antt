@@ -19,7 +19,7 @@ limit_whole l =
       | inr y ↦ rw y (omega arith)
     ]
 
--- where m goes into k behind a, a number below m that is added to a gives one below k
+-- where m goes into k after a, a number below m that is added to a gives one below k
 below : (a b m k : ℕ) → a + m ≤ k → b < m → a + b < k
 below a b m k h lt = omega (arith, h, lt)
 

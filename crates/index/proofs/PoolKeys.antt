@@ -12,7 +12,7 @@ use Rattle.segments.specs.Changes.{with_segment, with_item, IsAddedToTail, IsAdd
 use Rattle.segments.proofs.WalkLemmas.{item_behind}
 use Rattle.index.specs.Keys.{key_at, IsKeyAdded}
 
--- an item stays where it is when one is put behind all
+-- an item stays where it is when one is put after all
 item_at-append : (items : List Item) (offset : ℕ) (more : List Item) → IsSome (item_at items offset)
     → item_at (items ++ more) offset ≡ item_at items offset
 item_at-append [] offset more some = cc
@@ -50,7 +50,7 @@ written p n s r = get_or-set_same p.segments n s None r
 others : (p : PoolState) (n m : ℕ) (s : Option Used) → m ≢ n → segment_at (with_segment p n s) m ≡ segment_at p m
 others p n m s differ = get_or-set_other p.segments n m s None differ
 
--- where an item goes behind those of its bucket's tail, its place gets its key, and every other place with a key keeps it
+-- where an item goes after those of its bucket's tail, its place gets its key, and every other place with a key keeps it
 to_tail : (p after : PoolState) (bucket t : ℕ) (i : Item) (place : Place) → IsPool p
     → IsAddedToTail p bucket t i after place → IsKeyAdded p after place i.key
 unfolding key_at

@@ -1,4 +1,4 @@
--- Distances in a row whose first slot is behind its last.
+-- Distances in a row whose first slot is after its last.
 use Rattle.std.proofs.Common.{◌≡◌, ◌≢◌, ℕ, ◌+◌, ◌-◌, ◌<◌, ◌≤◌, refl, inl, inr, ◌⊎◌, arith}
 use Rattle.std.proofs.lemmas.Bool.Decides.{leb_tells, eqb_tells}
 use Rattle.index.specs.Slots.{distance, behind}
@@ -10,7 +10,7 @@ unfolding distance
 distance_cases n from to =
     elim (leb_tells from to) [ inl y ↦ inl (y.1, rw y.0 refl) | inr y ↦ inr (y.1, rw y.0 refl) ]
 
--- behind the last slot comes the first one, and behind any other slot the one with the next number
+-- after the last slot comes the first one, and after any other slot the one with the next number
 pub behind_cases : (n i : ℕ) → ((i + 1 ≡ n) × (behind n i ≡ 0)) ⊎ ((i + 1 ≢ n) × (behind n i ≡ i + 1))
 behind_cases n i = elim (eqb_tells (i + 1) n) [ inl y ↦ inl (y.1, rw y.0 refl) | inr y ↦ inr (y.1, rw y.0 refl) ]
 
@@ -54,7 +54,7 @@ distance_behind n from at far f a r lt =
       ]
     ]
 
--- the slot behind a slot of the row is one of the row
+-- the slot after a slot of the row is one of the row
 pub behind_below : (n at : ℕ) → at < n → behind n at < n
 behind_below n at a = elim (behind_cases n at) [ inl b ↦ omega (arith, b) | inr b ↦ omega (arith, b) ]
 
@@ -109,7 +109,7 @@ distance_within n a b c x y z le =
 pub distance_apart : (n a b : ℕ) → a < n → b < n → b ≢ a → 0 < distance n a b
 distance_apart n a b x y differ = elim (distance_cases n a b) [ inl p ↦ omega (arith, p) | inr p ↦ omega (arith, p) ]
 
--- a slot is one further from a slot than from the one behind that
+-- a slot is one further from a slot than from the one after that
 pub distance_next : (n at x : ℕ) → at < n → x < n → x ≢ at
     → distance n at x ≡ distance n (behind n at) x + 1
 distance_next n at x a i differ =
@@ -124,7 +124,7 @@ distance_next n at x a i differ =
       ]
     ]
 
--- a slot is the last one from the slot behind it on
+-- a slot is the last one from the slot after it on
 pub distance_last : (n at : ℕ) → at < n → distance n (behind n at) at + 1 ≡ n
 distance_last n at a =
     elim (behind_cases n at) [

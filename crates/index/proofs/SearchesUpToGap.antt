@@ -104,7 +104,7 @@ way_keeps P slots from at f less way used passed here x i upto =
       | inr y ↦ subst P (sym y) here
     ]
 
--- a search that hasn't come to a slot is at most as far as it behind its next step, too
+-- a search that hasn't come to a slot is at most as far as it after its next step, too
 pub nears : (n from at end : ℕ) → from < n → at < n → end < n → distance n from at ≤ distance n from end → at ≢ end
     → distance n from (behind n at) ≤ distance n from end
 nears n from at end f a e le differ =

@@ -22,7 +22,7 @@ use Rattle.index.proofs.SlotsAsMap.{Stands, removed_places, stands_once}
 pub true_false : true ≡ false → ⊥
 true_false e = cc
 
--- a place that is found, but for the hole on its way, where it stands at or behind the slot that is looked at next
+-- a place that is found, but for the hole on its way, where it stands at or after the slot that is looked at next
 pub record IsNearlyFound (h : Hashing) (keys : KeysOf) (n : ℕ) (slots : List Slot) (hole next i : ℕ)
     (key : List ℕ) : Type 0 where
   pub of_key : keys (place_of (slot_at slots i)) ≡ Some key
@@ -89,7 +89,7 @@ nearly h keys row hole next key r ahead used f =
 not_at : (slots : List Slot) (i at : ℕ) → is_used (slot_at slots i) ≡ true → is_used (slot_at slots at) ≡ false → i ≢ at
 not_at slots i at u e same = true_false (sym u ∙ ap (λ (k : ℕ). is_used (slot_at slots k)) same ∙ e)
 
--- how many slots are used behind a write
+-- how many slots are used after a write
 set_count : (slots : List Slot) (at : ℕ) (s : Slot) → at < length slots
     → used_in (slice_set slots at s) + cond (is_used (slot_at slots at)) 1 0 ≡ used_in slots + cond (is_used s) 1 0
 set_count slots at s r = sum_by-set (λ (x : Slot). cond (is_used x) 1 0) slots at s empty_slot r
@@ -501,7 +501,7 @@ module _ (h : Hashing) (keys : KeysOf) (old : List Slot) (in_row : (k : List ℕ
 
   module _ (slots : List Slot) (start hole next : ℕ) (key : List ℕ) (c : IsShifting h keys old slots start hole next key)
       (ended : is_used (slot_at slots next) ≡ false) where
-    -- no place is found through the hole, since behind it there is an empty slot
+    -- no place is found through the hole, since after it there is an empty slot
     none_through : (i : ℕ) (k : List ℕ) → i < length old → is_used (slot_at slots i) ≡ true
         → IsNearlyFound h keys (length old) slots hole next i k
         → distance (length old) (h.home k) hole < distance (length old) (h.home k) i → ⊥

@@ -26,7 +26,7 @@ pub zero_empty : (l : Layout) → slot_of l 0 ≡ empty_slot
 unfolding slot_of
 zero_empty l = refl
 
--- a 0 behind the numbers is an empty slot behind the slots
+-- a 0 after the numbers is an empty slot after the slots
 pub zero_behind : (l : Layout) (packed : List ℕ) → map (slot_of l) (packed ++ 0 ∷ []) ≡ map (slot_of l) packed ++ empty_slot ∷ []
 zero_behind l packed = map-append (slot_of l) packed (0 ∷ []) ∙ ap (λ (s : Slot). map (slot_of l) packed ++ s ∷ []) (zero_empty l)
 

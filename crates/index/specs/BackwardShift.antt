@@ -1,4 +1,4 @@
--- How a slot is emptied by backward shift: each place behind it is still found.
+-- How a slot is emptied by backward shift: each place after it is still found.
 use Rattle.std.specs.Prelude.{◌≡◌, ℕ, ◌+◌, List}
 use Rattle.std.specs.FinMap as map
 use Rattle.index.specs.declared.slot.Slot.{Slot}

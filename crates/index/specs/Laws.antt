@@ -2,7 +2,7 @@
 use Rattle.std.specs.Prelude.{◌≡◌, ◌≤◌, List, length, Contains}
 use Rattle.segments.specs.declared.place.Place.{Place}
 use Rattle.segments.specs.Pools.{PoolState, Plan, IsPool, Liveness}
-use Rattle.segments.specs.Merges.{IsPlan, planned, carried_out}
+use Rattle.segments.specs.Merges.{IsPlan, with_merge_planned, carried_out}
 use Rattle.index.specs.Keys.{KeysOf, key_at}
 use Rattle.index.specs.Relocating.{CanRelocate, HoldsLive, keys_behind}
 use Rattle.index.specs.Layouts.{IsLayoutOf}
@@ -25,6 +25,6 @@ EachPlaceOnce =
 abbrev pub PlansCanRelocate : Type 0
 PlansCanRelocate =
     (lives : Liveness) (p : PoolState) (plan : Plan) (t : Table) → IsPool p → IsPlan lives p plan
-    → IsPool (carried_out (planned p plan) plan)
+    → IsPool (carried_out (with_merge_planned p plan) plan)
     → IsLayoutOf p.sizes t.layout → IsIndex (key_at p) t → HoldsLive lives p t
-    → CanRelocate (key_at (planned p plan)) (keys_behind (planned p plan)) t plan.moves
+    → CanRelocate (key_at (with_merge_planned p plan)) (keys_behind (with_merge_planned p plan)) t plan.moves

@@ -31,7 +31,7 @@ AreInTurn (m ∷ moves) = All (λ l. (m.source ≢ l.source) × (m.target ≢ So
 abbrev pub forget_lost : List Move → Place → Option Place
 forget_lost moves p = if list_any (λ m. not (is_some m.target) && same_place m.source p) moves then None else Some p
 
--- the keys of the places behind the merge that is planned
+-- the keys of the places after the merge that is planned
 abbrev pub keys_behind : PoolState → KeysOf
 keys_behind p = option_map_or (λ plan. key_at (carried_out p plan)) p.plan (key_at p)
 

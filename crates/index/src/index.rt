@@ -5,7 +5,7 @@ ghost use Rattle.std.specs.Prelude.{◌⊎◌, ◌∷◌, [], IfSome, IsSome};
 ghost use Rattle.std.specs.FinMap as map;
 ghost use Rattle.segments.specs.declared.place.Place.{Place as Spot};
 ghost use Rattle.segments.specs.Pools.{item_in};
-ghost use Rattle.index.specs.Keys.{KeysOf, key_at, seeded};
+ghost use Rattle.index.specs.Keys.{KeysOf, key_at, seeded_hasher};
 ghost use Rattle.index.specs.Slots.{used_in, empty_slot};
 ghost use Rattle.index.specs.Layouts.{IsLayout, IsInLayout};
 ghost use Rattle.index.specs.Relocating.{IsRelocated, forget_place};
@@ -65,7 +65,7 @@ impl Index {
         requires layout { IsLayout layout }
         ensures room { IfOk result (λ index. index.room ≡ count) }
         ensures slots { IfOk result (λ index. index.slots ≡ empty_slot ∷ []) }
-        ensures seed { IfOk result (λ index. index.hasher ≡ seeded seed) }
+        ensures seed { IfOk result (λ index. index.hasher ≡ seeded_hasher seed) }
         ensures map { IfOk result (λ index. (keys : KeysOf) → IsMap keys index map.empty) }
         ensures layout { IfOk result (λ index. index.layout ≡ layout) }
     {
@@ -158,7 +158,8 @@ impl Index {
     pub(crate) fn replace(&mut self, key: &[u8], source: Place, target: Place)
         requires target { IsInLayout self.old.layout target }
         requires there { (keys : KeysOf) × IsIndex keys self.old × (place_at keys self.old key.now ≡ Some source) }
-        ensures map { (before after : KeysOf) → IsIndex before self.old → place_at before self.old key.now ≡ Some source
+        ensures map { (before after : KeysOf) → IsIndex before self.old
+            → place_at before self.old key.now ≡ Some source
             → after target ≡ Some key.now
             → ((p : Spot) → HasPlace self.old p → p ≢ source → after p ≡ before p)
             → IsMap after self.new (map.insert (places before self.old) key.now target) }

@@ -95,7 +95,8 @@ impl Slots {
     fn set_packed(&mut self, at: usize, packed: u64)
         requires at { at < length self.old.slots }
         requires limit { packed < packed_limit self.old.layout }
-        ensures { self.new ≡ record self.old { slots = slice_set self.old.slots at (slot_of self.old.layout packed) } }
+        ensures { self.new
+            ≡ record self.old { slots = slice_set self.old.slots at (slot_of self.old.layout packed) } }
     {
         if self.layout.is_narrow() {
             self.narrow[at] = packed as u32;

@@ -15,7 +15,7 @@ fn next(state: u64) -> u64 {
         .wrapping_add(1_442_695_040_888_963_407)
 }
 
-/// One write or delete of a key by chance, of 40 keys.
+/// Writes or deletes a random one of 40 keys.
 fn check_step(
     rt: &impl Abort,
     shelf: &mut Shelf,
@@ -63,7 +63,7 @@ fn check_steps(
 }
 
 /// With up to 40 keys in a table that grows to at most 120 slots: keys meet, clusters of used slots go over the end,
-/// and many deletes have places behind them.
+/// and many deletes have places after them.
 #[test]
 fn small_table(rt: HostRuntime) -> Result<(), Fail> {
     let geometry = Geometry::new(65_536, 8)?;
@@ -82,7 +82,7 @@ fn agree(shelf: &Shelf, map: &BTreeMap<u64, u64>, keys: u64) -> bool {
     true
 }
 
-/// One write or delete of a key by chance: whether the shelf did the same as the map.
+/// Writes or deletes a random key, and answers whether the shelf did the same as the map.
 fn step(
     shelf: &mut Shelf,
     map: &mut BTreeMap<u64, u64>,
@@ -99,7 +99,7 @@ fn step(
     }
 }
 
-/// `steps` writes and deletes by chance of 1,500 keys, all of which are compared with a map at each 64th.
+/// `steps` random writes and deletes of 1,500 keys, all of which are compared with a map at each 64th.
 fn chance(
     shelf: &mut Shelf,
     map: &mut BTreeMap<u64, u64>,
@@ -141,7 +141,7 @@ fn through_doublings(rt: HostRuntime) -> Result<(), Fail> {
     check_doublings(&rt, &mut shelf, &mut map)
 }
 
-/// Writes a key with five others behind it.
+/// Writes a key with five others after it.
 fn write_six(
     shelf: &mut Shelf,
     map: &mut BTreeMap<u64, u64>,
@@ -155,7 +155,7 @@ fn write_six(
     Ok(())
 }
 
-/// Writes the keys below a count whose hash leaves this home of 1,024, and behind each five others. Answers how many
+/// Writes the keys below a count whose hash leaves this home of 1,024, and after each five others. Answers how many
 /// have that home.
 fn crowd(shelf: &mut Shelf, map: &mut BTreeMap<u64, u64>, home: u64) -> Result<u64, AllocError> {
     let mut crowded: u64 = 0;
@@ -224,7 +224,7 @@ fn check_read_ahead(rt: &impl Abort, shelf: &mut Shelf) {
     check_same(rt, shelf.read_ahead(b"beta"), 0, "beta");
 }
 
-/// An item begins with its cas number, and behind the only one nothing stands.
+/// An item begins with its cas number, and after the only one nothing stands.
 #[test]
 fn a_key_is_read_ahead(rt: HostRuntime) -> Result<(), Fail> {
     let geometry = Geometry::new(65_536, 8)?;

@@ -3,7 +3,7 @@
 use std::fmt::Debug;
 use std::process::Abort;
 
-/// The values are the same, or it is said at which place they aren't.
+/// Checks that the values are the same, and else names the place at which they aren't.
 pub(crate) fn check_same<T: Copy + PartialEq + Debug, P: Copy + Debug>(
     rt: &impl Abort,
     given: T,

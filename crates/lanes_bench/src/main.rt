@@ -45,7 +45,7 @@ fn number<R: Env + AllocGlobal>(rt: &R, place: usize) -> Option<u64> {
     word(rt, place)?.as_str().parse::<u64>().ok()
 }
 
-/// So many requests of all workers together: how many a second, or 0 where memory is wanting or the clock doesn't say.
+/// Runs `requests` requests of all workers together. Answers how many a second, or 0 if out of memory or the clock fails.
 fn per_second<R: Threads + Wait + Clock + Sync + AllocGlobal>(
     rt: &R,
     way: Way,
@@ -78,7 +78,7 @@ fn a_second(requests: u64, elapsed: Duration) -> u64 {
     requests.saturating_mul(1_000_000) / micros
 }
 
-/// Lets the storage thread wait so many seconds for a worker that posts nothing.
+/// Lets the storage thread wait `seconds` seconds for a worker that posts nothing.
 fn idle<R: Threads + Wait + Clock + Sync + AllocGlobal>(rt: &R, seconds: u64) {
     let load = Workload {
         each: 0,
@@ -96,7 +96,7 @@ fn is_idle<R: Env + AllocGlobal>(rt: &R) -> bool {
     }
 }
 
-/// Prints the figures of runs with so many requests.
+/// Prints the figures of runs with `requests` requests.
 fn measure<R: Threads + Wait + Clock + Sync + AllocGlobal + Eprint>(rt: &R, requests: u64) {
     for workers in [1, 2, 4] {
         for window in [1, 16, 64] {

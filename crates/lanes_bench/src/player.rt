@@ -96,7 +96,7 @@ impl Player {
         }
     }
 
-    /// Keeps the bytes of an answer. Where memory is wanting those kept so far are dropped.
+    /// Keeps the bytes of an answer. Out of memory, it drops those kept so far.
     fn keep(&mut self, reply: &mut Reply) {
         if show_reply(reply, &mut self.answers).is_err() {
             self.answers.clear();

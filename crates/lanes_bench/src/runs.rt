@@ -186,7 +186,7 @@ fn timed<R: Threads + Wait + time::Clock + Sync>(
     Run { players, elapsed }
 }
 
-/// The load of so many workers. None where memory is wanting.
+/// Runs the load with `workers` workers. None if out of memory.
 pub(crate) fn run_load<R: Threads + Wait + time::Clock + Sync>(
     rt: &R,
     alloc: Global,

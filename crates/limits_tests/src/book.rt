@@ -20,7 +20,7 @@ const PIECES: [(usize, usize, Received); 6] = [
     (262_144, 1, Received::Held),
 ];
 
-/// Sends so many bytes without a line end.
+/// Sends `length` bytes without a line end.
 fn send_piece(alloc: Global, book: &mut Book, length: usize) -> Result<Received, Fail> {
     let piece = vec![in alloc; b'k'; length]?;
     let piece = Bytes::copy_from_slice(alloc, piece.as_slice())?;
@@ -174,10 +174,10 @@ fn answers_are_kept_while_8_mb_wait(rt: HostRuntime) -> Result<(), Fail> {
     check_waiting(&rt, rt.alloc(), &mut book)
 }
 
-/// How many requests are unsettled, over so many sessions, when no further one is given.
+/// Over these numbers of sessions, how many requests are unsettled when no further one is given.
 const SESSIONS: [u64; 3] = [1, 2, 64];
 
-/// How many of 130 requests are given, where so many sessions send them.
+/// How many of 130 requests are given, where `sessions` sessions send them.
 fn count_asked(book: &mut Book, sessions: u64) -> Result<u64, Fail> {
     let mut asked = 0u64;
     for turn in 0..130u64 {

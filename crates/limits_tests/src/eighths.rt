@@ -1,5 +1,5 @@
-//! That a worker is told of its answers at each eighth: storage that tells it of them only once it has answered all that it
-//! saw is found out.
+//! Storage tells a worker of its answers at each eighth. The test finds storage that tells them only once it has answered all
+//! that it saw.
 
 use bytes::Bytes;
 use engine::PlainStore;
@@ -19,10 +19,10 @@ use worker_port::{Gone, Port, PortEvent, ToldHistory};
 /// How many requests come in one piece. Storage sees all of them at once.
 const REQUESTS: u64 = 24;
 
-/// So many answers are told together at most.
+/// The most answers that are told together.
 const TOLD_TOGETHER: u64 = 8;
 
-/// So long the clock waits for answers to be taken.
+/// How long the clock waits for answers to be taken, in milliseconds.
 const PATIENCE_MILLIS: u64 = 4000;
 
 /// Lets each request pass, and counts the answers that the worker took.
@@ -33,7 +33,7 @@ struct TakenAnswers {
 }
 
 impl TakenAnswers {
-    /// Waits until so many answers were taken, or gives up.
+    /// Waits until `wanted` answers were taken, or gives up.
     fn wait_for<R: Clock>(&self, rt: &R, wanted: u64) {
         for _ in 0..PATIENCE_MILLIS {
             if self.taken.load(Ordering::SeqCst) >= wanted {

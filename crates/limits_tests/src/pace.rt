@@ -1,6 +1,8 @@
 //! Requests that come one at a time: a worker that doesn't wake a storage thread that has parked is seen, and storage that
 //! doesn't wake a worker that has.
 
+ghost use Rattle.std.specs.Prelude.{◌≡◌, [], Some, IsSome};
+
 use crate::runs::SteadyClock;
 use bytes::Bytes;
 use engine::PlainStore;
@@ -52,7 +54,7 @@ impl<R: Clock + Drop> Moments for SlowClock<R> {
     }
 }
 
-/// Opens session 1, sends it a request so long after the one before was answered, and ends behind the last answer.
+/// Opens session 1, sends it a request so long after the one before was answered, and ends after the last answer.
 #[derive(Drop)]
 struct OneAtATime<R: Drop> {
     rt: R,
@@ -108,6 +110,7 @@ fn run<R, C>(rt: &R, alloc: Global, pause_millis: u64, clock: C) -> (u64, Durati
 where
     R: Abort + Threads + Wait + Clock + Sync + Send + Copy + Drop,
     C: Moments + Send,
+    requires unasked { IsSome (C.start clock) → C.told clock ≡ Some [] }
 {
     let port = OneAtATime {
         rt: *rt,

@@ -1,8 +1,8 @@
 //! What a port plays while its first session is paused.
 
 ghost use Rattle.std.specs.Prelude.{◌≡◌, [], Some, true};
-ghost use Rattle.worker_port.specs.Ports.{PortStory, is_open};
-ghost use Rattle.script.specs.States.{story_told};
+ghost use Rattle.worker_port.specs.Ports.{PortTrace, is_open};
+ghost use Rattle.script.specs.States.{trace_told};
 
 use bytes::Bytes;
 use proto::{Dialect, Geometry};
@@ -26,7 +26,7 @@ fn is_next(rt: &impl Abort, port: &mut ScriptPort, wanted: &str) {
 
 /// A port at which session 1 was opened, and nothing else has happened.
 fn with_session_1(rt: &impl Abort, alloc: Global, events: Vec<ScriptEvent>) -> ScriptPort
-    ensures { (story : PortStory) → story_told result ≡ Some story → is_open 1 story.events ≡ true }
+    ensures { (trace : PortTrace) → trace_told result ≡ Some trace → is_open 1 trace.events ≡ true }
 {
     let geometry = Geometry::new(65_536, 64).expect(rt, "a geometry");
     let mut port = ScriptPort::new(alloc, geometry, Dialect::Strict, 0, events);

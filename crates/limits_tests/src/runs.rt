@@ -65,7 +65,7 @@ fn events_of<R: Abort>(rt: &R, alloc: Global, script: &[u8]) -> WorkerScript {
     scripts.pop().expect(rt, "a worker")
 }
 
-/// What so many sessions of a script are given each, over a store of these sizes.
+/// What each of `sessions` sessions of a script is given, over a store of these sizes.
 #[derive(Clone, Copy)]
 struct Case<'a> {
     geometry: Geometry,
@@ -126,7 +126,7 @@ fn check_worker<R: Abort + Threads + Wait + time::Clock + Copy + Drop + Send + S
     check_report(rt, &run_script(rt, alloc, case, faults), case);
 }
 
-/// So many sessions send what the talk says and are given what it says: by the plain program; by a worker, in at most
+/// Each of `sessions` sessions sends what the talk says and is given what it says: by the plain program; by a worker, in at most
 /// as many gives as there are lines; and by a worker whose port accepts little at once.
 fn check_run<R: Abort + Threads + Wait + time::Clock + Copy + Drop + Send + Sync + 'static>(
     rt: &R,

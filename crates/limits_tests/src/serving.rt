@@ -5,7 +5,7 @@ ghost use Rattle.proto.specs.declared.dialect.Dialect.TheVariants.{Strict};
 ghost use Rattle.proto.specs.Cache.{empty_cache};
 ghost use Rattle.engine.specs.PlainState.{plain_sizes, plain_cache, plain_moment};
 ghost use Rattle.storage_thread.specs.Serving.{IsUnused};
-ghost use Rattle.worker_port.specs.Ports.{PortStory};
+ghost use Rattle.worker_port.specs.Ports.{PortTrace};
 ghost use Rattle.worker_port.specs.Giving.{by_any_clock};
 
 use crate::runs::SteadyClock;
@@ -53,10 +53,10 @@ where
     R: Abort + Threads + Wait + time::Clock + Copy + Drop + Send + Sync + 'static,
     P: Port,
     G: Gate,
-    requires spelled { (story : PortStory) → P.told port ≡ Some story → story.dialect ≡ Strict }
-    requires silent { (story : PortStory) → P.told port ≡ Some story → story.events ≡ [] }
-    requires whose { (story : PortStory) → P.told port ≡ Some story
-        → (story.worker ≡ 0) × (story.terms ≡ by_any_clock geometry) × (story.history ≡ []) }
+    requires spelled { (trace : PortTrace) → P.told port ≡ Some trace → trace.dialect ≡ Strict }
+    requires silent { (trace : PortTrace) → P.told port ≡ Some trace → trace.events ≡ [] }
+    requires whose { (trace : PortTrace) → P.told port ≡ Some trace
+        → (trace.worker ≡ 0) × (trace.terms ≡ by_any_clock geometry) × (trace.history ≡ []) }
 {
     let handle = *rt;
     let signals = StorageSignals::new(alloc, FoldHasher::default(), 1, None).expect(rt, "memory");

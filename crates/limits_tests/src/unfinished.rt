@@ -24,9 +24,9 @@ enum Step {
     Open(u64),
     Send(u64, Bytes),
     Gone(u64),
-    /// Goes on once so many bytes were offered to session 1 at once.
+    /// Goes on once this number of bytes was offered to session 1 at once.
     UntilOffered(usize),
-    /// Goes on once so many bytes were accepted, over all sessions.
+    /// Goes on once this number of bytes was accepted, over all sessions.
     UntilGiven(usize),
     LetAccept,
 }
@@ -162,7 +162,7 @@ impl Gate for CountingGate {
     }
 }
 
-/// Steps that are added one behind the other.
+/// Steps that are added one after the other.
 #[derive(Drop)]
 struct Steps<R: Abort + Copy + Drop> {
     rt: R,
@@ -191,7 +191,7 @@ impl<R: Abort + Copy + Drop> Steps<R> {
     }
 }
 
-/// So many lines that ask for a missing key, so many times each.
+/// `lines` lines that ask for a missing key, `keys` times each.
 fn lines_of<R: Abort>(rt: &R, alloc: Global, lines: usize, keys: usize) -> Vec<u8> {
     let mut bytes = Vec::new(alloc);
     for _ in 0..lines {
@@ -213,10 +213,10 @@ const KEYS: [(usize, usize, u64); 7] = [
     (59, 100, 14),
     (383, 10, 3),
     (384, 10, 2),
-    (1021, 8, 2),
+    (1021, 8, 1),
 ];
 
-/// Two pieces of lines with so many keys each, the second once all of the first was answered.
+/// Two pieces of lines with `keys` keys each, the second once all of the first was answered.
 fn check_keys<R>(rt: &R, alloc: Global, keys: usize, lines: usize, wanted: u64)
 where
     R: Abort + Threads + Wait + Clock + Copy + Drop + Send + Sync + 'static,
@@ -249,11 +249,11 @@ enum Ending {
     Goes,
 }
 
-/// The bytes of a value, how many keys ask for it in each of three lines, how many lines of 5 bytes are answered behind
+/// The bytes of a value, how many keys ask for it in each of three lines, how many lines of 5 bytes are answered after
 /// them, what waits then, and how many requests of another session are on their way at most while it does.
 type Row = (usize, usize, usize, usize, u64);
 
-/// At 64 MiB, and one byte behind it.
+/// At 64 MiB, and one byte above it.
 const OUTPUTS: [Row; 2] = [
     (103_543, 216, 5, 67_108_864, 20),
     (127_080, 176, 10, 67_108_865, 1),

@@ -16,7 +16,7 @@ found_last : (l : List ℤ) (y : ℤ) → slice_get (l ++ y ∷ []) (length l) �
 found_last [] y = refl
 found_last (z ∷ l) y = found_last l y
 
--- a socket behind the others changes no other session's
+-- a socket after the others changes no other session's
 more_at : (l : List ℤ) (k : ℕ) (y : ℤ) (n : Option Seen) → is_some n ≡ true → slice_get l k ≡ socket_of n
     → slice_get (l ++ y ∷ []) k ≡ socket_of n
 more_at l k y None some h = absurd (both_ways false refl some)

@@ -24,7 +24,8 @@ pub record At (now : Option Seen) (f : PortFacts) : Type 0 where
 abbrev no_facts : PortFacts
 no_facts = record { opened = false; over = false; gone = false; shut = false; fed = []; given = [] }
 
-at_each : (streams : ℕ → Option Seen) (last : ℕ) (l : List PortRecord) (e : Bool) → Ties streams last l e → (s : ℕ) → At (streams s) (port_facts l s)
+at_each : (streams : ℕ → Option Seen) (last : ℕ) (l : List PortRecord) (e : Bool) → Ties streams last l e
+    → (s : ℕ) → At (streams s) (port_facts l s)
 at_each streams last l e t s = record { opens = t.0 s; fed = λ h. (t.1 s h).0; given = λ h. (t.1 s h).1; over = λ h. (t.1 s h).2 }
 
 behind_facts : (last : ℕ) (l : List PortRecord) → NoneBehind last l → (s : ℕ) → last < s → port_facts l s ≡ no_facts
@@ -47,7 +48,7 @@ ties_from streams last l e a n h count = (
   count,
 )
 
--- a number that is is_open_now isn't behind the last
+-- a number that is is_open_now isn't after the last
 not_behind : (streams : ℕ → Option Seen) (last : ℕ) (l : List PortRecord) (e : Bool) → Ties streams last l e → (s : ℕ)
     → is_open s l ≡ true → last < s → ⊥
 not_behind streams last l e t s o b =
@@ -77,8 +78,8 @@ module _ (streams next : ℕ → Option Seen) (last : ℕ) (l : List PortRecord)
   behind_case after o h n le ne apart false is = elsewhere l x o (apart is) ∙ n (omega arith)
 
   pub ties_more : (after : ℕ) → IsSet s now streams next → ((o : ℕ) → nat_eq s o ≡ false → about o x ≡ false)
-      → last ≤ after → (after < s → ⊥) → is_in Ended (l ++ x ∷ []) ≡ e → opened_count (l ++ x ∷ []) ≡ after → At now (port_facts (l ++ x ∷ []) s)
-      → (f : Bool) → Ties streams last l f → Ties next after (l ++ x ∷ []) e
+      → last ≤ after → (after < s → ⊥) → is_in Ended (l ++ x ∷ []) ≡ e → opened_count (l ++ x ∷ []) ≡ after
+      → At now (port_facts (l ++ x ∷ []) s) → (f : Bool) → Ties streams last l f → Ties next after (l ++ x ∷ []) e
   ties_more after set apart le in_range ends count here f t =
       ties_from next after (l ++ x ∷ []) e (λ o. at_case o (set o) (apart o) here (at_each streams last l f t o) (nat_eq s o) refl)
       (λ o h. behind_case after o h (λ b. behind_facts last l t.2 o b) le (λ is. in_range (subst (λ (k : ℕ). after < k) (sym is) h)) (apart o)
@@ -96,15 +97,30 @@ at_opened socket f n = record {
 }
 
 at_fed : (now : Option Seen) (f : PortFacts) (b : List ℕ) → At now f → At (option_map (then_received b) now) (record f { fed = f.fed ++ b })
-at_fed None f b a = record { opens = a.opens; fed = λ h. absurd (both_ways false refl h); given = λ h. absurd (both_ways false refl h); over = λ h. absurd (both_ways false refl h) }
+at_fed None f b a = record {
+  opens = a.opens;
+  fed = λ h. absurd (both_ways false refl h);
+  given = λ h. absurd (both_ways false refl h);
+  over = λ h. absurd (both_ways false refl h);
+}
 at_fed (Some x) f b a = record { opens = a.opens; fed = λ h. ap (λ (y : List ℕ). y ++ b) (a.fed h); given = a.given; over = a.over }
 
 at_given : (now : Option Seen) (f : PortFacts) (b : List ℕ) → At now f → At (option_map (then_sent b) now) (record f { given = f.given ++ b })
-at_given None f b a = record { opens = a.opens; fed = λ h. absurd (both_ways false refl h); given = λ h. absurd (both_ways false refl h); over = λ h. absurd (both_ways false refl h) }
+at_given None f b a = record {
+  opens = a.opens;
+  fed = λ h. absurd (both_ways false refl h);
+  given = λ h. absurd (both_ways false refl h);
+  over = λ h. absurd (both_ways false refl h);
+}
 at_given (Some x) f b a = record { opens = a.opens; fed = a.fed; given = λ h. ap (λ (y : List ℕ). y ++ b) (a.given h); over = a.over }
 
 at_over : (now : Option Seen) (f : PortFacts) → At now f → At (option_map then_over now) (record f { over = true })
-at_over None f a = record { opens = a.opens; fed = λ h. absurd (both_ways false refl h); given = λ h. absurd (both_ways false refl h); over = λ h. absurd (both_ways false refl h) }
+at_over None f a = record {
+  opens = a.opens;
+  fed = λ h. absurd (both_ways false refl h);
+  given = λ h. absurd (both_ways false refl h);
+  over = λ h. absurd (both_ways false refl h);
+}
 at_over (Some x) f a = record { opens = a.opens; fed = a.fed; given = a.given; over = λ h. refl }
 
 pub at_paused : (now : Option Seen) (f : PortFacts) (b : Bool) → At now f → At (option_map (then_paused b) now) f
@@ -120,7 +136,12 @@ or_all true = refl
 or_all false = refl
 
 at_gone : (f : PortFacts) → At None (record f { gone = true })
-at_gone f = record { opens = and_none f.opened; fed = λ h. absurd (both_ways false refl h); given = λ h. absurd (both_ways false refl h); over = λ h. absurd (both_ways false refl h) }
+at_gone f = record {
+  opens = and_none f.opened;
+  fed = λ h. absurd (both_ways false refl h);
+  given = λ h. absurd (both_ways false refl h);
+  over = λ h. absurd (both_ways false refl h);
+}
 
 at_shut : (f : PortFacts) → At None (record f { shut = true })
 at_shut f = record {
@@ -133,11 +154,13 @@ at_shut f = record {
 -- ---- each entry
 
 module _ (streams next : ℕ → Option Seen) (last after : ℕ) (l : List PortRecord) (e : Bool) (s : ℕ) (t : Ties streams last l e) where
-  pub ties_opened : (socket : ℤ) → s ≡ last + 1 → after ≡ s → IsSet s (Some (fresh socket)) streams next → Ties next after (l ++ Opened s ∷ []) e
+  pub ties_opened : (socket : ℤ) → s ≡ last + 1 → after ≡ s → IsSet s (Some (fresh socket)) streams next
+      → Ties next after (l ++ Opened s ∷ []) e
   ties_opened socket n a set =
       ties_more streams next last l e s (Some (fresh socket)) (Opened s) after set (λ o h. h) (omega arith) (λ h. absurd (omega arith))
       (ended_same l (Opened s) refl ∙ t.3) (omega (arith, count_more l s))
-      (subst (λ (f : PortFacts). At (Some (fresh socket)) f) (sym (opened_here l s)) (at_opened socket (port_facts l s) (behind_facts last l t.2 s (omega arith)))) e t
+      (subst (λ (f : PortFacts). At (Some (fresh socket)) f) (sym (opened_here l s))
+      (at_opened socket (port_facts l s) (behind_facts last l t.2 s (omega arith)))) e t
 
   pub ties_fed : (b : List ℕ) → is_open s l ≡ true → after ≡ last → IsSet s (option_map (then_received b) (streams s)) streams next
       → Ties next after (l ++ Data s b ∷ []) e
@@ -193,7 +216,8 @@ module _ (streams next : ℕ → Option Seen) (last after : ℕ) (l : List PortR
   ties_paused b a set =
       ties_from next after l e (λ o. paused_case b o (set o) (nat_eq s o) refl) (λ o h. behind_facts last l t.2 o (omega arith)) t.3 (t.4 ∙ sym a)
 
-pub ties_ended : (streams : ℕ → Option Seen) (last : ℕ) (l : List PortRecord) (e : Bool) → Ties streams last l e → Ties streams last (l ++ Ended ∷ []) true
+pub ties_ended : (streams : ℕ → Option Seen) (last : ℕ) (l : List PortRecord) (e : Bool) → Ties streams last l e
+    → Ties streams last (l ++ Ended ∷ []) true
 ties_ended streams last l e t =
     ties_from streams last (l ++ Ended ∷ []) true
     (λ s. subst (λ (f : PortFacts). At (streams s) f) (sym (elsewhere l Ended s refl)) (at_each streams last l e t s))
@@ -204,5 +228,10 @@ pub ties_none : (streams : ℕ → Option Seen) → ((s : ℕ) → streams s ≡
 ties_none streams none last zero =
     ties_from streams last [] false
     (λ s. subst (λ (n : Option Seen). At n no_facts) (sym (none s))
-    (record { opens = refl; fed = λ h. absurd (both_ways false refl h); given = λ h. absurd (both_ways false refl h); over = λ h. absurd (both_ways false refl h) }))
+    (record {
+      opens = refl;
+      fed = λ h. absurd (both_ways false refl h);
+      given = λ h. absurd (both_ways false refl h);
+      over = λ h. absurd (both_ways false refl h);
+    }))
     (λ s b. refl) refl (sym zero)

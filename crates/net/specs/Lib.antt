@@ -3,5 +3,5 @@ pub mod Notes
 pub mod Seen
 pub mod Shown
 pub mod Sockets
-pub mod Stories
+pub mod Traces
 pub mod Ties

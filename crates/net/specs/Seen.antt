@@ -30,9 +30,9 @@ abbrev pub then_paused : Bool → Seen → Seen
 then_paused b x = record x { paused = b }
 
 -- whether it is open and paused
-abbrev pub is_paused : Option Seen → Bool
-is_paused None = false
-is_paused (Some x) = x.paused
+abbrev pub is_paused_stream : Option Seen → Bool
+is_paused_stream None = false
+is_paused_stream (Some x) = x.paused
 
 -- whether it is open and no more comes of it
 abbrev pub is_over : Option Seen → Bool

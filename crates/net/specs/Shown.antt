@@ -28,8 +28,8 @@ seen_of o =
     }
 
 -- the open stream of this number, among these
-abbrev pub shown : List (ℕ × OpenStream) → ℕ → Option Seen
-shown streams session = option_map seen_of (lookup (nat_eq session) streams)
+abbrev pub shown_stream : List (ℕ × OpenStream) → ℕ → Option Seen
+shown_stream streams session = option_map seen_of (lookup (nat_eq session) streams)
 
 -- What a read of a stream leaves; once its input has ended, nothing comes of it.
 abbrev pub Arrives : Seen → Reading → Seen → Type 0

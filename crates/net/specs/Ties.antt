@@ -17,7 +17,7 @@ BytesAgree streams events =
     → (fed s events ≡ received_of (streams s)) × (given s events ≡ sent_of (streams s))
     × (is_in (was.EndOfInput s) events ≡ is_over (streams s))
 
--- nothing was told of the numbers behind the last
+-- nothing was told of the numbers after the last
 abbrev pub NoneBehind : ℕ → List PortRecord → Type 0
 NoneBehind last events =
     (s : ℕ) → last < s
@@ -34,6 +34,6 @@ abbrev pub SocketsAgree : (ℕ → Option Seen) → List ℤ → Type 0
 SocketsAgree streams sockets =
     (s : ℕ) → is_some (streams s) ≡ true → slice_get sockets (s - 1) ≡ socket_of (streams s)
 
--- the same, and so many were opened
+-- the same, and `last` sessions were opened
 abbrev pub SocketTies : (ℕ → Option Seen) → ℕ → List ℤ → Type 0
 SocketTies streams last sockets = SocketsAgree streams sockets × (length sockets ≡ last)

@@ -42,6 +42,40 @@ enum Output {
     Freed,
 }
 
+/// What an event told of a session's stream.
+#[derive(Clone, Copy)]
+pub(crate) struct Heard {
+    pub(crate) session: u64,
+    is_readable: bool,
+    /// No more comes than what is there.
+    has_closed: bool,
+    /// It takes output. One that failed does, so that a write says so.
+    has_room: bool,
+}
+
+impl Heard {
+    pub(crate) fn of(event: &Event) -> Heard {
+        let has_failed = event.is_error();
+        let has_closed = has_failed || event.is_read_closed();
+        Heard {
+            session: event.token().0 as u64,
+            is_readable: has_closed || event.is_readable(),
+            has_closed,
+            has_room: has_failed || event.is_writable(),
+        }
+    }
+
+    // The session is to be read on, and no event told of it.
+    fn nothing(session: u64) -> Heard {
+        Heard {
+            session,
+            is_readable: false,
+            has_closed: false,
+            has_room: false,
+        }
+    }
+}
+
 /// What a read brought.
 pub(crate) enum Reading {
     Bytes(Bytes),
@@ -82,47 +116,34 @@ impl OpenStream {
         EndedStream::of(self.stream)
     }
 
-    // Takes note of what an event of the session's stream tells, and lists it if it is to be read. True if it has room that it
-    // had not; one that failed has some, so that a write says so.
-    pub(crate) fn hear(&mut self, event: &Event, session: u64, ready: &mut VecDeque<u64>) -> bool
+    // Takes note of what was heard of the stream, which is to be read then if something may be there. True if it has room that
+    // it had not.
+    pub(crate) fn hear(&mut self, heard: Heard) -> bool
         ensures { seen_of self.new ≡ seen_of self.old }
     {
-        let has_failed = event.is_error();
-        let has_closed = has_failed || event.is_read_closed();
-        if has_closed || event.is_readable() {
-            self.hear_input(has_closed, session, ready);
+        match self.input {
+            Input::Waiting if heard.is_readable && !self.stream.has_ended => {
+                self.input = if heard.has_closed {
+                    Input::Draining
+                } else {
+                    Input::Listed
+                };
+            }
+            Input::Listed if heard.has_closed => self.input = Input::Draining,
+            _ => {}
         }
-        let is_freed = matches!(self.output, Output::Blocked)
-            && (has_failed || event.is_writable());
+        let is_freed = heard.has_room && matches!(self.output, Output::Blocked);
         if is_freed {
             self.output = Output::Freed;
         }
         is_freed
     }
 
-    // Something may be there to be read: all that comes, or more.
-    fn hear_input(&mut self, has_closed: bool, session: u64, ready: &mut VecDeque<u64>)
-        ensures { seen_of self.new ≡ seen_of self.old }
-    {
-        match self.input {
-            Input::Waiting if !self.stream.has_ended => {
-                self.input = if has_closed {
-                    Input::Draining
-                } else {
-                    Input::Listed
-                };
-                self.list(session, ready);
-            }
-            Input::Listed if has_closed => self.input = Input::Draining,
-            _ => {}
-        }
-    }
-
     // Puts the stream in the list of those to read. Without memory it waits for another event.
-    fn list(&mut self, session: u64, ready: &mut VecDeque<u64>)
+    fn list(&mut self, session: u64, ready: &mut VecDeque<Heard>)
         ensures { seen_of self.new ≡ seen_of self.old }
     {
-        if ready.push_back(session).is_err() {
+        if ready.push_back(Heard::nothing(session)).is_err() {
             self.unlist();
         }
     }
@@ -145,7 +166,7 @@ impl OpenStream {
     }
 
     // Puts it in the list again if more may be there.
-    pub(crate) fn relist(&mut self, session: u64, ready: &mut VecDeque<u64>)
+    pub(crate) fn relist(&mut self, session: u64, ready: &mut VecDeque<Heard>)
         ensures { seen_of self.new ≡ seen_of self.old }
     {
         if self.is_listed() {
@@ -231,7 +252,7 @@ impl OpenStream {
     }
 
     // What came meanwhile may not be told again, so the stream is listed, and read until nothing is there.
-    pub(crate) fn resume(&mut self, session: u64, ready: &mut VecDeque<u64>)
+    pub(crate) fn resume(&mut self, session: u64, ready: &mut VecDeque<Heard>)
         ensures { seen_of self.new ≡ then_paused false (seen_of self.old) }
     {
         let Input::Paused { is_listed } = self.input else {

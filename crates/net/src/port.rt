@@ -4,9 +4,9 @@
 ghost use Rattle.std.specs.Prelude.{◌≡◌, ◌≤◌, [], ◌∷◌, true, false, length, IfOk, MatchOption, Some};
 ghost use Rattle.std.specs.Option.{option_map};
 ghost use Rattle.worker_port.specs.declared.events.PortRecord.TheVariants.{Shut};
-ghost use Rattle.worker_port.specs.Ports.{PortStory, then_told, with_pause, event_records, then_gave, is_open, MayCome};
-ghost use Rattle.net.specs.Stories.{story_of, IsNew, GoesOn, Tells, PausesAgree, KeepsSockets, AddsSockets};
-ghost use Rattle.net.specs.Shown.{shown};
+ghost use Rattle.worker_port.specs.Ports.{PortTrace, then_told, with_pause, event_records, then_gave, is_open, MayCome};
+ghost use Rattle.net.specs.Traces.{trace_of, IsNew, GoesOn, Tells, PausesAgree, KeepsSockets, AddsSockets};
+ghost use Rattle.net.specs.Shown.{shown_stream};
 ghost use Rattle.net.specs.Ties.{OpenAgrees, BytesAgree, SocketsAgree};
 
 use crate::fault::NetFault;
@@ -14,9 +14,10 @@ use crate::hand::{Hand, WAKER};
 use crate::idle::IdleLooks;
 use crate::owner::Owner;
 use crate::spin::Spin;
-use crate::streams::Streams;
+use crate::streams::{OPEN_SESSIONS, Streams};
 use mio::{Events, Poll};
 use std::alloc::Global;
+use std::mem;
 use std::net::Net;
 use std::sync::Wait;
 use std::time::{Clock, Duration};
@@ -65,7 +66,7 @@ impl<R: Wait + Clock + Net + Drop> MioPort<R> {
     ///
     /// Poll, NoMemory.
     pub fn new(rt: R, alloc: Global, mut hand: Hand, owner: Owner) -> Result<MioPort<R>, NetFault>
-        ensures { IfOk result (λ port. IsNew owner.geometry owner.dialect owner.worker (story_of port.served)) }
+        ensures { IfOk result (λ port. IsNew owner.geometry owner.dialect owner.worker (trace_of port.served)) }
     {
         let Ok(poll) = Poll::new(&rt) else {
             return Err(NetFault::Poll);
@@ -92,17 +93,17 @@ impl<R: Wait + Clock + Drop> MioPort<R> {
     /// was opened with; the data of each is what was read from its stream, joined, and what was accepted for it is what its
     /// stream took.
     pub fn agrees(&self)
-        ensures open { OpenAgrees (shown self.now.served.open.entries) (story_of self.now.served).events }
-        ensures bytes { BytesAgree (shown self.now.served.open.entries) (story_of self.now.served).events }
-        ensures sockets { SocketsAgree (shown self.now.served.open.entries) self.now.served.sockets.items }
-        ensures paused { PausesAgree (shown self.now.served.open.entries) (story_of self.now.served) }
+        ensures open { OpenAgrees (shown_stream self.now.served.open.entries) (trace_of self.now.served).events }
+        ensures bytes { BytesAgree (shown_stream self.now.served.open.entries) (trace_of self.now.served).events }
+        ensures sockets { SocketsAgree (shown_stream self.now.served.open.entries) self.now.served.sockets.items }
+        ensures paused { PausesAgree (shown_stream self.now.served.open.entries) (trace_of self.now.served) }
     {
         self.served.agrees();
     }
 
     /// Whether the session is open.
     pub fn is_open(&self, session: u64) -> bool
-        ensures { is_open session (story_of self.now.served).events ≡ result }
+        ensures { is_open session (trace_of self.now.served).events ≡ result }
     {
         self.served.is_open(session)
     }
@@ -110,7 +111,7 @@ impl<R: Wait + Clock + Drop> MioPort<R> {
     /// Has the port end idle sessions, as those whose peer has gone: a session that is owed nothing once it sent nothing for
     /// this many seconds, and one that is owed output once it took none of it for that long; each an eighth later at most.
     pub fn set_idle_limit(&mut self, seconds: u64)
-        ensures told { story_of self.new.served ≡ story_of self.old.served }
+        ensures told { trace_of self.new.served ≡ trace_of self.old.served }
         ensures sockets { KeepsSockets self.old.served self.new.served }
     {
         self.idle_looks.set_limit(seconds);
@@ -119,7 +120,7 @@ impl<R: Wait + Clock + Drop> MioPort<R> {
     /// Has the port look on for this many microseconds after an event, before it waits for the next one: until then its polls
     /// don't wait.
     pub fn set_spin(&mut self, micros: u32)
-        ensures told { story_of self.new.served ≡ story_of self.old.served }
+        ensures told { trace_of self.new.served ≡ trace_of self.old.served }
         ensures sockets { KeepsSockets self.old.served self.new.served }
     {
         self.spin.set_limit(micros);
@@ -127,7 +128,7 @@ impl<R: Wait + Clock + Drop> MioPort<R> {
 
     /// The next event. Sessions are numbered from 1, and no number is given twice.
     pub fn next_event(&mut self, may_wait: bool) -> PortEvent
-        ensures told { Tells (story_of self.old.served) result (story_of self.new.served) }
+        ensures told { Tells (trace_of self.old.served) result (trace_of self.new.served) }
         ensures sockets { AddsSockets self.old.served self.new.served }
     {
         if self.served.has_ended() {
@@ -152,7 +153,7 @@ impl<R: Wait + Clock + Drop> MioPort<R> {
 
     // Something came or went: idle calls are counted from here.
     fn restart(&mut self)
-        ensures told { story_of self.new.served ≡ story_of self.old.served }
+        ensures told { trace_of self.new.served ≡ trace_of self.old.served }
         ensures sockets { KeepsSockets self.old.served self.new.served }
     {
         self.idle_calls = 0;
@@ -161,7 +162,7 @@ impl<R: Wait + Clock + Drop> MioPort<R> {
 
     // How long the next look at the sockets may wait.
     fn wait_millis(&mut self, may_wait: bool) -> u64
-        ensures told { story_of self.new.served ≡ story_of self.old.served }
+        ensures told { trace_of self.new.served ≡ trace_of self.old.served }
         ensures sockets { KeepsSockets self.old.served self.new.served }
     {
         if !may_wait {
@@ -180,45 +181,49 @@ impl<R: Wait + Clock + Drop> MioPort<R> {
         }
     }
 
-    // An event that a look at the sockets brings: a session that was idle for long enough, of which nothing is to be read,
-    // comes before what can be read.
+    // An event that a look at the sockets brings.
     fn looked_event(&mut self, may_wait: bool) -> Option<PortEvent>
-        requires { GoesOn (story_of self.old.served) }
-        ensures told { MatchOption result (story_of self.new.served ≡ story_of self.old.served)
-            (λ event. Tells (story_of self.old.served) event (story_of self.new.served)) }
+        requires { GoesOn (trace_of self.old.served) }
+        ensures told { MatchOption result (trace_of self.new.served ≡ trace_of self.old.served)
+            (λ event. Tells (trace_of self.old.served) event (trace_of self.new.served)) }
         ensures sockets { AddsSockets self.old.served self.new.served }
     {
+        self.served.drain(&self.rt);
+        self.hand.report_closed(self.served.len());
         let millis = self.wait_millis(may_wait);
         self.look(millis);
         if self.idle_looks.take(&self.rt) {
             self.served.count_look();
             self.has_idle = true;
         }
-        if self.has_idle {
-            if let Some(event) = self.served.end_idle() {
-                return Some(event);
-            }
-            self.has_idle = false;
-        }
         self.known_event()
     }
 
-    // An event that needs no poll: streams that wait in the hand come before what can be read.
+    // An event that needs no poll: streams that wait in the hand come before what can be read, and that before a session that
+    // was idle for long enough, so that nobody is ended whose input was heard of.
     fn known_event(&mut self) -> Option<PortEvent>
-        requires { GoesOn (story_of self.old.served) }
-        ensures told { MatchOption result (story_of self.new.served ≡ story_of self.old.served)
-            (λ event. Tells (story_of self.old.served) event (story_of self.new.served)) }
+        requires { GoesOn (trace_of self.old.served) }
+        ensures told { MatchOption result (trace_of self.new.served ≡ trace_of self.old.served)
+            (λ event. Tells (trace_of self.old.served) event (trace_of self.new.served)) }
         ensures sockets { AddsSockets self.old.served self.new.served }
     {
         if let Some(event) = self.open_next() {
             return Some(event);
         }
-        self.served.next_input()
+        if let Some(event) = self.served.next_input() {
+            return Some(event);
+        }
+        if !self.has_idle {
+            return None;
+        }
+        let event = self.served.end_idle();
+        self.has_idle = event.is_some();
+        event
     }
 
     // Looks which streams are ready, and waits so long for one.
     fn look(&mut self, millis: u64)
-        ensures told { story_of self.new.served ≡ story_of self.old.served }
+        ensures told { trace_of self.new.served ≡ trace_of self.old.served }
         ensures sockets { KeepsSockets self.old.served self.new.served }
     {
         let limit = Some(Duration::from_millis(millis));
@@ -226,22 +231,18 @@ impl<R: Wait + Clock + Drop> MioPort<R> {
             if self.events.iter().any(|event| event.token() == WAKER) {
                 self.hand.clear_wakes();
             }
-            if self.served.hear_all(&self.events) {
-                self.idle_calls = 0;
-            }
+            self.served.hear_all(&self.events);
         }
-        self.served.drain(&self.rt);
-        self.hand.report_closed(self.served.len());
     }
 
     fn open_next(&mut self) -> Option<PortEvent>
-        requires { GoesOn (story_of self.old.served) }
-        ensures told { MatchOption result (story_of self.new.served ≡ story_of self.old.served)
-            (λ event. Tells (story_of self.old.served) event (story_of self.new.served)) }
+        requires { GoesOn (trace_of self.old.served) }
+        ensures told { MatchOption result (trace_of self.new.served ≡ trace_of self.old.served)
+            (λ event. Tells (trace_of self.old.served) event (trace_of self.new.served)) }
         ensures sockets { AddsSockets self.old.served self.new.served }
     {
         for _ in 0..EVENTS {
-            if self.served.is_full() {
+            if self.served.len() >= OPEN_SESSIONS {
                 return None;
             }
             let stream = self.hand.take(&self.rt)?;
@@ -255,9 +256,9 @@ impl<R: Wait + Clock + Drop> MioPort<R> {
 
 impl<R: Wait + Clock + Drop> Port for MioPort<R> {
     ghost use Rattle.std.specs.Prelude.{⊤, Some};
-    ghost use Rattle.net.specs.Stories.{story_of};
+    ghost use Rattle.net.specs.Traces.{trace_of};
 
-    ghost told = { λ port. Some (story_of port.served) };
+    ghost told = { λ port. Some (trace_of port.served) };
 
     ghost leads_to = { λ _ _. ⊤ };
 
@@ -268,7 +269,9 @@ impl<R: Wait + Clock + Drop> Port for MioPort<R> {
     fn next(&mut self, may_wait: bool) -> PortEvent {
         let event = self.next_event(may_wait);
         match &event {
-            PortEvent::Idle => self.idle_calls = self.idle_calls.saturating_add(1),
+            PortEvent::Idle if !mem::take(&mut self.served.has_room) => {
+                self.idle_calls = self.idle_calls.saturating_add(1);
+            }
             _ => self.restart(),
         }
         event

@@ -5,15 +5,14 @@ ghost use Rattle.worker_port.specs.declared.events.PortEvent.TheVariants.{Opened
 ghost use Rattle.worker_port.specs.declared.events.PortRecord.TheVariants.{Shut};
 ghost use Rattle.worker_port.specs.Ports.{then_told, then_gave, with_pause, is_open};
 ghost use Rattle.worker_port.specs.Giving.{MayBeGiven};
-ghost use Rattle.net.specs.Shown.{shown};
+ghost use Rattle.net.specs.Shown.{shown_stream};
 ghost use Rattle.net.specs.Ties.{Ties, OpenAgrees, BytesAgree, SocketsAgree, SocketTies};
 
 use crate::lingering::LingeringStreams;
-use crate::open_stream::{OpenStream, Reading};
+use crate::open_stream::{Heard, OpenStream, Reading};
 use crate::owner::Owner;
 use crate::port_note::{PortNote, SocketNote, given_by};
 use crate::sockets::NewStream;
-use mio::event::Event;
 use mio::{Events, Poll};
 use proto::{Answered, Trace};
 use std::alloc::{AllocError, Global};
@@ -25,12 +24,14 @@ use worker_port::{Gone, MAX_PIECE, PortEvent, PortRecord, ToldHistory};
 /// The most sessions of a port that are open at a time, with those that were shut and are read still.
 pub(crate) const OPEN_SESSIONS: usize = 1024;
 
-/// The open streams, the list of those that may have something to read, and what was told.
+/// The open streams, what was heard of those that may have something to read, and what was told.
 #[derive(Drop)]
 pub(crate) struct Streams {
     alloc: Global,
     pub(crate) open: HashMap<u64, OpenStream>,
-    ready: VecDeque<u64>,
+    ready: VecDeque<Heard>,
+    /// A stream has room that had none.
+    pub(crate) has_room: bool,
     lingering: LingeringStreams,
     scratch: Vec<u8>,
     /// The number of the session that was opened last.
@@ -46,21 +47,22 @@ pub(crate) struct Streams {
     /// The sockets with which the sessions were opened, in their order.
     pub(crate) sockets: Trace<i32>,
     ghost room: { vec_len scratch ≡ 16384 },
-    ghost ties: { Ties (shown open.entries) last told.items has_ended },
-    ghost kept: { SocketTies (shown open.entries) last sockets.items },
+    ghost ties: { Ties (shown_stream open.entries) last told.items has_ended },
+    ghost kept: { SocketTies (shown_stream open.entries) last sockets.items },
 }
 
 impl Streams {
-    ghost use Rattle.net.specs.Stories.{story_of, IsNew, GoesOn, HasOpen, HasNoneOpen, Tells, KeepsSockets};
+    ghost use Rattle.net.specs.Traces.{trace_of, IsNew, GoesOn, HasOpen, HasNoneOpen, Tells, KeepsSockets};
     ghost use Rattle.net.specs.Sockets.{socket_of};
 
     pub(crate) fn new(alloc: Global, owner: Owner) -> Result<Streams, AllocError>
-        ensures { IfOk result (λ streams. IsNew owner.geometry owner.dialect owner.worker (story_of streams)) }
+        ensures { IfOk result (λ streams. IsNew owner.geometry owner.dialect owner.worker (trace_of streams)) }
     {
         Ok(Streams {
             alloc,
             open: HashMap::with_capacity(alloc, OPEN_SESSIONS)?,
             ready: VecDeque::with_capacity(alloc, OPEN_SESSIONS)?,
+            has_room: false,
             lingering: LingeringStreams::new(alloc)?,
             scratch: Vec::from_elem(alloc, 0u8, MAX_PIECE)?,
             last: 0,
@@ -74,21 +76,17 @@ impl Streams {
     }
 
     pub(crate) fn agrees(&self)
-        ensures open { OpenAgrees (shown self.now.open.entries) self.now.told.items }
-        ensures bytes { BytesAgree (shown self.now.open.entries) self.now.told.items }
-        ensures sockets { SocketsAgree (shown self.now.open.entries) self.now.sockets.items }
+        ensures open { OpenAgrees (shown_stream self.now.open.entries) self.now.told.items }
+        ensures bytes { BytesAgree (shown_stream self.now.open.entries) self.now.told.items }
+        ensures sockets { SocketsAgree (shown_stream self.now.open.entries) self.now.sockets.items }
     {
         let _has_ended = self.has_ended;
     }
 
     pub(crate) fn is_empty(&self) -> bool
-        ensures { IsTrue result → HasNoneOpen (story_of self.now) }
+        ensures { IsTrue result → HasNoneOpen (trace_of self.now) }
     {
         self.open.is_empty()
-    }
-
-    pub(crate) fn is_full(&self) -> bool {
-        self.len() >= OPEN_SESSIONS
     }
 
     // How many are open, or were shut and are read still.
@@ -107,23 +105,23 @@ impl Streams {
     }
 
     pub(crate) fn is_open(&self, session: u64) -> bool
-        ensures { is_open session (story_of self.now).events ≡ result }
+        ensures { is_open session (trace_of self.now).events ≡ result }
     {
         self.open.get(&session).is_some()
     }
 
     /// Whether the end was told.
     pub(crate) fn has_ended(&self) -> bool
-        ensures { result ≡ false → GoesOn (story_of self.now) }
+        ensures { result ≡ false → GoesOn (trace_of self.now) }
     {
         self.has_ended
     }
 
     /// Opens a session for a stream, and tells of it. None if the stream can't be served; it is closed then.
     pub(crate) fn open(&mut self, poll: &Poll, stream: NewStream) -> Option<u64>
-        requires { GoesOn (story_of self.old) }
-        ensures told { MatchOption result (story_of self.new ≡ story_of self.old)
-            (λ n. Tells (story_of self.old) (Opened n) (story_of self.new)) }
+        requires { GoesOn (trace_of self.old) }
+        ensures told { MatchOption result (trace_of self.new ≡ trace_of self.old)
+            (λ n. Tells (trace_of self.old) (Opened n) (trace_of self.new)) }
         ensures sockets { MatchOption result (KeepsSockets self.old self.new)
             (λ _. self.new.sockets.items ≡ self.old.sockets.items ++ socket_of stream ∷ []) }
     {
@@ -139,34 +137,19 @@ impl Streams {
         Some(session)
     }
 
-    // Takes note of what an event tells of a stream. True if one has room that had none.
-    fn hear(&mut self, event: &Event) -> bool
-        ensures told { story_of self.new ≡ story_of self.old }
+    // Lists what a poll brought. What finds no memory is lost.
+    pub(crate) fn hear_all(&mut self, events: &Events)
+        ensures told { trace_of self.new ≡ trace_of self.old }
         ensures sockets { KeepsSockets self.old self.new }
     {
-        let session = event.token().0 as u64;
-        let Some(open) = self.open.get_mut(&session) else {
-            self.lingering.mark();
-            return false;
-        };
-        open.hear(event, session, &mut self.ready)
-    }
-
-    // The same of all that a poll brought.
-    pub(crate) fn hear_all(&mut self, events: &Events) -> bool
-        ensures told { story_of self.new ≡ story_of self.old }
-        ensures sockets { KeepsSockets self.old self.new }
-    {
-        let mut has_room = false;
         for event in events {
-            has_room |= self.hear(event);
+            let _ = self.ready.push_back(Heard::of(event));
         }
-        has_room
     }
 
     // Reads those that were shut, and closes those that were read for long enough.
     pub(crate) fn drain<R: Clock>(&mut self, rt: &R)
-        ensures told { story_of self.new ≡ story_of self.old }
+        ensures told { trace_of self.new ≡ trace_of self.old }
         ensures sockets { KeepsSockets self.old self.new }
     {
         if self.has_lingering() {
@@ -176,28 +159,35 @@ impl Streams {
 
     /// Reads from the streams that may have something, until there is an event to tell.
     pub(crate) fn next_input(&mut self) -> Option<PortEvent>
-        requires { GoesOn (story_of self.old) }
-        ensures told { MatchOption result (story_of self.new ≡ story_of self.old)
-            (λ event. Tells (story_of self.old) event (story_of self.new)) }
+        requires { GoesOn (trace_of self.old) }
+        ensures told { MatchOption result (trace_of self.new ≡ trace_of self.old)
+            (λ event. Tells (trace_of self.old) event (trace_of self.new)) }
         ensures sockets { KeepsSockets self.old self.new }
     {
         for _ in 0..self.ready.len() {
-            let session = self.ready.pop_front()?;
-            if let Some(event) = self.read(session) {
+            let heard = self.ready.pop_front()?;
+            if let Some(event) = self.read(heard) {
                 return Some(event);
             }
         }
         None
     }
 
-    // Reads once from the stream of a session that was listed, and tells what came.
-    fn read(&mut self, session: u64) -> Option<PortEvent>
-        requires { GoesOn (story_of self.old) }
-        ensures told { MatchOption result (story_of self.new ≡ story_of self.old)
-            (λ event. Tells (story_of self.old) event (story_of self.new)) }
+    // Reads once from a stream that was listed, if it is to be read, and tells what came. What was heard of one that isn't open
+    // is of those that were shut.
+    fn read(&mut self, heard: Heard) -> Option<PortEvent>
+        requires { GoesOn (trace_of self.old) }
+        ensures told { MatchOption result (trace_of self.new ≡ trace_of self.old)
+            (λ event. Tells (trace_of self.old) event (trace_of self.new)) }
         ensures sockets { KeepsSockets self.old self.new }
     {
-        let open = self.open.get_mut(&session)?;
+        let session = heard.session;
+        let Some(open) = self.open.get_mut(&session) else {
+            self.lingering.mark();
+            return None;
+        };
+        let has_room = open.hear(heard);
+        self.has_room = self.has_room || has_room;
         if !open.is_listed() {
             open.unlist();
             return None;
@@ -225,7 +215,7 @@ impl Streams {
 
     /// Counts a look for idle sessions.
     pub(crate) fn count_look(&mut self)
-        ensures told { story_of self.new ≡ story_of self.old }
+        ensures told { trace_of self.new ≡ trace_of self.old }
         ensures sockets { KeepsSockets self.old self.new }
     {
         self.looks = self.looks.saturating_add(1);
@@ -243,9 +233,9 @@ impl Streams {
 
     /// Closes a session that was idle for long enough, and tells that its peer has gone.
     pub(crate) fn end_idle(&mut self) -> Option<PortEvent>
-        requires { GoesOn (story_of self.old) }
-        ensures told { MatchOption result (story_of self.new ≡ story_of self.old)
-            (λ event. Tells (story_of self.old) event (story_of self.new)) }
+        requires { GoesOn (trace_of self.old) }
+        ensures told { MatchOption result (trace_of self.new ≡ trace_of self.old)
+            (λ event. Tells (trace_of self.old) event (trace_of self.new)) }
         ensures sockets { KeepsSockets self.old self.new }
     {
         let session = self.idle_session()?;
@@ -256,9 +246,9 @@ impl Streams {
 
     /// Tells the end.
     pub(crate) fn end(&mut self)
-        requires goes_on { GoesOn (story_of self.old) }
-        requires none { HasNoneOpen (story_of self.old) }
-        ensures told { Tells (story_of self.old) Ended (story_of self.new) }
+        requires goes_on { GoesOn (trace_of self.old) }
+        requires none { HasNoneOpen (trace_of self.old) }
+        ensures told { Tells (trace_of self.old) Ended (trace_of self.new) }
         ensures sockets { KeepsSockets self.old self.new }
     {
         self.has_ended = true;
@@ -272,10 +262,10 @@ impl Streams {
         bytes: &[u8],
         history: ToldHistory,
     ) -> Result<usize, Gone>
-        requires open { HasOpen session (story_of self.old) }
-        requires said { MayBeGiven (story_of self.old) history session bytes.now }
+        requires open { HasOpen session (trace_of self.old) }
+        requires said { MayBeGiven (trace_of self.old) history session bytes.now }
         ensures within { IfOk result (λ n. n ≤ length bytes.now) }
-        ensures told { story_of self.new ≡ then_gave session bytes.now result history (story_of self.old) }
+        ensures told { trace_of self.new ≡ then_gave session bytes.now result history (trace_of self.old) }
         ensures sockets { KeepsSockets self.old self.new }
     {
         let Some(open) = self.open.get_mut(&session) else {
@@ -298,8 +288,8 @@ impl Streams {
     }
 
     pub(crate) fn pause(&mut self, session: u64)
-        requires { HasOpen session (story_of self.old) }
-        ensures told { story_of self.new ≡ with_pause session true (story_of self.old) }
+        requires { HasOpen session (trace_of self.old) }
+        ensures told { trace_of self.new ≡ with_pause session true (trace_of self.old) }
         ensures sockets { KeepsSockets self.old self.new }
     {
         if let Some(open) = self.open.get_mut(&session) {
@@ -308,8 +298,8 @@ impl Streams {
     }
 
     pub(crate) fn resume(&mut self, session: u64)
-        requires { HasOpen session (story_of self.old) }
-        ensures told { story_of self.new ≡ with_pause session false (story_of self.old) }
+        requires { HasOpen session (trace_of self.old) }
+        ensures told { trace_of self.new ≡ with_pause session false (trace_of self.old) }
         ensures sockets { KeepsSockets self.old self.new }
     {
         if let Some(open) = self.open.get_mut(&session) {
@@ -320,8 +310,8 @@ impl Streams {
     /// Ends a session for good. Its stream is read a little longer, so that its peer sees what it was given, unless all of
     /// its input was read.
     pub(crate) fn shut<R: Clock>(&mut self, rt: &R, session: u64)
-        requires { HasOpen session (story_of self.old) }
-        ensures told { story_of self.new ≡ then_told (Shut session ∷ []) (story_of self.old) }
+        requires { HasOpen session (trace_of self.old) }
+        ensures told { trace_of self.new ≡ then_told (Shut session ∷ []) (trace_of self.old) }
         ensures sockets { KeepsSockets self.old self.new }
     {
         if let Some(ended) = self.open.remove(&session).and_then(OpenStream::into_ended) {

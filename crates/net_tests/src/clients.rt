@@ -25,7 +25,7 @@ pub(crate) fn connect<R: Net<Stream = TcpStream> + Abort>(
     TcpStream::connect(rt, addr.as_str()).expect(rt, "a connection")
 }
 
-/// So many connections.
+/// Opens `count` connections.
 pub(crate) fn connect_all<R: Net<Stream = TcpStream> + Abort>(
     rt: &R,
     alloc: Global,

@@ -19,7 +19,7 @@ fn free_port<R: Net + Abort>(rt: &R, alloc: Global) -> u16 {
     listener.port()
 }
 
-/// Serves so many sessions by two workers.
+/// Serves `sessions` sessions by two workers.
 fn serve_some<R>(rt: R, alloc: Global, port: u16, sessions: u64)
 where
     R: Threads + Wait + Net + Clock + Eprint + Abort + Copy + Drop + Send + Sync + 'static,
@@ -27,7 +27,7 @@ where
     serve_with(rt, alloc, port, sessions, None);
 }
 
-/// The same, where idle sessions are ended after so many seconds.
+/// The same, where sessions are ended after `idle` idle seconds.
 fn serve_with<R>(rt: R, alloc: Global, port: u16, sessions: u64, idle: Option<u64>)
 where
     R: Threads + Wait + Net + Clock + Eprint + Abort + Copy + Drop + Send + Sync + 'static,
@@ -187,7 +187,7 @@ where
     stream
 }
 
-/// How many bytes a client reads that takes two megabytes, or fewer, each so many milliseconds, until the end.
+/// How many bytes a client reads that takes at most two megabytes every `millis` milliseconds, until the end.
 fn read_slowly<R: Clock>(
     rt: &R,
     alloc: Global,

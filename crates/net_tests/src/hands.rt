@@ -11,7 +11,7 @@ use std::thread::{self, Threads};
 use std::time::{Clock, Duration, Instant};
 use worker_port::{Port, PortEvent};
 
-/// So often a port is asked until it has to have ended.
+/// How many times a port is asked until it has to have ended.
 const CALLS: usize = 100_000;
 
 /// How many bytes come on the last of some connections. They are kept open until that one has ended.
@@ -123,7 +123,7 @@ fn sessions_opened<R: Wait + Clock + Drop>(port: &mut MioPort<R>) -> Option<u64>
 /// As many sessions as a port has open at most.
 const SESSIONS: u64 = 1024;
 
-/// So many sessions are opened, or end.
+/// Waits until `opened` sessions were opened and `ended` sessions ended.
 fn await_sessions<R>(rt: &R, port: &mut MioPort<R>, opened: u64, ended: u64)
 where
     R: Wait + Clock + Abort + Drop,
@@ -146,7 +146,7 @@ where
     panic!(*rt; "some sessions are missing")
 }
 
-/// How many of so many further streams one of two ports is given, where the other is given the rest.
+/// How many of `count` further streams the first of two ports is given, where the other is given the rest.
 fn share_of_first<R>(
     rt: &R,
     alloc: Global,

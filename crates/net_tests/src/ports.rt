@@ -11,10 +11,10 @@ use std::thread;
 use std::time::{Clock, Duration, Instant};
 use worker_port::{MAX_PIECE, Port, PortEvent};
 
-/// So often a port is asked for an event that has to come.
+/// How many times a port is asked for an event that has to come.
 const CALLS: usize = 100_000_000;
 
-/// So often it is asked where none may come: as it waits a little from the 8,192nd on, more would take long.
+/// How many times it is asked where none may come. It waits a little from the 8,192nd on, so more would take long.
 const FEW_CALLS: usize = 10_000;
 
 /// What came, without its bytes.
@@ -43,7 +43,7 @@ fn next<R: Wait + Clock + Drop>(port: &mut MioPort<R>, calls: usize) -> Came {
     Came::Nothing
 }
 
-/// A port to which a listener has handed so many streams, and the clients' ends of them.
+/// A port to which a listener has handed `count` streams, and the clients' ends of them.
 fn port_with<R>(rt: R, alloc: Global, count: u64) -> (MioPort<R>, Vec<TcpStream>)
 where
     R: Wait + Clock + Net<Stream = TcpStream> + Abort + Copy + Drop,
@@ -71,7 +71,7 @@ where
     (port, clients.pop().expect(&rt, "a client"))
 }
 
-/// The next event is this one, or it is said which isn't.
+/// Checks that the next event is this one, and else names it by `what`.
 fn check_next<R: Wait + Clock + Abort + Drop>(
     rt: &R,
     port: &mut MioPort<R>,
@@ -82,7 +82,7 @@ fn check_next<R: Wait + Clock + Abort + Drop>(
     assert!(*rt; next(port, calls) == wanted, "{what}");
 }
 
-/// So many sessions are opened, and then the last one's bytes come.
+/// `sessions` sessions are opened, and then the last one's bytes come.
 fn check_opened<R: Wait + Clock + Abort + Drop>(rt: &R, port: &mut MioPort<R>, sessions: u64) {
     for session in 1..=sessions {
         check_next(rt, port, CALLS, Came::Opened(session), "a session opens");
@@ -189,7 +189,7 @@ fn a_silent_session_is_gone_after_its_time(rt: HostRuntime) {
     assert!(rt; is_about_a_second(time_until(&rt, &mut port, Came::Gone(2), "the other one")));
 }
 
-/// So many bytes come of session 1, in whole pieces, and then nothing: the session goes on.
+/// `pieces` whole pieces of bytes come of session 1, and then nothing: the session goes on.
 fn check_pieces<R>(rt: &R, alloc: Global, port: &mut MioPort<R>, client: &TcpStream, pieces: usize)
 where
     R: Wait + Clock + Abort + Drop,
@@ -248,7 +248,7 @@ fn the_end_of_input_comes_once_and_after_all_input(rt: HostRuntime) {
     assert!(rt; port.is_open(1));
 }
 
-/// Whether nothing but bytes comes of a port's session for so many milliseconds.
+/// Whether nothing but bytes comes of a port's session for `millis` milliseconds.
 fn has_only_input<R: Wait + Clock + Abort + Drop>(
     rt: &R,
     port: &mut MioPort<R>,
@@ -267,7 +267,7 @@ fn has_only_input<R: Wait + Clock + Abort + Drop>(
     false
 }
 
-/// A session that speaks again and again, always sooner than its limit of so many seconds, goes on.
+/// A session that speaks again and again, always sooner than its limit in seconds, goes on.
 fn check_speaking<R>(rt: R, alloc: Global, limit: u64, pauses: &[u64])
 where
     R: Wait + Clock + Net<Stream = TcpStream> + Abort + Copy + Drop,

@@ -13,6 +13,6 @@ asks-append (Wrong kind ∷ ms) ns = asks-append ms ns
 asks-append (Quit ∷ ms) ns = asks-append ms ns
 asks-append (Fatal kind ∷ ms) ns = asks-append ms ns
 
--- what is joined behind a front
+-- what is joined after a front
 pub onto : (front a b c : List ℕ) → a ≡ b ++ c → front ++ a ≡ (front ++ b) ++ c
 onto front a b c e = ap (λ (x : List ℕ). front ++ x) e ∙ sym (append_assoc front b c)

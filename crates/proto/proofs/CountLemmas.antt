@@ -47,7 +47,7 @@ range_more n =
 
 -- ---- a worker's share
 
--- one more entry of the worker stands behind its share
+-- one more entry of the worker stands after its share
 pub share_mine : (h : List Answered) (a : Answered) (w : ℕ) → a.worker ≡ w
     → worker_share (h ++ a ∷ []) w ≡ worker_share h w ++ a ∷ []
 share_mine h a w is =

@@ -1,5 +1,6 @@
 -- The first word of a line, read from the line's front.
-use Rattle.std.proofs.Common.{◌≡◌, ℕ, ℤ, ◌+◌, ◌-◌, ◌*◌, ◌^◌, ◌<◌, ◌≤◌, Bool, true, false, cond, eqb, not, ◌&&◌, List, [], ◌∷◌, ◌++◌, length, take, drop}
+use Rattle.std.proofs.Common.{◌≡◌, ℕ, ℤ, ◌+◌, ◌-◌, ◌*◌, ◌^◌, ◌<◌, ◌≤◌, Bool, true, false, cond, eqb, not}
+use Rattle.std.proofs.Common.{◌&&◌, List, [], ◌∷◌, ◌++◌, length, take, drop}
 use Rattle.std.proofs.Common.{get_or, Option, Some, None, refl, sym, ap, ◌∙◌, arith, length-take-le, one-add, take-append-drop, inl, inr, lit<}
 use Rattle.std.specs.Prelude.{nat_le, MatchOption, option_map, decimal, pos, negsuc, is_some, IsTrue, bytes_eq, codes}
 use Rattle.std.specs.Borrow.{Bor}
@@ -13,7 +14,8 @@ use Rattle.std.proofs.lemmas.Fmt.{decimal_is_IsNumeral_wide, decimal-digits_valu
 use Rattle.std.proofs.lemmas.Str.{digit_value_digit}
 use Rattle.std.proofs.lemmas.Str.Parse.{IsNumeralModel, digit_from_value}
 use Rattle.proto.specs.Lines.{is_key}
-use Rattle.proto.specs.PlainReader.{◌>>=◌, guarded, key_in, taken, number_in, negative_in, plain_in, signed_in, quiet_in}
+use Rattle.proto.specs.PlainReader.{◌>>=◌, only_if, key_in, taken, number_in, negative_in, plain_in, signed_in}
+use Rattle.proto.specs.PlainReader.{quiet_in}
 use Rattle.proto.specs.Words.{space, spaced, is_space, IsWord, words_of, first_word, is_key_byte, words_behind}
 use Rattle.proto.proofs.Numbers.{number_in_some, number_in_none, key_bytes_word, digits_word}
 use Rattle.proto.proofs.WordLists.{some_words, first_word-words_of, words_of_one, words_of_more, spaced-words_of}
@@ -102,7 +104,7 @@ full_prefix p (x ∷ xs) h =
 
 -- ---- the end of a word
 
--- the words of a line with a word in front and nothing behind it
+-- the words of a line with a word in front and nothing after it
 pub front_alone : (line front behind : List ℕ) (n : ℕ) → IsWord (take n line) → front ≡ take n line
     → behind ≡ drop n line → length behind ≡ 0
     → (front ≡ take n line) × (words_of line ≡ front ∷ [])
@@ -111,7 +113,7 @@ front_alone line front [] n word front-is behind-is none =
     (front-is, rw front-is (ap words_of whole ∙ words_of_one (take n line) word))
 front_alone line front (b ∷ behind) n word front-is behind-is none = absurd (omega arith)
 
--- with a space behind it
+-- with a space after it
 pub front_spaced : (line front behind rest : List ℕ) (n c : ℕ) → IsWord (take n line) → front ≡ take n line
     → behind ≡ drop n line → behind ≡ c ∷ rest → c ≡ 32
     → (front ≡ take n line) × (words_of line ≡ front ∷ words_of rest)
@@ -131,7 +133,7 @@ longer (x ∷ front) rest c word other =
     let below = longer front rest c parts.1 other in
     rw more (omega (arith, below))
 
--- with another byte behind it
+-- with another byte after it
 pub front_longer : (line behind rest : List ℕ) (n c : ℕ) → n ≤ length line → IsWord (take n line) → behind ≡ drop n line
     → behind ≡ c ∷ rest → (c ≡ 32 → ⊥)
     → n < length (first_word line)
@@ -183,7 +185,7 @@ is_key_front line low high =
 pub key_front_word : (line : List ℕ) → IsWord (take_while is_key_byte line)
 key_front_word line = key_bytes_word (take_while is_key_byte line) (all_prefix is_key_byte line)
 
--- what is split off a line behind so many bytes of a key
+-- what is split off a line after so many bytes of a key
 pub split_key : (line : List ℕ) (r : Option (Bor (List ℕ) × Option (Bor (List ℕ)))) → 1 ≤ prefix_len is_key_byte line
     → prefix_len is_key_byte line ≤ 250
     → MatchOption r (prefix_len is_key_byte line < length (first_word line))
@@ -326,13 +328,13 @@ digit_counts c rest h = rw h refl
 
 -- ---- signed numbers
 
--- a value that was read, and the words behind it
+-- a value that was read, and the words after it
 abbrev with_words : {A : Type 0} → List (List ℕ) → A → Option (A × List (List ℕ))
 with_words words a = Some (a, words)
 
 -- the negative of a number that was taken, which isn't 0
 abbrev pub negative_pair : ℕ × List (List ℕ) → Option (ℤ × List (List ℕ))
-negative_pair p = guarded (not (eqb p.0 0)) (Some (negsuc (p.0 - 1), p.1))
+negative_pair p = only_if (not (eqb p.0 0)) (Some (negsuc (p.0 - 1), p.1))
 
 -- a number that was taken, as a signed one
 abbrev pub plain_pair : ℕ × List (List ℕ) → Option (ℤ × List (List ℕ))
@@ -340,13 +342,13 @@ plain_pair p = Some (pos p.0, p.1)
 
 -- a test commutes with the words behind
 tested : (words : List (List ℕ)) (b : Bool) (n : ℕ)
-    → (guarded b (Some (negsuc (n - 1))) >>= with_words words) ≡ guarded b (with_words words (negsuc (n - 1)))
+    → (only_if b (Some (negsuc (n - 1))) >>= with_words words) ≡ only_if b (with_words words (negsuc (n - 1)))
 tested words true n = refl
 tested words false n = refl
 
 -- a negative number by what its digits are read as
 negative_by : (words : List (List ℕ)) (o : Option ℕ)
-    → ((o >>= λ n. guarded (not (eqb n 0)) (Some (negsuc (n - 1)))) >>= with_words words)
+    → ((o >>= λ n. only_if (not (eqb n 0)) (Some (negsuc (n - 1)))) >>= with_words words)
     ≡ ((o >>= with_words words) >>= negative_pair)
 negative_by words None = refl
 negative_by words (Some n) = tested words (not (eqb n 0)) n

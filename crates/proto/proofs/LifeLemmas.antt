@@ -10,7 +10,7 @@ use Rattle.proto.specs.declared.message.Reply.TheVariants.{Stored, TooLarge, NoC
 use Rattle.proto.specs.Sizes.{Sizes, item_limit}
 use Rattle.proto.specs.Cache.{Entry, Entries, Cache, empty_cache, has_arrived, live, found_at, deadline_of}
 use Rattle.proto.specs.Commands.{Outcome, leaving, put, write, is_too_large, act}
-use Rattle.proto.specs.Steps.{Step, IsDated, MayEvict, without}
+use Rattle.proto.specs.Steps.{Step, IsDated, MayEvict, without_keys}
 use Rattle.proto.specs.Buckets.{life_width, MayLive}
 use Rattle.proto.specs.Lives.{HasPut, LivesItsTime, LivesForGood}
 use Rattle.proto.proofs.Options.{some_is}
@@ -111,7 +111,7 @@ set_leaves sizes before after t p waits (inl x) =
     (subst (λ (m : Entries). IsDated t m (Some p.key) x.dated) s.entries d) in
     let e : Entry = record s.entry { deadline = left.0 } in
     let other = others_forgotten sizes x.dated done.stored p.key x.forgotten s.stored x.may_forget in
-    let there : map.get (without x.dated x.forgotten) p.key ≡ Some e =
+    let there : map.get (without_keys x.dated x.forgotten) p.key ≡ Some e =
     get-without x.dated x.forgotten p.key
     ∙ rw other (ap (λ (m : Entries). map.get m p.key) left.2 ∙ get-stored s.old p.key e) in
     record {

@@ -39,7 +39,7 @@ two_bytes b k zero here ahead lt = rw add-zero here
 two_bytes b k (suc zero) here ahead lt = ahead
 two_bytes b k (suc (suc j)) here ahead lt = absurd (omega arith)
 
--- a 10 stands behind the next byte that is 13
+-- a 10 stands after the next byte that is 13
 pub search_finds : (b back : List ℕ) (from i : ℕ) → back ≡ drop from b
     → NoneBefore (Passes (is_byte 13) back) 0 (length back) i × Passes (is_byte 13) back i
     → Nowhere (OccursAt b line_end) 0 from → (from + i) + 1 < length b → get_or b ((from + i) + 1) 0 ≡ 10
@@ -51,7 +51,7 @@ search_finds b back from i back-is found before fits ahead =
       record { fits = omega arith; reads = λ j lt. two_bytes b (from + i) j here ahead lt },
     )
 
--- another byte stands behind it, or nothing
+-- another byte stands after it, or nothing
 pub search_goes_on : (b back : List ℕ) (from i : ℕ) → back ≡ drop from b
     → NoneBefore (Passes (is_byte 13) back) 0 (length back) i × Passes (is_byte 13) back i
     → Nowhere (OccursAt b line_end) 0 from → ((from + i) + 1 < length b → get_or b ((from + i) + 1) 0 ≡ 10 → ⊥)
@@ -77,7 +77,7 @@ search_begins b n h k low high occurs =
     no_end_place (take n b) k h.no_end (omega (arith, len))
     (rw (get_or-take n b k 0 (omega arith)) here) (rw (get_or-take n b (k + 1) 0 (omega arith)) ahead)
 
--- what was searched of the bytes was searched of so many of them
+-- what was searched of the bytes was searched of the first of them
 pub searched_front : (b : List ℕ) (most n : ℕ) → IsSearched b n
     → IsSearched (take most b) (min n (length (take most b)))
 searched_front b most n h =

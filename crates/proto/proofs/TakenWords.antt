@@ -1,17 +1,17 @@
--- The words behind a storage line's command word, one after the other.
+-- The words after a storage line's command word, one after the other.
 use Rattle.std.proofs.Common.{◌≡◌, ℕ, ℤ, ◌^◌, Bool, List, [], ◌∷◌, Option, Some, refl, sym, ap, ◌∙◌}
 use Rattle.proto.specs.Lines.{is_key}
 use Rattle.proto.specs.declared.storage_line.StoreMode.{StoreMode}
 use Rattle.proto.specs.PlainReader.{key_in, taken, number_in, signed_in, TailReader, line_with, storage_in}
 use Rattle.proto.proofs.Options.{bind_some, guarded_some, some_is}
 
--- a word that was taken, what it is read as, and the words behind it
+-- a word that was taken, what it is read as, and the words after it
 record IsTaken {A : Type 0} (read : List ℕ → Option A) (words rest : List (List ℕ)) (a : A) : Type 0 where
   word : List ℕ
   words_are : words ≡ word ∷ rest
   read_is : read word ≡ Some a
 
--- a value that was read, and the words behind it
+-- a value that was read, and the words after it
 abbrev with_words : {A : Type 0} → List (List ℕ) → A → Option (A × List (List ℕ))
 with_words words a = Some (a, words)
 

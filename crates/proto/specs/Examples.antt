@@ -147,7 +147,7 @@ lenient_lines =
     ∷ (codes "set a 00 0 1 \r\n", Fatal fatal.BadLine)
     ∷ []
 
--- `append` and `prepend` are refused with their data, a `delete` may have a zero behind its key, and the binary protocol is
+-- `append` and `prepend` are refused with their data, a `delete` may have a zero after its key, and the binary protocol is
 -- refused by its first byte.
 abbrev pub lenient_refusals : List Example
 lenient_refusals =
@@ -184,8 +184,8 @@ lenient_long_lines =
     ∷ []
 
 -- what isn't a whole message yet
-abbrev pub unfinished : List (List ℕ)
-unfinished =
+abbrev pub unfinished_messages : List (List ℕ)
+unfinished_messages =
     [] ∷ codes "get a" ∷ codes "get a\r" ∷ codes "set a 0 0 1\r\n" ∷ codes "set a 0 0 1\r\nx\r"
     ∷ codes "set a 0 0 7\r\nget b\r\n" ∷ replicate 2047 97 ∷ []
 
@@ -222,7 +222,7 @@ AnswersAre =
 -- what a session's messages are answered together, where the requests had these replies
 abbrev pub SaidAre : Type 0
 SaidAre =
-    -- local answers stand in their places, before and behind a request's
+    -- local answers stand in their places, before and after a request's
     (said (Wrong wrong.Unknown ∷ Wrong wrong.Unknown ∷ Ask (Get (a ∷ []) false) false ∷ []) (reply.Values [] ∷ [])
     ≡ codes "ERROR\r\nERROR\r\nEND\r\n")
     × (said (Ask (Get (a ∷ []) false) false ∷ Wrong wrong.Unknown ∷ []) (reply.Values [] ∷ [])
@@ -361,7 +361,7 @@ abbrev pub quit_messages : List Message
 quit_messages =
     Ask (Set (put_with a 0 (pos 0) (codes "x"))) true ∷ Ask (Set (put_with a 0 (pos 0) (codes "y"))) false ∷ Quit ∷ []
 
--- nothing is read behind `quit`, and the quiet request is not answered
+-- nothing is read after `quit`, and the quiet request is not answered
 pub record QuitIs : Type 0 where
   pub reads : Reads Strict quit_input quit_messages (codes "get a\r\n")
   pub output : said quit_messages (reply.Stored ∷ reply.Stored ∷ []) ≡ codes "STORED\r\n"

@@ -1,4 +1,4 @@
--- Histories: lists of executed requests, and which are legal.
+-- Histories: lists of answered requests, and which are legal.
 use Rattle.std.specs.Prelude.{◌≡◌, ℕ, ◌+◌, ◌^◌, max, min, ⊤, ◌&&◌, List, [], ◌∷◌, ◌++◌, true, All, map, filter, ◌==◌}
 use Rattle.proto.specs.declared.message.Request.{Request}
 use Rattle.proto.specs.declared.message.Reply.{Reply}
@@ -22,7 +22,7 @@ MomentsFrom told t (e ∷ history) =
     (answer : GivenAnswer) × (e.clock ≡ told ++ answer ∷ []) × (e.moment ≡ max t (min answer.seconds max_moment))
     × MomentsFrom e.clock e.moment history
 
--- the clock's answers that gave a history its moments, behind these
+-- the clock's answers that gave a history its moments, after these
 abbrev pub answers_by : List GivenAnswer → List Answered → List GivenAnswer
 answers_by told [] = told
 answers_by told (e ∷ history) = answers_by e.clock history
@@ -59,8 +59,8 @@ pub record Legal (sizes : Sizes) (history : List Answered) : Type 0 where
   pub chain : Chain sizes (empty_cache 0) history caches
   pub numbers : (worker : ℕ) → NumbersFrom 1 (worker_share history worker)
 
--- a history that is legal for these sizes, and whose moments are read off the system's clock, one reading an entry, all counted
--- from one start, where the terms say so
+-- A history that is legal for these sizes. Where the terms say so, the clock's answers in it are readings of the system's clock,
+-- one for each entry, all counted from one start.
 pub record LegalBy (terms : Terms) (history : List Answered) : Type 0 where
   pub legal : Legal terms.geometry history
   pub read : terms.system_clock ≡ true → (start : ClockStart) × All (IsRead start) (answers_by [] history)

@@ -34,7 +34,7 @@ abbrev pub words_behind : Option (Bor (List ℕ)) → List (List ℕ)
 words_behind None = []
 words_behind (Some rest) = words_of rest.now
 
--- the keys in bytes where a space stands before each: the words behind the first byte
+-- the keys in bytes where a space stands before each: the words after the first byte
 abbrev pub keys_in : List ℕ → List (List ℕ)
 keys_in [] = []
 keys_in (first ∷ rest) = words_of rest

@@ -32,7 +32,8 @@ pub trait Clock: Drop {
 
     ghost leads_reflexive: { (clock : Self) → leads_to clock clock };
 
-    ghost leads_transitive: { (first second third : Self) → leads_to first second → leads_to second third → leads_to first third };
+    ghost leads_transitive: { (first second third : Self) → leads_to first second → leads_to second third
+        → leads_to first third };
 }
 
 /// What a clock has answered since it was wrapped up here, for clauses alone. It has no bytes, and only `AskedClock` adds to it.
@@ -87,8 +88,10 @@ impl<C: Clock> AskedClock<C> {
 
     /// Asks the clock once.
     pub fn now(&mut self) -> u64
-        ensures asked { (answer : GivenAnswer) × (result ≡ answer.seconds) × (self.new.answers ≡ self.old.answers ++ answer ∷ [])
-            × (C.told self.new.clock ≡ option_map (λ answers. answers ++ answer.seconds ∷ []) (C.told self.old.clock))
+        ensures asked { (answer : GivenAnswer) × (result ≡ answer.seconds)
+            × (self.new.answers ≡ self.old.answers ++ answer ∷ [])
+            × (C.told self.new.clock ≡ option_map
+            (λ answers. answers ++ answer.seconds ∷ []) (C.told self.old.clock))
             × IfSome (C.start self.old.clock) (λ from. IsRead from answer) }
         ensures start { C.start self.new.clock ≡ C.start self.old.clock }
         ensures leads { C.leads_to self.old.clock self.new.clock }

@@ -50,7 +50,8 @@ pub enum CommandWord {
 
 /// The one command word that may have this length and first byte.
 fn candidate(size: usize, first: u8) -> Option<CommandWord>
-    ensures { (command : CommandWord) → size ≡ length (word_of_command command) → first ≡ slice_index (word_of_command command) 0
+    ensures { (command : CommandWord) → size ≡ length (word_of_command command)
+        → first ≡ slice_index (word_of_command command) 0
         → result ≡ Some command }
 {
     match (size, first) {

@@ -126,7 +126,7 @@ impl Keys {
     }
 }
 
-/// The bytes behind a space.
+/// The bytes after a space.
 fn spaced(alloc: Global, bytes: &[u8]) -> Result<Vec<u8>, NoMemory>
     ensures { IfOk result (λ copy. copy.items ≡ space ∷ bytes.now) }
 {

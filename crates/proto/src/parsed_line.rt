@@ -23,7 +23,8 @@ pub enum ParsedLine<'a> {
 
 /// What a line with the command word of a storage line is.
 fn parsed_storage_line<'a>(head: Option<StorageLineView<'a>>) -> ParsedLine<'a>
-    ensures { parsed_line_of result ≡ meaning_of (Fatal FatalKind.BadLine) (option_map (λ h. storage (storage_line_of h)) head.entry) }
+    ensures { parsed_line_of result
+        ≡ meaning_of (Fatal FatalKind.BadLine) (option_map (λ h. storage (storage_line_of h)) head.entry) }
 {
     match head {
         Some(head) => {

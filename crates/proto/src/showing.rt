@@ -107,7 +107,8 @@ pub(crate) fn show_line(out: &mut Vec<u8>, text: &[u8]) -> Result<(), NoMemory>
 
 /// Appends the hits and the line that ends them, or changes nothing.
 fn show_hits(out: &mut Vec<u8>, hits: &Hits) -> Result<(), NoMemory>
-    ensures ok { OnOk result (out.new.items ≡ out.old.items ++ flat_map hit_bytes hits.now ++ codes "END" ++ line_end) }
+    ensures ok { OnOk result
+        (out.new.items ≡ out.old.items ++ flat_map hit_bytes hits.now ++ codes "END" ++ line_end) }
     ensures err { OnErr result (out.new.items ≡ out.old.items) }
 {
     let text = hits.text();

@@ -97,7 +97,10 @@ impl<R: time::Clock + Drop> SystemClock<R> {
     pub fn now(&mut self) -> ClockAnswer
         ensures start { self.new.start ≡ self.old.start }
         ensures reading { (now : Option Instant) × (self.new.readings ≡ self.old.readings ++ now ∷ [])
-            × (result ≡ record { seconds = seconds_since self.old.start now; read = record { start = self.old.start; now = now } ∷ [] }) }
+            × (result ≡ record {
+              seconds = seconds_since self.old.start now;
+              read = record { start = self.old.start; now = now } ∷ [];
+            }) }
     {
         let reading = self.log.read();
         let seconds = self.began + seconds_between(reading.start().monotonic(), reading.now());

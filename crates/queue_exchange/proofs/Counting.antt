@@ -52,7 +52,7 @@ module _ (s : StorageQueues) (all old rest : List WorkerQueues) (x : WorkerQueue
   still_none ns k n w k_is none none_ =
       get_or-set_other ns k w n 0 (λ z. none (length rest) x (last_in all old rest x h e) (sym (z ∙ k_is))) ∙ none_
 
-  -- a number behind the workers keeps its 0
+  -- a number after the workers keeps its 0
   pub still_beyond : (ns : List ℕ) (k n w : ℕ) → k ≡ x.worker → x.worker < length s.replies → length s.replies ≤ w
       → get_or ns w 0 ≡ 0
       → get_or (set ns k n) w 0 ≡ 0

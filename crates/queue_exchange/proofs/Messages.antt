@@ -149,7 +149,7 @@ numbers_after s (Bye w) old new k q e = old k q e
 
 -- A message among a worker's: before it there are requests alone, and it is the next of them or the bye.
 
--- the message at this place is that request, or the bye behind the last one
+-- the message at this place is that request, or the bye after the last one
 abbrev Fits : List Posted → ℕ → Taken → Type 0
 Fits l n (Asked v p) = get_elem? l n ≡ some p
 Fits l n (Bye v) = n ≡ length l
@@ -164,7 +164,7 @@ head_of : Taken → List Taken → Taken
 head_of m [] = m
 head_of m (x ∷ xs) = x
 
--- the messages behind the first
+-- the messages after the first
 tail_of : List Taken → List Taken
 tail_of [] = []
 tail_of (x ∷ xs) = xs

@@ -14,7 +14,8 @@ pub fn gather(mut workers: Vec<WorkerEnd>, mut storage: StorageEnd) -> Gathered
     requires { AreOfOne workers.items storage }
     ensures counted { (i : ℕ) (v : WorkerQueues) → get_elem? workers.items i ≡ some v
         → AreMetAndCounted storage v (slice_index result.sent v.worker) (slice_index result.back v.worker) }
-    ensures others { (w : ℕ) → ((i : ℕ) (v : WorkerQueues) → get_elem? workers.items i ≡ some v → v.worker ≢ w)
+    ensures others { (w : ℕ) → ((i : ℕ) (v : WorkerQueues) → get_elem? workers.items i ≡ some v
+        → v.worker ≢ w)
         → (slice_index result.sent w ≡ 0) × (slice_index result.back w ≡ 0) }
     ensures beyond { (w : ℕ) → length storage.replies ≤ w
         → (slice_index result.sent w ≡ 0) × (slice_index result.back w ≡ 0) }

@@ -26,7 +26,8 @@ fn make_workers(
     storage: &mut StorageEnd,
 ) -> Result<Vec<WorkerEnd>, AllocError>
     requires count { workers ≤ 8 }
-    requires unused { storage.old ≡ new_storage_queues storage.old.requests (room_for workers) [] storage.old.geometry }
+    requires unused { storage.old
+        ≡ new_storage_queues storage.old.requests (room_for workers) [] storage.old.geometry }
     ensures { IfOk result (λ ends. AreQueuesMade workers storage.old.geometry ends.items storage.new) }
 {
     let mut ends = Vec::with_capacity(alloc, workers)?;

@@ -165,7 +165,7 @@ impl Lesson<Taken, RequestQueueView> for Left {
     ghost fact = { λ v items. messages_of v.worker v.sending ≡ part v.worker (v.taken ++ items) };
 }
 
-/// The entry that is put behind the history. Each call picks it.
+/// The entry that is put after the history. Each call picks it.
 pub trait PickedEntry {
     ghost use Rattle.proto.specs.declared.history.Answered.{Answered};
 
@@ -178,7 +178,7 @@ impl PickedEntry for Brand {
     ghost entry = { any_entry };
 }
 
-/// Puts an entry behind the history, and closes the request.
+/// Puts an entry after the history, and closes the request.
 pub struct Notes<E> {
     of: PhantomData<E>,
 }

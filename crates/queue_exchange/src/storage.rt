@@ -47,12 +47,13 @@ fn is_request(taken: &Taken) -> bool
     }
 }
 
-// Puts an entry behind the history, and closes the open request.
+// Puts an entry after the history, and closes the open request.
 fn note<E: PickedEntry>(queue: &RequestQueue, pass: &mut RequestPass, entry: &Snapshot<Answered>)
     requires entry { entry.now.value ≡ E.entry }
     requires queue { IsPassOf queue.now pass.old × ((view pass.old).takes ≡ true) }
     ensures queue { IsSamePass pass.old pass.new }
-    ensures view { view pass.new ≡ storage_pass (view pass.old).made (view pass.old).taken None ((view pass.old).history
+    ensures view { view pass.new
+        ≡ storage_pass (view pass.old).made (view pass.old).taken None ((view pass.old).history
         ++ entry.now.value ∷ []) }
 {
     let _idle = queue.another::<Notes<E>>(pass);
@@ -67,7 +68,7 @@ impl StorageEnd {
     ghost use Rattle.queue_exchange.specs.Queues.{new_worker_queues, new_storage_queues, IsEndOf, IsNextTaken};
     ghost use Rattle.queue_exchange.specs.Queues.{after_taking, after_answering, RepliesFull, AreMet};
 
-    // An exchange without workers, with room for so many messages.
+    // An exchange without workers, with room for `room` messages.
     pub(crate) fn open(
         alloc: Global,
         room: usize,

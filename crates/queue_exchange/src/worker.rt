@@ -51,7 +51,8 @@ impl WorkerEnd {
         requires worker { worker < 8 }
         requires asks { IsPassOf (arc_value requests) asks × (view asks ≡ worker_pass worker nothing_sent) }
         requires takes { IsPassOf (arc_value replies) takes × (view takes ≡ reply_pass false true [] []) }
-        ensures { result ≡ new_worker_queues asks.table_id takes.table_id (ruled_capacity (arc_value requests)) worker }
+        ensures { result
+            ≡ new_worker_queues asks.table_id takes.table_id (ruled_capacity (arc_value requests)) worker }
     {
         WorkerEnd {
             requests,
@@ -67,10 +68,12 @@ impl WorkerEnd {
 
     // The passes, and the numbers of requests and of answers.
     pub(crate) fn into_passes(self) -> (RequestPass, ReplyPass, u64, u64)
-        ensures asks { (result.0.table_id ≡ self.requests) × (result.0.me.1 ≡ []) × ((view result.0).sends ≡ true)
+        ensures asks { (result.0.table_id ≡ self.requests) × (result.0.me.1 ≡ [])
+            × ((view result.0).sends ≡ true)
             × ((view result.0).worker ≡ self.worker)
             × ((view result.0).sending ≡ record { sent = self.sent; said_bye = self.said_bye }) }
-        ensures takes { (result.1.table_id ≡ self.replies) × (result.1.me.1 ≡ []) × ((view result.1).pops ≡ true)
+        ensures takes { (result.1.table_id ≡ self.replies) × (result.1.me.1 ≡ [])
+            × ((view result.1).pops ≡ true)
             × ((view result.1).popped ≡ self.back) }
         ensures counts { (result.2 ≡ length self.sent) × (result.3 ≡ length self.back) }
         ensures quiet { self.said_bye ≡ true → length self.back ≡ length self.sent }
@@ -200,7 +203,8 @@ fn push_request<R: Wait>(
     posted: Posted,
 ) -> Result<(), Posted>
     requires queue { IsPassOf queue.now pass.old }
-    requires view { ((view pass.old).sends ≡ true) × ((view pass.old).takes ≡ false) × ((view pass.old).worker ≡ worker)
+    requires view { ((view pass.old).sends ≡ true) × ((view pass.old).takes ≡ false)
+        × ((view pass.old).worker ≡ worker)
         × ((view pass.old).sending.said_bye ≡ false) }
     requires next { posted.number ≡ length (view pass.old).sending.sent + 1 }
     ensures queue { IsSamePass pass.old pass.new }

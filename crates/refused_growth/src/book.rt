@@ -9,7 +9,7 @@ const INPUT: &[u8] = b"set key 0 0 5\r\nvalue\r\nfoo\r\ndelete key\r\nquit\r\nge
 
 const OUTPUT: &[u8] = b"STORED\r\nERROR\r\nDELETED\r\n";
 
-/// What a session comes to: its whole output, or it was closed for want of memory.
+/// What a session comes to: its whole output, or it was closed because memory ran out.
 enum Course {
     Answered,
     Starved,
@@ -100,7 +100,7 @@ fn run(alloc: Global) -> Option<Course> {
     play(&mut book)
 }
 
-/// A session is answered, or it is closed for want of memory and the next one is answered.
+/// A session is answered, or it is closed because memory ran out and the next one is answered.
 pub fn is_repeatable(alloc: Global) -> bool {
     for _ in 0..2 {
         match run(alloc) {

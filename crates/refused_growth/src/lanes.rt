@@ -9,11 +9,11 @@ pub fn is_repeatable(alloc: Global) -> bool {
     let Ok(geometry) = Geometry::new(4096, 8) else {
         return false;
     };
-    let terms = Terms {
-        geometry,
-        system_clock: false,
-    };
     for _ in 0..2 {
+        let terms = Terms {
+            geometry,
+            system_clock: false,
+        };
         if let Ok((ends, storage)) = make(alloc, 2, terms) {
             return ends.len() == 2 && storage.workers() == 2;
         }

@@ -138,7 +138,7 @@ fn push_piece(alloc: Global, script: &mut String, bytes: &[u8]) -> Result<(), Fa
     Ok(())
 }
 
-/// Adds so many commands, cut at random.
+/// Adds `commands` commands, cut at random.
 fn push_commands(
     alloc: Global,
     numbers: &mut Numbers,
@@ -157,7 +157,7 @@ fn push_commands(
     Ok(())
 }
 
-/// A script of one session that sends so many commands, cut at random.
+/// A script of one session that sends `commands` commands, cut at random.
 fn random_script(alloc: Global, seed: u64, commands: u64) -> Result<String, Fail> {
     let mut numbers = Numbers { state: seed };
     let mut script = String::from_str(alloc, "open 0 1\n")?;

@@ -10,7 +10,7 @@ use std::thread::Threads;
 use std::time;
 use subcommands::{Fault, replay};
 
-/// The values are the same, or it is said at which place they aren't.
+/// Checks that the values are the same, and else names the place at which they aren't.
 pub fn check_same<T: Copy + PartialEq + Debug, P: Copy + Debug>(
     rt: &impl Abort,
     given: T,
@@ -28,7 +28,7 @@ pub fn push_words(alloc: Global, all: &mut Vec<String>, words: &str) -> Result<(
     Ok(())
 }
 
-/// The options of these words behind `replay script`.
+/// The options of these words after `replay script`.
 pub fn options(alloc: Global, words: &str) -> Result<Options, Fail> {
     let mut all = Vec::new(alloc);
     push_words(alloc, &mut all, "replay script")?;
@@ -64,7 +64,7 @@ pub fn lines<H: Threads + Wait + time::Clock + Sync>(
     Ok(String::from_utf8(out)?)
 }
 
-/// Prints these lines with these words, or it is said at which place it doesn't.
+/// Checks that it prints these lines with these words, and else names the place at which it doesn't.
 pub fn check_lines<H: Abort + Threads + Wait + time::Clock + Sync, P: Copy + Debug>(
     rt: &H,
     alloc: Global,

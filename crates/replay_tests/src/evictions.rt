@@ -9,7 +9,7 @@ use std::test::Fail;
 use std::thread::Threads;
 use std::time;
 
-/// So many keys are written, the first one is read so often before the 65th write, and then all are read.
+/// `writes` keys are written, the first one is read `reads` times before the 65th write, and then all are read.
 #[derive(Clone, Copy)]
 struct Run {
     writes: u32,
@@ -46,7 +46,7 @@ const RUNS: [Run; 5] = [
     },
 ];
 
-/// Adds what stands before a key, the key and what stands behind it.
+/// Adds what stands before a key, the key and what stands after it.
 fn push_key(
     alloc: Global,
     text: &mut String,

@@ -14,7 +14,7 @@ const TOO_LONG: &str = "CLIENT_ERROR line too long\r\n";
 
 const ONE_HIT: &str = "VALUE a 0 1\r\nx\r\nEND\r\n";
 
-/// What a session sends behind `set a 0 0 1`, and what it is then given leniently and strictly.
+/// What a session sends after `set a 0 0 1`, and what it is then given leniently and strictly.
 const LINES: [(&str, &str, &str); 14] = [
     ("get a \r\n", ONE_HIT, BAD_LINE),
     ("get a   \r\n", ONE_HIT, BAD_LINE),
@@ -52,7 +52,7 @@ const LINES: [(&str, &str, &str); 14] = [
     ),
 ];
 
-/// The text behind the request that stores `x` under `a`, or behind its answer.
+/// The text after the request that stores `x` under `a`, or after its answer.
 fn behind_set(alloc: Global, first: &str, text: &str) -> Result<String, AllocError> {
     let mut all = String::from_str(alloc, first)?;
     all.push_str(text)?;
@@ -88,7 +88,7 @@ fn spaces_before_the_end_of_a_line(rt: HostRuntime) -> Result<(), Fail> {
     check_lines(&rt, rt.alloc(), &LINES)
 }
 
-/// So many letters, and what stands behind them; what a session that sends them is given leniently.
+/// The number of letters, and what stands after them; what a session that sends them is given leniently.
 const LENGTHS: [(usize, &str, &str); 4] = [
     (32_766, "\r\nget a\r\n", "ERROR\r\nEND\r\n"),
     (32_767, "\r\nget a\r\n", TOO_LONG),

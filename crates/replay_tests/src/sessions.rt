@@ -184,7 +184,7 @@ fn moments_of_the_clock(rt: HostRuntime) -> Result<(), Fail> {
 
 const SMALL: &str = "--segment-size 4096 --segments 8";
 
-/// Some text, so many times the same byte, and further text.
+/// Some text, a byte and how many times it comes, and further text.
 type Around = (&'static str, u8, usize, &'static str);
 
 /// The words, what a session sends, and what it is given.

@@ -101,7 +101,7 @@ const OUT_OF_RANGE: [(&str, &str); 3] = [
     ),
 ];
 
-/// Words behind `serve`, and all options that are then in force.
+/// Words after `serve`, and all options that are then in force.
 const IN_FORCE: [(&str, &str); 3] = [
     (
         "--listen 127.0.0.1:0",
@@ -117,7 +117,7 @@ const IN_FORCE: [(&str, &str); 3] = [
     ),
 ];
 
-/// Words behind `replay script` or a server's address, and whether they ask for the lenient dialect.
+/// Words after `replay script` or a server's address, and whether they ask for the lenient dialect.
 const DIALECTS: [(&str, bool); 3] = [
     ("", false),
     ("--lenient", true),

@@ -173,14 +173,14 @@ leave_out n o o' s (x ∷ xs) le same h =
 
 -- ---- what a playable script is
 
--- an event that the test allows behind those before it may follow them
+-- an event that the test allows after those before it may follow them
 may_come : (before : List ScriptEvent) (x : ScriptEvent)
     → may_follow (newest_of before) (is_open_in_script before) x ≡ true → MayFollow before x
 may_come before (Open s) h = lt_true (newest_of before) s h
 may_come before (Send s bytes) h = h
 may_come before (Gone s) h = h
 
--- an event that may follow those before it is allowed by the test behind them
+-- an event that may follow those before it is allowed by the test after them
 may_go : (before : List ScriptEvent) (x : ScriptEvent) → MayFollow before x
     → may_follow (newest_of before) (is_open_in_script before) x ≡ true
 may_go before (Open s) h = true_lt (newest_of before) s h
@@ -208,7 +208,7 @@ come_each before (x ∷ xs) h (suc k) d lt =
     subst (λ (l : List ScriptEvent). MayFollow l (get_or xs k d)) (append_assoc before (x ∷ []) (take k xs))
     (come_each (before ++ x ∷ []) xs (sym (after_one before x xs) ∙ rest) k d (omega arith))
 
--- if each event of a list may follow all those before it, the test allows the list behind them
+-- if each event of a list may follow all those before it, the test allows the list after them
 go_each : (before xs : List ScriptEvent)
     → ((k : ℕ) (d : ScriptEvent) → k < length xs → MayFollow (before ++ take k xs) (get_or xs k d))
     → plays_from (newest_of before) (is_open_in_script before) xs ≡ true

@@ -10,14 +10,14 @@ use Rattle.std.proofs.lemmas.List.Elements.{filter_map-append}
 use Rattle.exchange.specs.Beginnings.{StartsWith}
 use Rattle.script.specs.declared.event.ScriptEvent.{ScriptEvent}
 use Rattle.script.specs.declared.event.ScriptEvent.TheVariants.{Open, Send, Gone}
-use Rattle.script.specs.Events.{open_after, sent, sent_by, goes_by_event, goes_in_script}
+use Rattle.script.specs.Events.{open_after, sent_bytes, sent_by, goes_by_event, goes_in_script}
 use Rattle.script.specs.Events as script
 use Rattle.worker_port.specs.declared.events.PortRecord.{PortRecord}
 use Rattle.worker_port.specs.declared.events.PortRecord.TheVariants as was
 use Rattle.worker_port.specs.Ports.{fed, is_entry, is_in}
 use Rattle.worker_port.proofs.Facts.{any_more, any_no, fed_both}
 use Rattle.script.specs.PortEvents.{event_session, events_without, send_after, plays_from}
-use Rattle.script.specs.Records.{opened, opened_by}
+use Rattle.script.specs.Records.{opened_sessions, opened_by}
 use Rattle.script.specs.Following.{Follows, MayGo}
 use Rattle.script.proofs.EventLemmas.{bool_cases, and_left, and_right, lt_true, lt_false, IsApart}
 use Rattle.script.proofs.PlayerLemmas.{opened_more, opened_one}
@@ -25,16 +25,16 @@ use Rattle.proto.proofs.CountLemmas.{either_way}
 
 -- ---- lists of events, and of records
 
--- two lists of events, one behind the other, send a session the bytes of the first and then those of the second
-sent_more : (xs ys : List ScriptEvent) (s : ℕ) → sent (xs ++ ys) s ≡ sent xs s ++ sent ys s
+-- two lists of events, one after the other, send a session the bytes of the first and then those of the second
+sent_more : (xs ys : List ScriptEvent) (s : ℕ) → sent_bytes (xs ++ ys) s ≡ sent_bytes xs s ++ sent_bytes ys s
 sent_more xs ys s = flat_map-append (sent_by s) xs ys
 
--- two lists of events, one behind the other, open the sessions of the first and then those of the second
+-- two lists of events, one after the other, open the sessions of the first and then those of the second
 opens_more : (xs ys : List ScriptEvent)
     → script.sessions_opened (xs ++ ys) ≡ script.sessions_opened xs ++ script.sessions_opened ys
 opens_more xs ys = filter_map-append script.session_opened_by xs ys
 
--- one more record puts the bytes that it has of a session behind those that came before
+-- one more record puts the bytes that it has of a session after those that came before
 fed_more : (l l' : List PortRecord) (x : PortRecord) (s : ℕ) → l' ≡ l ++ x ∷ [] → fed s l' ≡ fed s l ++ fed s (x ∷ [])
 fed_more l l' x s e = ap (fed s) e ∙ fed_both s l (x ∷ [])
 
@@ -51,7 +51,7 @@ sends_nothing (Gone t) s other = refl
 
 -- events of other sessions send an event's session nothing
 pub sent_apart : (n : ℕ) (e : ScriptEvent) (xs : List ScriptEvent) → AllByRecursion (IsApart n e) xs
-    → sent xs (event_session e) ≡ []
+    → sent_bytes xs (event_session e) ≡ []
 sent_apart n e [] apart = refl
 sent_apart n e (x ∷ xs) apart = (λ i. sends_nothing x (event_session e) apart.0.other i ++ sent_apart n e xs apart.1 i)
 
@@ -68,16 +68,18 @@ no_opens n o e (Gone s ∷ xs) ys apart h = no_opens n (λ t. open_after t (o t)
     (and_right (o s) (plays_from n (λ t. open_after t (o t) (Gone s)) (xs ++ ys)) h)
 
 -- without a session's events the others send the same
-sent_without : (s t : ℕ) (xs : List ScriptEvent) → t ≢ s → sent (events_without s xs) t ≡ sent xs t
+sent_without : (s t : ℕ) (xs : List ScriptEvent) → t ≢ s → sent_bytes (events_without s xs) t ≡ sent_bytes xs t
 sent_without s t [] other = refl
 sent_without s t (x ∷ xs) other =
     either_way (event_session x) s
     (λ same.
-    ap (λ b. sent (cond (not b) (x ∷ events_without s xs) (events_without s xs)) t) (eq-eqb (event_session x) s same)
+    ap (λ b. sent_bytes (cond (not b) (x ∷ events_without s xs) (events_without s xs)) t)
+    (eq-eqb (event_session x) s same)
     ∙ sent_without s t xs other
-    ∙ sym (ap (λ (b : List ℕ). b ++ sent xs t) (sends_nothing x t (λ e. other (sym e ∙ same)))))
+    ∙ sym (ap (λ (b : List ℕ). b ++ sent_bytes xs t) (sends_nothing x t (λ e. other (sym e ∙ same)))))
     (λ apart.
-    ap (λ b. sent (cond (not b) (x ∷ events_without s xs) (events_without s xs)) t) (ne_eqb (event_session x) s apart)
+    ap (λ b. sent_bytes (cond (not b) (x ∷ events_without s xs) (events_without s xs)) t)
+    (ne_eqb (event_session x) s apart)
     ∙ ap (λ (b : List ℕ). sent_by t x ++ b) (sent_without s t xs other))
 
 -- and the same sessions are opened, where this one was opened before
@@ -130,7 +132,7 @@ or_either : {A : Type 0} (a b : Bool) → (a || b) ≡ true → (a ≡ true → 
 or_either true b e f g = f refl
 or_either false b e f g = g e
 
--- in two lists of events, one behind the other, a peer goes exactly where it goes in one of them
+-- in two lists of events, one after the other, a peer goes exactly where it goes in one of them
 goes_more : (xs ys : List ScriptEvent) (s : ℕ)
     → goes_in_script (xs ++ ys) s ≡ (goes_in_script xs s || goes_in_script ys s)
 goes_more xs ys s = list_any-append (goes_by_event s) xs ys
@@ -169,33 +171,33 @@ over_same l l' x s e other never = ap (is_in (was.EndOfInput s)) e ∙ any_no (i
 
 -- ---- what the rest of a send is
 
--- what is left of a send behind its next piece sends its session all bytes but the first 16,384
-rest_sent : (s : ℕ) (bytes : List ℕ) → sent (send_after s bytes) s ≡ drop 16384 bytes
+-- what is left of a send after its next piece sends its session all bytes but the first 16,384
+rest_sent : (s : ℕ) (bytes : List ℕ) → sent_bytes (send_after s bytes) s ≡ drop 16384 bytes
 rest_sent s bytes =
     bool_cases (nat_lt 16384 (length bytes))
     (λ more.
-    ap (λ b. sent (cond b (Send s (drop 16384 bytes) ∷ []) []) s) more
+    ap (λ b. sent_bytes (cond b (Send s (drop 16384 bytes) ∷ []) []) s) more
     ∙ ap (λ b. cond b (drop 16384 bytes) [] ++ []) (eq-eqb s s refl) ∙ append-nil (drop 16384 bytes))
-    (λ last. ap (λ b. sent (cond b (Send s (drop 16384 bytes) ∷ []) []) s) last
+    (λ last. ap (λ b. sent_bytes (cond b (Send s (drop 16384 bytes) ∷ []) []) s) last
     ∙ sym (drop_all 16384 bytes (lt_false 16384 (length bytes) last)))
 
--- what is left of a send behind its next piece sends the other sessions nothing
-rest_others : (s t : ℕ) (bytes : List ℕ) → t ≢ s → sent (send_after s bytes) t ≡ []
+-- what is left of a send after its next piece sends the other sessions nothing
+rest_others : (s t : ℕ) (bytes : List ℕ) → t ≢ s → sent_bytes (send_after s bytes) t ≡ []
 rest_others s t bytes other =
     bool_cases (nat_lt 16384 (length bytes))
     (λ more.
-    ap (λ b. sent (cond b (Send s (drop 16384 bytes) ∷ []) []) t) more
+    ap (λ b. sent_bytes (cond b (Send s (drop 16384 bytes) ∷ []) []) t) more
     ∙ ap (λ b. cond b (drop 16384 bytes) [] ++ []) (ne_eqb s t (λ e. other (sym e))))
-    (λ last. ap (λ b. sent (cond b (Send s (drop 16384 bytes) ∷ []) []) t) last)
+    (λ last. ap (λ b. sent_bytes (cond b (Send s (drop 16384 bytes) ∷ []) []) t) last)
 
--- what is left of a send behind its next piece opens no session
+-- what is left of a send after its next piece opens no session
 rest_opens : (s : ℕ) (bytes : List ℕ) → script.sessions_opened (send_after s bytes) ≡ []
 rest_opens s bytes =
     bool_cases (nat_lt 16384 (length bytes))
     (λ more. ap (λ b. script.sessions_opened (cond b (Send s (drop 16384 bytes) ∷ []) [])) more)
     (λ last. ap (λ b. script.sessions_opened (cond b (Send s (drop 16384 bytes) ∷ []) [])) last)
 
--- in what is left of a send behind its next piece no peer goes
+-- in what is left of a send after its next piece no peer goes
 rest_goes : (s t : ℕ) (bytes : List ℕ) → goes_in_script (send_after s bytes) t ≡ false
 rest_goes s t bytes =
     bool_cases (nat_lt 16384 (length bytes))
@@ -214,8 +216,8 @@ pub follows_still : (played left left' : List ScriptEvent) (l l' : List PortReco
 follows_still played left left' l l' x closed closed' can_fail left_is l_is none nothing stays more same f = record {
   opened_are = f.opened_are ∙ (λ i. sym (opened_more l l' x l_is none) i ++ script.sessions_opened (sym left_is i));
   fed_are = λ t active. f.fed_are t (sym (same t) ∙ active)
-      ∙ (λ i. sym (fed_same l l' x t l_is (nothing t)) i ++ sent (sym left_is i) t);
-  begun = λ t ended. subst (StartsWith (sent played t)) (sym (fed_same l l' x t l_is (nothing t)))
+      ∙ (λ i. sym (fed_same l l' x t l_is (nothing t)) i ++ sent_bytes (sym left_is i) t);
+  begun = λ t ended. subst (StartsWith (sent_bytes played t)) (sym (fed_same l l' x t l_is (nothing t)))
       (f.begun t (sym (same t) ∙ ended));
   to_go = λ t goes. f.to_go t (ap (λ xs. goes_in_script xs t) (sym left_is) ∙ goes);
   gone_by = λ t gone. f.gone_by t (sym (gone_same l l' x t l_is (stays t)) ∙ gone);
@@ -227,8 +229,8 @@ pub follows_as : (played left left' : List ScriptEvent) (l : List PortRecord) (c
     (can_fail : Bool) → left' ≡ left
     → ((t : ℕ) → closed' t ≡ closed t) → Follows played left l closed can_fail → Follows played left' l closed' can_fail
 follows_as played left left' l closed closed' can_fail left_is same f = record {
-  opened_are = f.opened_are ∙ (λ i. opened l ++ script.sessions_opened (sym left_is i));
-  fed_are = λ t active. f.fed_are t (sym (same t) ∙ active) ∙ (λ i. fed t l ++ sent (sym left_is i) t);
+  opened_are = f.opened_are ∙ (λ i. opened_sessions l ++ script.sessions_opened (sym left_is i));
+  fed_are = λ t active. f.fed_are t (sym (same t) ∙ active) ∙ (λ i. fed t l ++ sent_bytes (sym left_is i) t);
   begun = λ t ended. f.begun t (sym (same t) ∙ ended);
   to_go = λ t goes. f.to_go t (ap (λ xs. goes_in_script xs t) (sym left_is) ∙ goes);
   gone_by = f.gone_by;
@@ -243,19 +245,19 @@ pub follows_open : (played left left' before after : List ScriptEvent) (l l' : L
     → Follows played left' l' closed' can_fail
 follows_open played left left' before after l l' s closed closed' can_fail left_is left'_is l_is none same f = record {
   opened_are = f.opened_are
-      ∙ ap (λ (xs : List ℕ). opened l ++ xs)
+      ∙ ap (λ (xs : List ℕ). opened_sessions l ++ xs)
       (ap script.sessions_opened left_is ∙ opens_more before (Open s ∷ after)
       ∙ ap (λ (xs : List ℕ). xs ++ s ∷ script.sessions_opened after) none)
-      ∙ sym (append_assoc (opened l) (s ∷ []) (script.sessions_opened after))
+      ∙ sym (append_assoc (opened_sessions l) (s ∷ []) (script.sessions_opened after))
       ∙ (λ i. sym (opened_one l l' s l_is) i ++ sym
       (ap script.sessions_opened left'_is ∙ opens_more before after
       ∙ ap (λ (xs : List ℕ). xs ++ script.sessions_opened after) none) i);
   fed_are = λ t active. f.fed_are t (sym (same t) ∙ active)
       ∙ (λ i. sym (fed_same l l' (was.Opened s) t l_is refl) i ++
-      (ap (λ (xs : List ScriptEvent). sent xs t) left_is ∙ sent_more before (Open s ∷ after) t
+      (ap (λ (xs : List ScriptEvent). sent_bytes xs t) left_is ∙ sent_more before (Open s ∷ after) t
       ∙ sym (sent_more before after t)
-      ∙ sym (ap (λ (xs : List ScriptEvent). sent xs t) left'_is)) i);
-  begun = λ t ended. subst (StartsWith (sent played t)) (sym (fed_same l l' (was.Opened s) t l_is refl))
+      ∙ sym (ap (λ (xs : List ScriptEvent). sent_bytes xs t) left'_is)) i);
+  begun = λ t ended. subst (StartsWith (sent_bytes played t)) (sym (fed_same l l' (was.Opened s) t l_is refl))
       (f.begun t (sym (same t) ∙ ended));
   to_go = λ t goes. f.to_go t
       (ap (λ xs. goes_in_script xs t) left_is ∙ goes_more before (Open s ∷ after) t ∙ sym (goes_more before after t)
@@ -268,7 +270,7 @@ follows_open played left left' before after l l' s closed closed' can_fail left_
 pub follows_send : (played left left' before after : List ScriptEvent) (l l' : List PortRecord) (s : ℕ) (bytes : List ℕ)
     (closed closed' : ℕ → Bool) (can_fail : Bool) → left ≡ before ++ Send s bytes ∷ after
     → left' ≡ before ++ send_after s bytes ++ after
-    → l' ≡ l ++ was.Data s (take 16384 bytes) ∷ [] → sent before s ≡ [] → closed s ≡ false
+    → l' ≡ l ++ was.Data s (take 16384 bytes) ∷ [] → sent_bytes before s ≡ [] → closed s ≡ false
     → ((t : ℕ) → closed' t ≡ closed t)
     → Follows played left l closed can_fail → Follows played left' l' closed' can_fail
 follows_send played left left' before after l l' s bytes closed closed' can_fail left_is left'_is l_is none active same
@@ -278,14 +280,15 @@ follows_send played left left' before after l l' s bytes closed closed' can_fail
           (ap script.sessions_opened left_is ∙ opens_more before (Send s bytes ∷ after)
           ∙ sym (ap script.sessions_opened left'_is ∙ opens_around)) i);
       fed_are = λ t is_open. either_way t s
-          (λ here. subst (λ (u : ℕ). sent played u ≡ fed u l' ++ sent left' u) (sym here) (f.fed_are s active ∙ moved))
+          (λ here. subst (λ (u : ℕ). sent_bytes played u
+          ≡ fed u l' ++ sent_bytes left' u) (sym here) (f.fed_are s active ∙ moved))
           (λ other. f.fed_are t (sym (same t) ∙ is_open)
           ∙ (λ i. sym
           (fed_same l l' (was.Data s (take 16384 bytes)) t l_is
           (ap (λ b. cond b (take 16384 bytes) [] ++ []) (ne_eqb s t (λ e. other (sym e))))) i ++ stays t other i));
       begun = λ t ended. either_way t s
           (λ here. absurd (true≢false (sym ended ∙ same t ∙ ap closed here ∙ active)))
-          (λ other. subst (StartsWith (sent played t))
+          (λ other. subst (StartsWith (sent_bytes played t))
           (sym (fed_same l l' (was.Data s (take 16384 bytes)) t l_is
           (ap (λ b. cond b (take 16384 bytes) [] ++ []) (ne_eqb s t (λ e. other (sym e))))))
           (f.begun t (sym (same t) ∙ ended)));
@@ -304,10 +307,10 @@ follows_send played left left' before after l l' s bytes closed closed' can_fail
         (goes_more before (send_after s bytes) t ∙ ap (λ b. goes_in_script before t || b) (rest_goes s t bytes)
         ∙ or_no (goes_in_script before t))
 
-    sent_around : (t : ℕ) → sent (before ++ send_after s bytes ++ after) t
-        ≡ (sent before t ++ sent (send_after s bytes) t) ++ sent after t
+    sent_around : (t : ℕ) → sent_bytes (before ++ send_after s bytes ++ after) t
+        ≡ (sent_bytes before t ++ sent_bytes (send_after s bytes) t) ++ sent_bytes after t
     sent_around t = sent_more (before ++ send_after s bytes) after t
-        ∙ ap (λ (xs : List ℕ). xs ++ sent after t) (sent_more before (send_after s bytes) t)
+        ∙ ap (λ (xs : List ℕ). xs ++ sent_bytes after t) (sent_more before (send_after s bytes) t)
 
     opens_around : script.sessions_opened (before ++ send_after s bytes ++ after)
         ≡ script.sessions_opened before ++ script.sessions_opened after
@@ -318,32 +321,32 @@ follows_send played left left' before after l l' s bytes closed closed' can_fail
         ∙ ap (λ (xs : List ℕ). script.sessions_opened before ++ xs) (rest_opens s bytes)
         ∙ append-nil (script.sessions_opened before))
 
-    stays : (t : ℕ) → t ≢ s → sent left t ≡ sent left' t
+    stays : (t : ℕ) → t ≢ s → sent_bytes left t ≡ sent_bytes left' t
     stays t other =
-        ap (λ (xs : List ScriptEvent). sent xs t) left_is ∙ sent_more before (Send s bytes ∷ after) t
-        ∙ ap (λ b. sent before t ++ (cond b bytes [] ++ sent after t)) (ne_eqb s t (λ e. other (sym e)))
-        ∙ sym (ap (λ (xs : List ScriptEvent). sent xs t) left'_is ∙ sent_around t
-        ∙ ap (λ (xs : List ℕ). (sent before t ++ xs) ++ sent after t) (rest_others s t bytes other)
-        ∙ ap (λ (xs : List ℕ). xs ++ sent after t) (append-nil (sent before t)))
+        ap (λ (xs : List ScriptEvent). sent_bytes xs t) left_is ∙ sent_more before (Send s bytes ∷ after) t
+        ∙ ap (λ b. sent_bytes before t ++ (cond b bytes [] ++ sent_bytes after t)) (ne_eqb s t (λ e. other (sym e)))
+        ∙ sym (ap (λ (xs : List ScriptEvent). sent_bytes xs t) left'_is ∙ sent_around t
+        ∙ ap (λ (xs : List ℕ). (sent_bytes before t ++ xs) ++ sent_bytes after t) (rest_others s t bytes other)
+        ∙ ap (λ (xs : List ℕ). xs ++ sent_bytes after t) (append-nil (sent_bytes before t)))
 
-    old_sent : sent left s ≡ bytes ++ sent after s
+    old_sent : sent_bytes left s ≡ bytes ++ sent_bytes after s
     old_sent =
-        ap (λ (xs : List ScriptEvent). sent xs s) left_is ∙ sent_more before (Send s bytes ∷ after) s
-        ∙ ap (λ (xs : List ℕ). xs ++ sent (Send s bytes ∷ after) s) none
-        ∙ ap (λ b. cond b bytes [] ++ sent after s) (eq-eqb s s refl)
+        ap (λ (xs : List ScriptEvent). sent_bytes xs s) left_is ∙ sent_more before (Send s bytes ∷ after) s
+        ∙ ap (λ (xs : List ℕ). xs ++ sent_bytes (Send s bytes ∷ after) s) none
+        ∙ ap (λ b. cond b bytes [] ++ sent_bytes after s) (eq-eqb s s refl)
 
-    new_sent : sent left' s ≡ drop 16384 bytes ++ sent after s
+    new_sent : sent_bytes left' s ≡ drop 16384 bytes ++ sent_bytes after s
     new_sent =
-        ap (λ (xs : List ScriptEvent). sent xs s) left'_is ∙ sent_around s
-        ∙ ap (λ (xs : List ℕ). (xs ++ sent (send_after s bytes) s) ++ sent after s) none
-        ∙ ap (λ (xs : List ℕ). xs ++ sent after s) (rest_sent s bytes)
+        ap (λ (xs : List ScriptEvent). sent_bytes xs s) left'_is ∙ sent_around s
+        ∙ ap (λ (xs : List ℕ). (xs ++ sent_bytes (send_after s bytes) s) ++ sent_bytes after s) none
+        ∙ ap (λ (xs : List ℕ). xs ++ sent_bytes after s) (rest_sent s bytes)
 
-    moved : fed s l ++ sent left s ≡ fed s l' ++ sent left' s
+    moved : fed s l ++ sent_bytes left s ≡ fed s l' ++ sent_bytes left' s
     moved =
         ap (λ (xs : List ℕ). fed s l ++ xs)
-        (old_sent ∙ ap (λ (xs : List ℕ). xs ++ sent after s) (sym (take-append-drop 16384 bytes))
-        ∙ append_assoc (take 16384 bytes) (drop 16384 bytes) (sent after s))
-        ∙ sym (append_assoc (fed s l) (take 16384 bytes) (drop 16384 bytes ++ sent after s))
+        (old_sent ∙ ap (λ (xs : List ℕ). xs ++ sent_bytes after s) (sym (take-append-drop 16384 bytes))
+        ∙ append_assoc (take 16384 bytes) (drop 16384 bytes) (sent_bytes after s))
+        ∙ sym (append_assoc (fed s l) (take 16384 bytes) (drop 16384 bytes ++ sent_bytes after s))
         ∙ (λ i. sym
         (fed_more l l' (was.Data s (take 16384 bytes)) s l_is
         ∙ ap (λ b. fed s l ++ (cond b (take 16384 bytes) [] ++ [])) (eq-eqb s s refl)
@@ -366,10 +369,10 @@ follows_close played left left' l l' x s closed closed' can_fail left'_is l_is n
           (λ here. absurd (true≢false (sym ended ∙ ap closed' (sym here) ∙ is_open)))
           (λ other. f.fed_are t (sym (others t other) ∙ is_open)
           ∙ (λ i. sym (fed_same l l' x t l_is (nothing t)) i
-          ++ sym (ap (λ (xs : List ScriptEvent). sent xs t) left'_is ∙ sent_without s t left other) i));
-      begun = λ t gone. subst (StartsWith (sent played t)) (sym (fed_same l l' x t l_is (nothing t)))
+          ++ sym (ap (λ (xs : List ScriptEvent). sent_bytes xs t) left'_is ∙ sent_without s t left other) i));
+      begun = λ t gone. subst (StartsWith (sent_bytes played t)) (sym (fed_same l l' x t l_is (nothing t)))
           (either_way t s
-          (λ here. (sent left t, f.fed_are t (ap closed here ∙ active)))
+          (λ here. (sent_bytes left t, f.fed_are t (ap closed here ∙ active)))
           (λ other. f.begun t (sym (others t other) ∙ gone)));
       to_go = λ t goes. f.to_go t (goes_without s t left (ap (λ xs. goes_in_script xs t) (sym left'_is) ∙ goes));
       gone_by = λ t gone.

@@ -16,7 +16,7 @@ use Rattle.engine.specs.Reaching.{moments_after, last_or, Reaches}
 use Rattle.engine.proofs.ReachingLemmas.{moments, moment_after, moments_more, times_more, answers_more, reaches_more}
 use Rattle.script.specs.Clocks.{ClockState, answer_of, first_answers}
 use Rattle.script.specs.Execution.{Execution, Executes}
-use Rattle.script.specs.SequentialSessions.{Setup, AreTimed, LedTo, IsOf, HistoryGoesOn}
+use Rattle.script.specs.SequentialSessions.{Setup, AreTimed, LedTo, IsOfSession, HistoryGoesOn}
 
 -- an answer of a script's clock
 abbrev given : ℕ → GivenAnswer
@@ -99,7 +99,7 @@ share_one h session t seconds q reply =
     (eq-eqb session session refl)
 
 -- entries of another session
-pub share_other : (entries : List Answered) (session other : ℕ) → AllByRecursion (IsOf session) entries
+pub share_other : (entries : List Answered) (session other : ℕ) → AllByRecursion (IsOfSession session) entries
     → (session ≡ other → ⊥)
     → session_share entries 0 other ≡ []
 share_other [] session other of apart = refl
@@ -124,8 +124,9 @@ goes_on_one session t seconds h q reply = record {
 }
 
 -- two lists of entries of one session, joined
-of-append : (session : ℕ) (a b : List Answered) → AllByRecursion (IsOf session) a → AllByRecursion (IsOf session) b
-    → AllByRecursion (IsOf session) (a ++ b)
+of-append : (session : ℕ) (a b : List Answered) → AllByRecursion (IsOfSession session) a
+    → AllByRecursion (IsOfSession session) b
+    → AllByRecursion (IsOfSession session) (a ++ b)
 of-append session [] b first second = second
 of-append session (e ∷ a) b first second = (first.0, of-append session a b first.1 second)
 

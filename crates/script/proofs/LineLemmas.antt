@@ -10,7 +10,7 @@ use Rattle.std.proofs.lemmas.Slice.Eq.{bytes_eq-Decides}
 use Rattle.hex.specs.Hex.{decode_of, is_hex_digit}
 use Rattle.hex.specs.declared.error.FromHexError.{FromHexError}
 use Rattle.hex.proofs.HexLemmas.{decode_of-ok}
-use Rattle.proto.specs.PlainReader.{◌>>=◌, guarded, number_in}
+use Rattle.proto.specs.PlainReader.{◌>>=◌, only_if, number_in}
 use Rattle.proto.specs.Words.{spaced, IsWord, is_space, words_of}
 use Rattle.proto.proofs.Options.{bind_some, guarded_some, some_is, none_is_some}
 use Rattle.proto.proofs.Numbers.{number_in_sound, number_in_decimal, decimal_word, chosen}
@@ -37,7 +37,7 @@ bytes_in_sound hex bytes e =
 -- a word that is read as a session is its number in decimal
 session_in_sound : (word : List ℕ) (s : ℕ) → session_in word ≡ Some s → (word ≡ decimal s) × (0 < s) × (s < 2 ^ 64)
 session_in_sound word s e =
-    let found = bind_some (number_in (2 ^ 64) word) (λ n. guarded (not (eqb n 0)) (Some n)) s e in
+    let found = bind_some (number_in (2 ^ 64) word) (λ n. only_if (not (eqb n 0)) (Some n)) s e in
     let n = found.0 in
     let tested = guarded_some (not (eqb n 0)) (Some n) s found.2 in
     let nonzero : n ≡ 0 → ⊥ = eqb-false n 0 (not-true (eqb n 0) tested.0) in

@@ -7,7 +7,7 @@ use Rattle.worker_port.specs.PortFacts.{PortFacts, port_facts}
 use Rattle.script.specs.declared.player.Player.{Player}
 use Rattle.script.specs.PortEvents.{is_playable}
 use Rattle.script.specs.Remaining.{in_order}
-use Rattle.script.specs.Records.{opened}
+use Rattle.script.specs.Records.{opened_sessions}
 use Rattle.script.specs.PortSessions.{ScriptSessionState, session_entry, is_some_and, is_closed, was_closed}
 use Rattle.script.specs.Players.{Agrees, IsPlayerConsistent, events_left}
 use Rattle.script.specs.Following.{IsPlayed}
@@ -29,12 +29,12 @@ played p k tells =
     λ over. ap (events_left p.sessions) (k.finished (sym k.at_end ∙ over)) in record {
       opened_first = (script.sessions_opened left, f.opened_are);
       fed_first = λ s. bool_cases (was_closed p.sessions s) (λ closed. f.begun s closed)
-          (λ active. (script.sent left s, f.fed_are s active));
-      opened_all = λ over. sym (f.opened_are ∙ ap (λ xs. opened l ++ script.sessions_opened xs) (none over)
-          ∙ append-nil (opened l));
+          (λ active. (script.sent_bytes left s, f.fed_are s active));
+      opened_all = λ over. sym (f.opened_are ∙ ap (λ xs. opened_sessions l ++ script.sessions_opened xs) (none over)
+          ∙ append-nil (opened_sessions l));
       fed_all = λ s over gone shut.
           sym (f.fed_are s (facts_closed (session_entry p.sessions s) (port_facts l s) (k.each s) gone shut)
-          ∙ ap (λ xs. fed s l ++ script.sent xs s) (none over) ∙ append-nil (fed s l));
+          ∙ ap (λ xs. fed s l ++ script.sent_bytes xs s) (none over) ∙ append-nil (fed s l));
       gone_by = f.gone_by;
       never_over = f.never_over;
     }

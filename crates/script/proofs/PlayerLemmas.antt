@@ -22,7 +22,7 @@ use Rattle.script.specs.PortSessions.{ScriptSessionState, numbers, newest, last_
 use Rattle.script.specs.PortSessions.{is_closed, is_waiting, was_closed, is_session_open}
 use Rattle.script.specs.PortSessions.{is_paused, with_stage, with_output, ChangesAt}
 use Rattle.script.specs.Remaining.{RemainingState, in_order}
-use Rattle.script.specs.Records.{opened, opened_by}
+use Rattle.script.specs.Records.{opened_sessions, opened_by}
 use Rattle.script.specs.Players.{is_left, is_ready, events_left, NoneReady, Agrees, IsPlayerConsistent, IsFirst}
 use Rattle.script.proofs.EventLemmas.{bool_cases, and_left, and_right, IsApart, TakenOut, take_out}
 use Rattle.proto.proofs.CountLemmas.{either_way}
@@ -134,7 +134,7 @@ pub record AroundFirst (p : Player) (e : ScriptEvent) (before after : List Scrip
       → TakenOut (newest p.sessions) (is_session_open p.sessions) e
       (events_left p.sessions before ++ events_left p.sessions after)
 
--- what is left of a list around an event that is left: what is left before it, the event, what is left behind it
+-- what is left of a list around an event that is left: what is left before it, the event, what is left after it
 pub left_with : (ss : List ScriptSessionState) (xs : List ScriptEvent) (e : ScriptEvent) (ys : List ScriptEvent)
     → is_left ss e ≡ true
     → events_left ss (xs ++ e ∷ ys) ≡ events_left ss xs ++ e ∷ events_left ss ys
@@ -183,13 +183,14 @@ each_step ss ss' l l' x s each l_is apart others here t =
 
 -- a record that opens no session leaves the list of opened sessions as it was
 pub opened_more : (l l' : List PortRecord) (x : PortRecord) → l' ≡ l ++ x ∷ [] → opened_by x ≡ None
-    → opened l' ≡ opened l
-opened_more l l' x e none = ap opened e ∙ filter_map-append opened_by l (x ∷ [])
-    ∙ ap (λ o. opened l ++ cons_option o []) none ∙ append-nil (opened l)
+    → opened_sessions l' ≡ opened_sessions l
+opened_more l l' x e none = ap opened_sessions e ∙ filter_map-append opened_by l (x ∷ [])
+    ∙ ap (λ o. opened_sessions l ++ cons_option o []) none ∙ append-nil (opened_sessions l)
 
--- a record that opens a session puts its number behind those of the sessions opened before
-pub opened_one : (l l' : List PortRecord) (s : ℕ) → l' ≡ l ++ was.Opened s ∷ [] → opened l' ≡ opened l ++ s ∷ []
-opened_one l l' s e = ap opened e ∙ filter_map-append opened_by l (was.Opened s ∷ [])
+-- a record that opens a session puts its number after those of the sessions opened before
+pub opened_one : (l l' : List PortRecord) (s : ℕ) → l' ≡ l ++ was.Opened s ∷ []
+    → opened_sessions l' ≡ opened_sessions l ++ s ∷ []
+opened_one l l' s e = ap opened_sessions e ∙ filter_map-append opened_by l (was.Opened s ∷ [])
 
 -- an entry that agrees with the list agrees whatever bytes came of the session
 pub agrees_fed : (o : Option ScriptSessionState) (f : PortFacts) (b : List ℕ) → Agrees o f
@@ -339,7 +340,7 @@ brought_back stay r =
 
 -- ---- what one session's change makes of the list
 
--- if bytes are put behind a session's output and recorded as accepted, its entry still agrees with the list
+-- if bytes are put after a session's output and recorded as accepted, its entry still agrees with the list
 pub agrees_accepted : (ss ss' : List ScriptSessionState) (l : List PortRecord) (s : ℕ) (b : List ℕ)
     (x : ScriptSessionState)
     → ChangesAt ss s (with_output b) ss' → session_entry ss s ≡ Some x → Agrees (session_entry ss s) (port_facts l s)
@@ -411,7 +412,7 @@ pub no_sessions : (p : Player) → p.sessions ≡ [] → p.records ≡ [] → p.
 no_sessions p ss_is l_is ended fail_is plays all none_aside = record {
   each = λ t. subst (λ (ss : List ScriptSessionState). Agrees (session_entry ss t) (port_facts p.records t)) (sym ss_is)
       (subst (λ (l : List PortRecord). Agrees None (port_facts l t)) (sym l_is) (refl, refl, refl, refl));
-  opened_are = ap numbers ss_is ∙ sym (ap opened l_is);
+  opened_are = ap numbers ss_is ∙ sym (ap opened_sessions l_is);
   rising = λ s x e. absurd (none_some x (sym (ap (λ (ss : List ScriptSessionState). session_entry ss s) ss_is) ∙ e));
   at_end = ap (is_in was.Ended) l_is ∙ sym ended;
   plays = λ tells. (λ i. plays_from (newest (ss_is i)) (is_session_open (ss_is i))
@@ -420,8 +421,8 @@ no_sessions p ss_is l_is ended fail_is plays all none_aside = record {
   follows = λ tells. let left_is : events_left p.sessions (in_order p.events) ≡ p.script.value.items = ap
       (λ ss. events_left ss (in_order p.events)) ss_is ∙ filter_all (is_left []) (in_order p.events) (λ x. refl)
       ∙ all in record {
-        opened_are = (λ i. opened (sym l_is i) ++ script.sessions_opened (sym left_is i));
-        fed_are = λ t _. (λ i. list.fed t (sym l_is i) ++ script.sent (sym left_is i) t);
+        opened_are = (λ i. opened_sessions (sym l_is i) ++ script.sessions_opened (sym left_is i));
+        fed_are = λ t _. (λ i. list.fed t (sym l_is i) ++ script.sent_bytes (sym left_is i) t);
         begun = λ t closed. absurd (true≢false (sym closed ∙ ap (λ ss. was_closed ss t) ss_is));
         to_go = λ t goes. ap (λ xs. script.goes_in_script xs t) (sym left_is) ∙ goes;
         gone_by = λ t gone. absurd (true≢false (sym gone ∙ ap (is_in (was.Gone t)) l_is));

@@ -39,7 +39,7 @@ pub lines_whole : (text : List ℕ) → 0 < length text → ((k : ℕ) → k < l
 lines_whole [] some h = absurd (omega arith)
 lines_whole (c ∷ text) some h = lines_last c text h
 
--- the reader of a script for so many workers has come to this position
+-- the reader of a script for these workers has come to this position
 pub record IsAt (workers : ℕ) (text : List ℕ) (position : Position) : Type 0 where
   pub before : List (List ℕ)
   pub lines_are : lines_of text ≡ before ++ position.left

@@ -19,11 +19,12 @@ use Rattle.engine.proofs.ReachingLemmas.{legal_of}
 use Rattle.script.specs.Clocks.{answer_of}
 use Rattle.script.specs.declared.event.ScriptEvent.{ScriptEvent}
 use Rattle.script.specs.declared.event.ScriptEvent.TheVariants.{Open, Send, Gone}
-use Rattle.script.specs.Events.{newest_after, newest_of, open_after, is_open_in_script, MayFollow, session_opened_by, sessions_opened, sent_by, sent}
+use Rattle.script.specs.Events.{newest_after, newest_of, open_after, is_open_in_script, MayFollow, session_opened_by}
+use Rattle.script.specs.Events.{sessions_opened, sent_by, sent_bytes}
 use Rattle.script.proofs.TrackLemmas.{newest_more, open_more}
 use Rattle.script.specs.declared.sequential_session.SequentialSession.{SequentialSession}
 use Rattle.script.specs.Execution.{Execution}
-use Rattle.script.specs.SequentialSessions.{Setup, IsOf, HistoryGoesOn, AreBytesServed, IsNew}
+use Rattle.script.specs.SequentialSessions.{Setup, IsOfSession, HistoryGoesOn, AreBytesServed, IsNewSession}
 use Rattle.script.specs.declared.sequential_replay.SessionOutput.{SessionOutput}
 use Rattle.script.specs.SequentialReplays.{IsAnsweredIn, IsAmong, IsReplay, numbers_of, IsRising, IsFresh, HasRun, FeedsAt, output_of}
 use Rattle.script.proofs.Histories.{share_goes_on}
@@ -32,9 +33,9 @@ use Rattle.script.proofs.Histories.{share_goes_on}
 
 -- the bytes of a session, with one event more
 pub sent_more : (events : List ScriptEvent) (e : ScriptEvent) (s : ℕ)
-    → sent (events ++ e ∷ []) s ≡ sent events s ++ sent_by s e
+    → sent_bytes (events ++ e ∷ []) s ≡ sent_bytes events s ++ sent_by s e
 sent_more events e s = flat_map-append (sent_by s) events (e ∷ [])
-    ∙ ap (λ (x : List ℕ). sent events s ++ x) (append-nil (sent_by s e))
+    ∙ ap (λ (x : List ℕ). sent_bytes events s ++ x) (append-nil (sent_by s e))
 
 -- an event that opens none leaves the sessions that were opened
 opened_same : (events : List ScriptEvent) (e : ScriptEvent) → filter_map session_opened_by (e ∷ []) ≡ []
@@ -49,23 +50,23 @@ opened_open events s = filter_map-append session_opened_by events (Open s ∷ []
 
 -- the bytes of another session stay
 sent_other : (events : List ScriptEvent) (s t : ℕ) (bytes : List ℕ) → (s ≡ t → ⊥)
-    → sent (events ++ Send s bytes ∷ []) t ≡ sent events t
+    → sent_bytes (events ++ Send s bytes ∷ []) t ≡ sent_bytes events t
 sent_other events s t bytes apart =
-    sent_more events (Send s bytes) t ∙ ap (λ (b : Bool). sent events t ++ cond b bytes []) (ne_eqb s t apart)
-    ∙ append-nil (sent events t)
+    sent_more events (Send s bytes) t ∙ ap (λ (b : Bool). sent_bytes events t ++ cond b bytes []) (ne_eqb s t apart)
+    ∙ append-nil (sent_bytes events t)
 
--- a send's bytes go behind those of its session
+-- a send's bytes go after those of its session
 sent_same : (events : List ScriptEvent) (s : ℕ) (bytes : List ℕ)
-    → sent (events ++ Send s bytes ∷ []) s ≡ sent events s ++ bytes
+    → sent_bytes (events ++ Send s bytes ∷ []) s ≡ sent_bytes events s ++ bytes
 sent_same events s bytes = sent_more events (Send s bytes) s
-    ∙ ap (λ (b : Bool). sent events s ++ cond b bytes []) (eq-eqb s s refl)
+    ∙ ap (λ (b : Bool). sent_bytes events s ++ cond b bytes []) (eq-eqb s s refl)
 
 -- ---- what is fresh stays so
 
 -- a session that hasn't begun stays so where the event isn't its own
-fresh_from : (events : List ScriptEvent) (e : ScriptEvent) (s : ℕ) → sent events s ≡ [] → sent_by s e ≡ []
+fresh_from : (events : List ScriptEvent) (e : ScriptEvent) (s : ℕ) → sent_bytes events s ≡ [] → sent_by s e ≡ []
     → open_after s (is_open_in_script events s) e ≡ false
-    → (sent (events ++ e ∷ []) s ≡ []) × (is_open_in_script (events ++ e ∷ []) s ≡ false)
+    → (sent_bytes (events ++ e ∷ []) s ≡ []) × (is_open_in_script (events ++ e ∷ []) s ≡ false)
 fresh_from events e s none by closed = (
   sent_more events e s ∙ ap (λ (x : List ℕ). x ++ sent_by s e) none ∙ by,
   open_more events e s ∙ closed,
@@ -102,7 +103,7 @@ run_still : (setup : Setup) (events : List ScriptEvent) (e : ScriptEvent) (now :
     → HasRun setup events now sessions → MayFollow events e
     → filter_map session_opened_by (e ∷ []) ≡ [] → newest_after (newest_of events) e ≡ newest_of events
     → ((k : ℕ) (d : SequentialSession) → k < length sessions
-    → sent (events ++ e ∷ []) (get_or sessions k d).number ≡ sent events (get_or sessions k d).number)
+    → sent_bytes (events ++ e ∷ []) (get_or sessions k d).number ≡ sent_bytes events (get_or sessions k d).number)
     → HasRun setup (events ++ e ∷ []) now sessions
 run_still setup events e now sessions run may no_open no_newer bytes =
     let same = opened_same events e no_open in
@@ -130,7 +131,7 @@ pub run_gone : (setup : Setup) (events : List ScriptEvent) (session : ℕ) (now 
 run_gone setup events session now sessions run may =
     run_still setup events (Gone session) now sessions run may refl refl
     (λ k d lt. sent_more events (Gone session) (get_or sessions k d).number
-    ∙ append-nil (sent events (get_or sessions k d).number))
+    ∙ append-nil (sent_bytes events (get_or sessions k d).number))
 
 -- a send to a session that isn't there changes none
 pub run_skipped : (setup : Setup) (events : List ScriptEvent) (session : ℕ) (bytes : List ℕ) (now : Execution)
@@ -181,7 +182,7 @@ rising_more numbers newest n rising highest above i j lt within =
     ]
 
 -- a new session is served, with no bytes
-served_new : (s : SequentialSession) (n : ℕ) → IsNew n s → AreBytesServed [] [] s
+served_new : (s : SequentialSession) (n : ℕ) → IsNewSession n s → AreBytesServed [] [] s
 served_new s n new = record {
   read = [];
   rest = [];
@@ -201,16 +202,16 @@ served_new s n new = record {
 pub run_opened : (setup : Setup) (events : List ScriptEvent) (n : ℕ) (now : Execution) (sessions : List SequentialSession)
     (s : SequentialSession)
     → HasRun setup events now sessions → MayFollow events (Open n)
-    → IsNew n s → HasRun setup (events ++ Open n ∷ []) now (sessions ++ s ∷ [])
+    → IsNewSession n s → HasRun setup (events ++ Open n ∷ []) now (sessions ++ s ∷ [])
 run_opened setup events n now sessions s run may new =
     let more = opened_open events n in
     let newest : newest_of (events ++ Open n ∷ []) ≡ n = newest_more events (Open n) in
-    let same : (t : ℕ) → sent (events ++ Open n ∷ []) t ≡ sent events t =
-    λ t. sent_more events (Open n) t ∙ append-nil (sent events t) in
+    let same : (t : ℕ) → sent_bytes (events ++ Open n ∷ []) t ≡ sent_bytes events t =
+    λ t. sent_more events (Open n) t ∙ append-nil (sent_bytes events t) in
     let none : session_share run.history 0 n ≡ [] =
     share_none run.history (sessions_opened events) (newest_of events) n run.among run.highest may in
-    let no_bytes : sent (events ++ Open n ∷ []) n ≡ [] = same n ∙ (run.fresh n may).0 in
-    let served : AreBytesServed (sent (events ++ Open n ∷ []) n) (session_share run.history 0 n) s =
+    let no_bytes : sent_bytes (events ++ Open n ∷ []) n ≡ [] = same n ∙ (run.fresh n may).0 in
+    let served : AreBytesServed (sent_bytes (events ++ Open n ∷ []) n) (session_share run.history 0 n) s =
     rw (no_bytes, none) (served_new s n new) in
     record {
       history = run.history;
@@ -228,12 +229,12 @@ run_opened setup events n now sessions s run may new =
           (All-weaker (λ (m : ℕ). m ≤ newest_of events) (λ (m : ℕ). m ≤ n) (λ m le. omega arith)
           (sessions_opened events) run.highest) (omega arith)));
       fresh = fresh_more events (Open n) run.fresh may;
-      each = All-push (λ (x : SequentialSession). AreBytesServed (sent (events ++ Open n ∷ []) x.number)
+      each = All-push (λ (x : SequentialSession). AreBytesServed (sent_bytes (events ++ Open n ∷ []) x.number)
           (session_share run.history 0 x.number) x) sessions s
           (λ k d lt. let x = get_or sessions k d in
           subst (λ (b : List ℕ). AreBytesServed b (session_share run.history 0 x.number) x) (sym (same x.number))
           (run.each k d lt))
-          (subst (λ (k : ℕ). AreBytesServed (sent (events ++ Open n ∷ []) k) (session_share run.history 0 k) s)
+          (subst (λ (k : ℕ). AreBytesServed (sent_bytes (events ++ Open n ∷ []) k) (session_share run.history 0 k) s)
           (sym new.number_is) served);
     }
 
@@ -241,7 +242,7 @@ run_opened setup events n now sessions s run may new =
 
 -- entries of one session are of the sessions that it is among
 of_among : (session : ℕ) (numbers : List ℕ) (entries : List Answered) → Contains numbers session
-    → AllByRecursion (IsOf session) entries → AllByRecursion (IsAmong numbers) entries
+    → AllByRecursion (IsOfSession session) entries → AllByRecursion (IsAmong numbers) entries
 of_among session numbers [] there of = tt
 of_among session numbers (e ∷ entries) there of = (
   record { worker = of.0.worker; session = subst (λ (n : ℕ). Contains numbers n) (sym of.0.session_is) there },
@@ -291,10 +292,11 @@ run_fed setup events session bytes now sessions at after fed run may within at_i
     let old_number : old.number ≡ session = ap (λ (s : SequentialSession). s.number) feeding.old_is
     ∙ sym (get_or-map (λ (s : SequentialSession). s.number) sessions at old 0 within) ∙ at_is in
     let new_number : new.number ≡ session = feeding.feeds.number_stays ∙ old_number in
-    let was : AreBytesServed (sent events old.number) (session_share run.history 0 old.number) old =
-    subst (λ (s : SequentialSession). AreBytesServed (sent events s.number) (session_share run.history 0 s.number) s)
+    let was : AreBytesServed (sent_bytes events old.number) (session_share run.history 0 old.number) old =
+    subst (λ (s : SequentialSession). AreBytesServed (sent_bytes events s.number)
+    (session_share run.history 0 s.number) s)
     (sym feeding.old_is) (run.each at old within) in
-    let by = feeding.feeds.serves setup run.history (sent events old.number) run.led was in
+    let by = feeding.feeds.serves setup run.history (sent_bytes events old.number) run.led was in
     let on : HistoryGoesOn session run.history by.history =
     subst (λ (n : ℕ). HistoryGoesOn n run.history by.history) new_number by.goes_on in
     let there : Contains (sessions_opened events) session =
@@ -305,10 +307,10 @@ run_fed setup events session bytes now sessions at after fed run may within at_i
     subst (λ (h : List Answered). AllByRecursion (IsAmong (sessions_opened events)) h) (sym on.longer)
     (among-append (sessions_opened events) run.history on.entries run.among
     (of_among session (sessions_opened events) on.entries there on.of_session)) in
-    let bytes_are : sent events old.number ++ bytes ≡ sent (events ++ e ∷ []) new.number =
-    ap (λ (n : ℕ). sent events n ++ bytes) old_number ∙ sym (sent_same events session bytes)
-    ∙ ap (sent (events ++ e ∷ [])) (sym new_number) in
-    let here : AreBytesServed (sent (events ++ e ∷ []) new.number) (session_share by.history 0 new.number) new =
+    let bytes_are : sent_bytes events old.number ++ bytes ≡ sent_bytes (events ++ e ∷ []) new.number =
+    ap (λ (n : ℕ). sent_bytes events n ++ bytes) old_number ∙ sym (sent_same events session bytes)
+    ∙ ap (sent_bytes (events ++ e ∷ [])) (sym new_number) in
+    let here : AreBytesServed (sent_bytes (events ++ e ∷ []) new.number) (session_share by.history 0 new.number) new =
     subst (λ (b : List ℕ). AreBytesServed b (session_share by.history 0 new.number) new) bytes_are by.served in
     let rising : IsRising (numbers_of sessions) = subst IsRising (sym run.numbers) run.rising in
     record {
@@ -323,14 +325,14 @@ run_fed setup events session bytes now sessions at after fed run may within at_i
       fresh = fresh_more events e run.fresh may;
       each = subst
           (λ (all : List SequentialSession). All
-          (λ (s : SequentialSession). AreBytesServed (sent (events ++ e ∷ []) s.number)
+          (λ (s : SequentialSession). AreBytesServed (sent_bytes (events ++ e ∷ []) s.number)
           (session_share by.history 0 s.number) s) all) (sym feeding.after_is)
           (λ k d lt.
           elim (cases_eq k at) [
             | inl is ↦
                 let x-is : get_or (set sessions at new) k d ≡ new = ap (λ (i : ℕ). get_or (set sessions at new) i d) is
                 ∙ get_or-set_same sessions at new d within in
-                subst (λ (s : SequentialSession). AreBytesServed (sent (events ++ e ∷ []) s.number)
+                subst (λ (s : SequentialSession). AreBytesServed (sent_bytes (events ++ e ∷ []) s.number)
                 (session_share by.history 0 s.number) s) (sym x-is) here
             | inr other ↦
                 let k_in : k < length sessions = omega (arith, length-set sessions at new) in
@@ -339,11 +341,11 @@ run_fed setup events session bytes now sessions at after fed run may within at_i
                 let apart : session ≡ x.number → ⊥ = λ is.
                 apart_at (numbers_of sessions) k at rising (omega (arith, len)) (omega (arith, len)) other
                 (get_or-map (λ (s : SequentialSession). s.number) sessions k d 0 k_in ∙ sym is ∙ sym at_is) in
-                subst (λ (s : SequentialSession). AreBytesServed (sent (events ++ e ∷ []) s.number)
+                subst (λ (s : SequentialSession). AreBytesServed (sent_bytes (events ++ e ∷ []) s.number)
                 (session_share by.history 0 s.number) s) (sym x-is)
                 (subst (λ (b : List ℕ). AreBytesServed b (session_share by.history 0 x.number) x)
                 (sym (sent_other events session x.number bytes apart))
-                (subst (λ (share : List Answered). AreBytesServed (sent events x.number) share x)
+                (subst (λ (share : List Answered). AreBytesServed (sent_bytes events x.number) share x)
                 (sym (share_goes_on session x.number run.history by.history on apart)) (run.each k d k_in)))
           ]);
     }
@@ -394,12 +396,13 @@ answered_in history bytes s served =
 
 -- and so it is for each session
 outputs_are : (history : List Answered) (events : List ScriptEvent) (sessions : List SequentialSession)
-    → AllByRecursion (λ (s : SequentialSession). AreBytesServed (sent events s.number)
+    → AllByRecursion (λ (s : SequentialSession). AreBytesServed (sent_bytes events s.number)
     (session_share history 0 s.number) s) sessions
-    → AllByRecursion (λ (g : SessionOutput). IsAnsweredIn history (sent events g.session) g) (map output_of sessions)
+    → AllByRecursion (λ (g : SessionOutput). IsAnsweredIn history (sent_bytes events g.session) g)
+    (map output_of sessions)
 outputs_are history events [] each = tt
 outputs_are history events (s ∷ sessions) each =
-    (answered_in history (sent events s.number) s each.0, outputs_are history events sessions each.1)
+    (answered_in history (sent_bytes events s.number) s each.0, outputs_are history events sessions each.1)
 
 -- the outputs stand in the order of the sessions
 sessions_are : (sessions : List SequentialSession)
@@ -416,9 +419,9 @@ replay_is setup events now sessions run = record {
   among = run.among;
   timed = run.led.timed;
   sessions = sessions_are sessions ∙ run.numbers;
-  each = All-from_recursion (λ (g : SessionOutput). IsAnsweredIn run.history (sent events g.session) g)
+  each = All-from_recursion (λ (g : SessionOutput). IsAnsweredIn run.history (sent_bytes events g.session) g)
       (map output_of sessions)
       (outputs_are run.history events sessions
-      (recursion_from_All (λ (s : SequentialSession). AreBytesServed (sent events s.number)
+      (recursion_from_All (λ (s : SequentialSession). AreBytesServed (sent_bytes events s.number)
       (session_share run.history 0 s.number) s) sessions run.each));
 }

@@ -210,7 +210,7 @@ fed_going old new before after piece taken going number_is all none left_is = re
       };
 }
 
--- what stands behind so many bytes, as a slice to the end
+-- what stands after so many bytes, as a slice to the end
 pub behind : (taken : ℕ) (bytes : List ℕ) → take (length bytes - taken) (drop taken bytes) ≡ drop taken bytes
 behind taken bytes = take_all (length bytes - taken) (drop taken bytes) (omega (arith, length-drop taken bytes))
 

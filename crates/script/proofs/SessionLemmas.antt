@@ -93,13 +93,13 @@ none_at (x ∷ xs) s h =
 
 -- ---- one more session
 
--- one more session behind the table leaves the entry of each other number
+-- one more session after the table leaves the entry of each other number
 pub entry_behind : (xs : List ScriptSessionState) (x : ScriptSessionState) (s : ℕ) → x.number ≢ s
     → session_entry (xs ++ x ∷ []) s ≡ session_entry xs s
 entry_behind [] x s ne = ap (λ b. cond b (Some x) None) (ne_eqb x.number s ne)
 entry_behind (y ∷ xs) x s ne = ap (λ o. cond (y.number == s) (Some y) o) (entry_behind xs x s ne)
 
--- a session behind the table with a number above the table's last is found under its number
+-- a session after the table with a number above the table's last is found under its number
 pub entry_last : (n : ℕ) (xs : List ScriptSessionState) (x : ScriptSessionState) → RisesFrom n (numbers xs)
     → last_from n (numbers xs) < x.number → session_entry (xs ++ x ∷ []) x.number ≡ Some x
 entry_last n [] x h lt = ap (λ b. cond b (Some x) None) (eq-eqb x.number x.number refl)
@@ -109,13 +109,13 @@ entry_last n (y ∷ xs) x h lt =
     ap (λ b. cond b (Some y) (session_entry (xs ++ x ∷ []) x.number)) (ne_eqb y.number x.number ne)
     ∙ entry_last y.number xs x h.1 lt
 
--- with one more session behind the table, with a number above the table's last, the numbers still rise
+-- with one more session after the table, with a number above the table's last, the numbers still rise
 pub rises_more : (n : ℕ) (xs : List ScriptSessionState) (x : ScriptSessionState) → RisesFrom n (numbers xs)
     → last_from n (numbers xs) < x.number → RisesFrom n (numbers (xs ++ x ∷ []))
 rises_more n [] x h lt = (lt, tt)
 rises_more n (y ∷ xs) x h lt = (h.0, rises_more y.number xs x h.1 lt)
 
--- with one more session behind the table its number is the last one
+-- with one more session after the table its number is the last one
 pub newest_more : (n : ℕ) (xs : List ScriptSessionState) (x : ScriptSessionState)
     → last_from n (numbers (xs ++ x ∷ [])) ≡ x.number
 newest_more n [] x = refl
@@ -263,7 +263,7 @@ pub stage_changed : (xs : List ScriptSessionState) (s at : ℕ) (stage : Stage) 
 stage_changed xs s at stage x h lt is x_is =
     changed xs s at (with_stage stage) x h lt is x_is (ap (λ (z : ScriptSessionState). z.number) x_is ∙ is x)
 
--- if the entry at an open session's place gets bytes behind its output, the session accepts them, and the others stay
+-- if the entry at an open session's place gets bytes after its output, the session accepts them, and the others stay
 pub output_added : (xs : List ScriptSessionState) (s at : ℕ) (bytes : List ℕ) (x : ScriptSessionState)
     → RisesFrom 0 (numbers xs)
     → at < length xs → ((e : ScriptSessionState) → (get_or xs at e).number ≡ s) → x ≡ get_or xs at x

@@ -24,7 +24,7 @@ use Rattle.script.specs.PortEvents.{event_session, events_without, send_after, p
 use Rattle.script.specs.Remaining.{RemainingState, in_order}
 use Rattle.script.specs.PortSessions.{ScriptSessionState, numbers, newest, session_entry, is_some_and, is_closed}
 use Rattle.script.specs.PortSessions.{is_waiting, was_closed, is_session_open, is_paused}
-use Rattle.script.specs.Records.{opened}
+use Rattle.script.specs.Records.{opened_sessions}
 use Rattle.script.specs.Players.{is_left, is_ready, events_left, NoneReady, player_state, Agrees}
 use Rattle.script.specs.Players.{IsPlayerConsistent, IsFirst, IsCausedAt, TellsNext, RecordsClose}
 use Rattle.proto.proofs.CountLemmas.{either_way}
@@ -98,7 +98,7 @@ none_yet : (p : Player) (s : ℕ) → IsPlayerConsistent p → newest p.sessions
 none_yet p s k lt = option_cases (session_entry p.sessions s)
     (λ x e. let le = k.rising s x e in absurd (omega (arith, le, lt))) (λ e. e)
 
--- a session that is put behind a table with no entry of its number is found under it
+-- a session that is put after a table with no entry of its number is found under it
 entry_add : (ss : List ScriptSessionState) (x : ScriptSessionState) → session_entry ss x.number ≡ None
     → session_entry (ss ++ x ∷ []) x.number ≡ Some x
 entry_add [] x e = ap (λ b. cond b (Some x) None) (eq-eqb x.number x.number refl)
@@ -122,7 +122,7 @@ test_added p ss s none failed t =
     ∙ sym (ap (λ (u : ℕ). is_some_and p (session_entry ss u)) eq ∙ ap (is_some_and p) none))
     (λ ne. ap (is_some_and p) (entry_behind ss (fresh s) t (λ e. ne (sym e))))
 
--- with a new session behind the table, those sessions are open that are open after the event that opens it
+-- with a new session after the table, those sessions are open that are open after the event that opens it
 open_added : (ss : List ScriptSessionState) (s : ℕ) → session_entry ss s ≡ None → (t : ℕ)
     → is_session_open (ss ++ fresh s ∷ []) t ≡ open_after t (is_session_open ss t) (Open s)
 open_added ss s none t =
@@ -271,7 +271,7 @@ pub record SendsTo (p q : Player) (s : ℕ) (bytes : List ℕ) (after : List Scr
   pub can_fail_is : q.can_fail ≡ p.can_fail
   pub events_are : q.events ≡ record p.events { rest = send_after s bytes ++ after }
 
--- where a send is left, what remains of it behind its next piece is left too
+-- where a send is left, what remains of it after its next piece is left too
 rest_left : (ss : List ScriptSessionState) (s : ℕ) (bytes : List ℕ) → is_left ss (Send s bytes) ≡ true
     → events_left ss (send_after s bytes) ≡ send_after s bytes
 rest_left ss s bytes stays =
@@ -283,7 +283,7 @@ rest_left ss s bytes stays =
     (λ last. let e : send_after s bytes ≡ [] = ap (λ b. cond b (Send s (drop 16384 bytes) ∷ []) []) last in
     ap (events_left ss) e ∙ sym e)
 
--- what is left of three lists, one behind the other, is what is left of each, one behind the other
+-- what is left of three lists, one after the other, is what is left of each, one after the other
 left_around : (ss : List ScriptSessionState) (xs ys zs : List ScriptEvent)
     → events_left ss (xs ++ ys ++ zs) ≡ events_left ss xs ++ events_left ss ys ++ events_left ss zs
 left_around ss xs ys zs = filter-append (is_left ss) (xs ++ ys) zs
@@ -523,7 +523,7 @@ odd_consistent p q k sessions_are records_are ended_is script_is fail_is can_fai
       (sym sessions_are)
       (subst (λ (l : List PortRecord). Agrees (session_entry p.sessions t) (port_facts l t)) (sym records_are)
       (k.each t));
-  opened_are = ap numbers sessions_are ∙ k.opened_are ∙ sym (ap opened records_are);
+  opened_are = ap numbers sessions_are ∙ k.opened_are ∙ sym (ap opened_sessions records_are);
   rising = λ t y e. subst (λ (m : List ScriptSessionState). t ≤ newest m) (sym sessions_are)
       (k.rising t y (ap (λ (m : List ScriptSessionState). session_entry m t) (sym sessions_are) ∙ e));
   at_end = ap (is_in was.Ended) records_are ∙ k.at_end ∙ sym ended_is;

@@ -9,10 +9,10 @@ use Rattle.worker_port.specs.declared.events.PortEvent.TheVariants as event
 use Rattle.worker_port.specs.declared.events.Gone.{Gone}
 use Rattle.proto.specs.declared.history.Answered.{Answered}
 use Rattle.worker_port.specs.Giving.{by_any_clock}
-use Rattle.worker_port.specs.Ports.{PortStory, then_told, then_gave, with_pause, event_records, is_open, MayCome}
+use Rattle.worker_port.specs.Ports.{PortTrace, then_told, then_gave, with_pause, event_records, is_open, MayCome}
 use Rattle.script.specs.PortEvents.{is_playable}
 use Rattle.script.specs.Records.{give_records}
-use Rattle.script.specs.States.{PortState, PlayerState, is_held, story_of, story_told, Gives, DropsSession, SetsHeld}
+use Rattle.script.specs.States.{PortState, PlayerState, is_held, script_trace, trace_told, Gives, DropsSession, SetsHeld}
 use Rattle.worker_port.specs.PortFacts.{PortFacts, port_facts}
 use Rattle.script.specs.declared.player.Player.{Player}
 use Rattle.script.specs.PortSessions.{ScriptSessionState, is_some_and, is_closed}
@@ -21,23 +21,23 @@ use Rattle.script.specs.Players.{Agrees, IsPlayerConsistent, player_state, Tells
 use Rattle.script.proofs.EventLemmas.{bool_cases, and_left, and_right}
 use Rattle.proto.proofs.CountLemmas.{either_way}
 
--- where it tells, its story is as it is said; where it doesn't, it still doesn't
-pub told_step : (old new : PortState) (f : PortStory → PortStory) → new.player.script ≡ old.player.script
-    → (is_playable old.player.script ≡ true → story_of new ≡ f (story_of old)) → story_told new ≡ option_map f (story_told old)
+-- where it tells, its trace is as it is said; where it doesn't, it still doesn't
+pub told_step : (old new : PortState) (f : PortTrace → PortTrace) → new.player.script ≡ old.player.script
+    → (is_playable old.player.script ≡ true → script_trace new ≡ f (script_trace old)) → trace_told new ≡ option_map f (trace_told old)
 told_step old new f script_is step =
     bool_cases (is_playable old.player.script)
     (λ yes.
-    ap (λ b. cond b (Some (story_of new)) None) (ap is_playable script_is ∙ yes) ∙ ap Some (step yes)
-    ∙ sym (ap (λ b. option_map f (cond b (Some (story_of old)) None)) yes))
+    ap (λ b. cond b (Some (script_trace new)) None) (ap is_playable script_is ∙ yes) ∙ ap Some (step yes)
+    ∙ sym (ap (λ b. option_map f (cond b (Some (script_trace old)) None)) yes))
     (λ no.
-    ap (λ b. cond b (Some (story_of new)) None) (ap is_playable script_is ∙ no)
-    ∙ sym (ap (λ b. option_map f (cond b (Some (story_of old)) None)) no))
+    ap (λ b. cond b (Some (script_trace new)) None) (ap is_playable script_is ∙ no)
+    ∙ sym (ap (λ b. option_map f (cond b (Some (script_trace old)) None)) no))
 
 -- what is asked of a call, where the port tells
 pub open_where_told : (port : PortState) (s : ℕ)
-    → ((story : PortStory) → story_told port ≡ Some story → is_open s story.events ≡ true) → is_playable port.player.script ≡ true
+    → ((trace : PortTrace) → trace_told port ≡ Some trace → is_open s trace.events ≡ true) → is_playable port.player.script ≡ true
     → is_open s port.player.records ≡ true
-open_where_told port s asked tells = asked (story_of port) (ap (λ b. cond b (Some (story_of port)) None) tells)
+open_where_told port s asked tells = asked (script_trace port) (ap (λ b. cond b (Some (script_trace port)) None) tells)
 
 -- a session that is open in the list is open in the table too
 facts_open : (o : Option ScriptSessionState) (f : PortFacts) → Agrees o f → (f.opened && not (f.gone || f.shut)) ≡ true
@@ -46,9 +46,9 @@ facts_open None f agrees active = absurd (true≢false
     (sym (and_left f.opened (not (f.gone || f.shut)) active) ∙ agrees.0))
 facts_open (Some x) f agrees active = sym (ap not agrees.1) ∙ and_right f.opened (not (f.gone || f.shut)) active
 
--- where the port tells, a session that is open in its story is open in the player's table
+-- where the port tells, a session that is open in its trace is open in the player's table
 pub open_in_table : (port : PortState) (p : Player) (s : ℕ) → player_state p ≡ port.player → IsPlayerConsistent p
-    → ((story : PortStory) → story_told port ≡ Some story → is_open s story.events ≡ true)
+    → ((trace : PortTrace) → trace_told port ≡ Some trace → is_open s trace.events ≡ true)
     → is_playable port.player.script ≡ true → in_table.is_session_open p.sessions s ≡ true
 open_in_table port p s same k asked tells =
     facts_open (in_table.session_entry p.sessions s) (port_facts p.records s) (k.each s)
@@ -56,15 +56,15 @@ open_in_table port p s same k asked tells =
 
 -- what may come, where the port tells
 pub may_where_told : (port : PortState) (result : PortEvent)
-    → (is_playable port.player.script ≡ true → MayCome (story_of port) result)
-    → (story : PortStory) → story_told port ≡ Some story → MayCome story result
-may_where_told port result may story told =
+    → (is_playable port.player.script ≡ true → MayCome (script_trace port) result)
+    → (trace : PortTrace) → trace_told port ≡ Some trace → MayCome trace result
+may_where_told port result may trace told =
     bool_cases (is_playable port.player.script)
     (λ yes.
-    let same : Some (story_of port) ≡ Some story = sym (ap (λ b. cond b (Some (story_of port)) None) yes) ∙ told in
-    let is : story_of port ≡ story = cc in
-    subst (λ (r : PortStory). MayCome r result) is (may yes))
-    (λ no. let wrong : None ≡ Some story = sym (ap (λ b. cond b (Some (story_of port)) None) no) ∙ told in absurd (cc))
+    let same : Some (script_trace port) ≡ Some trace = sym (ap (λ b. cond b (Some (script_trace port)) None) yes) ∙ told in
+    let is : script_trace port ≡ trace = cc in
+    subst (λ (r : PortTrace). MayCome r result) is (may yes))
+    (λ no. let wrong : None ≡ Some trace = sym (ap (λ b. cond b (Some (script_trace port)) None) no) ∙ told in absurd (cc))
 
 -- a test joined by `||` with false stays as it is
 or_none : (b : Bool) → (b || false) ≡ b
@@ -104,11 +104,11 @@ pub record IsSameBeside (old new : PortState) : Type 0 where
   pub worker : new.worker ≡ old.worker
   pub history : new.history ≡ old.history
 
--- the story of a port, by its list and by who is paused, where the rest is as it was
-story_is : (old new : PortState) (events : List PortRecord) (paused : ℕ → Bool) → IsSameBeside old new
+-- the trace of a port, by its list and by who is paused, where the rest is as it was
+trace_is : (old new : PortState) (events : List PortRecord) (paused : ℕ → Bool) → IsSameBeside old new
     → new.player.records ≡ events → ((t : ℕ) → is_held new.player t ≡ paused t)
-    → story_of new ≡ record (story_of old) { events = events; paused = paused }
-story_is old new events paused same events_are held i = record {
+    → script_trace new ≡ record (script_trace old) { events = events; paused = paused }
+trace_is old new events paused same events_are held i = record {
   events = events_are i;
   paused = λ t. held t i;
   terms = by_any_clock (same.sizes i);
@@ -121,25 +121,25 @@ story_is old new events paused same events_are held i = record {
 pub told_next : (old new : PortState) (result : PortEvent) → IsSameBeside old new
     → new.player.script ≡ old.player.script
     → (is_playable old.player.script ≡ true → TellsNext old.player result new.player)
-    → story_told new ≡ option_map (then_told (event_records result)) (story_told old)
+    → trace_told new ≡ option_map (then_told (event_records result)) (trace_told old)
 told_next old new (event.Opened s) same script_is tells =
     told_step old new (then_told (was.Opened s ∷ [])) script_is
-    (λ yes. story_is old new _ _ same (tells yes).records_are (tells yes).goes_on.3)
+    (λ yes. trace_is old new _ _ same (tells yes).records_are (tells yes).goes_on.3)
 told_next old new (event.Data s bytes) same script_is tells =
     told_step old new (then_told (was.Data s bytes ∷ [])) script_is
-    (λ yes. story_is old new _ _ same (tells yes).records_are (tells yes).goes_on.3)
+    (λ yes. trace_is old new _ _ same (tells yes).records_are (tells yes).goes_on.3)
 told_next old new (event.EndOfInput s) same script_is tells =
     told_step old new (then_told (was.EndOfInput s ∷ [])) script_is
-    (λ yes. story_is old new _ _ same (tells yes).records_are (tells yes).goes_on.3)
+    (λ yes. trace_is old new _ _ same (tells yes).records_are (tells yes).goes_on.3)
 told_next old new event.Idle same script_is tells =
     told_step old new (then_told []) script_is
-    (λ yes. story_is old new _ _ same (tells yes).records_are (tells yes).goes_on.3)
+    (λ yes. trace_is old new _ _ same (tells yes).records_are (tells yes).goes_on.3)
 told_next old new event.Ended same script_is tells =
     told_step old new (then_told (was.Ended ∷ [])) script_is
-    (λ yes. story_is old new _ _ same (tells yes).records_are (tells yes).goes_on.3)
+    (λ yes. trace_is old new _ _ same (tells yes).records_are (tells yes).goes_on.3)
 told_next old new (event.Gone s) same script_is tells =
     told_step old new (then_told (was.Gone s ∷ [])) script_is
-    (λ yes. story_is old new _ _ same (tells yes).records_are
+    (λ yes. trace_is old new _ _ same (tells yes).records_are
     (λ t. ends_held old.player new.player s t (((s == t) || false) || false) (by_gone s t)
     ((tells yes).goes_on.3 s ∙ (tells yes).plays.1.free) (λ u ne. (tells yes).goes_on.3 u)))
 
@@ -149,32 +149,32 @@ pub told_give : (old new : PortState) (s : ℕ) (bytes : List ℕ) (result : Res
     → (is_playable old.player.script ≡ true
     → (new.player.records ≡ old.player.records ++ give_records s bytes result)
     × Gives old.player s bytes result new.player)
-    → story_told new ≡ option_map (then_gave s bytes result history) (story_told old)
+    → trace_told new ≡ option_map (then_gave s bytes result history) (trace_told old)
 told_give old new s bytes (Ok n) history same script_is tells =
     told_step old new (then_gave s bytes (Ok n) history) script_is
-    (λ yes. story_is (record old { history = history }) new _ _ same (tells yes).0
+    (λ yes. trace_is (record old { history = history }) new _ _ same (tells yes).0
     (tells yes).1.3)
 told_give old new s bytes (Err e) history same script_is tells =
     told_step old new (then_gave s bytes (Err e) history) script_is
-    (λ yes. story_is (record old { history = history }) new _ _ same (tells yes).0
+    (λ yes. trace_is (record old { history = history }) new _ _ same (tells yes).0
     (λ t. ends_held old.player new.player s t (t == s) (either_order s t) (tells yes).1.2 (tells yes).1.3))
 
 -- a session was paused or resumed
 pub told_held : (old new : PortState) (s : ℕ) (held : Bool) → IsSameBeside old new
     → new.player.script ≡ old.player.script
     → (is_playable old.player.script ≡ true → SetsHeld old.player s held new.player)
-    → story_told new ≡ option_map (with_pause s held) (story_told old)
+    → trace_told new ≡ option_map (with_pause s held) (trace_told old)
 told_held old new s held same script_is sets =
     told_step old new (with_pause s held) script_is
-    (λ yes. story_is old new _ _ same (ap (λ (p : PlayerState). p.records) (sets yes).rest)
+    (λ yes. trace_is old new _ _ same (ap (λ (p : PlayerState). p.records) (sets yes).rest)
     (λ t. now_held old.player new.player s t held (sets yes)))
 
 -- a session was shut
 pub told_shut : (old new : PortState) (s : ℕ) → IsSameBeside old new → new.player.script ≡ old.player.script
     → (is_playable old.player.script ≡ true
     → (new.player.records ≡ old.player.records ++ was.Shut s ∷ []) × DropsSession old.player s new.player)
-    → story_told new ≡ option_map (then_told (was.Shut s ∷ [])) (story_told old)
+    → trace_told new ≡ option_map (then_told (was.Shut s ∷ [])) (trace_told old)
 told_shut old new s same script_is tells =
     told_step old new (then_told (was.Shut s ∷ [])) script_is
-    (λ yes. story_is old new _ _ same (tells yes).0
+    (λ yes. trace_is old new _ _ same (tells yes).0
     (λ t. ends_held old.player new.player s t ((s == t) || false) (or_none (s == t)) (tells yes).1.here (tells yes).1.others))

@@ -33,7 +33,7 @@ MayFollow before (Open session) = newest_of before < session
 MayFollow before (Send session bytes) = IsTrue (is_open_in_script before session)
 MayFollow before (Gone session) = IsTrue (is_open_in_script before session)
 
--- each event may come behind those before it
+-- each event may come after those before it
 abbrev pub IsPlayable : List ScriptEvent → Type 0
 IsPlayable events = (k : ℕ) (d : ScriptEvent) → k < length events
     → MayFollow (take k events) (slice_index_or events k d)
@@ -53,8 +53,8 @@ sent_by session (Send other bytes) = if other == session then bytes else []
 sent_by session (Gone other) = []
 
 -- the bytes of a session, joined
-abbrev pub sent : List ScriptEvent → ℕ → List ℕ
-sent events session = flat_map (sent_by session) events
+abbrev pub sent_bytes : List ScriptEvent → ℕ → List ℕ
+sent_bytes events session = flat_map (sent_by session) events
 
 abbrev pub goes_by_event : ℕ → ScriptEvent → Bool
 goes_by_event session (Open other) = false

@@ -40,7 +40,7 @@ pub record Executes (old : Execution) (t : ℕ) (q : Request) (reply : Reply) (n
   pub last : new.moment ≡ t
   pub later : (n : ℕ) → answer_of new.clock n ≡ answer_of old.clock (n + 1)
 
--- the message, where it is a request, is executed, and its answer goes behind the output
+-- the message, where it is a request, is executed, and its answer goes after the output
 abbrev pub AnswersBehind : Execution → Message → Execution → List ℕ → List ℕ → Type 0
 AnswersBehind old (Ask q quiet) new output after =
     (t : ℕ) × (reply : Reply) × Executes old t q reply new × (after ≡ output ++ answer (Ask q quiet) (Some reply))

@@ -8,7 +8,7 @@ use Rattle.script.specs.declared.event.ScriptEvent.{ScriptEvent}
 use Rattle.script.specs.declared.event.ScriptEvent.TheVariants.{Open, Send, Gone}
 use Rattle.script.specs.declared.event.ScriptLine.{ScriptLine}
 
--- what stands before each line feed, and what stands behind the last one, unless that is nothing
+-- what stands before each line feed, and what stands after the last one, unless that is nothing
 abbrev pub lines_of : List ℕ → List (List ℕ)
 lines_of [] = []
 lines_of (byte ∷ rest) = if byte == 10 then [] ∷ lines_of rest else onto_first byte (lines_of rest)

@@ -4,20 +4,20 @@ use Rattle.std.specs.Prelude.{ℕ, ◌^◌, ◌==◌, not, List, [], ◌∷◌, 
 use Rattle.std.specs.Prelude.{None, if◌then◌else◌}
 use Rattle.std.specs.Result.{result_ok}
 use Rattle.hex.specs.Hex.{decode_of}
-use Rattle.proto.specs.PlainReader.{◌>>=◌, guarded, number_in}
+use Rattle.proto.specs.PlainReader.{◌>>=◌, only_if, number_in}
 use Rattle.script.specs.declared.event.ScriptEvent.{ScriptEvent}
 use Rattle.script.specs.declared.event.ScriptEvent.TheVariants.{Open, Send, Gone}
 use Rattle.script.specs.declared.event.ScriptLine.{ScriptLine}
 
 -- the number of a session
 abbrev pub session_in : List ℕ → Option ℕ
-session_in word = number_in (2 ^ 64) word >>= λ n. guarded (not (n == 0)) (Some n)
+session_in word = number_in (2 ^ 64) word >>= λ n. only_if (not (n == 0)) (Some n)
 
 -- the bytes of which the word is the digits
 abbrev pub bytes_in : List ℕ → Option (List ℕ)
-bytes_in word = guarded (nat_lt 0 (length word)) (result_ok (decode_of word))
+bytes_in word = only_if (nat_lt 0 (length word)) (result_ok (decode_of word))
 
--- the event of a session, from the first word and what stands behind the session's number
+-- the event of a session, from the first word and what stands after the session's number
 abbrev pub event_in : List ℕ → ℕ → List (List ℕ) → Option ScriptEvent
 event_in verb session [] =
     if bytes_eq verb (codes "open") then Some (Open session)

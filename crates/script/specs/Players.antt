@@ -18,9 +18,9 @@ use Rattle.script.specs.PortEvents.{event_session, plays_from, is_playable}
 use Rattle.script.specs.Remaining.{in_order}
 use Rattle.script.specs.PortSessions.{ScriptSessionState, numbers, newest, session_entry, is_closed, was_closed}
 use Rattle.script.specs.PortSessions.{is_session_open, is_paused}
-use Rattle.script.specs.Records.{opened, give_records}
+use Rattle.script.specs.Records.{opened_sessions, give_records}
 use Rattle.script.specs.Following.{Follows, MayGo}
-use Rattle.script.specs.States.{PlayerState, story_of, Plays, PortGoesOn, DropsSession, Gives, Fails, count_down}
+use Rattle.script.specs.States.{PlayerState, script_trace, Plays, PortGoesOn, DropsSession, Gives, Fails, count_down}
 
 abbrev pub is_left : List ScriptSessionState → ScriptEvent → Bool
 is_left sessions e = not (was_closed sessions (event_session e))
@@ -54,7 +54,7 @@ Agrees (Some x) f = (f.opened ≡ true) × ((f.gone || f.shut) ≡ is_closed x.s
 
 pub record IsPlayerConsistent (p : Player) : Type 0 where
   pub each : (s : ℕ) → Agrees (session_entry p.sessions s) (port_facts p.records s)
-  pub opened_are : numbers p.sessions ≡ opened p.records
+  pub opened_are : numbers p.sessions ≡ opened_sessions p.records
   pub rising : (s : ℕ) (x : ScriptSessionState) → session_entry p.sessions s ≡ Some x → s ≤ newest p.sessions
   pub at_end : is_in was.Ended p.records ≡ p.ended
   pub plays : is_playable p.script.value.items ≡ true
@@ -81,7 +81,7 @@ pub record IsFirst (p : Player) (e : ScriptEvent) : Type 0 where
 pub record TellsNext (old : PlayerState) (result : PortEvent) (new : PlayerState) : Type 0 where
   pub records_are : new.records ≡ old.records ++ list.event_records result
   pub may : (sizes : Sizes) (dialect : Dialect) (worker : ℕ) (history : List Answered)
-      → list.MayCome (story_of (record {
+      → list.MayCome (script_trace (record {
         player = old;
         sizes = sizes;
         dialect = dialect;

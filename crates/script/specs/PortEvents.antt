@@ -14,7 +14,7 @@ event_session (Gone session) = session
 abbrev pub events_without : ℕ → List ScriptEvent → List ScriptEvent
 events_without session events = filter (λ (e : ScriptEvent). not (event_session e == session)) events
 
--- what is left of a send behind its next piece
+-- what is left of a send after its next piece
 abbrev pub send_after : ℕ → List ℕ → List ScriptEvent
 send_after session bytes = if nat_lt 16384 (length bytes) then Send session (drop 16384 bytes) ∷ [] else []
 
@@ -24,7 +24,7 @@ may_follow newest is_open (Open session) = nat_lt newest session
 may_follow newest is_open (Send session bytes) = is_open session
 may_follow newest is_open (Gone session) = is_open session
 
--- whether each event may come behind those before it
+-- whether each event may come after those before it
 abbrev pub plays_from : ℕ → (ℕ → Bool) → List ScriptEvent → Bool
 plays_from newest is_open [] = true
 plays_from newest is_open (e ∷ events) =

@@ -77,7 +77,7 @@ pub record ChangesAt (old : List ScriptSessionState) (session : ℕ) (change : S
   pub here : session_entry new session ≡ option_map change (session_entry old session)
   pub others : (t : ℕ) → t ≢ session → session_entry new t ≡ session_entry old t
 
--- an open session has these bytes behind its output, and the others stay
+-- an open session has these bytes after its output, and the others stay
 pub record AcceptsAt (old : List ScriptSessionState) (session : ℕ) (bytes : List ℕ)
     (new : List ScriptSessionState) : Type 0 where
   pub was_open : is_session_open old session ≡ true

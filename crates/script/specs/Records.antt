@@ -8,9 +8,9 @@ use Rattle.script.specs.declared.records.Entries.{Entries}
 use Rattle.script.specs.declared.records.Entries.TheBlock as entries
 
 -- the entries, the first one first
-abbrev pub listed : Entries → List PortRecord
-listed entries.None = []
-listed (entries.After' place before entry) = listed before ++ entry ∷ []
+abbrev pub records_of_entries : Entries → List PortRecord
+records_of_entries entries.None = []
+records_of_entries (entries.After' place before entry) = records_of_entries before ++ entry ∷ []
 
 -- a `give` adds the bytes that it accepted, if any, or that the session has gone
 abbrev pub give_records : ℕ → List ℕ → Result ℕ Gone → List PortRecord
@@ -27,5 +27,5 @@ opened_by (was.Accepted s bytes) = None
 opened_by (was.Shut s) = None
 
 -- the sessions that were opened, in order
-abbrev pub opened : List PortRecord → List ℕ
-opened records = filter_map opened_by records
+abbrev pub opened_sessions : List PortRecord → List ℕ
+opened_sessions records = filter_map opened_by records

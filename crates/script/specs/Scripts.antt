@@ -47,7 +47,7 @@ pub record IsMisplaced (workers : Workers) (line : List ℕ) (fault : LineFault)
   pub in_range : said.worker < length workers
   pub out_of_place : IsOutOfPlace (events_at workers said.worker) said.event fault
 
--- what is wrong with a line that comes behind those that gave these events
+-- what is wrong with a line that comes after those that gave these events
 abbrev pub HasLineFault : Workers → List ℕ → LineFault → Type 0
 HasLineFault workers line kind.NotAScriptLine = SaysNothing line
 HasLineFault workers line kind.WorkerOutOfRange = (said : ScriptLine) × LineSays line said × (length workers ≤ said.worker)

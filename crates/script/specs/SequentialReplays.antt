@@ -12,7 +12,7 @@ use Rattle.proto.specs.Answers.{said}
 use Rattle.proto.specs.History.{Legal, session_share, had, asked}
 use Rattle.script.specs.Clocks.{ClockState}
 use Rattle.script.specs.declared.event.ScriptEvent.{ScriptEvent}
-use Rattle.script.specs.Events.{newest_of, is_open_in_script, MayFollow, sessions_opened, sent}
+use Rattle.script.specs.Events.{newest_of, is_open_in_script, MayFollow, sessions_opened, sent_bytes}
 use Rattle.script.specs.declared.sequential_session.SequentialSession.{SequentialSession}
 use Rattle.script.specs.declared.sequential_replay.SessionOutput.{SessionOutput}
 use Rattle.script.specs.Execution.{Execution}
@@ -43,21 +43,21 @@ pub record IsReplay (sizes : Sizes) (clock : ClockState) (events : List ScriptEv
   pub among : AllByRecursion (IsAmong (sessions_opened events)) history
   pub timed : AreTimed clock history
   pub sessions : map (λ (g : SessionOutput). g.session) given ≡ sessions_opened events
-  pub each : All (λ (g : SessionOutput). IsAnsweredIn history (sent events g.session) g) given
+  pub each : All (λ (g : SessionOutput). IsAnsweredIn history (sent_bytes events g.session) g) given
 
 -- ---- on the way
 
 abbrev pub numbers_of : List SequentialSession → List ℕ
 numbers_of sessions = map (λ (s : SequentialSession). s.number) sessions
 
--- each number is below those behind it
+-- each number is below those after it
 abbrev pub IsRising : List ℕ → Type 0
 IsRising numbers = (i j : ℕ) → i < j → j < length numbers → slice_index numbers i < slice_index numbers j
 
 -- a session with a higher number is neither open nor has sent anything
 abbrev pub IsFresh : List ScriptEvent → Type 0
 IsFresh events = (session : ℕ) → newest_of events < session
-    → (sent events session ≡ []) × (is_open_in_script events session ≡ false)
+    → (sent_bytes events session ≡ []) × (is_open_in_script events session ≡ false)
 
 -- where the events have led: to this cache and clock, and these sessions
 pub record HasRun (setup : Setup) (events : List ScriptEvent) (now : Execution)
@@ -69,7 +69,8 @@ pub record HasRun (setup : Setup) (events : List ScriptEvent) (now : Execution)
   pub rising : IsRising (sessions_opened events)
   pub highest : All (λ (n : ℕ). n ≤ newest_of events) (sessions_opened events)
   pub fresh : IsFresh events
-  pub each : All (λ (s : SequentialSession). AreBytesServed (sent events s.number) (session_share history 0 s.number) s)
+  pub each : All (λ (s : SequentialSession). AreBytesServed (sent_bytes events s.number)
+      (session_share history 0 s.number) s)
       sessions
 
 -- the place of a session, if it is there

@@ -41,7 +41,7 @@ pub record AreBytesAnswered (read : List ℕ) (share : List Answered) (output : 
   pub output_is : output ≡ said messages (had share)
 
 -- an entry of a session of worker 0
-pub record IsOf (session : ℕ) (e : Answered) : Type 0 where
+pub record IsOfSession (session : ℕ) (e : Answered) : Type 0 where
   pub worker : e.worker ≡ 0
   pub session_is : e.session ≡ session
 
@@ -49,7 +49,7 @@ pub record IsOf (session : ℕ) (e : Answered) : Type 0 where
 pub record HistoryGoesOn (session : ℕ) (old new : List Answered) : Type 0 where
   pub entries : List Answered
   pub longer : new ≡ old ++ entries
-  pub of_session : AllByRecursion (IsOf session) entries
+  pub of_session : AllByRecursion (IsOfSession session) entries
 
 -- with further entries of the session the history leads to this, and what was read of the session is
 -- answered
@@ -77,7 +77,7 @@ AnswersAll old unread taken ended new output after =
     → LedOnTo setup session history new (read ++ take taken unread) after ended
 
 -- nothing was sent yet
-pub record IsNew (number : ℕ) (session : SequentialSession) : Type 0 where
+pub record IsNewSession (number : ℕ) (session : SequentialSession) : Type 0 where
   pub number_is : session.number ≡ number
   pub no_unread : session.unread.items ≡ []
   pub no_output : session.output.items ≡ []

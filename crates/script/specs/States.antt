@@ -15,7 +15,7 @@ use Rattle.worker_port.specs.declared.events.PortEvent.TheVariants as event
 use Rattle.worker_port.specs.declared.events.PortRecord.{PortRecord}
 use Rattle.worker_port.specs.declared.events.Gone.{Gone}
 use Rattle.worker_port.specs.Giving.{by_any_clock}
-use Rattle.worker_port.specs.Ports.{PortStory}
+use Rattle.worker_port.specs.Ports.{PortTrace}
 use Rattle.script.specs.PortEvents.{event_session, events_without, send_after, is_playable}
 use Rattle.script.specs.PortSessions.{ScriptSessionState, is_paused}
 
@@ -40,7 +40,7 @@ is_held player session = is_paused player.sessions session
 abbrev pub KeepsOthers : ℕ → PlayerState → PlayerState → Type 0
 KeepsOthers session old new = (t : ℕ) → t ≢ session → is_held new t ≡ is_held old t
 
--- the first event left whose session isn't paused is this one; behind the call this stands in its place
+-- the first event left whose session isn't paused is this one; after the call this stands in its place
 pub record TakesEvent (old : PlayerState) (e : ScriptEvent) (rest : List ScriptEvent)
     (left : List ScriptEvent) : Type 0 where
   pub before : List ScriptEvent
@@ -81,7 +81,7 @@ abbrev pub most_accepted : ℕ → List ℕ → ℕ
 most_accepted accept bytes = if accept == 0 then length bytes else min accept (length bytes)
 
 -- A `give`: it fails exactly at the offer that was said to, and the session's events that are left are dropped.
--- Else it accepts all that it may, or, for want of memory, nothing.
+-- Else it accepts all that it may, or, out of memory, nothing.
 abbrev pub Gives : PlayerState → ℕ → List ℕ → Result ℕ Gone → PlayerState → Type 0
 Gives old s bytes (Err e) new =
     Fails old bytes × (new.left ≡ events_without s old.left) × (is_held new s ≡ false) × KeepsOthers s old new
@@ -138,8 +138,8 @@ pub record PortState : Type 0 where
   pub history : List Answered
 
 -- its list and which sessions are paused, and whose port it is
-abbrev pub story_of : PortState → PortStory
-story_of port = record {
+abbrev pub script_trace : PortState → PortTrace
+script_trace port = record {
   events = port.player.records;
   paused = is_held port.player;
   terms = by_any_clock port.sizes;
@@ -149,8 +149,8 @@ story_of port = record {
 }
 
 -- they are told where the events of the script may come as they stand
-abbrev pub story_told : PortState → Option PortStory
-story_told port = if is_playable port.player.script then Some (story_of port) else None
+abbrev pub trace_told : PortState → Option PortTrace
+trace_told port = if is_playable port.player.script then Some (script_trace port) else None
 
 -- a port that plays the same script, accepts as much at once, and can fail where it could
 abbrev pub PlaysOn : PortState → PortState → Type 0

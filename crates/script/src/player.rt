@@ -179,7 +179,8 @@ impl Player {
     fn send(&mut self, session: u64, piece: Bytes, copy: Bytes) -> PortEvent
         requires consistent { IsPlayerConsistent self.old }
         requires running { self.old.ended ≡ false }
-        requires first { (bytes : List ℕ) × IsFirst self.old (script.Send session bytes) × (piece ≡ take 16384 bytes)
+        requires first { (bytes : List ℕ) × IsFirst self.old (script.Send session bytes)
+            × (piece ≡ take 16384 bytes)
             × (copy ≡ take 16384 bytes) }
         ensures goes_on { PlayerGoesOn self.old self.new }
         ensures played { Played self.old result self.new }

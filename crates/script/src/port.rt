@@ -3,14 +3,14 @@
 ghost use Rattle.std.specs.Prelude.{◌≡◌, ℕ, ◌++◌, [], ◌∷◌, ◌≤◌, ◌↔◌, length, true, false, IfOk, option_map, Some};
 ghost use Rattle.script.specs.Events.{IsPlayable};
 ghost use Rattle.worker_port.specs.declared.events.PortRecord.TheVariants.{Shut};
-ghost use Rattle.worker_port.specs.Ports.{PortStory, then_told, with_pause, event_records, then_gave, is_open};
+ghost use Rattle.worker_port.specs.Ports.{PortTrace, then_told, with_pause, event_records, then_gave, is_open};
 ghost use Rattle.worker_port.specs.Ports.{MayCome, given};
 ghost use Rattle.worker_port.specs.Giving.{MayBeGiven};
 ghost use Rattle.script.specs.PortEvents.{is_playable};
 ghost use Rattle.script.specs.PortSessions.{numbers};
-ghost use Rattle.script.specs.Records.{opened};
+ghost use Rattle.script.specs.Records.{opened_sessions};
 ghost use Rattle.script.specs.Following.{IsPlayed};
-ghost use Rattle.script.specs.States.{story_told, PlaysOn, Plays, Gives, PortGoesOn, CountsGive, SetsHeld};
+ghost use Rattle.script.specs.States.{trace_told, PlaysOn, Plays, Gives, PortGoesOn, CountsGive, SetsHeld};
 ghost use Rattle.script.specs.States.{DropsSession, IsNewPort, with_faults};
 
 use crate::ScriptEvent;
@@ -25,7 +25,7 @@ use worker_port::{Gone, Port, PortEvent, PortRecord, ToldHistory};
 
 /// Plays the events of a script in order, and keeps what each session is given.
 ///
-/// It tells where each event of the script may come behind those before it. A session that has gone or was shut has
+/// It tells where each event of the script may come after those before it. A session that has gone or was shut has
 /// no event left. Its list takes no memory. Where memory is missing, `next` answers `Idle` and `give` accepts no bytes.
 #[derive(Drop)]
 pub struct ScriptPort {
@@ -97,7 +97,7 @@ impl ScriptPort {
     /// The sessions that were opened, in order. The list tells what the script says of them.
     pub fn sessions(&self) -> &[ScriptSession]
         ensures sessions { result.now ≡ self.now.player.sessions }
-        ensures opened { numbers result.now ≡ opened self.now.player.records }
+        ensures opened { numbers result.now ≡ opened_sessions self.now.player.records }
         ensures played { is_playable self.now.player.script ≡ true
             → IsPlayed self.now.player.script self.now.player.records self.now.player.can_fail }
     {
@@ -106,9 +106,9 @@ impl ScriptPort {
 }
 
 impl Port for ScriptPort {
-    ghost use Rattle.script.specs.States.{story_told, PlaysOn, plays_same, plays_later};
+    ghost use Rattle.script.specs.States.{trace_told, PlaysOn, plays_same, plays_later};
 
-    ghost told = { story_told };
+    ghost told = { trace_told };
 
     ghost leads_to = { PlaysOn };
 
@@ -119,8 +119,8 @@ impl Port for ScriptPort {
     /// It never waits.
     fn next(&mut self, _may_wait: bool) -> PortEvent
         ensures leads { PlaysOn self.old self.new }
-        ensures told { story_told self.new ≡ option_map (then_told (event_records result)) (story_told self.old) }
-        ensures may { (story : PortStory) → story_told self.old ≡ Some story → MayCome story result }
+        ensures told { trace_told self.new ≡ option_map (then_told (event_records result)) (trace_told self.old) }
+        ensures may { (trace : PortTrace) → trace_told self.old ≡ Some trace → MayCome trace result }
         ensures plays { is_playable self.old.player.script ≡ true → Plays self.old.player result self.new.player }
         ensures goes_on { is_playable self.old.player.script ≡ true → PortGoesOn self.old.player self.new.player }
     {
@@ -128,13 +128,14 @@ impl Port for ScriptPort {
     }
 
     fn give(&mut self, session: u64, bytes: &[u8], history: ToldHistory) -> Result<usize, Gone>
-        requires open { (story : PortStory) → story_told self.old ≡ Some story → is_open session story.events ≡ true }
-        requires said { (story : PortStory) → story_told self.old ≡ Some story
-            → MayBeGiven story history session bytes.now }
+        requires open { (trace : PortTrace) → trace_told self.old ≡ Some trace
+            → is_open session trace.events ≡ true }
+        requires said { (trace : PortTrace) → trace_told self.old ≡ Some trace
+            → MayBeGiven trace history session bytes.now }
         ensures within { IfOk result (λ n. n ≤ length bytes.now) }
         ensures leads { PlaysOn self.old self.new }
-        ensures told { story_told self.new ≡ option_map (then_gave session bytes.now result history)
-            (story_told self.old) }
+        ensures told { trace_told self.new ≡ option_map (then_gave session bytes.now result history)
+            (trace_told self.old) }
         ensures gives { is_playable self.old.player.script ≡ true
             → Gives self.old.player session bytes.now result self.new.player }
         ensures counts { CountsGive self.old.player bytes.now self.new.player }
@@ -144,9 +145,10 @@ impl Port for ScriptPort {
     }
 
     fn pause(&mut self, session: u64)
-        requires { (story : PortStory) → story_told self.old ≡ Some story → is_open session story.events ≡ true }
+        requires { (trace : PortTrace) → trace_told self.old ≡ Some trace
+            → is_open session trace.events ≡ true }
         ensures leads { PlaysOn self.old self.new }
-        ensures told { story_told self.new ≡ option_map (with_pause session true) (story_told self.old) }
+        ensures told { trace_told self.new ≡ option_map (with_pause session true) (trace_told self.old) }
         ensures held { is_playable self.old.player.script ≡ true
             → SetsHeld self.old.player session true self.new.player }
     {
@@ -154,9 +156,10 @@ impl Port for ScriptPort {
     }
 
     fn resume(&mut self, session: u64)
-        requires { (story : PortStory) → story_told self.old ≡ Some story → is_open session story.events ≡ true }
+        requires { (trace : PortTrace) → trace_told self.old ≡ Some trace
+            → is_open session trace.events ≡ true }
         ensures leads { PlaysOn self.old self.new }
-        ensures told { story_told self.new ≡ option_map (with_pause session false) (story_told self.old) }
+        ensures told { trace_told self.new ≡ option_map (with_pause session false) (trace_told self.old) }
         ensures held { is_playable self.old.player.script ≡ true
             → SetsHeld self.old.player session false self.new.player }
     {
@@ -164,9 +167,10 @@ impl Port for ScriptPort {
     }
 
     fn shut(&mut self, session: u64)
-        requires { (story : PortStory) → story_told self.old ≡ Some story → is_open session story.events ≡ true }
+        requires { (trace : PortTrace) → trace_told self.old ≡ Some trace
+            → is_open session trace.events ≡ true }
         ensures leads { PlaysOn self.old self.new }
-        ensures told { story_told self.new ≡ option_map (then_told (Shut session ∷ [])) (story_told self.old) }
+        ensures told { trace_told self.new ≡ option_map (then_told (Shut session ∷ [])) (trace_told self.old) }
         ensures shuts { is_playable self.old.player.script ≡ true
             → DropsSession self.old.player session self.new.player }
     {

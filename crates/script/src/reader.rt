@@ -19,9 +19,10 @@ use std::marker::Model;
 /// The most bytes that a script may have.
 pub const MAX_SCRIPT: usize = 16_777_216;
 
-/// The first line, and what stands behind its line feed; None where nothing is left.
+/// The first line, and what stands after its line feed; None where nothing is left.
 fn first_line(script: &[u8]) -> Option<(&[u8], &[u8])>
-    ensures lines { MatchOption result (script.now ≡ []) (λ p. lines_of script.now ≡ p.0.now ∷ lines_of p.1.now) }
+    ensures lines { MatchOption result (script.now ≡ [])
+        (λ p. lines_of script.now ≡ p.0.now ∷ lines_of p.1.now) }
     ensures shorter { IfSome result (λ p. length p.1.now < length script.now) }
 {
     match memchr(b'\n', script) {
@@ -45,7 +46,8 @@ fn checked(
     workers: &[WorkerScript],
     line: &[u8],
 ) -> Result<Result<ScriptLine, LineFault>, NoMemory>
-    ensures { IfOk result (λ found. MatchResult found (MayAdd workers.now line.now) (HasLineFault workers.now line.now)) }
+    ensures { IfOk result
+        (λ found. MatchResult found (MayAdd workers.now line.now) (HasLineFault workers.now line.now)) }
 {
     let Some(said) = script_line(alloc, line)? else {
         return Ok(Err(LineFault::NotAScriptLine));

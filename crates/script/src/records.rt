@@ -1,7 +1,7 @@
 //! The list of a port's events, which takes no memory.
 
 ghost use Rattle.std.specs.Prelude.{◌≡◌, [], ◌∷◌, ◌++◌};
-ghost use Rattle.script.specs.Records.{listed};
+ghost use Rattle.script.specs.Records.{records_of_entries};
 
 use std::marker::Model;
 use std::snapshot::Snapshot;
@@ -17,7 +17,7 @@ enum Entries {
 impl Entries {
     // These entries, and one more.
     fn and(&self, entry: PortRecord) -> Entries
-        ensures { listed result ≡ listed self.now ++ entry ∷ [] }
+        ensures { records_of_entries result ≡ records_of_entries self.now ++ entry ∷ [] }
     {
         Entries::After(Snapshot::of(self), entry)
     }
@@ -32,11 +32,11 @@ pub(crate) struct Records {
 impl Model for Records {
     ghost use Rattle.std.specs.Prelude.{List};
     ghost use Rattle.worker_port.specs.declared.events.PortRecord.{PortRecord};
-    ghost use Rattle.script.specs.Records.{listed};
+    ghost use Rattle.script.specs.Records.{records_of_entries};
 
     ghost Value = { List PortRecord };
 
-    ghost view = { λ r. listed r.entries };
+    ghost view = { λ r. records_of_entries r.entries };
 }
 
 impl Records {

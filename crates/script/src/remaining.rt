@@ -76,7 +76,8 @@ impl Remaining {
 
     /// The first of the rest, or of those aside where no other is left.
     pub(crate) fn first(&self) -> Option<&ScriptEvent>
-        ensures { MatchOption result (in_order self.now ≡ []) (λ e. (self.now.rest ≡ e.now ∷ drop 1 self.now.rest)
+        ensures { MatchOption result (in_order self.now ≡ [])
+            (λ e. (self.now.rest ≡ e.now ∷ drop 1 self.now.rest)
             ⊎ ((self.now.rest ≡ []) × (self.now.aside ≡ e.now ∷ drop 1 self.now.aside))) }
     {
         self.ring.front()
@@ -155,9 +156,10 @@ impl Remaining {
     }
 }
 
-// What is left of a send behind its next piece, if anything is.
+// What is left of a send after its next piece, if anything is.
 fn after_piece(event: ScriptEvent) -> Option<(u64, Bytes)>
-    ensures none { result ≡ None → (s : ℕ) (bytes : List ℕ) → event ≡ script.Send s bytes → send_after s bytes ≡ [] }
+    ensures none { result ≡ None → (s : ℕ) (bytes : List ℕ) → event ≡ script.Send s bytes
+        → send_after s bytes ≡ [] }
     ensures some { IfSome result (λ r. (s : ℕ) (bytes : List ℕ) → event ≡ script.Send s bytes
         → send_after s bytes ≡ script.Send r.0 r.1 ∷ []) }
 {

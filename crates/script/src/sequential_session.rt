@@ -4,7 +4,7 @@ ghost use Rattle.std.specs.Prelude.{◌≡◌, ℕ, ◌≤◌, [], false, length
 ghost use Rattle.proto.specs.declared.dialect.Dialect.TheVariants.{Strict};
 ghost use Rattle.proto.specs.Grammar.{SpellsNone};
 ghost use Rattle.proto.specs.Reading.{ends_session};
-ghost use Rattle.script.specs.SequentialSessions.{AnswersNext, AnswersAll, IsNew, Feeds};
+ghost use Rattle.script.specs.SequentialSessions.{AnswersNext, AnswersAll, IsNewSession, Feeds};
 
 use crate::executor::Executor;
 use engine::StorageEngine;
@@ -79,7 +79,7 @@ pub struct SequentialSession {
 
 impl SequentialSession {
     pub fn new(alloc: Global, number: u64) -> SequentialSession
-        ensures { IsNew number result }
+        ensures { IsNewSession number result }
     {
         SequentialSession {
             number,

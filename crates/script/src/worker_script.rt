@@ -12,7 +12,7 @@ use std::alloc::Global;
 use std::collections::BTreeSet;
 use std::marker::Model;
 
-/// Events in order, each of which may come behind those before it.
+/// Events in order, each of which may come after those before it.
 #[derive(Drop)]
 pub struct WorkerScript {
     events: Vec<ScriptEvent>,

@@ -1,5 +1,6 @@
 -- What an item leaves that is put over the one of its key, of the same size.
-use Rattle.std.proofs.Common.{◌≡◌, ℕ, ◌≤◌, ◌<◌, ◌^◌, Bool, true, false, cond, List, ◌∷◌, [], ◌++◌, Option, Some, None, refl, sym, ap, subst, ◌∙◌, inl, inr, arith}
+use Rattle.std.proofs.Common.{◌≡◌, ℕ, ◌≤◌, ◌<◌, ◌^◌, Bool, true, false, cond, List, ◌∷◌, [], ◌++◌, Option, Some, None}
+use Rattle.std.proofs.Common.{refl, sym, ap, subst, ◌∙◌, inl, inr, arith}
 use Rattle.std.specs.Prelude.{bytes_eq, option_map, IsSome, ◌==◌, if◌then◌else◌}
 use Rattle.std.specs.FinMap as finite
 use Rattle.std.proofs.lemmas.Bool.{cases_Bool, false≢true}
@@ -14,7 +15,7 @@ use Rattle.engine.specs.Keeping.{KeepsEntry}
 use Rattle.segments.specs.declared.place.Place.{Place}
 use Rattle.segments.specs.Items.{Item, IsStorable, fits_over}
 use Rattle.segments.specs.Pools.{PoolState, IsPool, item_in, place_deadline, lasting}
-use Rattle.segments.specs.Changes.{overwritten}
+use Rattle.segments.specs.Changes.{with_item_at}
 use Rattle.segments.specs.Places.{same_place}
 use Rattle.segments.proofs.ItemChanges.{KeepsSize, keeps_over}
 use Rattle.segments.proofs.Places.{item_storable}
@@ -38,7 +39,7 @@ use Rattle.segcache.proofs.WritesWithRoom.{written_more, all_last}
 
 -- an item that is put over another one is shown where it stands
 over_entry : (p : PoolState) (place : Place) (new : Item) → KeepsSize (λ _. new) (item_in p place)
-    → entry_at (overwritten p place new) place ≡ kept_entry (place_deadline p place) new
+    → entry_at (with_item_at p place new) place ≡ kept_entry (place_deadline p place) new
 over_entry p place new k =
     let itself = same_place_itself place in
     let is = k.is in
@@ -46,7 +47,7 @@ over_entry p place new k =
 
 -- and elsewhere is shown what was
 other_entry : (p : PoolState) (place r : Place) (new : Item) → KeepsSize (λ _. new) (item_in p place)
-    → same_place r place ≡ false → entry_at (overwritten p place new) r ≡ entry_at p r
+    → same_place r place ≡ false → entry_at (with_item_at p place new) r ≡ entry_at p r
 unfolding entry_at
 other_entry p place r new k n = changed_entry (λ _. new) p place r k ∙ rw n refl
 
@@ -150,7 +151,7 @@ changes_in_place : (old : MapState) (pool : PoolState) (key : List ℕ) (e : Ent
     (o : IsOver old key e place)
     → IsSegmentedMap old → StandsAt old key place → has_arrived e.deadline old.moment ≡ false
     → fits_over (with_value e o.item) (item_in old.pool place) ≡ true
-    → pool ≡ overwritten old.pool place (with_value e o.item) → IsPool pool
+    → pool ≡ with_item_at old.pool place (with_value e o.item) → IsPool pool
     → ChangesInPlace old key e (record old { pool = pool })
 changes_in_place old pool key e place o kept there waits h is whole =
     let p = old.pool in
@@ -241,7 +242,7 @@ pub record IsRewritten (old new : MapState) (key : List ℕ) (e : Entry) : Type 
 pub rewritten : (m : MapState) (key : List ℕ) (e : Entry) (place : Place) (found : Item) (pool : PoolState)
     → AsksRewrite m key e place → IsSegmentedMap m → Some found ≡ item_in m.pool place
     → fits_over (item_over key e found) (item_in m.pool place) ≡ true
-    → pool ≡ overwritten m.pool place (item_over key e found) → IsPool pool
+    → pool ≡ with_item_at m.pool place (item_over key e found) → IsPool pool
     → IsRewritten m (record m { pool = pool }) key e
 rewritten m key e place found pool asks kept at fits is whole =
     let o = over m key e place kept asks.stands asks.changed in
@@ -252,11 +253,11 @@ rewritten m key e place found pool asks kept at fits is whole =
     ∙ (λ n. record { cas = e.cas; flags = sym o.flags n; key = sym o.key_is n; value = e.value; reads = o.item.reads }) in
     let w = changes_in_place m pool key e place o kept asks.stands asks.waits
     (subst (λ (i : Item). fits_over i (item_in m.pool place) ≡ true) same fits)
-    (is ∙ ap (overwritten m.pool place) same) whole in
+    (is ∙ ap (with_item_at m.pool place) same) whole in
     let new : MapState = record m { pool = pool } in
     let i = with_value e o.item in
     let k = over_keeps m.pool place i o.item o.is_at refl (subst (λ (j : Item). fits_over j (item_in m.pool place) ≡ true) same fits) in
-    let pool_is : pool ≡ overwritten m.pool place i = is ∙ ap (overwritten m.pool place) same in
+    let pool_is : pool ≡ with_item_at m.pool place i = is ∙ ap (with_item_at m.pool place) same in
     record {
       kept = record {
         tied = (tied_changed (λ _. i) m.pool pool m.index m.marks place kept.tied k whole pool_is).0;

@@ -14,12 +14,12 @@ use Rattle.std.proofs.lemmas.Option.{none-some}
 use Rattle.std.proofs.lemmas.List.Sums.{sum_by-cons}
 use Rattle.std.proofs.lemmas.List.Elements.{All-head, All-tail, All-nil, All-cons}
 use Rattle.proto.specs.Cache.{Entry, Entries}
-use Rattle.proto.specs.Steps.{size_at, without}
+use Rattle.proto.specs.Steps.{size_at, without_keys}
 use Rattle.proto.proofs.CacheLemmas.{entry_size, contains_bytes, get-remove, if_live}
 use Rattle.segments.specs.declared.place.Place.{Place}
 use Rattle.segments.specs.Items.{Item, size_of_item, size_of_all}
 use Rattle.segments.specs.Pools.{PoolState, IsPool, Used, Standing, item_in, place_deadline, standing, standing_from, items_of, segment_at, has_live}
-use Rattle.segments.specs.Changes.{cleared}
+use Rattle.segments.specs.Changes.{without_segment}
 use Rattle.segments.specs.Places.{same_place, HasFree}
 use Rattle.segments.proofs.Places.{cleared_item, cleared_deadline, cleared_free}
 use Rattle.segments.proofs.MovedPlaces.{same_place_is, same_place_itself}
@@ -27,7 +27,7 @@ use Rattle.segments.proofs.MarkedPlaces.{knows_after}
 use Rattle.index.specs.Keys.{key_at}
 use Rattle.segments.specs.Marks.{Marks, is_marked, lives_by}
 use Rattle.index.specs.Table.{Table, Places}
-use Rattle.segcache.specs.Shown.{current, shown_entries, entry_at, kept_entry, gone}
+use Rattle.segcache.specs.Shown.{current, shown_entries, entry_at, kept_entry, dead_entry}
 use Rattle.segcache.specs.Leaving.{HasLeft}
 use Rattle.segcache.proofs.OpeningMoments.{past_cleared}
 use Rattle.segcache.specs.Kept.{IsTied, IsPast}
@@ -232,7 +232,7 @@ shown_but p index after new t ss q (Some r) all h e =
 pub left_entries : (p : PoolState) (index : Table) (after : PoolState) (found : Table) (t : ℕ) (ss : List Standing)
     → All (IsCurrent p index) ss
     → HaveStayed p (current p index) after (current after found) ss
-    → shown_entries after found t ≡ without (shown_entries p index t) (map key_in ss)
+    → shown_entries after found t ≡ without_keys (shown_entries p index t) (map key_in ss)
 left_entries p index after found t ss all stayed =
     shown_without p after (current p index) (current after found) t (map key_in ss)
     (λ q. get-live_in after (current after found) t q
@@ -313,7 +313,7 @@ marked_sizes marks (s ∷ ss) =
       | inr n ↦ rw n (omega (arith, rest, whole))
     ]
 
--- items that stand one behind the other in a segment take as many bytes as they do in a list
+-- items that stand one after the other in a segment take as many bytes as they do in a list
 pub standing_sizes : (n from : ℕ) (items : List Item) → sum_by size_in (standing_from n from items) ≡ size_of_all items
 standing_sizes n from [] = refl
 standing_sizes n from (i ∷ items) =
@@ -340,23 +340,24 @@ segment_sizes p n k =
 
 -- where a segment is cleared, places in other segments show what they did
 cleared_entry : (p : PoolState) (n : ℕ) (r : Place) → IsSome (segment_at p n) → (r.segment ≡ n → ⊥)
-    → entry_at (cleared p n) r ≡ entry_at p r
+    → entry_at (without_segment p n) r ≡ entry_at p r
 unfolding entry_at
 cleared_entry p n r some ne =
     let f = ne_eqb r.segment n ne in
-    let item : item_in (cleared p n) r ≡ item_in p r = cleared_item p n r some ∙ rw f refl in
-    let deadline : place_deadline (cleared p n) r ≡ place_deadline p r = cleared_deadline p n r some ∙ rw f refl in
-    ap (λ (d : Option ℕ). option_map_or (kept_entry d) (item_in (cleared p n) r) gone) deadline
-    ∙ ap (λ (o : Option Item). option_map_or (kept_entry (place_deadline p r)) o gone) item
+    let item : item_in (without_segment p n) r ≡ item_in p r = cleared_item p n r some ∙ rw f refl in
+    let deadline : place_deadline (without_segment p n) r ≡ place_deadline p r = cleared_deadline p n r some
+    ∙ rw f refl in
+    ap (λ (d : Option ℕ). option_map_or (kept_entry d) (item_in (without_segment p n) r) dead_entry) deadline
+    ∙ ap (λ (o : Option Item). option_map_or (kept_entry (place_deadline p r)) o dead_entry) item
 
 -- where a segment is cleared, the items in other segments stay where they stood
 cleared_key : (p : PoolState) (n : ℕ) (r : Place) → IsSome (segment_at p n) → (r.segment ≡ n → ⊥)
-    → item_in (cleared p n) r ≡ item_in p r
+    → item_in (without_segment p n) r ≡ item_in p r
 cleared_key p n r some ne = let f = ne_eqb r.segment n ne in cleared_item p n r some ∙ rw f refl
 
 -- where a segment is cleared in which no key has its current place, all stays tied, and the current places stay
 pub tied_cleared : (p after : PoolState) (n : ℕ) (index : Table) (marks : Marks) → IsTied p index marks → IsPool after
-    → after ≡ cleared p n → IsSome (segment_at p n)
+    → after ≡ without_segment p n → IsSome (segment_at p n)
     → ((q : List ℕ) (r : Place) → finite.get (current p index) q ≡ Some r → r.segment ≡ n → ⊥)
     → IsTied after index marks
     × (current after index ≡ current p index)
@@ -372,7 +373,7 @@ tied_cleared p after n index marks tied pool is some elsewhere =
     (ap (λ (a : PoolState). a.sizes) is) (λ r h. ap (option_map (λ (i : Item). i.key)) (same r h))
   where
     by_item : (p : PoolState) (n : ℕ) (r : Place) → IsSome (segment_at p n) → (o : Option Item) → item_in p r ≡ o
-        → ((i : Item) → o ≡ Some i → r.segment ≡ n → ⊥) → item_in (cleared p n) r ≡ item_in p r
+        → ((i : Item) → o ≡ Some i → r.segment ≡ n → ⊥) → item_in (without_segment p n) r ≡ item_in p r
     by_item p n r some (Some i) e ne = cleared_key p n r some (ne i refl)
     by_item p n r some None e ne = cleared_item p n r some ∙ nothing (r.segment == n) (item_in p r) e
       where
@@ -390,7 +391,7 @@ still_none m q h = by (finite.get m q) refl
 
 -- the marked items of a segment leave where it is cleared, and the others stay
 pub cleared_stayed : (p after : PoolState) (n : ℕ) (index found : Table) (marks others : Marks) → IsTied p index marks
-    → IsTied p found others → IsPool after → after ≡ cleared p n
+    → IsTied p found others → IsPool after → after ≡ without_segment p n
     → IsSome (segment_at p n) → HasLeft n (current p index) (current p found)
     → HaveStayed p (current p index) after (current after found)
     (filter (λ (s : Standing). is_marked marks s.place) (standing p n))
@@ -420,7 +421,7 @@ cleared_stayed p after n index found marks others tied left pool is some h =
 -- and forgets no more than may be forgotten for it
 pub cleared_made : (p after : PoolState) (n : ℕ) (index found : Table) (marks others : Marks) (t : ℕ)
     → IsTied p index marks
-    → IsTied p found others → IsPool after → after ≡ cleared p n → IsSome (segment_at p n)
+    → IsTied p found others → IsPool after → after ≡ without_segment p n → IsSome (segment_at p n)
     → HasLeft n (current p index) (current p found) → IsCrowded p index t → IsRoomMade p index t after found
 cleared_made p after n index found marks others t tied left pool is some h crowded =
     let same = (tied_cleared p after n found others left pool is some (λ q r e s. h.elsewhere q r e s)).1 in

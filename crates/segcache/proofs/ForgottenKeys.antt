@@ -8,7 +8,7 @@ use Rattle.std.proofs.lemmas.List.Sums.{sum_by-cons}
 use Rattle.std.proofs.lemmas.Slice.Eq.{bytes_eq-Decides}
 use Rattle.std.proofs.lemmas.Option.{none-some}
 use Rattle.proto.specs.Cache.{Entry, Entries, has_arrived}
-use Rattle.proto.specs.Steps.{without}
+use Rattle.proto.specs.Steps.{without_keys}
 use Rattle.proto.proofs.CacheLemmas.{contains_bytes, without-nil, same_entries, get-insert, get-remove, get-without}
 use Rattle.segments.specs.declared.place.Place.{Place}
 use Rattle.segments.specs.Items.{Item}
@@ -269,9 +269,9 @@ evicted_replanned p mid o index marks after found tied pool is e =
     (record { evicted = e.evicted; keys_are = refl })) in
     record {
       evicted = k.evicted;
-      entries = λ t. e.entries t ∙ ap (λ (es : Entries). without es keys)
+      entries = λ t. e.entries t ∙ ap (λ (es : Entries). without_keys es keys)
           (shown_replanned p mid o index marks t tied pool is)
-          ∙ ap (without (shown_entries p index t)) k.keys_are;
+          ∙ ap (without_keys (shown_entries p index t)) k.keys_are;
     }
 
 -- what had no live item was given back
@@ -301,8 +301,8 @@ room_evicted p index one other bucket t i mid between marks after found pool a f
     (subst (λ (q : PoolState). EvictsKeys one q after keys) is (record { evicted = e.evicted; keys_are = refl }))) in
     record {
       room = evicts after full (sym (same_dead p one other a) ∙ none) k.evicted;
-      entries = e.entries t ∙ ap (λ (es : Entries). without es keys) s.entries
-          ∙ ap (without (shown_entries p index t)) k.keys_are;
+      entries = e.entries t ∙ ap (λ (es : Entries). without_keys es keys) s.entries
+          ∙ ap (without_keys (shown_entries p index t)) k.keys_are;
     }
 
 -- where an item was appended, there was room for it
@@ -324,15 +324,15 @@ room_there lives p index bucket t i there =
 
 -- a key that is put in need not be taken out before
 put_over : (e : Entries) (keys : List (List ℕ)) (key : List ℕ) (w : Entry)
-    → finite.insert (without (finite.remove e key) keys) key w ≡ finite.insert (without e keys) key w
+    → finite.insert (without_keys (finite.remove e key) keys) key w ≡ finite.insert (without_keys e keys) key w
 put_over e keys key w =
-    same_entries _ _ (λ q. get-insert (without (finite.remove e key) keys) key w q
+    same_entries _ _ (λ q. get-insert (without_keys (finite.remove e key) keys) key w q
     ∙ elim (cases_Bool (bytes_eq q key)) [
-      | inl y ↦ rw y (sym (get-insert (without e keys) key w q ∙ rw y refl))
+      | inl y ↦ rw y (sym (get-insert (without_keys e keys) key w q ∙ rw y refl))
       | inr n ↦
           let stays : finite.get (finite.remove e key) q ≡ finite.get e q = get-remove e key q ∙ rw n refl in
           rw n (get-without (finite.remove e key) keys q ∙ ap (cond (contains_bytes keys q) None) stays
-          ∙ sym (get-insert (without e keys) key w q ∙ rw n (get-without e keys q)))
+          ∙ sym (get-insert (without_keys e keys) key w q ∙ rw n (get-without e keys q)))
     ])
 
 -- an item was placed once the one of its key had left
@@ -353,9 +353,10 @@ placed_over p index between marks others bucket t i after found tied left is h =
       place = h.place;
       stands = h.stands;
       written = record { roomy = h.written.roomy; room = k.room; added = h.written.added };
-      entries = h.entries ∙ ap (λ (e : Entries). finite.insert (without e keys) i.key (entry_at after h.place)) shows
+      entries = h.entries ∙ ap (λ (e : Entries). finite.insert (without_keys e keys) i.key
+          (entry_at after h.place)) shows
           ∙ put_over (shown_entries p index t) keys i.key (entry_at after h.place)
-          ∙ ap (λ (ks : List (List ℕ)). finite.insert (without (shown_entries p index t) ks) i.key
+          ∙ ap (λ (ks : List (List ℕ)). finite.insert (without_keys (shown_entries p index t) ks) i.key
           (entry_at after h.place)) k.keys_are;
     }
 

@@ -22,7 +22,7 @@ use Rattle.segments.proofs.ItemChanges.{KeepsSize, some_kept}
 use Rattle.segments.proofs.Places.{appended, changed_segment}
 use Rattle.segments.proofs.FilledLemmas.{filled_changed}
 use Rattle.index.specs.Table.{Places}
-use Rattle.segcache.specs.Shown.{current, shown_entries, live_entries, entry_at, kept_entry, gone}
+use Rattle.segcache.specs.Shown.{current, shown_entries, live_entries, entry_at, kept_entry, dead_entry}
 use Rattle.segcache.specs.State.{MapState}
 use Rattle.segcache.specs.Kept.{IsPast}
 use Rattle.segcache.specs.Living.{live_others}
@@ -52,7 +52,7 @@ asked_at o = option_map_or (λ (e : Entry). e.deadline) o None
 
 -- what is shown of a place without a deadline has none either; where no item stands there, nothing is shown
 undated_item : (t : ℕ) (d : Option ℕ) (o : Option Item) → d ≡ None
-    → asked_at (if_live t (Some (option_map_or (kept_entry d) o gone))) ≡ None
+    → asked_at (if_live t (Some (option_map_or (kept_entry d) o dead_entry))) ≡ None
 undated_item t d None none = let z = le-leb 0 t (omega arith) in rw z refl
 undated_item t d (Some i) none = by_test (is_live (kept_entry d i) t)
   where
@@ -153,7 +153,7 @@ writes_to_segments old new key e storable placed deadline may kept entries =
       deadline = deadline;
       may_live = may;
       stands = same_put (shown_entries new.pool new.index old.moment)
-          (steps.without (shown_entries old.pool old.index old.moment) keys) kept key
+          (steps.without_keys (shown_entries old.pool old.index old.moment) keys) kept key
           (entry_at new.pool placed.place)
           (kept_entry deadline (unread key e)) placed.entries entries;
     }

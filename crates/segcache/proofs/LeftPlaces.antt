@@ -1,5 +1,6 @@
 -- Items of a segment that leave one after the other, segments whose items leave, and all items at once.
-use Rattle.std.proofs.Common.{◌≡◌, ◌≢◌, ℕ, ◌+◌, ◌<◌, ◌≤◌, ◌*◌, ◌/◌, Bool, true, false, List, [], ◌∷◌, get_or, Some, refl, sym, ap, subst, ◌∙◌, inl, inr, arith}
+use Rattle.std.proofs.Common.{◌≡◌, ◌≢◌, ℕ, ◌+◌, ◌<◌, ◌≤◌, ◌*◌, ◌/◌, Bool, true, false, List, [], ◌∷◌}
+use Rattle.std.proofs.Common.{get_or, Some, refl, sym, ap, subst, ◌∙◌, inl, inr, arith}
 use Rattle.std.specs.Prelude.{All}
 use Rattle.std.specs.List.{list_any}
 use Rattle.std.specs.FinMap as finite
@@ -33,7 +34,7 @@ use Rattle.segcache.proofs.TiedParts.{current_item, removed_at, removed_other}
 abbrev pub is_left : List Standing → Place → Bool
 is_left left r = list_any (λ (s : Standing). same_place s.place r) left
 
--- Of the keys of a segment those behind a point of a walk haven't left yet.
+-- Of the keys of a segment those after a point of a walk haven't left yet.
 pub record IsLeaving (p : PoolState) (n : ℕ) (old : Places) (index : Table) (t : Marks)
     (left : List Standing) : Type 0 where
   pub tied : IsTied p index t
@@ -196,7 +197,7 @@ expiring_more p t old index found marks others n h arrived tied left =
           h.waiting q r (left.before q r e) (omega (arith, lt, ne)));
     }
 
--- behind the last segment exactly the keys have left whose deadline has come
+-- after the last segment exactly the keys have left whose deadline has come
 pub expired_left : (p : PoolState) (t : ℕ) (old : Places) (index : Table) (marks : Marks) (n : ℕ)
     → IsExpiring p t old index marks n → p.sizes.segments ≤ n → HaveExpiredLeft p t old (current p index)
 expired_left p t old index marks n h le =

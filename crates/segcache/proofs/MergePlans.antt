@@ -6,7 +6,7 @@ use Rattle.proto.specs.Sizes.{Sizes}
 use Rattle.segments.specs.declared.place.Place.{Place}
 use Rattle.segments.specs.Pools.{PoolState, Plan, IsPool, item_in, place_deadline}
 use Rattle.proto.specs.Cache.{Entries, has_arrived}
-use Rattle.segments.specs.Merges.{IsPlan, planned}
+use Rattle.segments.specs.Merges.{IsPlan, with_merge_planned}
 use Rattle.segments.specs.Marks.{Marks, lives_by}
 use Rattle.segments.proofs.MarkedPlaces.{knows_after}
 use Rattle.index.specs.Keys.{key_at}
@@ -98,6 +98,6 @@ made_replanned p mid o index marks t after found tied pool is crowded made =
 
 -- the plan is that of the marked items
 pub has_plan : (p after : PoolState) (plan : Plan) (marks : Marks) → IsPlan (lives_by marks) p plan
-    → after ≡ planned p plan → HasPlan after marks
+    → after ≡ with_merge_planned p plan → HasPlan after marks
 has_plan p after plan marks h is = subst (λ (a : PoolState). HasPlan a marks) (sym is)
     (record { plan = plan; planned = refl; is_plan = planned_again (lives_by marks) p plan h })

@@ -4,12 +4,12 @@ use Rattle.std.specs.Prelude.{IsSome, All, filter, not, is_some, if◌then◌els
 use Rattle.std.proofs.lemmas.Bool.{cases_Bool, leb-true}
 use Rattle.std.proofs.lemmas.List.{length-take}
 use Rattle.std.proofs.lemmas.List.Elements.{All-nil, All-cons, All-head, All-tail, All-map, All-filter}
-use Rattle.proto.specs.Steps.{without}
+use Rattle.proto.specs.Steps.{without_keys}
 use Rattle.segments.specs.declared.place.Place.{Place}
 use Rattle.segments.specs.declared.place.Move.{Move}
 use Rattle.segments.specs.Items.{size_of_item}
 use Rattle.segments.specs.Pools.{PoolState, IsPool, Plan, Standing, segment_at, standing, oldest}
-use Rattle.segments.specs.Changes.{cleared}
+use Rattle.segments.specs.Changes.{without_segment}
 use Rattle.segments.specs.Places.{moved_by}
 use Rattle.segments.specs.Merges.{Judged, NoneQualifies, moves_into, front, merged_segments, first_of_list, live_items, carried_items}
 use Rattle.segments.proofs.PlanLemmas.{standing_in, plan_after}
@@ -115,12 +115,12 @@ merged_evicted p plan after index found marks w =
           (All-filter (λ (s : Standing). not (is_some (moved_by plan.moves s.place))) (IsCurrent p index) all
           (live_current p index marks numbers w.tied))
           (merged_stayed p plan after index found marks w)
-          ∙ ap (without (shown_entries p index t)) keys;
+          ∙ ap (without_keys (shown_entries p index t)) keys;
     }
 
 -- where nothing can be merged, the segment that was opened first is cleared, and exactly its keys are forgotten
 pub cleared_evicted : (p after : PoolState) (n : ℕ) (index found : Table) (marks others : Marks) → IsTied p index marks
-    → IsTied p found others → IsPool after → after ≡ cleared p n
+    → IsTied p found others → IsPool after → after ≡ without_segment p n
     → IsSome (segment_at p n) → HasLeft n (current p index) (current p found) → oldest p.order ≡ Some n
     → NoneQualifies p
     → IsEvicted (lives_by marks) p index after found

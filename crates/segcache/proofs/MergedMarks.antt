@@ -1,4 +1,4 @@
--- What ties pool, index and marks together, behind a merge by which the index was relocated and the marks carried.
+-- What ties pool, index and marks together, after a merge by which the index was relocated and the marks carried.
 use Rattle.std.proofs.Common.{◌≡◌, ℕ, zero, suc, ◌*◌, ◌/◌, ◌<◌, ◌≤◌, Bool, true, false, List, [], ◌∷◌, length, get_or, Option, Some, None, refl, sym, ap}
 use Rattle.std.proofs.Common.{subst, ◌∙◌, inl, inr, arith}
 use Rattle.std.specs.Prelude.{IsSome, IfSome, All, option_map, option_and_then, if◌then◌else◌}
@@ -12,10 +12,11 @@ use Rattle.std.proofs.lemmas.List.Elements.{All-head, All-tail}
 use Rattle.proto.specs.Sizes.{Sizes}
 use Rattle.segments.specs.declared.place.Place.{Place}
 use Rattle.segments.specs.declared.place.Move.{Move}
-use Rattle.segments.specs.Items.{Item, halved}
+use Rattle.segments.specs.Items.{Item, with_reads_halved}
 use Rattle.segments.specs.Pools.{PoolState, Plan, IsPool, Liveness, item_in, place_deadline}
 use Rattle.segments.specs.Places.{same_place, moved_by, IsCarriedOut}
-use Rattle.segments.specs.Merges.{IsPlan, planned, carried_out, planned_moves, merged_segments, contains_number}
+use Rattle.segments.specs.Merges.{IsPlan, with_merge_planned, carried_out, planned_moves, merged_segments}
+use Rattle.segments.specs.Merges.{contains_number}
 use Rattle.segments.proofs.MovedPlaces.{carried, moved_other, live_source, same_place_is, same_place_itself}
 use Rattle.segments.specs.Marks.{Marks, is_marked, is_mark_of, mark_at, lives_by, carried_marks}
 use Rattle.segments.proofs.MarkedPlaces.{carried_at, is_target_of, mark_found, knows_carried, sources_within, targets_within}
@@ -36,7 +37,7 @@ use Rattle.segments.proofs.MarkedPlaces.{kept_mark}
 
 -- a plan stays one where the pool has it
 pub planned_again : (lives : Liveness) (p : PoolState) (plan : Plan) → IsPlan lives p plan
-    → IsPlan lives (planned p plan) plan
+    → IsPlan lives (with_merge_planned p plan) plan
 planned_again lives p plan h =
     record {
       next = record { in_range = h.next.in_range; qualifying = h.next.qualifying; first = h.next.first };
@@ -46,7 +47,7 @@ planned_again lives p plan h =
     }
 
 -- a pool that has a plan is the pool with this plan
-pub has_planned : (p : PoolState) (plan : Plan) → p.plan ≡ Some plan → p ≡ planned p plan
+pub has_planned : (p : PoolState) (plan : Plan) → p.plan ≡ Some plan → p ≡ with_merge_planned p plan
 has_planned p plan e = ap (λ (o : Option Plan). record p { plan = o }) e
 
 -- ---- where moves put places
@@ -163,7 +164,7 @@ mark_kept false false x e f = f
 one_item : {a b : Item} → Some a ≡ Some b → a ≡ b
 one_item e = cc
 
--- a mark behind the merge
+-- a mark after the merge
 mark_now : (p : PoolState) (plan : Plan) (after : PoolState) (index found : Table) (marks : Marks)
     → IsMergeRelocated p plan after index found marks
     → (r : Place)
@@ -177,7 +178,7 @@ mark_now p plan after index found marks w r =
     (sources_within marks p plan.moves w.tied.known some)
     (targets_within marks p plan after w.tied.known w.pool w.out some)
 
--- a current place behind the merge is marked
+-- a current place after the merge is marked
 held_now : (p : PoolState) (plan : Plan) (after : PoolState) (index found : Table) (marks : Marks)
     → IsMergeRelocated p plan after index found marks
     → (q : List ℕ) (s r : Place)
@@ -210,14 +211,15 @@ target_current p plan after index found marks w r i e h =
     let x = target_place m.target r.segment (r.offset / 32)
     (ap (λ (y : Move). is_target_of y r.segment (r.offset / 32)) a.3 ∙ a.4) in
     let start = starts_live (lives_by marks) p plan w.is_plan a.0 a.1 a.2 in
-    let moved : (item_in after x.0 ≡ option_map halved (item_in p m.source))
+    let moved : (item_in after x.0 ≡ option_map with_reads_halved (item_in p m.source))
     × (place_deadline after x.0 ≡ place_deadline p m.source) =
     subst (λ (o : Option Place). IfSome o
-    (λ place. (item_in after place ≡ option_map halved (item_in p m.source))
+    (λ place. (item_in after place ≡ option_map with_reads_halved (item_in p m.source))
     × (place_deadline after place ≡ place_deadline p m.source))) x.1
     (w.out.moved a.0 a.1 a.2) in
-    let there : item_in after x.0 ≡ Some (halved start.item) = moved.0 ∙ ap (option_map halved) start.stands in
-    let same = same_mark after x.0 r (halved start.item) i w.pool there e x.2 in
+    let there : item_in after x.0 ≡ Some (with_reads_halved start.item) = moved.0
+    ∙ ap (option_map with_reads_halved) start.stands in
+    let same = same_mark after x.0 r (with_reads_halved start.item) i w.pool there e x.2 in
     let item = one_item (sym there ∙ ap (item_in after) same ∙ e) in
     let key : start.item.key ≡ i.key = ap (λ (y : Item). y.key) item in
     w.relocated.places i.key ∙ ap (option_and_then (moved_by moves))
@@ -314,7 +316,7 @@ can_relocate p index marks tied h behind =
     (subst (λ (r : PoolState). IsPool (carried_out r h.plan)) is pool) tied.layout tied.indexed
     (holds_marked p index marks tied))
 
--- what is known behind all calls
+-- what is known after all calls
 pub merge_relocated : (p after : PoolState) (index found : Table) (marks : Marks) → IsTied p index marks
     → (h : HasPlan p marks)
     → IfSome p.plan (λ plan. after ≡ carried_out p plan) → IsPool after

@@ -12,14 +12,14 @@ use Rattle.std.proofs.lemmas.List.Sums.{sum_by-cons, sum_by-append}
 use Rattle.std.proofs.lemmas.List.Elements.{All-nil, All-append, All-filter}
 use Rattle.segments.specs.declared.place.Place.{Place}
 use Rattle.segments.specs.declared.place.Move.{Move}
-use Rattle.segments.specs.Items.{Item, halved}
+use Rattle.segments.specs.Items.{Item, with_reads_halved}
 use Rattle.segments.specs.Changes.{with_items}
 use Rattle.proto.specs.Counts.{times}
 use Rattle.segments.specs.Pools.{PoolState, Plan, IsPool, Used, Standing, segment_at, item_in, place_deadline, standing, live_standing}
 use Rattle.segments.specs.Places.{same_place, moved_by}
 use Rattle.segments.specs.Merges.{qualifies, front, merged_segments, merged_into, live_items, contains_number, carried_out, carried_items}
 use Rattle.segments.proofs.MovedPlaces.{moved_other, moved_live, live_source, sources_live, same_place_is, merged_front, merged_in_chain, merged_segment}
-use Rattle.segments.specs.Filling.{IsInOrder}
+use Rattle.segments.specs.Filling.{IsInTimeOrder}
 use Rattle.segments.proofs.InTimeLemmas.{order_part, part_merged}
 use Rattle.segments.specs.Marks.{Marks, is_marked, lives_by}
 use Rattle.index.specs.Table.{Table}
@@ -77,7 +77,7 @@ past_merged p plan after t qualifying is past =
           (sym (ap (λ (r : PoolState). segment_at r n) now
           ∙ merged_segment p plan.bucket first others items n used.within) ∙ e) (past.opened first)
           (past.opened n);
-      in_order = subst IsInOrder (sym is)
+      in_order = subst IsInTimeOrder (sym is)
           (order_part p (carried_out p plan) (part_merged p plan.bucket items qualifying) past.in_order);
     }
 
@@ -186,11 +186,12 @@ moved_entry p plan after index found marks w q r s e m =
     let x = current_item p index q r e in
     elim (cases_Bool (contains_number (merged_segments p plan.bucket) r.segment)) [
       | inl y ↦
-          let there : (item_in after s ≡ Some (halved x.0)) × (place_deadline after s ≡ place_deadline p r) =
+          let there : (item_in after s ≡ Some (with_reads_halved x.0)) × (place_deadline after s ≡ place_deadline p r) =
           subst (λ (o : Option Place). IfSome o
-          (λ place. (item_in after place ≡ Some (halved x.0)) × (place_deadline after place ≡ place_deadline p r))) m
+          (λ place. (item_in after place ≡ Some (with_reads_halved x.0))
+          × (place_deadline after place ≡ place_deadline p r))) m
           (moved_live (lives_by marks) p plan after r x.0 w.is_plan w.out x.1 (w.tied.held q r e) y) in
-          entry_is after s (halved x.0) there.0 ∙ ap (λ (d : Option ℕ). kept_entry d x.0) there.1
+          entry_is after s (with_reads_halved x.0) there.0 ∙ ap (λ (d : Option ℕ). kept_entry d x.0) there.1
           ∙ sym (entry_is p r x.0 x.1)
       | inr n ↦
           let o = moved_other p plan after r w.out n in

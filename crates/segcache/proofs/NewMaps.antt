@@ -8,7 +8,7 @@ use Rattle.std.proofs.lemmas.Option.{none-some}
 use Rattle.proto.specs.Sizes.{Sizes}
 use Rattle.segments.specs.Pools.{PoolState, IsPool, segment_at}
 use Rattle.segments.specs.Changes.{new_pool}
-use Rattle.segments.specs.Filling.{IsInOrder}
+use Rattle.segments.specs.Filling.{IsInTimeOrder}
 use Rattle.segments.specs.Marks.{Marks, KnowsPool, no_marks, mark_at}
 use Rattle.segments.proofs.MarkedPlaces.{knows_none, nothing_at}
 use Rattle.index.specs.Keys.{key_at}
@@ -51,5 +51,5 @@ past_start p sizes is =
       within = omega arith;
       opened = λ n u e. absurd (none-some u
           (sym (ap (λ (q : PoolState). segment_at q n) is ∙ nothing_at None sizes.segments n) ∙ e));
-      in_order = subst IsInOrder (sym is) tt;
+      in_order = subst IsInTimeOrder (sym is) tt;
     }

@@ -1,4 +1,4 @@
--- When segments were opened, behind each change of a pool.
+-- When segments were opened, after each change of a pool.
 use Rattle.std.proofs.Common.{◌≡◌, ℕ, ◌≤◌, Bool, true, false, List, [], ◌∷◌, Option, Some, None, refl, sym, ap, subst, ◌∙◌, inl, inr, le_trans}
 use Rattle.std.specs.Prelude.{option_map, IsSome, All, ◌==◌, if◌then◌else◌}
 use Rattle.std.specs.Option.{option_map_or}
@@ -8,7 +8,7 @@ use Rattle.std.proofs.lemmas.Option.{none-some}
 use Rattle.segments.specs.declared.place.Place.{Place}
 use Rattle.segments.specs.Pools.{PoolState, IsPool, Used, Liveness, segment_at, has_live}
 use Rattle.segments.specs.Items.{Item}
-use Rattle.segments.specs.Changes.{with_change, change_in, cleared, IsGivenBack}
+use Rattle.segments.specs.Changes.{with_change, change_in, without_segment, IsGivenBack}
 use Rattle.segments.specs.Merges.{opened_at}
 use Rattle.segments.specs.Filling.{IsInTime}
 use Rattle.segments.proofs.Places.{changed_segment, cleared_segment}
@@ -72,12 +72,12 @@ other_part true o u e = absurd (none-some u e)
 other_part false o u e = e
 
 -- where a segment is cleared, the others still stand in order, and none was opened after the moment
-pub past_cleared : (p : PoolState) (t n : ℕ) → IsPast p t → IsSome (segment_at p n) → IsPast (cleared p n) t
+pub past_cleared : (p : PoolState) (t n : ℕ) → IsPast p t → IsSome (segment_at p n) → IsPast (without_segment p n) t
 past_cleared p t n past some =
     record {
       within = past.within;
       opened = λ m u e. past.opened m u (other_part (m == n) (segment_at p m) u (sym (cleared_segment p n m some) ∙ e));
-      in_order = order_part p (cleared p n) (part_cleared p n some) past.in_order;
+      in_order = order_part p (without_segment p n) (part_cleared p n some) past.in_order;
     }
 
 -- the segments of chains were opened in time

@@ -8,18 +8,18 @@ use Rattle.std.specs.Cmp.Lexicographic.{slice_cmp, nat_list_cmp_total}
 use Rattle.std.proofs.lemmas.Bool.{cases_Bool, false≢true}
 use Rattle.std.proofs.lemmas.Option.{none-some}
 use Rattle.proto.specs.Cache.{Entry, no_entries, live, has_arrived}
-use Rattle.proto.specs.Steps.{without}
+use Rattle.proto.specs.Steps.{without_keys}
 use Rattle.proto.proofs.CacheLemmas.{contains_bytes, is_live, same_entries, get-insert, get-remove, get-no_entries, get-without, if_live, get-live, live-live}
 use Rattle.segments.specs.declared.place.Place.{Place}
 use Rattle.segments.specs.Items.{Item, read_again}
 use Rattle.segments.specs.Pools.{PoolState, item_in, place_deadline}
-use Rattle.segments.specs.Changes.{with_change, touched}
+use Rattle.segments.specs.Changes.{with_change, with_read}
 use Rattle.segments.specs.Places.{same_place}
 use Rattle.segments.proofs.ItemChanges.{KeepsSize, keeps_read, some_kept}
 use Rattle.segments.proofs.Places.{changed_item, changed_deadline}
 use Rattle.index.specs.Table.{Places}
 use Rattle.index.proofs.SlotsAsMap as mapping
-use Rattle.segcache.specs.Shown.{kept_entry, gone, entry_at, entries_at, live_entries}
+use Rattle.segcache.specs.Shown.{kept_entry, dead_entry, entry_at, entries_at, live_entries}
 use Rattle.segcache.specs.Leaving.{HaveExpiredLeft}
 
 -- to look up a key among the entries at places is to look up its place and take the entry there
@@ -135,7 +135,7 @@ entry_is p place i e = rw e refl
 
 -- a place of a segment whose deadline has come shows no live entry
 gone_by : (d : Option ℕ) (o : Option Item) (t : ℕ) → has_arrived d t ≡ true
-    → has_arrived (option_map_or (kept_entry d) o gone).deadline t ≡ true
+    → has_arrived (option_map_or (kept_entry d) o dead_entry).deadline t ≡ true
 gone_by d None t h = le-leb 0 t (omega arith)
 gone_by d (Some i) t h = h
 
@@ -174,7 +174,7 @@ shown_left p t old new h =
 pub shown_without : (p after : PoolState) (old new : Places) (t : ℕ) (forgotten : List (List ℕ))
     → ((q : List ℕ) → finite.get (live_entries after new t) q
     ≡ cond (contains_bytes forgotten q) None (finite.get (live_entries p old t) q))
-    → live_entries after new t ≡ without (live_entries p old t) forgotten
+    → live_entries after new t ≡ without_keys (live_entries p old t) forgotten
 shown_without p after old new t forgotten h =
     same_entries _ _ (λ q. h q ∙ sym (get-without (live_entries p old t) forgotten q))
 
@@ -188,22 +188,23 @@ entry_live p place t i e h =
 -- what is shown of a place whose item is changed, and of every other place
 pub changed_entry : (change : Item → Item) (p : PoolState) (place r : Place) → KeepsSize change (item_in p place)
     → entry_at (with_change change p place) r ≡ option_map_or (kept_entry (place_deadline p r))
-    (if same_place r place then option_map change (item_in p r) else item_in p r) gone
+    (if same_place r place then option_map change (item_in p r) else item_in p r) dead_entry
 unfolding entry_at
 changed_entry change p place r k =
-    ap (λ (d : Option ℕ). option_map_or (kept_entry d) (item_in (with_change change p place) r) gone)
+    ap (λ (d : Option ℕ). option_map_or (kept_entry d) (item_in (with_change change p place) r) dead_entry)
     (changed_deadline change p place r (some_kept change (item_in p place) k))
-    ∙ ap (λ (o : Option Item). option_map_or (kept_entry (place_deadline p r)) o gone) (changed_item change p place r k)
+    ∙ ap (λ (o : Option Item). option_map_or (kept_entry (place_deadline p r)) o dead_entry)
+    (changed_item change p place r k)
 
 -- an item that was read once more keeps the same entry
 read_entry : (d : Option ℕ) (o : Option Item)
-    → option_map_or (kept_entry d) (option_map read_again o) gone ≡ option_map_or (kept_entry d) o gone
+    → option_map_or (kept_entry d) (option_map read_again o) dead_entry ≡ option_map_or (kept_entry d) o dead_entry
 read_entry d None = refl
 read_entry d (Some i) = refl
 
 -- a read changes no entry
 pub touched_entry : (p : PoolState) (place r : Place) → IsSome (item_in p place)
-    → entry_at (touched p place) r ≡ entry_at p r
+    → entry_at (with_read p place) r ≡ entry_at p r
 unfolding entry_at
 touched_entry p place r h =
     changed_entry read_again p place r (keeps_read (item_in p place) h)

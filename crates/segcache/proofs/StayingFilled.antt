@@ -10,7 +10,7 @@ use Rattle.proto.specs.Sizes.{item_limit}
 use Rattle.proto.specs.Buckets.{bucket_of, time_to_live}
 use Rattle.proto.specs.Cache.{Entry, Entries, found_at}
 use Rattle.proto.specs.Commands.{Outcome}
-use Rattle.proto.specs.Steps.{Step, IsDated, without}
+use Rattle.proto.specs.Steps.{Step, IsDated, without_keys}
 use Rattle.proto.specs.Stored.{StoredItem, stored_item_of, item_stored, is_no_memory, written}
 use Rattle.proto.proofs.Options.{none_is_some}
 use Rattle.proto.proofs.CacheLemmas.{entry_size, without-nil}
@@ -22,7 +22,7 @@ use Rattle.engine.specs.Outcomes.{outcome_at}
 use Rattle.engine.proofs.KeepingLemmas.{answered_item}
 use Rattle.engine.proofs.Refusals.{answers_act}
 use Rattle.segments.specs.Pools.{PoolState, item_in}
-use Rattle.segments.specs.Changes.{touched, overwritten}
+use Rattle.segments.specs.Changes.{with_read, with_item_at}
 use Rattle.segments.specs.Items.{read_again}
 use Rattle.proto.proofs.DeadlineLemmas.{may_be_exact}
 use Rattle.segments.specs.Filling.{IsFilled, HoldsLittle, held_size}
@@ -50,7 +50,7 @@ counted_filled [] old new is filled =
 counted_filled (key ∷ keys) old new h filled =
     let next = h.0 in
     let r = h.1 in
-    let same : next.pool ≡ touched old.pool r.place = ap (λ (m : MapState). m.pool) r.new_is in
+    let same : next.pool ≡ with_read old.pool r.place = ap (λ (m : MapState). m.pool) r.new_is in
     let some = current_some old.pool old.index key r.place r.stands in
     let one = filled_changed read_again old.pool r.place (keeps_read (item_in old.pool r.place) some) filled in
     let rest = counted_filled keys next new h.2 (subst IsFilled (sym same) one.0) in
@@ -120,7 +120,7 @@ changed_filled : (found after : MapState) (done : Outcome) (key : List ℕ) (e :
 changed_filled found after done key e stored asked w items filled =
     let p = found.pool in
     let t = found.moment in
-    let same : after.pool ≡ overwritten p w.place (with_value e w.item) = ap (λ (m : MapState). m.pool) w.new_is in
+    let same : after.pool ≡ with_item_at p w.place (with_value e w.item) = ap (λ (m : MapState). m.pool) w.new_is in
     let f = filled_changed (λ _. with_value e w.item) p w.place (sized_over found after key e w) filled in
     let exact : IsDated t (finite.insert (shown_entries p found.index t) key e) (Some key)
     (finite.insert (shown_entries p found.index t) key (record e { deadline = e.deadline })) =
@@ -185,7 +185,7 @@ unstored before after t q reply (inl x) none =
       | inr h ↦ absurd (none_is_some h.0 (sym none ∙ h.1))
     ] in
     let same : (segmented_cache after).entries ≡ done.entries =
-    x.entries ∙ ap (without x.dated) nothing ∙ without-nil x.dated ∙ dated in
+    x.entries ∙ ap (without_keys x.dated) nothing ∙ without-nil x.dated ∙ dated in
     inr (subst (λ (o : Option (List ℕ)). IsDated t done.entries o (segmented_cache after).entries) (sym none) same)
 
 -- by what a request does to the segments it forgets nothing where they hold little

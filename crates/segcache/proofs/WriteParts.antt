@@ -8,7 +8,7 @@ use Rattle.std.proofs.lemmas.Slice.Eq.{bytes_eq-Decides}
 use Rattle.proto.specs.Sizes.{Sizes, item_limit}
 use Rattle.proto.specs.Cache.{Entry, Entries}
 use Rattle.proto.specs.Buckets.{MayLive}
-use Rattle.proto.specs.Steps.{without}
+use Rattle.proto.specs.Steps.{without_keys}
 use Rattle.proto.proofs.CacheLemmas.{contains_bytes, same_entries, get-insert, get-remove, get-without, not_forgotten}
 use Rattle.segments.specs.declared.place.Place.{Place}
 use Rattle.segments.specs.Items.{Item, IsStorable}
@@ -26,9 +26,9 @@ use Rattle.segcache.proofs.TiedParts.{current_item}
 
 -- a key put into what was kept of the other entries
 inserted_kept : (e : Entries) (key : List ℕ) (w : Entry) (fs : List (List ℕ)) → contains_bytes fs key ≡ false
-    → finite.insert (without (finite.remove e key) fs) key w ≡ without (finite.insert e key w) fs
+    → finite.insert (without_keys (finite.remove e key) fs) key w ≡ without_keys (finite.insert e key w) fs
 inserted_kept e key w fs other =
-    same_entries _ _ (λ q. get-insert (without (finite.remove e key) fs) key w q
+    same_entries _ _ (λ q. get-insert (without_keys (finite.remove e key) fs) key w q
     ∙ ap (cond (bytes_eq q key) (Some w)) (get-without (finite.remove e key) fs q)
     ∙ elim (cases_Bool (bytes_eq q key)) [
       | inl y ↦

@@ -1,5 +1,6 @@
 -- An item that is written where little is held: nothing is given back or evicted for it, and segments stay filled.
-use Rattle.std.proofs.Common.{◌≡◌, ℕ, ◌+◌, ◌-◌, ◌*◌, ◌≤◌, Bool, true, false, List, [], ◌∷◌, ◌++◌, map, Option, Some, refl, sym, ap, subst, ◌∙◌, inl, inr, arith}
+use Rattle.std.proofs.Common.{◌≡◌, ℕ, ◌+◌, ◌-◌, ◌*◌, ◌≤◌, Bool, true, false, List, [], ◌∷◌, ◌++◌, map, Option}
+use Rattle.std.proofs.Common.{Some, refl, sym, ap, subst, ◌∙◌, inl, inr, arith}
 use Rattle.std.specs.Prelude.{◌⊎◌, ◌==◌, ◌||◌, if◌then◌else◌}
 use Rattle.std.specs.List.{list_any, AllByRecursion}
 use Rattle.std.specs.Option.{option_map_or}
@@ -8,7 +9,7 @@ use Rattle.std.proofs.lemmas.Bool.{cases_Bool, eq-eqb, eqb-true, and_from, or_le
 use Rattle.std.proofs.lemmas.List.Sums.{sum_by_push}
 use Rattle.proto.specs.Sizes.{item_limit}
 use Rattle.proto.specs.Cache.{Entries}
-use Rattle.proto.specs.Steps.{without}
+use Rattle.proto.specs.Steps.{without_keys}
 use Rattle.proto.specs.Stored.{StoredItem, written, spread}
 use Rattle.proto.proofs.CacheLemmas.{without-nil}
 use Rattle.segments.specs.declared.place.Place.{Place}
@@ -68,7 +69,8 @@ kept_with lives p index bucket t i after found pool past storable filled little 
     (record { filled = filled; in_time = time }) added in
     record {
       added = added;
-      entries = x.entries ∙ ap (λ (keys : List (List ℕ)). finite.insert (without (shown_entries p index t) keys) i.key
+      entries = x.entries ∙ ap (λ (keys : List (List ℕ)). finite.insert
+          (without_keys (shown_entries p index t) keys) i.key
           (entry_at after x.place)) there.nothing
           ∙ ap (λ (e : Entries). finite.insert e i.key (entry_at after x.place))
           (without-nil (shown_entries p index t));

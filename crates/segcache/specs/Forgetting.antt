@@ -2,7 +2,7 @@
 use mathlib.Core.Logic.{inl, inr}
 use Rattle.std.specs.Prelude.{◌≡◌, ℕ, List, [], map, filter, not, Some}
 use Rattle.std.specs.FinMap as finite
-use Rattle.proto.specs.Steps.{without}
+use Rattle.proto.specs.Steps.{without_keys}
 use Rattle.segments.specs.declared.place.Place.{Place}
 use Rattle.segments.specs.Items.{Item}
 use Rattle.segments.specs.Pools.{PoolState, Liveness, live_standing}
@@ -29,14 +29,14 @@ pub record IsEvicted (lives : Liveness) (p : PoolState) (index : Table) (after :
     (found : Table) : Type 0 where
   pub evicted : Evicts lives p after
   pub entries : (t : ℕ) → shown_entries after found t
-      ≡ without (shown_entries p index t) (keys_evicted lives p after evicted)
+      ≡ without_keys (shown_entries p index t) (keys_evicted lives p after evicted)
 
 -- Room was made for an item at the moment t, and of what was shown exactly the keys are forgotten that had to be.
 pub record HasMadeRoom (lives : Liveness) (p : PoolState) (index : Table) (bucket t : ℕ) (i : Item) (after : PoolState)
     (found : Table) : Type 0 where
   pub room : MakesRoom lives p bucket t i after
   pub entries : shown_entries after found t
-      ≡ without (shown_entries p index t) (keys_forgotten lives p bucket t i after room)
+      ≡ without_keys (shown_entries p index t) (keys_forgotten lives p bucket t i after room)
 
 -- The item was written at the moment t and stands at its key's place; of what was shown exactly the keys are forgotten
 -- that had to be.
@@ -46,5 +46,6 @@ pub record PlacesItem (lives : Liveness) (p : PoolState) (index : Table) (bucket
   pub stands : finite.get (current after found) i.key ≡ Some place
   pub written : IsWrittenTo lives p bucket t i after place
   pub entries : shown_entries after found t ≡
-      finite.insert (without (shown_entries p index t) (keys_forgotten lives p bucket t i written.roomy written.room))
+      finite.insert (without_keys (shown_entries p index t)
+      (keys_forgotten lives p bucket t i written.roomy written.room))
       i.key (entry_at after place)

@@ -5,7 +5,7 @@ use Rattle.proto.specs.History.{max_moment}
 use Rattle.segments.specs.declared.place.Place.{Place}
 use Rattle.segments.specs.Items.{Item}
 use Rattle.segments.specs.Pools.{PoolState, Used, segment_at, item_in}
-use Rattle.segments.specs.Filling.{IsInOrder}
+use Rattle.segments.specs.Filling.{IsInTimeOrder}
 use Rattle.segments.specs.Marks.{Marks, KnowsPool, is_marked}
 use Rattle.index.specs.Layouts.{IsLayoutOf}
 use Rattle.index.specs.Table.{Table, IsIndex}
@@ -29,4 +29,4 @@ pub record IsTied (p : PoolState) (index : Table) (marks : Marks) : Type 0 where
 pub record IsPast (p : PoolState) (t : ℕ) : Type 0 where
   pub within : t ≤ max_moment
   pub opened : (n : ℕ) (u : Used) → segment_at p n ≡ Some u → u.opened ≤ t
-  pub in_order : IsInOrder p
+  pub in_order : IsInTimeOrder p

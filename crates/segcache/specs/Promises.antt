@@ -1,7 +1,7 @@
 -- What a store over segments promises beyond what any store does.
 use Rattle.std.specs.Prelude.{◌≡◌, ℕ, ◌*◌}
 use Rattle.std.specs.Int.{IsNextPowerOfTwo}
-use Rattle.index.specs.Keys.{seeded}
+use Rattle.index.specs.Keys.{seeded_hasher}
 use Rattle.index.specs.Sizing.{most_items}
 use Rattle.proto.specs.Sizes.{Sizes}
 use Rattle.segments.specs.Changes.{new_pool}
@@ -18,7 +18,7 @@ use Rattle.segcache.specs.StayingFilled.{StaysFilled}
 pub record IsMadeFor (sizes : Sizes) (seed : ℕ) (new : MapState) : Type 0 where
   pub pool_is : new.pool ≡ new_pool sizes
   pub slots : IsNextPowerOfTwo (2 * most_items sizes) new.index.room
-  pub seed_is : new.index.hasher ≡ seeded seed
+  pub seed_is : new.index.hasher ≡ seeded_hasher seed
 
 -- How room is made and what is forgotten, in which bucket an item stands, and which reads are counted; and nothing is
 -- forgotten where segments hold little.

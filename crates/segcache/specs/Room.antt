@@ -4,7 +4,7 @@ use Rattle.std.specs.FinMap as finite
 use Rattle.proto.specs.Sizes.{Sizes}
 use Rattle.proto.specs.Cache.{Entries, has_arrived}
 use Rattle.proto.specs.Buckets.{MayLive}
-use Rattle.proto.specs.Steps.{without, MayEvict}
+use Rattle.proto.specs.Steps.{without_keys, MayEvict}
 use Rattle.segments.specs.declared.place.Place.{Place}
 use Rattle.segments.specs.Items.{Item}
 use Rattle.segments.specs.Pools.{PoolState, place_deadline}
@@ -17,7 +17,7 @@ use Rattle.segcache.specs.Kept.{IsPast}
 pub record AreKept (sizes : Sizes) (old new : Entries) : Type 0 where
   pub forgotten : List (List ℕ)
   pub evicted : (forgotten ≡ []) ⊎ MayEvict sizes old forgotten
-  pub entries : new ≡ without old forgotten
+  pub entries : new ≡ without_keys old forgotten
 
 -- no current item's deadline is at or before the moment t
 abbrev pub AllWait : PoolState → Places → ℕ → Type 0

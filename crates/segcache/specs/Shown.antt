@@ -14,12 +14,12 @@ abbrev pub kept_entry : Option ℕ → Item → Entry
 kept_entry deadline i = record { value = i.value; flags = i.flags; deadline = deadline; cas = i.cas }
 
 -- an entry that is never live
-abbrev pub gone : Entry
-gone = record { value = []; flags = 0; deadline = Some 0; cas = 0 }
+abbrev pub dead_entry : Entry
+dead_entry = record { value = []; flags = 0; deadline = Some 0; cas = 0 }
 
 -- the entry at a place, one that is never live where no item stands
 unfoldable pub entry_at : PoolState → Place → Entry
-entry_at p place = option_map_or (kept_entry (place_deadline p place)) (item_in p place) gone
+entry_at p place = option_map_or (kept_entry (place_deadline p place)) (item_in p place) dead_entry
 
 -- the entries at the places of a map, and those of them that are live at a moment
 unfoldable pub entries_at : PoolState → Places → Entries

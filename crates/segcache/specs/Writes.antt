@@ -7,7 +7,7 @@ use Rattle.proto.specs.Buckets.{bucket_of, time_to_live, MayLive}
 use Rattle.segments.specs.declared.place.Place.{Place}
 use Rattle.segments.specs.Items.{Item, IsStorable, fits_over}
 use Rattle.segments.specs.Pools.{item_in, place_deadline}
-use Rattle.segments.specs.Changes.{touched, overwritten}
+use Rattle.segments.specs.Changes.{with_read, with_item_at}
 use Rattle.segcache.specs.State.{MapState, IsSegmentedMap}
 use Rattle.segcache.specs.Shown.{current, entry_at, shown_entries}
 use Rattle.segcache.specs.Living.{live_others}
@@ -47,7 +47,7 @@ pub record ChangesInPlace (old : MapState) (key : List ℕ) (entry : Entry) (new
   pub deadline : place_deadline old.pool place ≡ entry.deadline
   pub waits : has_arrived entry.deadline old.moment ≡ false
   pub fits : IsTrue (fits_over (with_value entry item) (Some item))
-  pub new_is : new ≡ record old { pool = overwritten old.pool place (with_value entry item) }
+  pub new_is : new ≡ record old { pool = with_item_at old.pool place (with_value entry item) }
   pub entries : shown_entries new.pool new.index old.moment
       ≡ finite.insert (shown_entries old.pool old.index old.moment) key entry
 
@@ -66,7 +66,7 @@ ChangesSegments old key entry new =
 pub record IsReadAgain (old : MapState) (key : List ℕ) (new : MapState) : Type 0 where
   pub place : Place
   pub stands : StandsAt old key place
-  pub new_is : new ≡ record old { pool = touched old.pool place }
+  pub new_is : new ≡ record old { pool = with_read old.pool place }
 
 -- no item came or went, nor was one read: the pool is the same, and index and marks are those of it
 pub record HasSamePool (old new : MapState) : Type 0 where

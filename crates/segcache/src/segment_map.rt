@@ -70,7 +70,8 @@ impl SegmentMap {
             (map.get (shown_entries self.now.pool self.now.index self.now.moment) key.now ≡ None)
             (λ place. map.get (shown_entries self.now.pool self.now.index self.now.moment) key.now
             ≡ Some (entry_at self.now.pool place)) }
-        ensures current { IfSome result (λ place. map.get (current self.now.pool self.now.index) key.now ≡ Some place) }
+        ensures current { IfSome result
+            (λ place. map.get (current self.now.pool self.now.index) key.now ≡ Some place) }
         ensures item { IfSome result (λ place. IsSome (item_in self.now.pool place)) }
         ensures waits { IfSome result
             (λ place. has_arrived (place_deadline self.now.pool place) self.now.moment ≡ false) }

@@ -26,7 +26,7 @@ fn random_value(alloc: Global, random: &mut Random) -> Result<String, AllocError
     Ok(value)
 }
 
-/// What a put has behind its verb: it sets no deadline, or one that has come already. `unique` is a cas number with a
+/// What a put has after its verb: it sets no deadline, or one that has come already. `unique` is a cas number with a
 /// space before it, or nothing.
 fn random_put(
     alloc: Global,
@@ -44,7 +44,7 @@ fn random_put(
     )
 }
 
-/// A verb, a key, and a number or another key behind it.
+/// A verb, a key, and a number or another key after it.
 fn with_number(
     alloc: Global,
     verb: &str,

@@ -95,7 +95,7 @@ fn push_line(alloc: Global, text: &mut String, word: &str, key: u64) -> Result<(
     text.push_str(line.as_str())
 }
 
-/// Adds a word, a key and what stands behind it, and `length` times a letter as their value.
+/// Adds a word, a key and what stands after it, and `length` times a letter as their value.
 fn push_text(
     alloc: Global,
     text: &mut String,

@@ -175,7 +175,7 @@ any_group p n u (m ∷ later) e used h =
 
 -- ---- an item's group: the last segment of it is its tail
 
--- where none goes with a segment that was opened at t, none is behind it in the bucket
+-- where none goes with a segment that was opened at t, none is after it in the bucket
 none_behind : (p : PoolState) (b t n : ℕ) (u : Used) (later : List ℕ) → segment_at p n ≡ Some u → u.bucket ≡ b
     → ((b == lasting) || (u.opened == t)) ≡ true
     → AreUsed p later → All (λ m. opened_at p n ≤ opened_at p m) later → All (λ m. opened_at p m ≤ t) later
@@ -236,7 +236,7 @@ tail_filled p b t n u i s tail_is none e same moment =
     let held : held_in p n ≡ size_of_all u.items = ap (λ o. size_of_all (items_of o)) e in
     omega arith
 
--- a segment of the item's group holds so much: one that goes with it is behind it, or it is the tail
+-- a segment of the item's group holds so much: one that goes with it is after it, or it is the tail
 pub group_filled : (p : PoolState) (b t n : ℕ) (u : Used) (later : List ℕ) (o : Option ℕ) (i : Item)
     → IsStorable (item_limit p.sizes) i → open_tail p b t (size_of_item i) ≡ None
     → last_or o (filter (in_bucket p.segments b) (n ∷ later)) ≡ tail p b → segment_at p n ≡ Some u → u.bucket ≡ b

@@ -9,9 +9,9 @@ use Rattle.segments.specs.declared.place.Place.{Place}
 use Rattle.segments.specs.Items.{Item}
 use Rattle.proto.specs.Counts.{times}
 use Rattle.segments.specs.Pools.{PoolState, IsPool, Used, Liveness, segment_at, item_in, has_live, oldest}
-use Rattle.segments.specs.Changes.{IsGivenBack, IsAddedToTail, IsAddedToFree, cleared, with_items, with_change}
+use Rattle.segments.specs.Changes.{IsGivenBack, IsAddedToTail, IsAddedToFree, without_segment, with_items, with_change}
 use Rattle.segments.specs.Merges.{Evicts, qualifies, merged_segments, merged_into, contains_number, kept_items, opened_at}
-use Rattle.segments.specs.Filling.{AreInTime, IsInOrder, IsInTime}
+use Rattle.segments.specs.Filling.{AreInTime, IsInTimeOrder, IsInTime}
 use Rattle.segments.proofs.LinkLemmas.{used_if}
 use Rattle.segments.proofs.Places.{cleared_segment}
 use Rattle.segments.proofs.MovedPlaces.{merged_front, merged_in_chain, merged_segment}
@@ -74,7 +74,7 @@ in_order_of p q k (n ∷ later) f =
     ]
 
 -- a part of what is in order is in order
-pub order_part : (p q : PoolState) → IsPart p q → IsInOrder p → IsInOrder q
+pub order_part : (p q : PoolState) → IsPart p q → IsInTimeOrder p → IsInTimeOrder q
 order_part p q k f = subst (AreInTime q) (sym k.order) (in_order_of p q k p.order f)
 
 -- a part of what is in time is in time
@@ -99,14 +99,14 @@ part_given lives p after g =
     }
 
 -- a segment that is cleared leaves the others
-pub part_cleared : (p : PoolState) (n : ℕ) → IsSome (segment_at p n) → IsPart p (cleared p n)
+pub part_cleared : (p : PoolState) (n : ℕ) → IsSome (segment_at p n) → IsPart p (without_segment p n)
 part_cleared p n some =
     record {
       stays = λ m. not (m == n);
       order = refl;
       opened = λ m y.
           (let f = not-true (m == n) y in
-          let same : segment_at (cleared p n) m ≡ segment_at p m = cleared_segment p n m some ∙ rw f refl in
+          let same : segment_at (without_segment p n) m ≡ segment_at p m = cleared_segment p n m some ∙ rw f refl in
           ap (λ o. option_map_or (λ (s : Used). s.opened) o 0) same);
     }
 
@@ -199,7 +199,7 @@ in_time_appended p b t i after place k (inl a) time = in_time_tail p b t t i aft
 in_time_appended p b t i after place k (inr a) time = in_time_free p b t i after place k a time
 
 -- a change of an item changes no order
-pub order_changed : (change : Item → Item) (p : PoolState) (place : Place) → IsSome (item_in p place) → IsInOrder p
-    → IsInOrder (with_change change p place)
+pub order_changed : (change : Item → Item) (p : PoolState) (place : Place) → IsSome (item_in p place) → IsInTimeOrder p
+    → IsInTimeOrder (with_change change p place)
 order_changed change p place some f = in_time_alike p (with_change change p place) p.order
     (alike_all p (with_change change p place) p.order (λ n _. change_alike change p place n some)) f

@@ -30,7 +30,7 @@ some_kept change o k = subst IsSome (sym k.is) refl
 
 -- ---- items by their offsets
 
--- the first item stands at 0, none within it, and the others behind it
+-- the first item stands at 0, none within it, and the others after it
 pub at_first : (i : Item) (items : List Item) (offset : ℕ) → offset ≡ 0 → item_at (i ∷ items) offset ≡ Some i
 at_first i items offset e = let z = eq-eqb offset 0 e in rw z refl
 
@@ -39,7 +39,7 @@ pub at_within : (i : Item) (items : List Item) (offset : ℕ) → (offset ≡ 0 
     → item_at (i ∷ items) offset ≡ None
 at_within i items offset e lt = let z = ne_eqb offset 0 e in let l = lt-ltb offset (size_of_item i) lt in rw (z, l) refl
 
--- an item behind the first one is found among the others
+-- an item after the first one is found among the others
 pub at_behind : (i : Item) (items : List Item) (offset : ℕ) → size_of_item i ≤ offset
     → item_at (i ∷ items) offset ≡ item_at items (offset - size_of_item i)
 at_behind i items offset ge =

@@ -4,10 +4,10 @@ use Rattle.std.specs.Prelude.{if◌then◌else◌, replicate}
 use Rattle.std.proofs.Math.ListN.{set}
 use Rattle.std.proofs.lemmas.Bool.{false≢true}
 use Rattle.std.proofs.lemmas.List.{length-set, length-replicate, get_or_default}
-use Rattle.segments.specs.Marks.{marked, AreMarksCounted}
+use Rattle.segments.specs.Marks.{mark_count, AreMarksCounted}
 
 -- no more marks are set than there are
-pub marked_few : (bs : List Bool) → marked bs ≤ length bs
+pub marked_few : (bs : List Bool) → mark_count bs ≤ length bs
 marked_few [] = omega arith
 marked_few (true ∷ bs) = let r = marked_few bs in omega (arith, r, add-one (length bs))
 marked_few (false ∷ bs) = let r = marked_few bs in omega (arith, r, add-one (length bs))
@@ -18,33 +18,33 @@ swap a b m n k e = omega arith
 
 -- how many are set once one of them is written
 pub marked_set : (bs : List Bool) (n : ℕ) (b : Bool) → n < length bs
-    → marked (set bs n b) + (if get_or bs n false then 1 else 0) ≡ marked bs + (if b then 1 else 0)
+    → mark_count (set bs n b) + (if get_or bs n false then 1 else 0) ≡ mark_count bs + (if b then 1 else 0)
 marked_set [] n b lt = absurd (omega (arith, lt))
 marked_set (x ∷ bs) zero b lt = omega arith
 marked_set (x ∷ bs) (suc n) b lt =
     let r = marked_set bs n b (omega (arith, lt, add-one n, add-one (length bs))) in
-    swap (if x then 1 else 0) _ (marked (set bs n b)) (marked bs) _ r
+    swap (if x then 1 else 0) _ (mark_count (set bs n b)) (mark_count bs) _ r
 
 -- of cleared marks none is set
-pub marked_none : (n : ℕ) → marked (replicate n false) ≡ 0
+pub marked_none : (n : ℕ) → mark_count (replicate n false) ≡ 0
 marked_none zero = refl
 marked_none (suc n) = let r = marked_none n in omega arith
 
 -- where none is counted, none is set
-pub none_marked : (bs : List Bool) → marked bs ≡ 0 → bs ≡ replicate (length bs) false
+pub none_marked : (bs : List Bool) → mark_count bs ≡ 0 → bs ≡ replicate (length bs) false
 none_marked [] e = refl
 none_marked (true ∷ bs) e = absurd (omega (arith, e))
 none_marked (false ∷ bs) e = ap (false ∷◌) (none_marked bs (omega (arith, e)))
 
 -- where one is set, at least one is counted
-pub marked_at : (bs : List Bool) (k : ℕ) → get_or bs k false ≡ true → 1 ≤ marked bs
+pub marked_at : (bs : List Bool) (k : ℕ) → get_or bs k false ≡ true → 1 ≤ mark_count bs
 marked_at [] k e = absurd (false≢true e)
 marked_at (true ∷ bs) zero e = omega arith
 marked_at (false ∷ bs) zero e = absurd (false≢true e)
 marked_at (x ∷ bs) (suc k) e = let r = marked_at bs k e in omega arith
 
 -- where some are counted, one is set
-pub marked_some : (bs : List Bool) → 0 < marked bs → (k : ℕ) × (get_or bs k false ≡ true)
+pub marked_some : (bs : List Bool) → 0 < mark_count bs → (k : ℕ) × (get_or bs k false ≡ true)
 marked_some [] h = absurd (omega (arith, h))
 marked_some (true ∷ bs) h = (0, refl)
 marked_some (false ∷ bs) h = let r = marked_some bs (omega (arith, h)) in (suc r.0, r.1)

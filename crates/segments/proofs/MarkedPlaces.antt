@@ -1,4 +1,4 @@
--- Which places are marked behind each call, and what marks know of a pool behind each change of it.
+-- Which places are marked after each call, and what marks know of a pool after each change of it.
 use Rattle.std.proofs.Common.{◌≡◌, ℕ, zero, suc, ◌+◌, ◌/◌, ◌<◌, ◌≤◌, Bool, true, false, List, [], ◌∷◌, length}
 use Rattle.std.proofs.Common.{get_or, Option, Some, None, refl, sym, ap, subst, ◌∙◌, arith, inl, inr}
 use Rattle.std.specs.Prelude.{nat_lt, ◌==◌, ◌&&◌, ◌||◌, if◌then◌else◌, IfSome, IsSome, All, replicate, option_map}
@@ -12,17 +12,19 @@ use Rattle.std.proofs.lemmas.Bool.{cases_lt, cases_Bool, cases_eq, eq-eqb, ne_eq
 use Rattle.proto.specs.Sizes.{Sizes}
 use Rattle.segments.specs.declared.place.Place.{Place}
 use Rattle.segments.specs.declared.place.Move.{Move}
-use Rattle.segments.specs.Items.{Item, halved}
+use Rattle.segments.specs.Items.{Item, with_reads_halved}
 use Rattle.segments.specs.Pools.{PoolState, Plan, IsPool, Standing, Liveness, item_in, items_of, segment_at, standing, has_live, place_deadline, deadline_in}
-use Rattle.segments.specs.Changes.{IsGivenBack, cleared, with_change}
-use Rattle.segments.specs.Merges.{IsPlan, carried_out, planned_moves, planned, unplanned, contains_number, merged_segments}
+use Rattle.segments.specs.Changes.{IsGivenBack, without_segment, with_change}
+use Rattle.segments.specs.Merges.{IsPlan, carried_out, planned_moves, with_merge_planned, without_plan, contains_number}
+use Rattle.segments.specs.Merges.{merged_segments}
 use Rattle.segments.specs.Places.{IsAppended, IsCarriedOut, same_place}
 use Rattle.segments.proofs.Places.{standing_by, live_stays, live_given, mark_within, cleared_item, changed_item}
 use Rattle.segments.proofs.ItemChanges.{KeepsSize}
 use Rattle.segments.proofs.MovedPlaces.{carried, same_place_is, same_place_itself, live_source, moved_other}
 use Rattle.segments.proofs.PlanLemmas.{found_from}
 use Rattle.segments.proofs.AgreeingTests.{in_segment}
-use Rattle.segments.specs.Marks.{Marks, marked, row_of, mark_at, is_mark_of, is_marked, with_mark, without_marks, unmarked_sources}
+use Rattle.segments.specs.Marks.{Marks, mark_count, row_of, mark_at, is_mark_of, is_marked, with_mark, without_marks}
+use Rattle.segments.specs.Marks.{unmarked_sources}
 use Rattle.segments.specs.Marks.{mark_target, marked_targets, carried_marks, no_marks, lives_by, IsWithin, AreMarksSized, has_mark, KnowsPool}
 use Rattle.segments.proofs.MarkCounts.{marked_at, marked_some}
 use Rattle.proto.proofs.Options.{value_there}
@@ -136,7 +138,7 @@ mark_from p n k h =
 -- ---- the count of a segment
 
 -- in a row without marks none is set
-none_marked : (row : List Bool) (k : ℕ) → marked row ≤ 0 → get_or row k false ≡ false
+none_marked : (row : List Bool) (k : ℕ) → mark_count row ≤ 0 → get_or row k false ≡ false
 none_marked row k h =
     elim (cases_Bool (get_or row k false)) [
       | inl t ↦ (let m = marked_at row k t in absurd (omega arith))
@@ -145,19 +147,19 @@ none_marked row k h =
 
 -- a segment has marks exactly where it has a live item
 pub counts_live : (t : Marks) (p : PoolState) (n : ℕ) → KnowsPool t p
-    → nat_lt 0 (marked (row_of t n)) ≡ has_live (lives_by t) p n
+    → nat_lt 0 (mark_count (row_of t n)) ≡ has_live (lives_by t) p n
 counts_live t p n known =
-    elim (cases_lt 0 (marked (row_of t n))) [
+    elim (cases_lt 0 (mark_count (row_of t n))) [
       | inl lt ↦
           let s = marked_some (row_of t n) lt in
           let h = mark_found p n s.0 (known.each n s.0 s.1) in
           let i = value_there (item_in p h.place) h.stands in
           let here : is_marked t h.place ≡ true =
           ap (λ m. mark_at t m (h.place.offset / 32)) h.segment ∙ ap (mark_at t n) h.offset ∙ s.1 in
-          lt-ltb 0 (marked (row_of t n)) lt
+          lt-ltb 0 (mark_count (row_of t n)) lt
           ∙ sym (ap (has_live (lives_by t) p) (sym h.segment) ∙ live_stays (lives_by t) p h.place i.0 i.1 here)
       | inr ge ↦
-          le-ltb 0 (marked (row_of t n)) ge
+          le-ltb 0 (mark_count (row_of t n)) ge
           ∙ sym (list_any_none (λ s. lives_by t s.place s.item (deadline_in (segment_at p n))) (standing p n)
           (λ k d lt. let s = get_or (standing p n) k d in
           ap (λ m. mark_at t m (s.place.offset / 32)) (in_segment n 0 (items_of (segment_at p n)) k d lt)
@@ -230,7 +232,7 @@ gone_by true false x = refl
 gone_by false true x = refl
 gone_by false false x = refl
 
--- a mark behind the first half of `carry`
+-- a mark after the first half of `carry`
 pub unmarked_at : (t : Marks) (moves : List Move) (n k : ℕ) → AreMarksSized t
     → All (λ m. IsWithin t.sizes m.source) moves
     → mark_at (unmarked_sources t moves) n k
@@ -262,7 +264,7 @@ set_by true false x = refl
 set_by false true x = refl
 set_by false false x = refl
 
--- and behind the second half
+-- and after the second half
 pub marked_targets_at : (t : Marks) (moves : List Move) (n k : ℕ) → AreMarksSized t
     → All (λ m. IfSome m.target (IsWithin t.sizes)) moves
     → mark_at (marked_targets t moves) n k ≡ (if list_any (λ m. is_target_of m n k) moves then true else mark_at t n k)
@@ -383,12 +385,12 @@ sources_within t p moves known all k d lt = item_within t p (get_or moves k d).s
 -- and so has a target at which an item stands
 target_within : (s : Sizes) (p after : PoolState) (source : Place) (o : Option Place) → IsPool after → s ≡ after.sizes
     → IsSome (item_in p source)
-    → IfSome o (λ place. (item_in after place ≡ option_map halved (item_in p source))
+    → IfSome o (λ place. (item_in after place ≡ option_map with_reads_halved (item_in p source))
     × (place_deadline after place ≡ place_deadline p source)) → IfSome o (IsWithin s)
 target_within s p after source None k e h x = tt
 target_within s p after source (Some place) k e h x =
     let i = value_there (item_in p source) h in
-    within_sizes s after place k e (subst IsSome (sym (x.0 ∙ ap (option_map halved) i.1)) refl)
+    within_sizes s after place k e (subst IsSome (sym (x.0 ∙ ap (option_map with_reads_halved) i.1)) refl)
 
 -- and all targets of a merge that was carried out
 pub targets_within : (t : Marks) (p : PoolState) (plan : Plan) (after : PoolState) → KnowsPool t p → IsPool after
@@ -398,7 +400,7 @@ targets_within t p plan after known k c all n d lt =
     let m = get_or plan.moves n d in
     target_within t.sizes p after m.source m.target k (known.sizes ∙ sym c.sizes) (all n d lt) (c.moved n d lt)
 
--- ---- what marks know behind the calls
+-- ---- what marks know after the calls
 
 -- the mark of a place says its segment and its part
 pub is_of_place : (place : Place) (n k : ℕ) → is_mark_of place n k ≡ true
@@ -444,10 +446,11 @@ knows_without t p n known lt =
     (λ m k x. fewer_by (m == n) (mark_at t m k) (sym (mark_without t n m k known.sized lt) ∙ x))
 
 -- where a pool's segment is cleared, and its marks with it
-pub knows_cleared : (t : Marks) (p : PoolState) (n : ℕ) → KnowsPool t p → IsPool (cleared p n) → IsSome (segment_at p n)
-    → n < t.sizes.segments → KnowsPool (without_marks t n) (cleared p n)
+pub knows_cleared : (t : Marks) (p : PoolState) (n : ℕ) → KnowsPool t p → IsPool (without_segment p n)
+    → IsSome (segment_at p n)
+    → n < t.sizes.segments → KnowsPool (without_marks t n) (without_segment p n)
 knows_cleared t p n known k h lt =
-    knows_after (without_marks t n) p (cleared p n) (knows_without t p n known lt) k refl
+    knows_after (without_marks t n) p (without_segment p n) (knows_without t p n known lt) k refl
     (λ q marked_q some.
     elim (cases_Bool (q.segment == n)) [
       | inl y ↦ absurd (false≢true (sym (mark_without t n q.segment (q.offset / 32) known.sized lt ∙ rw y refl)
@@ -503,15 +506,16 @@ knows_given t p after known k g =
     subst IsSome (sym (live_given (lives_by t) p after q i.0 g i.1 marked_q).0) refl)
 
 -- and where a merge was planned
-pub knows_planned : (t : Marks) (p : PoolState) (plan : Plan) → KnowsPool t p → IsPool (planned p plan)
-    → KnowsPool t (planned p plan)
-knows_planned t p plan known k = knows_after t p (planned p plan) known k refl (λ q _ some. some)
+pub knows_planned : (t : Marks) (p : PoolState) (plan : Plan) → KnowsPool t p → IsPool (with_merge_planned p plan)
+    → KnowsPool t (with_merge_planned p plan)
+knows_planned t p plan known k = knows_after t p (with_merge_planned p plan) known k refl (λ q _ some. some)
 
 -- or none is
-pub knows_unplanned : (t : Marks) (p : PoolState) → KnowsPool t p → IsPool (unplanned p) → KnowsPool t (unplanned p)
-knows_unplanned t p known k = knows_after t p (unplanned p) known k refl (λ q _ some. some)
+pub knows_unplanned : (t : Marks) (p : PoolState) → KnowsPool t p → IsPool (without_plan p)
+    → KnowsPool t (without_plan p)
+knows_unplanned t p known k = knows_after t p (without_plan p) known k refl (λ q _ some. some)
 
--- ---- what marks know behind a merge
+-- ---- what marks know after a merge
 
 -- where a test finds a move, one passes it
 some_target : (t : Move → Bool) (moves : List Move) → list_any t moves ≡ true
@@ -530,7 +534,7 @@ some_target t (m ∷ moves) h =
 -- the mark of a target is that of the item that was moved there
 target_stands : (p after : PoolState) (source : Place) (o : Option Place) (n k : ℕ)
     → option_map_or (λ place. is_mark_of place n k) o false ≡ true → IsSome (item_in p source)
-    → IfSome o (λ place. (item_in after place ≡ option_map halved (item_in p source))
+    → IfSome o (λ place. (item_in after place ≡ option_map with_reads_halved (item_in p source))
     × (place_deadline after place ≡ place_deadline p source))
     → HasMark after n k
 target_stands p after source None n k h some x = absurd (false≢true h)
@@ -541,7 +545,7 @@ target_stands p after source (Some place) n k h some x =
       place = place;
       segment = parts.0;
       offset = parts.1;
-      stands = subst IsSome (sym (x.0 ∙ ap (option_map halved) i.1)) refl;
+      stands = subst IsSome (sym (x.0 ∙ ap (option_map with_reads_halved) i.1)) refl;
     }
 
 -- the mark of an item is the mark of each place that is the same
@@ -615,17 +619,17 @@ knows_carried t p plan after known k h c starts =
 
 -- what `carry` requires where a merge is planned, before it is carried out
 pub planned_within : (t : Marks) (lives : Liveness) (p : PoolState) (plan : Plan) → KnowsPool t p → IsPlan lives p plan
-    → IsPool (carried_out (planned p plan) plan) → All (λ m. IsSome (item_in p m.source)) plan.moves
+    → IsPool (carried_out (with_merge_planned p plan) plan) → All (λ m. IsSome (item_in p m.source)) plan.moves
     → All (λ m. IfSome m.target (IsWithin t.sizes)) plan.moves
 planned_within t lives p plan known h k starts =
-    targets_within t p plan (carried_out (planned p plan) plan) known k
-    (carried lives p plan (carried_out (planned p plan) plan) known.pool h refl) starts
+    targets_within t p plan (carried_out (with_merge_planned p plan) plan) known k
+    (carried lives p plan (carried_out (with_merge_planned p plan) plan) known.pool h refl) starts
 
 -- ---- the calls of a merge, by what their contracts say: `plan_merge`, `moves`, `carry` and `merge_next`
 
 -- what `plan_merge` says where it answers true
 abbrev pub IsPlanned : Marks → PoolState → PoolState → Type 0
-IsPlanned t p q = (plan : Plan) × IsPlan (lives_by t) p plan × (q ≡ planned p plan)
+IsPlanned t p q = (plan : Plan) × IsPlan (lives_by t) p plan × (q ≡ with_merge_planned p plan)
 
 -- what `carry` requires
 pub merge_ready : (t : Marks) (p q : PoolState) (moves : List Move) → KnowsPool t p → IsPlanned t p q
@@ -637,7 +641,7 @@ merge_ready t p q moves known h e sources k =
     let are : moves ≡ plan.moves = e ∙ ap (λ r. planned_moves r.plan) h.2 in
     let starts : All (λ m. IsSome (item_in p m.source)) moves =
     subst (λ r. All (λ (m : Move). IsSome (item_in r m.source)) moves) h.2 sources in
-    let behind : IsPool (carried_out (planned p plan) plan) =
+    let behind : IsPool (carried_out (with_merge_planned p plan) plan) =
     subst (λ (r : PoolState). IfSome r.plan (λ x. IsPool (carried_out r x))) h.2 k in
     let targets = planned_within t (lives_by t) p plan known h.1 behind
     (subst (All (λ (m : Move). IsSome (item_in p m.source))) are starts) in (
@@ -655,7 +659,7 @@ merge_done t p q after moves known h e sources done k =
     let are : moves ≡ plan.moves = e ∙ ap (λ r. planned_moves r.plan) h.2 in
     let starts : All (λ m. IsSome (item_in p m.source)) moves =
     subst (λ r. All (λ (m : Move). IsSome (item_in r m.source)) moves) h.2 sources in
-    let is : after ≡ carried_out (planned p plan) plan =
+    let is : after ≡ carried_out (with_merge_planned p plan) plan =
     subst (λ (r : PoolState). IfSome r.plan (λ x. after ≡ carried_out r x)) h.2 done in
     let c = carried (lives_by t) p plan after known.pool h.1 is in (
       subst (λ ms. KnowsPool (carried_marks t ms) after) (sym are)

@@ -4,7 +4,7 @@ use Rattle.std.specs.Int.{bit_at}
 use Rattle.std.specs.List.{range_with_len}
 use Rattle.segments.specs.Marks.{AreMarksCounted}
 
--- the bit k of the words, none behind the last one
+-- the bit k of the words, none after the last one
 abbrev pub bit_of : List ℕ → ℕ → Bool
 bit_of words k = bit_at (slice_index_or words (k / 64) 0) (k % 64) == 1
 

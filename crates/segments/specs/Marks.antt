@@ -8,13 +8,13 @@ use Rattle.segments.specs.declared.place.Move.{Move}
 use Rattle.segments.specs.Pools.{PoolState, IsPool, Liveness, standing}
 
 -- how many marks are set
-abbrev pub marked : List Bool → ℕ
-marked [] = 0
-marked (b ∷ bs) = (if b then 1 else 0) + marked bs
+abbrev pub mark_count : List Bool → ℕ
+mark_count [] = 0
+mark_count (b ∷ bs) = (if b then 1 else 0) + mark_count bs
 
 -- the count is that of the marks, of which there are not too many
 pub record AreMarksCounted (count : ℕ) (marks : List Bool) : Type 0 where
-  pub counted : count ≡ marked marks
+  pub counted : count ≡ mark_count marks
   pub few : length marks ≤ 32768
 
 -- the sizes of the pool, and for each segment its marks

@@ -1,7 +1,8 @@
 //! Marks at the places of items, in all segments of a pool.
 
 ghost use Rattle.std.specs.Prelude.{◌≡◌, ◌<◌, ◌≤◌, ◌/◌, true, false, length, replicate, slice_index_or, All, IfOk, IfSome};
-ghost use Rattle.segments.specs.Marks.{no_marks, is_marked, marked, row_of, with_mark, without_marks, carried_marks, IsWithin};
+ghost use Rattle.segments.specs.Marks.{no_marks, is_marked, mark_count, row_of, with_mark, without_marks};
+ghost use Rattle.segments.specs.Marks.{carried_marks, IsWithin};
 
 use crate::segment_marks::SegmentMarks;
 use crate::{ItemRef, Live, Move, Place};
@@ -66,7 +67,7 @@ impl LiveMarks {
 
     /// How many places of the segment are marked.
     pub fn count(&self, segment: u32) -> u32
-        ensures { result ≡ marked (row_of self.now segment) }
+        ensures { result ≡ mark_count (row_of self.now segment) }
     {
         match self.rows.get(segment as usize) {
             Some(row) => row.count(),

@@ -2,7 +2,7 @@
 
 ghost use Rattle.std.specs.Prelude.{◌≡◌, ◌==◌, ℕ, ◌*◌, ◌<◌, ◌≤◌, false, true, length, replicate, slice_index_or, slice_set};
 ghost use Rattle.std.specs.Prelude.{IfOk, if◌then◌else◌};
-ghost use Rattle.segments.specs.Marks.{marked};
+ghost use Rattle.segments.specs.Marks.{mark_count};
 ghost use Rattle.segments.specs.MarkBits.{bit_of, bits_of};
 
 use proto::NoMemory;
@@ -86,7 +86,7 @@ impl SegmentMarks {
 
     /// How many marks are set.
     pub fn count(&self) -> u32
-        ensures { result ≡ marked self.now }
+        ensures { result ≡ mark_count self.now }
     {
         self.count
     }

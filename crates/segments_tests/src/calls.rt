@@ -43,7 +43,7 @@ fn check_item(rt: &impl Abort, item: ItemRef) {
     check(rt, item.deadline.is_none(), "no deadline", 1);
 }
 
-/// Reads an item so often, and looks at it.
+/// Reads an item `times` times, and looks at it.
 fn check_read(rt: &impl Abort, stock: &mut Stock, place: Place, times: u32) -> Result<(), Fail> {
     for _ in 0..times {
         stock.read(place);
@@ -70,7 +70,7 @@ fn check_two(rt: &impl Abort, stock: &mut Stock) -> Result<(), Fail> {
     check_read(rt, stock, first, 130)
 }
 
-/// Items of 32 bytes stand one behind the other. Reads are counted up to 127.
+/// Items of 32 bytes stand one after the other. Reads are counted up to 127.
 #[test]
 fn two_items(rt: HostRuntime) -> Result<(), Fail> {
     let mut stock = Stock::new(rt.alloc(), 4096, 8)?;
@@ -112,7 +112,7 @@ fn fill(alloc: Global, stock: &mut Stock) -> Result<(), Fail> {
     Ok(())
 }
 
-/// Of 32 moves the first 24 forget an item, and the others put theirs behind one another into the first segment.
+/// Of 32 moves the first 24 forget an item, and the others put theirs one after another into the first segment.
 fn check_moves(rt: &impl Abort, moves: &[Move], segment: u32) {
     assert!(rt; moves.len() == 32, "moves");
     for (k, step) in moves.iter().enumerate() {

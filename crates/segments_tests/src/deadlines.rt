@@ -67,7 +67,7 @@ const ONE_DEADLINE: [Step; 7] = [
 
 /// Bucket 2 has the six segments of the writes 1 to 48, and the bucket without deadlines those of 49 to 64. The
 /// 65th write merges the first four of bucket 2, from which 25 to 32 stay. The writes up to 88 fill the three
-/// segments that became free. The 89th looks on behind bucket 2, though two segments there could be merged again:
+/// segments that became free. The 89th looks on after bucket 2, though two segments there could be merged again:
 /// it merges those of 49 to 80, from which 73 to 80 stay.
 const IN_TURNS: [Step; 6] = [
     WriteFor(16, 1000, 48),

@@ -31,7 +31,7 @@ pub enum Step {
     Deadline(usize, Option<u64>),
     /// This number of segments has no item.
     Empty(usize),
-    /// How many segments were given back for want of a current item, how many merges were made, and how many clears.
+    /// How many segments were given back since they had no current item, how many merges were made, and how many clears.
     Made(usize, usize, usize),
 }
 
@@ -46,8 +46,8 @@ pub struct Run {
     clears: usize,
 }
 
-/// This holds, or it is said what doesn't, and at which write or number. Its proof, with that of the text, is made
-/// once.
+/// Checks that this holds, and else names what doesn't, and at which write or number. Its proof, with that of the text, is
+/// made once.
 pub fn check(rt: &impl Abort, holds: bool, what: &str, place: usize) {
     assert!(rt; holds, "{what} at {place}");
 }

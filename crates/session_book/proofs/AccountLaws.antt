@@ -1,5 +1,6 @@
 -- What a caller carries over a whole run.
-use Rattle.std.proofs.Common.{◌≡◌, ℕ, ◌+◌, ◌≤◌, true, List, [], ◌∷◌, ◌++◌, length, Option, Some, None, is_some, refl, sym, ap, subst, ◌∙◌, arith, inl, inr}
+use Rattle.std.proofs.Common.{◌≡◌, ℕ, ◌+◌, ◌≤◌, true, List, [], ◌∷◌, ◌++◌, length, Option, Some, None, is_some, refl}
+use Rattle.std.proofs.Common.{sym, ap, subst, ◌∙◌, arith, inl, inr}
 use Rattle.std.proofs.Common.{append_assoc, length-append}
 use Rattle.std.specs.Prelude.{◌⊎◌}
 use Rattle.std.specs.List.{list_any}
@@ -12,7 +13,7 @@ use Rattle.proto.specs.Reading.{ends_session, Reads, asks}
 use Rattle.proto.specs.Answers.{said}
 use Rattle.proto.proofs.GrammarLaws.{has_reading, has_one_reading}
 use Rattle.session_book.specs.declared.causes.EndCause.{EndCause}
-use Rattle.session_book.specs.Session.{SessionState, left, ended_by, ReadsOn}
+use Rattle.session_book.specs.Session.{SessionState, messages_left, ended_by, ReadsMessages}
 use Rattle.session_book.specs.Accounts.{HasRead, HasSaid, StartsAccounts, ReadKeeps, SettleKeeps, ReadBegins, ReadIsWhole, SaidBegins}
 use Rattle.session_book.proofs.Answering.{said-append, left-append, said_more, left_more, asks-left}
 use Rattle.session_book.proofs.Reading.{ended_by-append, not_ended_before, has_ended_by, none_ends}
@@ -56,7 +57,8 @@ regroup : (p q u d : List ℕ) → p ++ (q ++ u) ++ d ≡ (p ++ q) ++ u ++ d
 regroup p q u d = simp append_assoc
 
 -- once more messages are read, the bytes fed were read as all of the messages, the new ones last
-read_more : (d : Dialect) (bytes : List ℕ) (ms more : List Message) (s after : SessionState) → ReadsOn s more after
+read_more : (d : Dialect) (bytes : List ℕ) (ms more : List Message) (s after : SessionState)
+    → ReadsMessages s more after
     → HasRead d bytes ms s → HasRead d bytes (ms ++ more) after
 read_more d bytes ms more s after r h = record {
   read = h.read ++ r.read;
@@ -75,12 +77,13 @@ few : (ms : List Message) (rs : List Reply) (given : List ℕ) (s : SessionState
 few ms rs given s h = omega (arith, h.replied)
 
 -- once more messages are read, the bytes given and the output are what was said to all of them
-say_more : (given : List ℕ) (ms more : List Message) (rs : List Reply) (s after : SessionState) → ReadsOn s more after
+say_more : (given : List ℕ) (ms more : List Message) (rs : List Reply) (s after : SessionState)
+    → ReadsMessages s more after
     → HasSaid ms rs given s → HasSaid (ms ++ more) rs given after
 say_more given ms more rs s after r h =
     let le : length rs ≤ length (asks ms) = few ms rs given s h in
-    let queue : after.queue ≡ left (ms ++ more) rs =
-    r.queue ∙ ap (λ (q : List Message). left (q ++ more) []) h.queue ∙ sym (left-append ms more rs le) in
+    let queue : after.queue ≡ messages_left (ms ++ more) rs =
+    r.queue ∙ ap (λ (q : List Message). messages_left (q ++ more) []) h.queue ∙ sym (left-append ms more rs le) in
     let le_all : length rs ≤ length (asks (ms ++ more)) =
     rw asks-append (omega (arith, length-append (asks ms) (asks more))) in
     record {
@@ -100,8 +103,8 @@ read_keeps d bytes given ms more rs s after r h k =
 -- settling a reply keeps both
 pub settle_keeps : SettleKeeps
 settle_keeps d bytes given ms rs r s asked h k =
-    let queue : left s.queue (r ∷ []) ≡ left ms (rs ++ r ∷ []) =
-    ap (λ (q : List Message). left q (r ∷ [])) k.queue ∙ sym (left_more ms rs (r ∷ [])) in
+    let queue : messages_left s.queue (r ∷ []) ≡ messages_left ms (rs ++ r ∷ []) =
+    ap (λ (q : List Message). messages_left q (r ∷ [])) k.queue ∙ sym (left_more ms rs (r ∷ [])) in
     let one : length (rs ++ r ∷ []) ≡ length rs + 1 = length-append rs (r ∷ []) in (
       record {
         read = h.read;
@@ -169,10 +172,10 @@ read_is_whole d bytes rest ms all s (inr none_spelled) h r =
 -- the bytes given are the first of what is said to more messages with more replies
 pub said_begins : SaidBegins
 said_begins given ms more rs others s h = (
-  s.out ++ said (left ms rs ++ more) [] ++ said (left (ms ++ more) rs) others,
+  s.out ++ said (messages_left ms rs ++ more) [] ++ said (messages_left (ms ++ more) rs) others,
   said_more (ms ++ more) rs others
-      ∙ ap (λ (x : List ℕ). x ++ said (left (ms ++ more) rs) others)
+      ∙ ap (λ (x : List ℕ). x ++ said (messages_left (ms ++ more) rs) others)
       (said-append ms more rs (few ms rs given s h)
-      ∙ ap (λ (x : List ℕ). x ++ said (left ms rs ++ more) []) (sym h.whole))
+      ∙ ap (λ (x : List ℕ). x ++ said (messages_left ms rs ++ more) []) (sym h.whole))
       ∙ simp append_assoc,
 )

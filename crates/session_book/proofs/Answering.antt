@@ -1,5 +1,6 @@
 -- What is said, and what is left to say, when messages or replies come onto.
-use Rattle.std.proofs.Common.{◌≡◌, ℕ, ◌+◌, ◌<◌, ◌≤◌, true, false, List, [], ◌∷◌, ◌++◌, length, Some, None, refl, sym, ap, ◌∙◌, arith}
+use Rattle.std.proofs.Common.{◌≡◌, ℕ, ◌+◌, ◌<◌, ◌≤◌, true, false, List, [], ◌∷◌, ◌++◌, length, Some, None, refl, sym}
+use Rattle.std.proofs.Common.{ap, ◌∙◌, arith}
 use Rattle.std.specs.Prelude.{IsTrue, codes, decimal, flat_map}
 use Rattle.proto.specs.Hits.{hit_bytes}
 use Rattle.proto.specs.Lines.{line_end}
@@ -11,12 +12,12 @@ use Rattle.proto.specs.declared.message.WrongKind.TheVariants as wrong
 use Rattle.proto.specs.declared.message.FatalKind.TheVariants as fatal
 use Rattle.proto.specs.Reading.{asks}
 use Rattle.proto.specs.Answers.{answer, reply_bytes, said, is_ask, is_silent}
-use Rattle.session_book.specs.Session.{left, begins_asked}
+use Rattle.session_book.specs.Session.{messages_left, begins_asked}
 use Rattle.proto.proofs.AskLemmas.{onto}
 
 -- more messages are said onto what is left, where no reply was too many
 pub said-append : (ms ns : List Message) (rs : List Reply) → length rs ≤ length (asks ms)
-    → said (ms ++ ns) rs ≡ said ms rs ++ said (left ms rs ++ ns) []
+    → said (ms ++ ns) rs ≡ said ms rs ++ said (messages_left ms rs ++ ns) []
 said-append [] ns [] le = refl
 said-append [] ns (r ∷ rs) le = absurd (omega arith)
 said-append (Ask q quiet ∷ ms) ns [] le = refl
@@ -28,7 +29,7 @@ said-append (Fatal kind ∷ ms) ns rs le = onto _ _ _ _ (said-append ms ns rs le
 -- of joined messages that is left which is left of the later ones put onto what was left of the first, where no reply
 -- was too many
 pub left-append : (ms ns : List Message) (rs : List Reply) → length rs ≤ length (asks ms)
-    → left (ms ++ ns) rs ≡ left (left ms rs ++ ns) []
+    → messages_left (ms ++ ns) rs ≡ messages_left (messages_left ms rs ++ ns) []
 left-append [] ns [] le = refl
 left-append [] ns (r ∷ rs) le = absurd (omega arith)
 left-append (Ask q quiet ∷ ms) ns [] le = refl
@@ -38,7 +39,8 @@ left-append (Quit ∷ ms) ns rs le = left-append ms ns rs le
 left-append (Fatal kind ∷ ms) ns rs le = left-append ms ns rs le
 
 -- more replies go to what is left
-pub said_more : (ms : List Message) (rs ss : List Reply) → said ms (rs ++ ss) ≡ said ms rs ++ said (left ms rs) ss
+pub said_more : (ms : List Message) (rs ss : List Reply)
+    → said ms (rs ++ ss) ≡ said ms rs ++ said (messages_left ms rs) ss
 said_more [] rs ss = refl
 said_more (Ask q quiet ∷ ms) [] ss = refl
 said_more (Ask q quiet ∷ ms) (r ∷ rs) ss = onto _ _ _ _ (said_more ms rs ss)
@@ -47,7 +49,8 @@ said_more (Quit ∷ ms) rs ss = said_more ms rs ss
 said_more (Fatal kind ∷ ms) rs ss = onto _ _ _ _ (said_more ms rs ss)
 
 -- what more replies leave is what they leave of that which was left
-pub left_more : (ms : List Message) (rs ss : List Reply) → left ms (rs ++ ss) ≡ left (left ms rs) ss
+pub left_more : (ms : List Message) (rs ss : List Reply)
+    → messages_left ms (rs ++ ss) ≡ messages_left (messages_left ms rs) ss
 left_more [] rs ss = refl
 left_more (Ask q quiet ∷ ms) [] ss = refl
 left_more (Ask q quiet ∷ ms) (r ∷ rs) ss = left_more ms rs ss
@@ -57,7 +60,7 @@ left_more (Fatal kind ∷ ms) rs ss = left_more ms rs ss
 
 -- the requests left are those without a reply
 pub asks-left : (ms : List Message) (rs : List Reply) → length rs ≤ length (asks ms)
-    → length rs + length (asks (left ms rs)) ≡ length (asks ms)
+    → length rs + length (asks (messages_left ms rs)) ≡ length (asks ms)
 asks-left [] [] le = refl
 asks-left [] (r ∷ rs) le = absurd (omega arith)
 asks-left (Ask q quiet ∷ ms) [] le = omega arith
@@ -67,7 +70,7 @@ asks-left (Quit ∷ ms) rs le = asks-left ms rs le
 asks-left (Fatal kind ∷ ms) rs le = asks-left ms rs le
 
 -- what is left begins with a request
-pub begins_asked-left : (ms : List Message) (rs : List Reply) → begins_asked (left ms rs) ≡ true
+pub begins_asked-left : (ms : List Message) (rs : List Reply) → begins_asked (messages_left ms rs) ≡ true
 begins_asked-left [] rs = refl
 begins_asked-left (Ask q quiet ∷ ms) [] = refl
 begins_asked-left (Ask q quiet ∷ ms) (r ∷ rs) = begins_asked-left ms rs
@@ -76,7 +79,7 @@ begins_asked-left (Quit ∷ ms) rs = begins_asked-left ms rs
 begins_asked-left (Fatal kind ∷ ms) rs = begins_asked-left ms rs
 
 -- a queue that begins with a request stays as it is, and says nothing, until the reply comes
-pub left_waits : (m : Message) (ms : List Message) → is_ask m ≡ true → left (m ∷ ms) [] ≡ m ∷ ms
+pub left_waits : (m : Message) (ms : List Message) → is_ask m ≡ true → messages_left (m ∷ ms) [] ≡ m ∷ ms
 left_waits (Ask q quiet) ms e = refl
 left_waits (Wrong kind) ms e = absurd cc
 left_waits Quit ms e = absurd cc
@@ -90,7 +93,7 @@ said_waits Quit ms e = absurd cc
 said_waits (Fatal kind) ms e = absurd cc
 
 -- a message that is no request is answered at once
-pub left_local : (m : Message) (ms : List Message) → is_ask m ≡ false → left (m ∷ ms) [] ≡ left ms []
+pub left_local : (m : Message) (ms : List Message) → is_ask m ≡ false → messages_left (m ∷ ms) [] ≡ messages_left ms []
 left_local (Ask q quiet) ms e = absurd cc
 left_local (Wrong kind) ms e = refl
 left_local Quit ms e = refl
@@ -104,7 +107,8 @@ said_local Quit ms e = refl
 said_local (Fatal kind) ms e = refl
 
 -- a request that has its reply is answered
-pub left_reply : (m : Message) (ms : List Message) (r : Reply) → is_ask m ≡ true → left (m ∷ ms) (r ∷ []) ≡ left ms []
+pub left_reply : (m : Message) (ms : List Message) (r : Reply) → is_ask m ≡ true
+    → messages_left (m ∷ ms) (r ∷ []) ≡ messages_left ms []
 left_reply (Ask q quiet) ms r e = refl
 left_reply (Wrong kind) ms r e = absurd cc
 left_reply Quit ms r e = absurd cc
@@ -119,10 +123,11 @@ said_reply Quit ms r e = absurd cc
 said_reply (Fatal kind) ms r e = absurd cc
 
 -- a queue that is what some messages and replies leave is empty or begins with a request
-pub begins_asked_by : (queue ms : List Message) (rs : List Reply) → queue ≡ left ms rs → begins_asked queue ≡ true
+pub begins_asked_by : (queue ms : List Message) (rs : List Reply) → queue ≡ messages_left ms rs
+    → begins_asked queue ≡ true
 begins_asked_by queue ms rs e = rw e (begins_asked-left ms rs)
 
--- with something behind it a list isn't nothing
+-- with something after it a list isn't nothing
 some : (xs ys : List ℕ) → 0 < length ys → 0 < length (xs ++ ys)
 some [] ys lt = lt
 some (x ∷ xs) ys lt = omega arith

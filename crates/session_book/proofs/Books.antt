@@ -1,14 +1,19 @@
 -- A book stays a book when one session changes.
-use Rattle.std.proofs.Common.{◌≡◌, ℕ, ◌+◌, ◌<◌, ◌≤◌, Bool, true, false, cond, List, []}
+use Rattle.std.proofs.Common.{◌≡◌, ℕ, zero, suc, ◌+◌, ◌<◌, ◌≤◌, Bool, true, false, cond, List, []}
 use Rattle.std.proofs.Common.{◌∷◌, ◌++◌, length, drop, Option, Some, None, Result, Ok, Err}
 use Rattle.std.proofs.Common.{refl, sym, ap, subst, ◌∙◌, arith, inl, inr, add-zero, zero-add, length-append}
 use Rattle.std.proofs.lemmas.List.{append-nil}
 use Rattle.session_book.proofs.Steps.{reads_nothing}
 use Rattle.std.specs.Prelude.{◌==◌, ◌⊎◌, slice_get}
 use Rattle.std.proofs.lemmas.Bool.{cases_Bool, cases_eq, cases_lt, eq-eqb, ne_eqb}
-use Rattle.std.specs.Prelude.{IsSome}
+use Rattle.std.specs.Prelude.{IsSome, is_some}
 use Rattle.std.specs.Bool.{nat_eq}
-use Rattle.std.specs.HashMap.{HashMap, get_by, UpdatesBy, WritesThrough}
+use Rattle.std.specs.HashMap.{HashMap, get_by, UpdatesBy, WritesThrough, IsUnique}
+use Rattle.std.specs.Cmp.{nat_eq_equiv}
+use Rattle.std.specs.Option.{option_map}
+use Rattle.std.proofs.lemmas.Map.Entries.{hash_map_get_place}
+use Rattle.indexmap.specs.IndexMap.{IndexMap, with_value_at, set_value_at}
+use Rattle.indexmap.proofs.CallerLemmas.{updates-with_value_at}
 use Rattle.std.specs.Map.{lookup}
 use Rattle.std.proofs.lemmas.Map.Steps.{set_value_same}
 use Rattle.proto.specs.declared.message.Request.{Request}
@@ -20,9 +25,11 @@ use Rattle.proto.specs.Reading.{asks}
 use Rattle.session_book.specs.declared.causes.Unsettled.{Unsettled}
 use Rattle.session_book.specs.declared.causes.Received.{Received}
 use Rattle.session_book.specs.declared.causes.Received.TheVariants as receptions
-use Rattle.session_book.specs.Session.{SessionState, new_session, begins_asked, left, with_reply, IsInputFull, held_fed, TakesPiece, FeedsHeld, IsReady}
-use Rattle.session_book.specs.Session.{ReadsOn, ReadsAsk, given_request}
-use Rattle.session_book.specs.Book.{BookState, session_of, unsettled_in, OnlyAt, ChangesOpen, Receives, FeedsHeldOf, IsBook, GivesNone, NextAsk, given_in}
+use Rattle.session_book.specs.Session.{SessionState, new_session, begins_asked, messages_left, with_reply, IsInputFull}
+use Rattle.session_book.specs.Session.{held_fed, TakesPiece, FeedsHeld, IsReady}
+use Rattle.session_book.specs.Session.{ReadsMessages, ReadsAsk, given_request}
+use Rattle.session_book.specs.Book.{BookState, session_of, unsettled_in, OnlyAt, ChangesSession, ChangesOpen, Receives}
+use Rattle.session_book.specs.Book.{FeedsHeldOf, IsBook, GivesNone, NextAsk, given_in}
 use Rattle.session_book.specs.Book.{IsOldest, SettlesReply}
 use Rattle.session_book.proofs.Answering.{asks-left, begins_asked_by}
 use Rattle.proto.proofs.AskLemmas.{asks-append}
@@ -116,14 +123,14 @@ opens_book before after session is only new greatest unsettled =
 -- ---- reading and settling
 
 -- the requests read go to the queue
-asks_read : (s t : SessionState) (ms : List Message) → ReadsOn s ms t
+asks_read : (s t : SessionState) (ms : List Message) → ReadsMessages s ms t
     → length (asks t.queue) ≡ length (asks s.queue) + length (asks ms)
 asks_read s t ms h = rw h.queue
     (sym (zero-add _) ∙ asks-left (s.queue ++ ms) [] (omega arith) ∙ ap length (asks-append s.queue ms)
     ∙ length-append (asks s.queue) (asks ms))
 
 -- the queue after reading is empty or begins with a request
-begins_read : (s t : SessionState) (ms : List Message) → ReadsOn s ms t → begins_asked t.queue ≡ true
+begins_read : (s t : SessionState) (ms : List Message) → ReadsMessages s ms t → begins_asked t.queue ≡ true
 begins_read s t ms h = begins_asked_by t.queue (s.queue ++ ms) [] h.queue
 
 -- a session that has read no request fits as before
@@ -224,7 +231,7 @@ pub settles_kept : (before after : BookState) (session number : ℕ) (s t : Sess
     → after.unsettled ≡ drop 1 before.unsettled
     → t ≡ with_reply s reply → IsBook after
 settles_kept before after session number s t reply is open_now only greatest oldest unsettled t_is =
-    let queue : t.queue ≡ left s.queue (reply ∷ []) = ap (λ (x : SessionState). x.queue) t_is in
+    let queue : t.queue ≡ messages_left s.queue (reply ∷ []) = ap (λ (x : SessionState). x.queue) t_is in
     let one : 0 < length (asks s.queue) = first_asked before session number s is open_now oldest in
     let queued : length (asks t.queue) + 1 ≡ unsettled_in before.unsettled session =
     rw queue (omega (arith, asks-left s.queue (reply ∷ []) one, is.queued session s open_now)) in
@@ -265,6 +272,36 @@ pub written_back : {S : Type 0} (m n : HashMap ℕ SessionState S) (session : �
     → WritesThrough nat_eq (nat_eq session) m t n → Some s ≡ get_by (nat_eq session) m → t ≡ s → n.entries ≡ m.entries
 written_back m n session s t w found same =
     w.0 ∙ set_value_same (nat_eq session) m.entries t (sym found ∙ ap (λ (x : SessionState). Some x) (sym same))
+
+-- a value that is written over itself changes nothing
+set_same : (es : List (ℕ × SessionState)) (i k : ℕ) (s : SessionState) → slice_get es i ≡ Some (k, s) → set_value_at es i s ≡ es
+set_same [] i k s at = refl
+set_same (e ∷ es) zero k s at =
+    let e_is : e ≡ (k, s) = cc in ap (λ (x : ℕ × SessionState). (e.0, x.1) ∷ es) (sym e_is)
+set_same (e ∷ es) (suc i) k s at = ap (λ (rest : List (ℕ × SessionState)). e ∷ rest) (set_same es i k s at)
+
+-- a session s that stands at place i: it is open; what is written there is written at its number alone, and stands there; and writing
+-- it back changes nothing
+pub record Placed (es : List (ℕ × SessionState)) (i session : ℕ) (s : SessionState) : Type 0 where
+  pub there : lookup (nat_eq session) es ≡ Some s
+  pub only : (t : SessionState) → OnlySession es (set_value_at es i t) session (Some t)
+  pub now : (t : SessionState) → lookup (nat_eq session) (set_value_at es i t) ≡ Some t
+  pub back : (t : SessionState) → t ≡ s → set_value_at es i t ≡ es
+
+pub placed : {S : Type 0} (m : IndexMap ℕ SessionState S) (i session k : ℕ) (s : SessionState) → IsUnique nat_eq m
+    → slice_get m.entries i ≡ Some (k, s)
+    → option_map (λ (e : ℕ × SessionState). e.0) (slice_get m.entries i) ≡ Some session → Placed m.entries i session s
+placed m i session k s unique at found =
+    let here : Some k ≡ Some session = sym (ap (option_map (λ (e : ℕ × SessionState). e.0)) at) ∙ found in
+    let same : k ≡ session = cc in
+    let only : (t : SessionState) → OnlySession m.entries (set_value_at m.entries i t) k (Some t) =
+    λ t. updated_only m (with_value_at m i t) k (Some t) (updates-with_value_at m i t nat_eq_equiv unique k s at) in
+    subst (λ (n : ℕ). Placed m.entries i n s) same (record {
+      there = hash_map_get_place nat_eq_equiv m i k s unique at;
+      only = only;
+      now = λ t. only t k ∙ rw (eq-eqb k k refl) refl;
+      back = λ t e. subst (λ (x : SessionState). set_value_at m.entries i x ≡ m.entries) (sym e) (set_same m.entries i k s at);
+    })
 
 -- where nothing is open at the number, the map is the one without it
 pub closed_only : {S : Type 0} (m n : HashMap ℕ SessionState S) (session : ℕ) → n ≡ m → None ≡ get_by (nat_eq session) m
@@ -357,6 +394,18 @@ changed before after now same session s t u Changes open_now only rest changes u
       };
     })
 
+-- an open session has become another one
+pub changes_by : (before after now : BookState) → before ≡ now → (session : ℕ) (f : SessionState → SessionState) (s t : SessionState)
+    → session_of before session ≡ Some s → OnlyAt before after session (Some t)
+    → after ≡ record before { sessions = after.sessions } → t ≡ f s
+    → ChangesSession now after session (option_map f (session_of now session))
+changes_by before after now same session f s t open_now only rest t_is =
+    subst (λ (b : BookState). ChangesSession b after session (option_map f (session_of b session))) same (record {
+      only_at = subst (λ (o : Option SessionState). OnlyAt before after session o)
+          (ap Some t_is ∙ ap (option_map f) (sym open_now)) only;
+      rest = rest;
+    })
+
 -- a session that is open in a book is open in the book that this is
 still_open : (before now : BookState) → before ≡ now → (session : ℕ) (s : SessionState)
     → session_of before session ≡ Some s → IsSome (session_of now session)
@@ -369,6 +418,17 @@ pub unchanged : (before after now : BookState) → before ≡ now → after ≡ 
     → after.sessions ≡ before.sessions → after ≡ now
 unchanged before after now same rest back =
     rest ∙ ap (λ (es : List (ℕ × SessionState)). record before { sessions = es }) back ∙ same
+
+once_queue : (b : Bool) (s : SessionState) (piece : List ℕ) → (cond b s (record s { unread = s.unread ++ piece })).queue ≡ s.queue
+once_queue true s piece = refl
+once_queue false s piece = refl
+
+-- a piece that came leaves the queue
+pub taken_queue : (r : Received) (s t : SessionState) (piece : List ℕ) → TakesPiece s piece r t → t.queue ≡ s.queue
+taken_queue receptions.Fed s t piece h = ap (λ (x : SessionState). x.queue) h.2 ∙ once_queue (is_some s.ended) s piece
+taken_queue receptions.Held s t piece h = ap (λ (x : SessionState). x.queue) h.2
+taken_queue receptions.Refused s t piece h = ap (λ (x : SessionState). x.queue) h
+taken_queue receptions.Unknown s t piece h = absurd h
 
 -- a piece came of an open session
 pub received : (r : Received) (before after now : BookState) → before ≡ now

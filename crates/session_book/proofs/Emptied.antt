@@ -1,5 +1,6 @@
 -- The walk that looks for a session with something left.
-use Rattle.std.proofs.Common.{ℕ, ◌≡◌, ◌⊎◌, Bool, true, false, Option, Some, None, List, [], ◌∷◌, ⊎_elim, inl, inr, sym, ap, subst, ◌∙◌, cond}
+use Rattle.std.proofs.Common.{ℕ, ◌≡◌, ◌⊎◌, Bool, true, false, Option, Some, None, List, [], ◌∷◌, ⊎_elim, inl, inr, sym}
+use Rattle.std.proofs.Common.{ap, subst, ◌∙◌, cond}
 use Rattle.std.specs.Bool.{nat_eq}
 use Rattle.session_book.specs.Session.{SessionState, IsEmptied}
 use Rattle.session_book.specs.Entries.{state_at}
@@ -9,7 +10,7 @@ abbrev pub EmptiedOrIn : List (ℕ × SessionState) → List (ℕ × SessionStat
 EmptiedOrIn later entries = (session : ℕ) (s : SessionState) → state_at entries session ≡ Some s
     → IsEmptied s ⊎ (state_at later session ≡ Some s)
 
--- what is looked up behind an entry is the entry's, or stands behind it
+-- what is looked up after an entry is the entry's, or stands after it
 first_or_behind : (b : Bool) (v s : SessionState) (behind : Option SessionState) → cond b (Some v) behind ≡ Some s
     → (v ≡ s) ⊎ (behind ≡ Some s)
 first_or_behind true v s behind e = inl (cc)

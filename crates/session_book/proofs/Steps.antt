@@ -15,7 +15,8 @@ use Rattle.proto.proofs.MessageReader.{spelling_nonempty}
 use Rattle.session_book.specs.declared.causes.EndCause.{EndCause}
 use Rattle.session_book.specs.declared.limits.TheConstants.{MAX_WAITING}
 use Rattle.session_book.specs.declared.session.Read.{Read}
-use Rattle.session_book.specs.Session.{SessionState, left, ended_by, need_after, begins_asked, ReadsOn, AskAtLast, Stops, no_message, IsReady, ReadsAsk}
+use Rattle.session_book.specs.Session.{SessionState, messages_left, ended_by, need_after, begins_asked, ReadsMessages}
+use Rattle.session_book.specs.Session.{AskAtLast, Stops, no_message, IsReady, ReadsAsk}
 use Rattle.session_book.specs.Session.{ReadsMessage, TakesLocal, TakesAsk, TakesNothing, ReadsOne, read_of}
 use Rattle.proto.specs.declared.no_memory.NoMemory.{NoMemory}
 use Rattle.session_book.proofs.Needing.{unfinished_short}
@@ -39,7 +40,7 @@ takes_less before after m h = rw h.unread
     (omega (arith, length-append h.piece after.unread, spelling_nonempty before.dialect h.piece m h.spells))
 
 -- a queue that begins with a request, or is empty, stays as it is
-pub left_stays : (queue : List Message) → begins_asked queue ≡ true → left queue [] ≡ queue
+pub left_stays : (queue : List Message) → begins_asked queue ≡ true → messages_left queue [] ≡ queue
 left_stays [] e = refl
 left_stays (m ∷ ms) e = left_waits m ms e
 
@@ -49,7 +50,7 @@ said_stays [] e = refl
 said_stays (m ∷ ms) e = said_waits m ms e
 
 -- nothing was read yet
-pub reads_nothing : (s : SessionState) → begins_asked s.queue ≡ true → ReadsOn s [] s
+pub reads_nothing : (s : SessionState) → begins_asked s.queue ≡ true → ReadsMessages s [] s
 reads_nothing s asked = record {
   read = [];
   reads = reads_empty s.dialect;
@@ -74,14 +75,14 @@ never : (ended : Option EndCause) (ms : List Message) → ended_by ended ms ≡ 
 never ended ms none some = both_ways (is_some ended)
     (ap (λ (o : Option EndCause). is_some o) (not_ended_before ended ms none)) some
 
--- where nothing has ended a session behind these messages, none of them ends one
+-- where nothing has ended a session after these messages, none of them ends one
 none_left : (ended : Option EndCause) (ms : List Message) → ended_by ended ms ≡ None → ended_by None ms ≡ None
 none_left ended ms e = ap (λ (o : Option EndCause). ended_by o ms) (sym (not_ended_before ended ms e)) ∙ e
 
 -- one more message is read
-pub reads_more : (before now after : SessionState) (ms : List Message) (m : Message) → ReadsOn before ms now
+pub reads_more : (before now after : SessionState) (ms : List Message) (m : Message) → ReadsMessages before ms now
     → now.ended ≡ None
-    → ReadsMessage now m after → ReadsOn before (ms ++ m ∷ []) after
+    → ReadsMessage now m after → ReadsMessages before (ms ++ m ∷ []) after
 reads_more before now after ms m h none t =
     let open_yet : ended_by before.ended ms ≡ None = sym h.ended ∙ none in
     let grouped : (before.queue ++ ms) ++ m ∷ [] ≡ before.queue ++ (ms ++ m ∷ []) =
@@ -96,9 +97,9 @@ reads_more before now after ms m h none t =
       not_ended = λ e. absurd (never before.ended ms open_yet e);
       ended = t.ended ∙ ap (λ (e : Option EndCause). ended_by e (m ∷ [])) h.ended
           ∙ sym (ended_by-append before.ended ms (m ∷ []));
-      queue = t.queue ∙ ap (λ (q : List Message). left (q ++ m ∷ []) []) h.queue
+      queue = t.queue ∙ ap (λ (q : List Message). messages_left (q ++ m ∷ []) []) h.queue
           ∙ sym (left-append (before.queue ++ ms) (m ∷ []) [] (omega arith))
-          ∙ ap (λ (q : List Message). left q []) grouped;
+          ∙ ap (λ (q : List Message). messages_left q []) grouped;
       out = t.out ∙ ap (λ (x : List ℕ). x ++ said (now.queue ++ m ∷ []) []) h.out
           ∙ append_assoc before.out (said (before.queue ++ ms) []) (said (now.queue ++ m ∷ []) [])
           ∙ ap (λ (q : List Message). before.out ++ (said (before.queue ++ ms) [] ++ said (q ++ m ∷ []) [])) h.queue
@@ -111,8 +112,8 @@ reads_more before now after ms m h none t =
     }
 
 -- the parser has found no further message
-pub reads_no_more : (before now after : SessionState) (ms : List Message) → ReadsOn before ms now
-    → TakesNothing now after → ReadsOn before ms after
+pub reads_no_more : (before now after : SessionState) (ms : List Message) → ReadsMessages before ms now
+    → TakesNothing now after → ReadsMessages before ms after
 reads_no_more before now after ms h t = record {
   read = h.read;
   reads = h.reads;
@@ -152,7 +153,7 @@ no_asks (Fatal kind ∷ ms) e = no_ask_first (Fatal kind) ms refl (no_asks ms e)
 -- bytes than needed nothing was read
 pub record HasReadLocals (before : SessionState) (looks : ℕ) (now : SessionState) (looks_now : ℕ) : Type 0 where
   pub messages : List Message
-  pub reads : ReadsOn before messages now
+  pub reads : ReadsMessages before messages now
   pub no_ask : asks messages ≡ []
   pub waits : MAX_WAITING < length before.out → messages ≡ []
   pub most_looks : looks_now ≤ looks + length messages
@@ -162,7 +163,7 @@ pub record HasReadLocals (before : SessionState) (looks : ℕ) (now : SessionSta
 taken : (before : SessionState) (b : List ℕ) (n : ℕ) (m seen : Message) (after : SessionState) → b ≡ before.unread
     → Spells before.dialect (take n b) seen → m ≡ seen → before.ended ≡ None
     → after.unread ≡ drop n before.unread → after.ended ≡ ended_by None (m ∷ [])
-    → after.queue ≡ left (before.queue ++ m ∷ []) []
+    → after.queue ≡ messages_left (before.queue ++ m ∷ []) []
     → after.out ≡ before.out ++ said (before.queue ++ m ∷ []) []
     → after.need ≡ 1 → after.held ≡ before.held → after.is_over ≡ before.is_over → after.dialect ≡ before.dialect
     → ReadsMessage before m after
@@ -309,7 +310,7 @@ pub read_found : (now view : SessionState) (b : List ℕ) (n : ℕ) (m seen : Me
     → view ≡ now
     → r ≡ read_of m → b ≡ view.unread → Spells view.dialect (take n b) seen
     → m ≡ seen → now.ended ≡ None → after.unread ≡ drop n view.unread → after.ended ≡ ended_by None (m ∷ [])
-    → after.queue ≡ left (view.queue ++ m ∷ []) []
+    → after.queue ≡ messages_left (view.queue ++ m ∷ []) []
     → after.out ≡ view.out ++ said (view.queue ++ m ∷ []) [] → after.need ≡ 1 → after.held ≡ view.held
     → after.is_over ≡ view.is_over → after.dialect ≡ view.dialect → ReadsOne now (Ok r) after
 read_found now view b n m seen r after same r_is b_is spelled m_is open_yet unread ended queue out need held over dialect =

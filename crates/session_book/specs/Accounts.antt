@@ -6,7 +6,8 @@ use Rattle.proto.specs.declared.message.Message.{Message}
 use Rattle.proto.specs.Grammar.{SpellsNone}
 use Rattle.proto.specs.Reading.{Reads, asks}
 use Rattle.proto.specs.Answers.{said}
-use Rattle.session_book.specs.Session.{SessionState, new_session, left, ended_by, once_fed, ReadsOn, with_reply, gave}
+use Rattle.session_book.specs.Session.{SessionState, new_session, messages_left, ended_by, once_fed, ReadsMessages}
+use Rattle.session_book.specs.Session.{with_reply, gave}
 
 -- Of a session with lines of this dialect the bytes fed were read as the messages ms; once Quit or a fatal message was read, further bytes
 -- were dropped.
@@ -19,11 +20,11 @@ pub record HasRead (d : Dialect) (fed_bytes : List ℕ) (ms : List Message) (s :
   pub ended : s.ended ≡ ended_by None ms
   pub nothing_dropped : s.ended ≡ None → dropped ≡ []
 
--- Of a session the messages ms were read and these replies settled: the bytes given and the output behind them
+-- Of a session the messages ms were read and these replies settled: the bytes given and the output after them
 -- are what was said, the queue is what is left to say, and each unsettled request is in it.
 pub record HasSaid (ms : List Message) (replies : List Reply) (given : List ℕ) (s : SessionState) : Type 0 where
   pub whole : given ++ s.out ≡ said ms replies
-  pub queue : s.queue ≡ left ms replies
+  pub queue : s.queue ≡ messages_left ms replies
   pub replied : length replies + length (asks s.queue) ≡ length (asks ms)
 
 -- both hold of a new session
@@ -40,7 +41,7 @@ FeedKeeps =
 abbrev pub ReadKeeps : Type 0
 ReadKeeps =
     (d : Dialect) (bytes given : List ℕ) (ms more : List Message) (replies : List Reply) (s after : SessionState)
-    → ReadsOn s more after → HasRead d bytes ms s → HasSaid ms replies given s
+    → ReadsMessages s more after → HasRead d bytes ms s → HasSaid ms replies given s
     → HasRead d bytes (ms ++ more) after × HasSaid (ms ++ more) replies given after
 
 abbrev pub SettleKeeps : Type 0

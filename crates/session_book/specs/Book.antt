@@ -88,8 +88,8 @@ Receives before session piece received.Held after =
 Receives before session piece received.Refused after = IsSome (session_of before session) × (after ≡ before)
 Receives before session piece received.Unknown after = (session_of before session ≡ None) × (after ≡ before)
 
--- What becomes of the held piece: it is fed where it fits, or there is none, or it doesn't fit yet; want of memory
--- changes nothing.
+-- What becomes of the held piece: it is fed where it fits, or there is none, or it doesn't fit yet. Out of memory,
+-- nothing changes.
 abbrev pub FeedsHeldOf : BookState → ℕ → Result Bool NoMemory → BookState → Type 0
 FeedsHeldOf before session (Ok true) after =
     ChangesOpen before after session (λ s t. ¬ (IsInputFull s s.held) × (t ≡ held_fed s))

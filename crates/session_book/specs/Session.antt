@@ -23,7 +23,7 @@ use Rattle.session_book.specs.declared.limits.TheConstants.{MAX_UNREAD, MAX_WAIT
 -- An open session: the dialect of its lines; its unread bytes; the messages read, from its oldest unsettled request on; its output that
 -- wasn't given yet; whether it has read Quit or a fatal message; how many unread bytes there have to be
 -- before the parser is asked again; the piece of input that is held until it fits, empty where none is; and whether its input has
--- ended, so that nothing comes behind that.
+-- ended, so that nothing comes after that.
 pub record SessionState : Type 0 where
   pub dialect : Dialect
   pub unread : List ℕ
@@ -40,13 +40,13 @@ new_session d = record { dialect = d; unread = []; queue = []; out = []; ended =
 
 -- the messages from the first request on for which no reply is left, where the requests use up the replies
 -- one after the other: those that `said` stops before
-abbrev pub left : List Message → List Reply → List Message
-left [] replies = []
-left (Ask q quiet ∷ ms) [] = Ask q quiet ∷ ms
-left (Ask q quiet ∷ ms) (reply ∷ replies) = left ms replies
-left (Wrong kind ∷ ms) replies = left ms replies
-left (Quit ∷ ms) replies = left ms replies
-left (Fatal kind ∷ ms) replies = left ms replies
+abbrev pub messages_left : List Message → List Reply → List Message
+messages_left [] replies = []
+messages_left (Ask q quiet ∷ ms) [] = Ask q quiet ∷ ms
+messages_left (Ask q quiet ∷ ms) (reply ∷ replies) = messages_left ms replies
+messages_left (Wrong kind ∷ ms) replies = messages_left ms replies
+messages_left (Quit ∷ ms) replies = messages_left ms replies
+messages_left (Fatal kind ∷ ms) replies = messages_left ms replies
 
 -- what has ended the session once the messages were read too
 abbrev pub ended_by : Option EndCause → List Message → Option EndCause
@@ -61,7 +61,7 @@ abbrev pub need_after : ℕ → List Message → ℕ
 need_after need [] = need
 need_after need (m ∷ ms) = 1
 
--- A piece of input goes behind the unread bytes; once Quit or a fatal message was read it is dropped.
+-- A piece of input goes after the unread bytes; once Quit or a fatal message was read it is dropped.
 abbrev pub once_fed : SessionState → List ℕ → SessionState
 once_fed s piece = if is_some s.ended then s else record s { unread = s.unread ++ piece }
 
@@ -70,26 +70,26 @@ abbrev pub begins_asked : List Message → Bool
 begins_asked [] = true
 begins_asked (m ∷ ms) = is_ask m
 
--- Bytes at the front of the unread ones are read as the messages ms, and leave them. The messages go behind the
--- queue; then those before the queue's first request leave it, and their answers go behind the output. The need
+-- Bytes at the front of the unread ones are read as the messages ms, and leave them. The messages go after the
+-- queue; then those before the queue's first request leave it, and their answers go after the output. The need
 -- is what the parser said where it found no message in what is left.
-pub record ReadsOn (before : SessionState) (ms : List Message) (after : SessionState) : Type 0 where
+pub record ReadsMessages (before : SessionState) (ms : List Message) (after : SessionState) : Type 0 where
   pub read : List ℕ
   pub reads : Reads before.dialect read ms []
   pub dialect : after.dialect ≡ before.dialect
   pub unread : before.unread ≡ read ++ after.unread
   pub not_ended : is_some before.ended ≡ true → ms ≡ []
   pub ended : after.ended ≡ ended_by before.ended ms
-  pub queue : after.queue ≡ left (before.queue ++ ms) []
+  pub queue : after.queue ≡ messages_left (before.queue ++ ms) []
   pub out : after.out ≡ before.out ++ said (before.queue ++ ms) []
   pub need : (after.need ≡ need_after before.need ms) ⊎ IsUnfinished before.dialect after.unread after.need
   pub held : after.held ≡ before.held
   pub over : after.is_over ≡ before.is_over
 
 -- The queue's first request gets its reply; then the messages before the next request leave the queue, and
--- the answers go behind the output.
+-- the answers go after the output.
 abbrev pub with_reply : SessionState → Reply → SessionState
-with_reply s reply = record s { queue = left s.queue (reply ∷ []); out = s.out ++ said s.queue (reply ∷ []) }
+with_reply s reply = record s { queue = messages_left s.queue (reply ∷ []); out = s.out ++ said s.queue (reply ∷ []) }
 
 -- n bytes of the output were given
 abbrev pub gave : SessionState → ℕ → SessionState
@@ -134,7 +134,7 @@ pub record IsEmptied (s : SessionState) : Type 0 where
   pub unfinished : finished_by s ≡ None
   pub stops : Stops s
 
--- the piece doesn't fit behind the unread bytes; it always does once the session drops its input
+-- the piece doesn't fit after the unread bytes; it always does once the session drops its input
 abbrev pub IsInputFull : SessionState → List ℕ → Type 0
 IsInputFull s piece = (s.ended ≡ None) × (MAX_UNREAD < length s.unread + length piece)
 
@@ -154,8 +154,8 @@ TakesPiece s piece received.Held after = (s.held ≡ []) × IsInputFull s piece 
 TakesPiece s piece received.Refused after = after ≡ s
 TakesPiece s piece received.Unknown after = ⊥
 
--- What becomes of the held piece: it is fed where it fits, or there is none, or it doesn't fit yet; want of memory
--- changes nothing.
+-- What becomes of the held piece: it is fed where it fits, or there is none, or it doesn't fit yet. Out of memory,
+-- nothing changes.
 abbrev pub FeedsHeld : SessionState → Result Bool NoMemory → SessionState → Type 0
 FeedsHeld s (Ok true) after = ¬ (IsInputFull s s.held) × (after ≡ held_fed s)
 FeedsHeld s (Ok false) after = ((s.held ≡ []) ⊎ IsInputFull s s.held) × (after ≡ s)
@@ -172,7 +172,7 @@ pub record IsReady (s : SessionState) : Type 0 where
 pub record ReadsUpTo (before : SessionState) (looks : ℕ) (messages : List Message) (requests : List Request)
     (after : SessionState)
     (looks_after : ℕ) : Type 0 where
-  pub reads : ReadsOn before messages after
+  pub reads : ReadsMessages before messages after
   pub ask_at_last : AskAtLast messages
   pub requests_are : asks messages ≡ requests
   pub waits : MAX_WAITING < length before.out → messages ≡ []
@@ -193,14 +193,14 @@ pub record ReadsAsk (before : SessionState) (looks : ℕ) (result : Result (Opti
   pub none : result ≡ Ok None → Stops after
   pub refused : (e : NoMemory) → result ≡ Err e → IsReady after
 
--- A message is read: its spelling leaves the unread bytes, and it goes behind the queue.
+-- A message is read: its spelling leaves the unread bytes, and it goes after the queue.
 pub record ReadsMessage (before : SessionState) (m : Message) (after : SessionState) : Type 0 where
   pub piece : List ℕ
   pub spells : Spells before.dialect piece m
   pub dialect : after.dialect ≡ before.dialect
   pub unread : before.unread ≡ piece ++ after.unread
   pub ended : after.ended ≡ ended_by before.ended (m ∷ [])
-  pub queue : after.queue ≡ left (before.queue ++ m ∷ []) []
+  pub queue : after.queue ≡ messages_left (before.queue ++ m ∷ []) []
   pub out : after.out ≡ before.out ++ said (before.queue ++ m ∷ []) []
   pub need : after.need ≡ 1
   pub held : after.held ≡ before.held
@@ -229,7 +229,7 @@ read_of (Wrong kind) = reads.Local
 read_of Quit = reads.Local
 read_of (Fatal kind) = reads.Local
 
--- what one call of the parser comes to; want of memory changes nothing
+-- what one call of the parser comes to; out of memory, nothing changes
 abbrev pub ReadsOne : SessionState → Result Read NoMemory → SessionState → Type 0
 ReadsOne before (Ok reads.Nothing) after = TakesNothing before after
 ReadsOne before (Ok reads.Local) after = TakesLocal before after

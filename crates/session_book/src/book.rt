@@ -1,14 +1,15 @@
 //! The sessions of one worker: reading what they were fed, and answering in the order of their messages.
 
-ghost use Rattle.std.specs.Prelude.{ℕ, ◌≡◌, ◌⊎◌, ◌+◌, ◌≤◌, ◌<◌, ◌↔◌, [], length, is_some, option_map};
+ghost use Rattle.std.specs.Prelude.{ℕ, ◌≡◌, ◌⊎◌, ◌+◌, ◌≤◌, ◌<◌, ◌↔◌, [], length, is_some, option_map, slice_get, IfSome};
 ghost use Rattle.std.specs.Prelude.{OnOk, OnErr};
 ghost use Rattle.session_book.specs.Session.{SessionState, IsEmptied, new_session, gave, finished_by, once_over, HasReadAll};
 ghost use Rattle.std.specs.Bool.{OnTrue, OnFalse};
-ghost use Rattle.std.specs.Option.{option_and_then};
+ghost use Rattle.std.specs.Option.{option_and_then, option_copied};
 ghost use Rattle.std.specs.VecDeque.{deque_len, deque_capacity};
 ghost use Rattle.proto.specs.declared.limits.TheConstants.{WINDOW};
 ghost use Rattle.proto.specs.declared.message.Request.{Request};
 ghost use Rattle.proto.specs.Reading.{asks};
+ghost use Rattle.indexmap.specs.IndexMap.{index_map_len};
 ghost use Rattle.session_book.specs.Entries.{state_at, AsksEntry, SettlesEntry};
 
 use crate::causes::{EndCause, OpenFault, Received, Settled, Unsettled};
@@ -17,15 +18,16 @@ use crate::ready_queues::Task;
 use crate::session::Session;
 use crate::upkeep::Upkeep;
 use bytes::Bytes;
+use indexmap::IndexMap;
 use proto::{Answered, Dialect, NoMemory, Request, WINDOW};
 use std::alloc::Global;
-use std::collections::{HashMap, VecDeque};
+use std::collections::VecDeque;
 use std::marker::Model;
 
 /// What is to be done with a session's output now.
 #[derive(Clone, Copy)]
 pub struct Offer<'a> {
-    /// The output, empty where it is none or where more is about to stand behind it.
+    /// The output, empty where it is none or where more is about to stand after it.
     pub out: &'a [u8],
     /// Why it has ended, once all before that was answered and given.
     pub finished: Option<EndCause>,
@@ -40,7 +42,7 @@ pub struct Book {
     alloc: Global,
     worker: usize,
     dialect: Dialect,
-    sessions: HashMap<u64, Session>,
+    sessions: IndexMap<u64, Session>,
     posted: u64,
     unsettled: VecDeque<Unsettled>,
     greatest: u64,
@@ -98,7 +100,7 @@ impl Book {
             alloc,
             worker,
             dialect,
-            sessions: HashMap::new(alloc),
+            sessions: IndexMap::new(alloc),
             posted: 0,
             unsettled: VecDeque::new(alloc),
             greatest: 0,
@@ -141,14 +143,15 @@ impl Book {
         Ok(())
     }
 
-    /// Puts a piece of input behind the unread bytes, or holds it until it fits. A session that has read Quit or a fatal
+    /// Puts a piece of input after the unread bytes, or holds it until it fits. A session that has read Quit or a fatal
     /// message drops it.
     pub fn receive(&mut self, session: u64, piece: Bytes) -> Received
         ensures { Receives self.old session piece result self.new }
     {
-        let Some(open) = self.sessions.get_mut(&session) else {
+        let Some(place) = find(&self.sessions, session, &mut self.upkeep.ready.place) else {
             return Received::Unknown;
         };
+        let (_, open) = self.sessions.pair_mut(place);
         open.receive(session, piece, &mut self.upkeep)
     }
 
@@ -175,7 +178,8 @@ impl Book {
     /// `NoMemory` the messages before the refused one stay read. A `get` is lent a spare buffer for its hits.
     pub fn next_ask(&mut self, session: u64) -> Result<Option<(Request, u64)>, NoMemory>
         ensures closed { session_of self.old session ≡ None → (result ≡ Ok None) × (self.new ≡ self.old) }
-        ensures open { (s : SessionState) → session_of self.old session ≡ Some s → NextAsk self.old session s result self.new }
+        ensures open { (s : SessionState) → session_of self.old session ≡ Some s
+            → NextAsk self.old session s result self.new }
     {
         if self.is_full() || self.posted >= MAX_POSTS {
             return Ok(None);
@@ -197,7 +201,7 @@ impl Book {
         Ok(Some((request, number)))
     }
 
-    /// Puts the answer to the oldest unsettled request behind the output of its session, and behind it the answers
+    /// Puts the answer to the oldest unsettled request after the output of its session, and after it the answers
     /// that waited for it. The memory of its hits is kept for another request.
     pub fn settle(&mut self, answered: Answered) -> Settled
         ensures { Settles self.old answered result self.new }
@@ -239,7 +243,7 @@ impl Book {
         ensures finished { result.finished ≡ option_and_then finished_by (session_of self.now session) }
         ensures read { HasReadAll (session_of self.now session) result.finished }
     {
-        let Some(open) = self.sessions.get(&session) else {
+        let Some(open) = found_at(&self.sessions, session, self.upkeep.ready.place) else {
             return Offer {
                 out: &[],
                 finished: None,
@@ -267,13 +271,13 @@ impl Book {
     /// `n` bytes of the output were given. It answers whether the session has finished by now.
     pub fn gave(&mut self, session: u64, n: usize) -> Option<EndCause>
         requires { n ≤ length (out_of (session_of self.old session)) }
-        ensures gave { ChangesSession self.old self.new session (option_map (λ s. gave s n) (session_of self.old session)) }
+        ensures gave { ChangesSession self.old self.new session
+            (option_map (λ s. gave s n) (session_of self.old session)) }
         ensures finished { result ≡ option_and_then finished_by (session_of self.new session) }
         ensures read { HasReadAll (session_of self.new session) result }
     {
-        let Some(open) = self.sessions.get_mut(&session) else {
-            return None;
-        };
+        let place = find(&self.sessions, session, &mut self.upkeep.ready.place)?;
+        let (_, open) = self.sessions.pair_mut(place);
         open.gave(session, n, &mut self.upkeep);
         open.finished()
     }
@@ -289,14 +293,15 @@ impl Book {
     pub fn close(&mut self, session: u64)
         ensures { ChangesSession self.old self.new session None }
     {
-        if let Some(open) = self.sessions.remove(&session) {
+        if let Some(open) = self.sessions.swap_remove(&session) {
             self.upkeep.load.output_changed(open.out().len(), 0);
         }
     }
 
     /// A session that has input or output left, or has finished, if there is one.
     pub fn find_unemptied(&self) -> Option<u64>
-        ensures { result ≡ None → (session : ℕ) (s : SessionState) → session_of self.now session ≡ Some s → IsEmptied s }
+        ensures { result ≡ None → (session : ℕ) (s : SessionState) → session_of self.now session ≡ Some s
+            → IsEmptied s }
     {
         for (session, open) in &self.sessions {
             if !open.is_emptied() {
@@ -352,9 +357,46 @@ impl Book {
     }
 }
 
+/// The place of a session in the table. One that doesn't stand at `place` is looked up, and `place` is its place then: so one
+/// call after another finds the session where the last one did.
+pub(crate) fn find(
+    sessions: &IndexMap<u64, Session>,
+    session: u64,
+    place: &mut usize,
+) -> Option<usize>
+    ensures none { result ≡ None → state_at sessions.now.entries session ≡ None }
+    ensures at { IfSome result (λ i. option_map (λ e. e.0) (slice_get sessions.now.entries i) ≡ Some session) }
+    ensures within { IfSome result (λ i. i < index_map_len sessions.now) }
+{
+    if let Some((number, _)) = sessions.get_index(*place) {
+        if *number == session {
+            return Some(*place);
+        }
+    }
+    let (found, _, _) = sessions.get_full(&session)?;
+    *place = found;
+    Some(found)
+}
+
+/// The session, which is looked up where it doesn't stand at `place`.
+pub(crate) fn found_at(
+    sessions: &IndexMap<u64, Session>,
+    session: u64,
+    place: usize,
+) -> Option<&Session>
+    ensures { option_copied result ≡ state_at sessions.now.entries session }
+{
+    if let Some((number, open)) = sessions.get_index(place) {
+        if *number == session {
+            return Some(open);
+        }
+    }
+    sessions.get(&session)
+}
+
 /// Reads a session up to its next request, for which there is room among the unsettled ones then.
 fn ask_session(
-    sessions: &mut HashMap<u64, Session>,
+    sessions: &mut IndexMap<u64, Session>,
     session: u64,
     unsettled: &mut VecDeque<Unsettled>,
     looks: &mut u64,
@@ -365,31 +407,35 @@ fn ask_session(
     ensures open { (s : SessionState) → state_at sessions.old.entries session ≡ Some s
         → AsksEntry sessions.old.entries sessions.new.entries session s looks.old result looks.new }
     ensures kept { unsettled.new.items ≡ unsettled.old.items }
-    ensures room { (request : Request) → result ≡ Ok (Some request) → deque_len unsettled.new < deque_capacity unsettled.new }
+    ensures room { (request : Request) → result ≡ Ok (Some request)
+        → deque_len unsettled.new < deque_capacity unsettled.new }
 {
-    match sessions.get_mut(&session) {
-        Some(open) => open.next_ask(session, unsettled, looks, upkeep),
-        None => Ok(None),
-    }
+    let Some(place) = find(sessions, session, &mut upkeep.ready.place) else {
+        return Ok(None);
+    };
+    let (_, open) = sessions.pair_mut(place);
+    open.next_ask(session, unsettled, looks, upkeep)
 }
 
 /// Gives the first unsettled request of a session its reply. Where there is no memory for it the session is closed.
 fn settle_session(
-    sessions: &mut HashMap<u64, Session>,
+    sessions: &mut IndexMap<u64, Session>,
     answered: &mut Answered,
     upkeep: &mut Upkeep,
 ) -> Settled
-    requires { (s : SessionState) → state_at sessions.old.entries answered.old.session ≡ Some s → 0 < length (asks s.queue) }
+    requires { (s : SessionState) → state_at sessions.old.entries answered.old.session ≡ Some s
+        → 0 < length (asks s.queue) }
     ensures { SettlesEntry sessions.old.entries answered.old result sessions.new.entries }
 {
     let session = answered.session;
-    let Some(open) = sessions.get_mut(&session) else {
+    let Some(place) = find(sessions, session, &mut upkeep.ready.place) else {
         return Settled::Dropped;
     };
+    let (_, open) = sessions.pair_mut(place);
     match open.settle(session, &mut answered.reply, upkeep) {
         Ok(()) => Settled::Kept,
         Err(NoMemory) => {
-            sessions.remove(&session);
+            sessions.swap_remove(&session);
             Settled::Starved
         }
     }

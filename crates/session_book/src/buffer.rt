@@ -1,4 +1,4 @@
-//! Bytes that come in behind and go out in front.
+//! Bytes that come in at the back and go out in front.
 
 ghost use Rattle.std.specs.Prelude.{◌≡◌, ◌++◌, [], length, drop, ◌≤◌, OnOk, OnErr};
 ghost use Rattle.std.specs.Prelude.{is_some, IsOk, IsTrue};
@@ -50,7 +50,7 @@ impl Buffer {
         &self.bytes.as_slice()[self.start..]
     }
 
-    /// Puts bytes behind the others.
+    /// Puts bytes after the others.
     pub fn append(&mut self, piece: &[u8]) -> Result<(), NoMemory>
         ensures ok { OnOk result (self.new ≡ self.old ++ piece.now) }
         ensures err { OnErr result (self.new ≡ self.old) }
@@ -59,7 +59,7 @@ impl Buffer {
         Ok(())
     }
 
-    /// Puts an answer behind the others.
+    /// Puts an answer after the others.
     pub fn show(
         &mut self,
         pending: &PendingAnswer,

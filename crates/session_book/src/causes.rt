@@ -23,7 +23,7 @@ pub enum FeedFault {
 /// What became of a piece of input that came.
 #[derive(Clone, Copy, Debug, PartialEq, Eq)]
 pub enum Received {
-    /// It stands behind the unread bytes, or was dropped where the session has ended itself.
+    /// It stands after the unread bytes, or was dropped where the session has ended itself.
     Fed,
     /// It doesn't fit, and is held until it does.
     Held,
@@ -36,7 +36,7 @@ pub enum Received {
 /// What became of an answer.
 #[derive(Clone, Copy, Debug, PartialEq, Eq)]
 pub enum Settled {
-    /// Its bytes stand behind the output of its session.
+    /// Its bytes stand after the output of its session.
     Kept,
     /// Its session was closed.
     Dropped,
@@ -56,7 +56,7 @@ pub enum EndCause {
     Quit,
     /// A fatal message was read.
     Fatal,
-    /// The peer has gone.
+    /// The port told that the peer has gone. A socket's port tells it too of a session that it ended as idle.
     Gone,
     NoMemory,
 }

@@ -21,7 +21,7 @@ pub const MAX_HIT: usize = 131_128;
 pub const MAX_KEYS: usize = (MAX_HITS - MAX_ANSWER) / MAX_HIT;
 
 /// Bytes of waiting output, over all sessions, above which one request at a time goes on. What is on its way then is put
-/// behind them, and after that one answer at a time, of a session whose own output isn't above `MAX_WAITING`.
+/// after them, and then one answer at a time, of a session whose own output isn't above `MAX_WAITING`.
 pub const MAX_OUTPUT: usize = 67_108_864;
 
 /// Sessions that a worker opens in a run.

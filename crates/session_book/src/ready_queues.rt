@@ -19,11 +19,11 @@ pub enum Task {
 /// How many tasks there are.
 const TASKS: usize = 4;
 
-/// A queue of sessions by their numbers. A session that joins it draws a ticket, which counts those that ever joined, and
+/// A queue of sessions by their numbers, with the places where they stood in the table. A session that joins it draws a ticket, which counts those that ever joined, and
 /// is in the queue while its ticket is above the number of those that have left: who leaves isn't looked up.
 #[derive(Drop)]
 struct ReadyQueue {
-    sessions: VecDeque<u64>,
+    sessions: VecDeque<(u64, usize)>,
     left: u64,
 }
 
@@ -41,24 +41,6 @@ impl ReadyQueue {
             self.sessions.reserve(additional.saturating_mul(2))?;
         }
         Ok(())
-    }
-
-    fn has(&self, ticket: u64) -> bool {
-        ticket > self.left
-    }
-
-    /// The session's ticket. It is 0, which is none, where there is no memory.
-    fn push(&mut self, session: u64) -> u64 {
-        match self.sessions.push_back(session) {
-            Ok(()) => self.left.saturating_add(self.sessions.len() as u64),
-            Err(_) => 0,
-        }
-    }
-
-    fn pop(&mut self) -> Option<u64> {
-        let session = self.sessions.pop_front()?;
-        self.left = self.left.saturating_add(1);
-        Some(session)
     }
 }
 
@@ -80,6 +62,8 @@ impl Tickets {
 #[derive(Drop)]
 pub(crate) struct ReadyQueues {
     queues: [ReadyQueue; TASKS],
+    /// Where the session that was found last, or taken out of a queue, stands in the table.
+    pub(crate) place: usize,
 }
 
 impl ReadyQueues {
@@ -91,6 +75,7 @@ impl ReadyQueues {
                 ReadyQueue::new(alloc),
                 ReadyQueue::new(alloc),
             ],
+            place: 0,
         }
     }
 
@@ -102,7 +87,8 @@ impl ReadyQueues {
         Ok(())
     }
 
-    /// Puts the session into the queue of the task, unless it stands there, or for output in either of both.
+    /// Puts the session into the queue of the task, unless it stands there, or for output in either of both. Its ticket is 0,
+    /// which is none, where there is no memory.
     pub(crate) fn add(&mut self, task: Task, session: u64, tickets: &mut Tickets) {
         let stands = match task {
             Task::Feed | Task::Ask => self.has(task, tickets),
@@ -110,19 +96,28 @@ impl ReadyQueues {
                 self.has(Task::Give, tickets) || self.has(Task::RetryWrite, tickets)
             }
         };
-        if !stands {
-            tickets.drawn[task as usize] = self.queues[task as usize].push(session);
+        if stands {
+            return;
         }
+        let queue = &mut self.queues[task as usize];
+        tickets.drawn[task as usize] = match queue.sessions.push_back((session, self.place)) {
+            Ok(()) => queue.left.saturating_add(queue.sessions.len() as u64),
+            Err(_) => 0,
+        };
     }
 
     /// Whether the session that has these tickets stands in the queue of the task.
     pub(crate) fn has(&self, task: Task, tickets: &Tickets) -> bool {
-        self.queues[task as usize].has(tickets.drawn[task as usize])
+        tickets.drawn[task as usize] > self.queues[task as usize].left
     }
 
     /// Takes out the next session that is to be taken up for the task.
     pub(crate) fn next(&mut self, task: Task) -> Option<u64> {
-        self.queues[task as usize].pop()
+        let queue = &mut self.queues[task as usize];
+        let (session, place) = queue.sessions.pop_front()?;
+        queue.left = queue.left.saturating_add(1);
+        self.place = place;
+        Some(session)
     }
 
     /// How many sessions are to be taken up for the task.

@@ -6,14 +6,13 @@ ghost use Rattle.std.specs.VecDeque.{deque_len, deque_capacity};
 ghost use Rattle.proto.specs.declared.message.Request.{Request};
 ghost use Rattle.std.specs.Bool.{OnTrue, OnFalse};
 ghost use Rattle.proto.specs.Answers.{said};
-ghost use Rattle.session_book.specs.Session.{begins_asked, left, ended_by, read_of};
+ghost use Rattle.session_book.specs.Session.{begins_asked, messages_left, ended_by, read_of};
 ghost use Rattle.proto.specs.Reading.{asks};
 
 use crate::buffer::Buffer;
 use crate::causes::{EndCause, FeedFault, Received, Unsettled};
 use crate::limits::{MAX_UNREAD, MAX_WAITING};
 use crate::ready_queues::{Task, Tickets};
-use crate::spare_buffers::SpareBuffers;
 use crate::upkeep::Upkeep;
 use bytes::Bytes;
 use proto::{
@@ -24,12 +23,12 @@ use std::alloc::Global;
 use std::collections::VecDeque;
 use std::marker::Model;
 
-/// The bytes of output that are given though more will stand behind them.
+/// The bytes of output that are given though more will stand after them.
 const WORTH_GIVING: usize = 16_384;
 
 /// The room at which a held piece is fed, so that its port gives as many bytes before it is paused again.
-/// What may then be left to read, 196,608 bytes, is above the longest spelling: a session that is read no further, for want
-/// of a whole message, has the room.
+/// What may then be left to read, 196,608 bytes, is above the longest spelling: a session that is read no further, since
+/// no whole message has come, has the room.
 const WORTH_FEEDING: usize = 65_536;
 
 /// The state of a session from its first input on, with its tickets of the book's ready queues. Contracts see it as
@@ -104,7 +103,7 @@ impl Session {
         }
     }
 
-    /// Puts a piece of input behind the unread bytes. A session that has read Quit or a fatal message drops it.
+    /// Puts a piece of input after the unread bytes. A session that has read Quit or a fatal message drops it.
     fn feed(&mut self, piece: &[u8]) -> Result<(), FeedFault>
         ensures full { (result ≡ Err FeedFault.Full) ↔ IsInputFull self.old piece.now }
         ensures ok { OnOk result (self.new ≡ once_fed self.old piece.now) }
@@ -119,24 +118,6 @@ impl Session {
         match self.input.append(piece) {
             Ok(()) => Ok(()),
             Err(NoMemory) => Err(FeedFault::NoMemory),
-        }
-    }
-
-    /// Feeds a piece, or holds it until it fits.
-    fn take_piece(&mut self, piece: Bytes, spares: &mut SpareBuffers) -> Received
-        ensures { TakesPiece self.old piece result self.new }
-    {
-        if self.held.is_some() {
-            return Received::Refused;
-        }
-        spares.lend_input(&mut self.input);
-        match self.feed(&piece) {
-            Ok(()) => Received::Fed,
-            Err(FeedFault::Full) => {
-                self.held = Some(piece);
-                Received::Held
-            }
-            Err(FeedFault::NoMemory) => Received::Refused,
         }
     }
 
@@ -227,23 +208,6 @@ impl Session {
         }
     }
 
-    /// Gives the first request of the queue its reply. Where there is no memory for the bytes the session is of no
-    /// further use.
-    fn take_reply(&mut self, reply: &mut Reply, spares: &mut SpareBuffers) -> Result<(), NoMemory>
-        requires { 0 < length (asks self.old.queue) }
-        ensures ok { OnOk result (self.new ≡ with_reply self.old reply.old) }
-        ensures silent { said self.old.queue (reply.old ∷ []) ≡ [] → IsOk result }
-    {
-        spares.lend_output(&mut self.output);
-        match answer_first(&mut self.queue, reply, &mut self.output) {
-            Ok(()) => Ok(()),
-            Err(e) => {
-                self.queue.clear();
-                Err(e)
-            }
-        }
-    }
-
     pub fn out(&self) -> &[u8]
         ensures { result.now ≡ self.now.out }
     {
@@ -291,11 +255,21 @@ impl Session {
     pub fn receive(&mut self, session: u64, piece: Bytes, upkeep: &mut Upkeep) -> Received
         ensures { TakesPiece self.old piece result self.new }
     {
-        let received = self.take_piece(piece, &mut upkeep.spares);
-        if received == Received::Fed {
-            self.ask_later(session, upkeep);
+        if self.held.is_some() {
+            return Received::Refused;
         }
-        received
+        upkeep.spares.lend_input(&mut self.input);
+        match self.feed(&piece) {
+            Ok(()) => {
+                upkeep.ready.add(Task::Ask, session, &mut self.tickets);
+                Received::Fed
+            }
+            Err(FeedFault::Full) => {
+                self.held = Some(piece);
+                Received::Held
+            }
+            Err(FeedFault::NoMemory) => Received::Refused,
+        }
     }
 
     /// Feeds the held piece, if it fits by now.
@@ -320,7 +294,8 @@ impl Session {
     ) -> Result<Option<Request>, NoMemory>
         ensures reads { ReadsAsk self.old looks.old result self.new looks.new }
         ensures kept { unsettled.new.items ≡ unsettled.old.items }
-        ensures room { (request : Request) → result ≡ Ok (Some request) → deque_len unsettled.new < deque_capacity unsettled.new }
+        ensures room { (request : Request) → result ≡ Ok (Some request)
+            → deque_len unsettled.new < deque_capacity unsettled.new }
     {
         if !self.is_ready() {
             self.was_asked(session, upkeep);
@@ -350,35 +325,52 @@ impl Session {
         ensures silent { said self.old.queue (reply.old ∷ []) ≡ [] → IsOk result }
     {
         let before = self.output.len();
-        let settled = self.take_reply(reply, &mut upkeep.spares);
-        if settled.is_err() {
-            upkeep.load.output_changed(before, 0);
-        } else {
-            upkeep.load.output_changed(before, self.output.len());
-            upkeep.ready.add(Task::Give, session, &mut self.tickets);
+        upkeep.spares.lend_output(&mut self.output);
+        match answer_first(&mut self.queue, reply, &mut self.output) {
+            Ok(()) => {
+                upkeep.load.output_changed(before, self.output.len());
+                upkeep.ready.add(Task::Give, session, &mut self.tickets);
+                Ok(())
+            }
+            Err(e) => {
+                self.queue.clear();
+                upkeep.load.output_changed(before, 0);
+                Err(e)
+            }
         }
-        settled
     }
 
-    /// `n` bytes of the output were given.
+    /// `n` bytes of the output were given. A session that had too much output is asked again.
     pub fn gave(&mut self, session: u64, n: usize, upkeep: &mut Upkeep)
         requires { n ≤ length self.old.out }
         ensures { self.new ≡ gave self.old n }
     {
         self.output.discard(n);
         upkeep.load.output_changed(n, 0);
-        self.was_given(session, n, upkeep);
+        upkeep.spares.keep_output(&mut self.output);
+        let left = self.output.len();
+        if left.saturating_add(n) > MAX_WAITING {
+            upkeep.ready.add(Task::Ask, session, &mut self.tickets);
+        }
+        if n == 0 {
+            upkeep
+                .ready
+                .add(Task::RetryWrite, session, &mut self.tickets);
+        } else if left > 0 {
+            upkeep.ready.add(Task::Give, session, &mut self.tickets);
+        }
     }
 
-    /// The output, where it is to be given now.
+    /// The output, where it is to be given now: little output waits for the answers that are outstanding, and for the input
+    /// that is left to be read.
     pub fn offer(&self, upkeep: &Upkeep) -> &[u8]
         ensures { (result.now ≡ []) ⊎ (result.now ≡ self.now.out) }
     {
-        if self.is_worth_giving(upkeep) {
-            self.out()
-        } else {
-            &[]
+        let waits = !self.queue.is_empty() || upkeep.ready.has(Task::Ask, &self.tickets);
+        if waits && self.output.len() < WORTH_GIVING {
+            return &[];
         }
+        self.output.as_slice()
     }
 
     pub fn ask_later(&mut self, session: u64, upkeep: &mut Upkeep)
@@ -405,30 +397,6 @@ impl Session {
     fn has_room(&self) -> bool {
         self.ended.is_some() || self.input.len() <= MAX_UNREAD - WORTH_FEEDING
     }
-
-    /// Of the bytes offered `accepted` were taken. A session that had too much output is asked again.
-    fn was_given(&mut self, session: u64, accepted: usize, upkeep: &mut Upkeep)
-        ensures { self.new ≡ self.old }
-    {
-        upkeep.spares.keep_output(&mut self.output);
-        if self.output.len().saturating_add(accepted) > MAX_WAITING {
-            upkeep.ready.add(Task::Ask, session, &mut self.tickets);
-        }
-        if accepted == 0 {
-            upkeep
-                .ready
-                .add(Task::RetryWrite, session, &mut self.tickets);
-        } else if self.output.len() > 0 {
-            upkeep.ready.add(Task::Give, session, &mut self.tickets);
-        }
-    }
-
-    /// Whether the output is to be given now: little output waits for the answers that are outstanding, and for the
-    /// input that is left to be read.
-    fn is_worth_giving(&self, upkeep: &Upkeep) -> bool {
-        self.output.len() >= WORTH_GIVING
-            || (self.queue.is_empty() && !upkeep.ready.has(Task::Ask, &self.tickets))
-    }
 }
 
 /// How a message ends its session.
@@ -452,14 +420,14 @@ fn read_of(message: Message) -> Read
     }
 }
 
-/// Puts a message behind the queue, or answers it at once where nothing is before it.
+/// Puts a message after the queue, or answers it at once where nothing is before it.
 fn put_behind(
     queue: &mut VecDeque<PendingAnswer>,
     out: &mut Buffer,
     message: &Message,
 ) -> Result<(), NoMemory>
     requires { begins_asked queue.old.items ≡ true }
-    ensures queue { OnOk result (queue.new.items ≡ left (queue.old.items ++ message.now ∷ []) []) }
+    ensures queue { OnOk result (queue.new.items ≡ messages_left (queue.old.items ++ message.now ∷ []) []) }
     ensures out { OnOk result (out.new ≡ out.old ++ said (queue.old.items ++ message.now ∷ []) []) }
     ensures err_queue { OnErr result (queue.new.items ≡ queue.old.items) }
     ensures err_out { OnErr result (out.new ≡ out.old) }
@@ -480,7 +448,7 @@ fn answer_first(
 ) -> Result<(), NoMemory>
     requires first { 0 < length queue.old.items }
     requires asked { begins_asked queue.old.items ≡ true }
-    ensures queue { OnOk result (queue.new.items ≡ left queue.old.items (reply.old ∷ [])) }
+    ensures queue { OnOk result (queue.new.items ≡ messages_left queue.old.items (reply.old ∷ [])) }
     ensures out { OnOk result (out.new ≡ out.old ++ said queue.old.items (reply.old ∷ [])) }
     ensures silent { said queue.old.items (reply.old ∷ []) ≡ [] → IsOk result }
 {
@@ -492,7 +460,7 @@ fn answer_first(
 
 /// Answers the messages before the first request of the queue.
 fn answer_locals(queue: &mut VecDeque<PendingAnswer>, out: &mut Buffer) -> Result<(), NoMemory>
-    ensures queue { OnOk result (queue.new.items ≡ left queue.old.items []) }
+    ensures queue { OnOk result (queue.new.items ≡ messages_left queue.old.items []) }
     ensures out { OnOk result (out.new ≡ out.old ++ said queue.old.items []) }
     ensures silent { said queue.old.items [] ≡ [] → IsOk result }
 {

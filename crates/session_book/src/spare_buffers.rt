@@ -41,8 +41,9 @@ impl Model for SpareBuffers {
       hits = a.hits.items;
     } };
 
-    ghost invariant = { λ a. (sum a.inputs.items + sum a.outputs.items + sum a.hits.items ≡ a.bytes) × (a.bytes ≤ 16777216)
-        × (length a.inputs.items ≤ 128) × (length a.outputs.items ≤ 128) × (length a.hits.items ≤ 128) };
+    ghost invariant = { λ a. (sum a.inputs.items + sum a.outputs.items + sum a.hits.items ≡ a.bytes)
+        × (a.bytes ≤ 16777216) × (length a.inputs.items ≤ 128)
+        × (length a.outputs.items ≤ 128) × (length a.hits.items ≤ 128) };
 }
 
 /// The buffer that was kept last, if there is one.

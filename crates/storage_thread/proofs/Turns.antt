@@ -18,9 +18,9 @@ use Rattle.proto.specs.History.{worker_share, answers_by}
 use Rattle.exchange.specs.declared.messages.Taken.TheVariants.{Asked, Bye}
 use Rattle.proto.specs.Counts.{times}
 use Rattle.exchange.specs.Ends.{StorageView}
-use Rattle.engine.specs.Reaching.{moments_after, last_or, Reaches}
-use Rattle.engine.proofs.ReachingLemmas.{moments, moment_after, moments_more, times_more, answers_more}
-use Rattle.storage_thread.specs.Serving.{AsksClock, IsReadSince, IsTimed, seconds_of, taken_as, SaidBye, IsUnused, GetsNone, GetsMessage, AnswersOpenRequest}
+use Rattle.engine.specs.Reaching.{Reaches}
+use Rattle.engine.proofs.ReachingLemmas.{answers_more}
+use Rattle.storage_thread.specs.Serving.{AsksClock, IsReadSince, IsTimed, taken_as, SaidBye, IsUnused, GetsNone, GetsMessage, AnswersOpenRequest}
 use Rattle.storage_thread.specs.Serving.{IsStorageServing}
 use Rattle.proto.proofs.CountLemmas.{one_more_time, no_more_time}
 
@@ -64,7 +64,7 @@ one_answer_more (Some told) mid after answers n first then =
 
 -- before the first request the clock has given no answer
 pub timed_first : (told : Option (List ℕ)) (h : List Answered) → h ≡ [] → IsTimed told told h
-timed_first told h none = ([], no_answers told, ap moments none, ap (λ (l : List Answered). seconds_of (answers_by [] l)) none)
+timed_first told h none = subst (IsTimed told told) (sym none) (no_answers told)
 
 -- answers that were read off the system's clock, and one more
 pub read_more : (b : Bool) (old new : Option ClockStart) (h : List Answered) (e : Answered) (a : GivenAnswer)
@@ -200,21 +200,17 @@ module _ (now mid : StorageView) (w : ℕ) (p : Posted) (f : GetsMessage now mid
     pub answers_asked : told ≡ answers_by [] new.history
     answers_asked = sym a.4 ∙ sym (answers_more [] now.history a.0) ∙ ap (answers_by []) (sym one_entry)
 
-    pub timed_asked : {C : Type 0} (tells : C → Option (List ℕ)) (start : C → Option ClockStart) (before : Option (List ℕ)) (then after : AskedClock C) (m₀ : ℕ)
-        → last_or 0 (moments now.history) ≡ m₀ → then.answers ≡ answers_by [] now.history → after.answers ≡ told
+    pub timed_asked : {C : Type 0} (tells : C → Option (List ℕ)) (start : C → Option ClockStart) (before : Option (List ℕ))
+        (then after : AskedClock C) (m₀ : ℕ) → then.answers ≡ answers_by [] now.history → after.answers ≡ told
         → IsTimed before (tells then.clock) now.history → AsksClock tells start then m₀ after m
         → IsTimed before (tells after.clock) new.history
-    timed_asked tells start before then after m₀ last_is then_is after_is t asked = let n = asked.0.seconds in (
-      t.0 ++ n ∷ [],
-      one_answer_more before (tells then.clock) (tells after.clock) t.0 n t.1 asked.1,
-      ap moments one_entry ∙ (moments_more now.history a.0 ∙ (ap (λ (l : List ℕ). l ++ a.0.moment ∷ []) t.2
-          ∙ ((λ i. moments_after 0 t.0 ++
-          (a.3 ∙ asked.3 ∙ ap (λ (z : ℕ). moment_after z n) (sym last_is ∙ ap (last_or 0) t.2)) i ∷ [])
-          ∙ sym (times_more 0 t.0 n)))),
-      ap seconds_of (sym answers_asked ∙ sym after_is ∙ asked.2)
-          ∙ map-append (λ (x : GivenAnswer). x.seconds) then.answers (asked.0 ∷ [])
-          ∙ ap (λ (l : List ℕ). l ++ n ∷ []) (ap seconds_of then_is ∙ t.3),
-    )
+    timed_asked tells start before then after m₀ then_is after_is t asked =
+        let seconds : List GivenAnswer → List ℕ = map (λ (x : GivenAnswer). x.seconds) in
+        one_answer_more before (tells then.clock) (tells after.clock) (seconds (answers_by [] now.history)) asked.0.seconds t asked.1
+        ∙ ap (λ (l : List ℕ). option_map (λ (told : List ℕ). told ++ l) before)
+        (sym (ap seconds (sym answers_asked ∙ sym after_is ∙ asked.2)
+        ∙ map-append (λ (x : GivenAnswer). x.seconds) then.answers (asked.0 ∷ [])
+        ∙ ap (λ (l : List GivenAnswer). seconds l ++ asked.0.seconds ∷ []) then_is))
 
 -- one bye of each worker
 

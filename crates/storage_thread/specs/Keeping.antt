@@ -31,7 +31,8 @@ ForgetsNothing sizes before (e ∷ history) (after ∷ caches) =
     × ForgetsNothing sizes after history caches
 ForgetsNothing _ _ _ _ = ⊤
 
--- where each chain stores no more than all segments but one hold, each less the size of a largest item
+-- If no request sets a deadline, and each chain stores no more than all segments but one hold, each less the size of a largest
+-- item, then some chain forgets nothing.
 abbrev pub MayForgetNothing : Sizes → List Answered → Type 0
 MayForgetNothing sizes history =
     let start = empty_cache 0 in

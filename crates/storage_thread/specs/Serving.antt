@@ -1,5 +1,6 @@
 -- What the storage thread makes of requests.
-use Rattle.std.specs.Prelude.{◌≡◌, ℕ, ◌<◌, ◌≤◌, max, min, List, [], ◌∷◌, ◌++◌, map, All, Option, Some, None, IfSome, option_map, Bool, true}
+use Rattle.std.specs.Prelude.{◌≡◌, ℕ, ◌<◌, ◌≤◌, max, min, List, [], ◌∷◌, ◌++◌, map, All, Option, Some, None, IfSome}
+use Rattle.std.specs.Prelude.{option_map, Bool, true}
 use Rattle.proto.specs.ClockAnswers.{GivenAnswer, IsRead}
 use Rattle.proto.specs.declared.logged_clock.ClockStart.{ClockStart}
 use Rattle.proto.specs.declared.history.Posted.{Posted}
@@ -7,7 +8,7 @@ use Rattle.proto.specs.declared.history.Answered.{Answered}
 use Rattle.proto.specs.Cache.{Cache}
 use Rattle.proto.specs.declared.clock.AskedClock.{AskedClock}
 use Rattle.proto.specs.History.{max_moment, answers_by}
-use Rattle.engine.specs.Reaching.{moments_after, Reaches}
+use Rattle.engine.specs.Reaching.{Reaches}
 use Rattle.proto.specs.Counts.{times}
 use Rattle.exchange.specs.Beginnings.{posted_of}
 use Rattle.exchange.specs.declared.messages.Taken.{Taken}
@@ -27,16 +28,10 @@ abbrev pub IsReadSince : Bool → Option ClockStart → List Answered → Type 0
 IsReadSince is_required start history =
     is_required ≡ true → (from : ClockStart) × (start ≡ Some from) × All (IsRead from) (answers_by [] history)
 
--- what clock answers say
-abbrev pub seconds_of : List GivenAnswer → List ℕ
-seconds_of answers = map (λ (a : GivenAnswer). a.seconds) answers
-
--- The clock was asked once for each request, which is told where it tells its answers. They are those by which the history has
--- its moments.
+-- a clock that tells its answers has told those by which the history has its moments, and no other
 abbrev pub IsTimed : Option (List ℕ) → Option (List ℕ) → List Answered → Type 0
 IsTimed old new history =
-    (answers : List ℕ) × (new ≡ option_map (λ (told : List ℕ). told ++ answers) old)
-    × (map (λ e. e.moment) history ≡ moments_after 0 answers) × (seconds_of (answers_by [] history) ≡ answers)
+    new ≡ option_map (λ (told : List ℕ). told ++ map (λ (a : GivenAnswer). a.seconds) (answers_by [] history)) old
 
 -- a request of the history, as it was taken
 abbrev pub taken_as : Answered → ℕ × Posted

@@ -2,8 +2,8 @@
 
 use exchange::StorageSignals;
 
-/// The worker that was answered last, until it is told of its answers: it may have parked. An answer to another worker tells
-/// it, too.
+/// The worker that was answered last, until storage tells it of its answers, as it may have parked. An answer to another worker
+/// tells it, too.
 #[derive(Drop)]
 pub struct AnsweredWorker {
     worker: Option<usize>,

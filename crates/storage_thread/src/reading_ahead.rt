@@ -3,7 +3,7 @@
 use engine::StorageEngine;
 use exchange::{StorageBatch, StorageSignals};
 
-/// For so many messages storage reads ahead at once: their slots and items come from memory at the same time.
+/// The most messages for which storage reads ahead at once: their slots and items come from memory at the same time.
 const MESSAGES_AHEAD: u64 = 8;
 
 /// For how many of the next messages that was done.
@@ -17,7 +17,7 @@ impl ReadAhead {
         ReadAhead { left: 0 }
     }
 
-    /// A message was taken. Where it isn't one of those, storage reads ahead for it and for those seen behind it.
+    /// A message was taken. Where it isn't one of those, storage reads ahead for it and for those seen after it.
     pub fn note_taken<S: StorageEngine>(
         &mut self,
         store: &S,
@@ -32,7 +32,7 @@ impl ReadAhead {
     }
 }
 
-// Reads ahead for the messages seen, and says how many of them there are behind the first one.
+// Reads ahead for the messages seen, and says how many of them there are after the first one.
 fn read_ahead<S: StorageEngine>(store: &S, end: &StorageBatch, signals: &StorageSignals) -> u64 {
     let (lane, first, seen) = end.seen();
     let count = seen.min(MESSAGES_AHEAD);

@@ -1,5 +1,6 @@
 -- The lines of a run, one after the other.
-use Rattle.std.proofs.Common.{◌≡◌, ◌≢◌, cond, ℕ, zero, suc, ◌+◌, ◌<◌, List, [], ◌∷◌, ◌++◌, length, map, take, Option, Some, None, refl, sym, ap, ◌∙◌, subst}
+use Rattle.std.proofs.Common.{◌≡◌, ◌≢◌, cond, ℕ, zero, suc, ◌+◌, ◌<◌, List, [], ◌∷◌, ◌++◌, length, map, take, Option}
+use Rattle.std.proofs.Common.{Some, None, refl, sym, ap, ◌∙◌, subst}
 use Rattle.std.proofs.Common.{arith, append_assoc, append-nil, length-append, ⊎_elim}
 use Rattle.std.specs.Prelude.{flat_map, slice_index_or}
 use Rattle.std.specs.Io.KnownBytes.{Appends, Keeps}
@@ -9,10 +10,10 @@ use Rattle.proto.specs.Sizes.{Sizes}
 use Rattle.script.specs.declared.event.ScriptEvent.{ScriptEvent}
 use Rattle.script.specs.Scripts.{Workers}
 use Rattle.script.specs.PortSessions.{ScriptSessionState, numbers}
-use Rattle.script.specs.States.{PortState, story_of, story_told}
+use Rattle.script.specs.States.{PortState, script_trace, trace_told}
 use Rattle.script.specs.PortEvents.{is_playable}
 use Rattle.script.proofs.EventLemmas.{bool_cases}
-use Rattle.worker_port.specs.Ports.{PortStory}
+use Rattle.worker_port.specs.Ports.{PortTrace}
 use Rattle.group.specs.declared.report.GroupWorker.{GroupWorker}
 use Rattle.group.specs.Threads.{ArePortsOf}
 use Rattle.worker_port.specs.Giving.{by_any_clock}
@@ -67,7 +68,7 @@ mapped_more f (x ∷ xs) zero d low = ap (λ l. f x ++ flat_map f l) (take_zero 
 mapped_more f (x ∷ xs) (suc k) d low = ap (λ l. f x ++ l) (mapped_more f xs k d (omega arith))
     ∙ sym (append_assoc (f x) (flat_map f (take k xs)) (f (slice_index_or xs k d)))
 
--- one element's bytes were written behind those of the elements before it
+-- one element's bytes were written after those of the elements before it
 pub one_more : {A : Type 0} (f : A → List ℕ) (xs : List A) (k : ℕ) (x : A) (bytes : List ℕ)
     (old mid new : Option (List ℕ))
     → k < length xs → slice_index_or xs k x ≡ x → bytes ≡ f x
@@ -79,7 +80,7 @@ one_more f xs k x bytes old mid new low is bytes_are before wrote =
     ∙ ap (λ l. flat_map f (take k xs) ++ l) (ap f is ∙ sym bytes_are)))
     (appended old mid new (flat_map f (take k xs)) bytes before wrote))
 
--- one worker's lines were written behind those of the workers before it
+-- one worker's lines were written after those of the workers before it
 pub one_worker_more : (ws : List (GroupWorker PortState)) (k : ℕ) (x : GroupWorker PortState)
     (old mid new : Option (List ℕ))
     → k < length ws → slice_index_or ws k x ≡ x
@@ -108,18 +109,18 @@ one_played_more ws n x low is before here k y small at =
     subst (λ (z : GroupWorker PortState). IsPlayedAt z.port) (some-injective x y there) here)
     (λ other. let apart : k ≢ n = other in before k y (omega arith) at)
 
--- the story that a port tells is its own
-story_is : (port : PortState) (story : PortStory) → story_told port ≡ Some story → story_of port ≡ story
-story_is port story told =
+-- the trace that a port tells is its own
+trace_is : (port : PortState) (trace : PortTrace) → trace_told port ≡ Some trace → script_trace port ≡ trace
+trace_is port trace told =
     bool_cases (is_playable port.player.script)
     (λ yes.
-    let same : Some (story_of port) ≡ Some story = sym
-    (ap (λ b. cond b (Some (story_of port)) None) yes) ∙ told in cc)
-    (λ no. let wrong : None ≡ Some story = sym (ap (λ b. cond b (Some (story_of port)) None) no) ∙ told in absurd (cc))
+    let same : Some (script_trace port) ≡ Some trace = sym
+    (ap (λ b. cond b (Some (script_trace port)) None) yes) ∙ told in cc)
+    (λ no. let wrong : None ≡ Some trace = sym (ap (λ b. cond b (Some (script_trace port)) None) no) ∙ told in absurd (cc))
 
 -- ---- the ports of a run
 
--- one more, of the worker behind the last
+-- one more, of the worker after the last
 pub ports_more : (sizes : Sizes) (d : Dialect) (accept fail_give : ℕ) (scripts : Workers) (ports : List PortState)
     (events : List ScriptEvent) (port : PortState)
     → ArePorts sizes d accept fail_give scripts ports → IsPort sizes d accept fail_give (length ports) events port
@@ -153,12 +154,12 @@ module _ (sizes : Sizes) (d : Dialect) (accept fail_give : ℕ) (scripts : Worke
       (s.0, each.1 w s.0 port s.1 at)
 
   -- they are the ports of their workers, at which nothing has happened yet
-  pub owned : ArePortsOf story_told (by_any_clock sizes) d ports
-  owned w port at story told =
-      let is = (port_at w port at).1 in let same = sym (story_is port story told) in (
-        ap (λ (z : PortStory). z.worker) same ∙ ap (λ (p : PortState). p.worker) is.1,
-        ap (λ (z : PortStory). z.terms) same ∙ ap (λ (p : PortState). by_any_clock p.sizes) is.1,
-        ap (λ (z : PortStory). z.dialect) same ∙ ap (λ (p : PortState). p.dialect) is.1,
-        ap (λ (z : PortStory). z.events) same ∙ ap (λ (p : PortState). p.player.records) is.1,
-        ap (λ (z : PortStory). z.history) same ∙ ap (λ (p : PortState). p.history) is.1,
+  pub owned : ArePortsOf trace_told (by_any_clock sizes) d ports
+  owned w port at trace told =
+      let is = (port_at w port at).1 in let same = sym (trace_is port trace told) in (
+        ap (λ (z : PortTrace). z.worker) same ∙ ap (λ (p : PortState). p.worker) is.1,
+        ap (λ (z : PortTrace). z.terms) same ∙ ap (λ (p : PortState). by_any_clock p.sizes) is.1,
+        ap (λ (z : PortTrace). z.dialect) same ∙ ap (λ (p : PortState). p.dialect) is.1,
+        ap (λ (z : PortTrace). z.events) same ∙ ap (λ (p : PortState). p.player.records) is.1,
+        ap (λ (z : PortTrace). z.history) same ∙ ap (λ (p : PortState). p.history) is.1,
       )

@@ -1,15 +1,17 @@
 -- From a group's run over the ports of a script to what the script's bytes make it print.
-use Rattle.std.proofs.Common.{◌≡◌, ℕ, zero, suc, ◌+◌, ◌<◌, nat_lt, inl, inr, ⊎_elim, ◌==◌, Bool, true, false, ◌||◌, cond, List, [], ◌∷◌, ◌++◌, length, map}
+use Rattle.std.proofs.Common.{◌≡◌, ℕ, zero, suc, ◌+◌, ◌<◌, nat_lt, inl, inr, ⊎_elim, ◌==◌, Bool, true, false, ◌||◌}
+use Rattle.std.proofs.Common.{cond, List, [], ◌∷◌, ◌++◌, length, map}
 use Rattle.std.proofs.Common.{true≢false, Option, Some, None, All, Contains, refl, sym, ap, subst, ◌∙◌, arith}
 use Rattle.std.specs.Prelude.{⊤, flat_map, IsSome}
 use Rattle.std.specs.List.{list_any}
 use Rattle.std.proofs.lemmas.List.{length-map, get_or-map}
-use Rattle.std.proofs.Common.{length-append}
+use Rattle.std.proofs.Common.{length-append, append_assoc, append-nil}
 use Rattle.proto.specs.declared.dialect.Dialect.{Dialect}
 use Rattle.proto.specs.declared.message.Message.{Message}
 use Rattle.proto.specs.declared.history.Posted.{Posted}
 use Rattle.proto.specs.declared.history.Answered.{Answered}
-use Rattle.proto.specs.History.{worker_share, asked_posted}
+use Rattle.proto.specs.ClockAnswers.{GivenAnswer}
+use Rattle.proto.specs.History.{worker_share, asked_posted, MomentsFrom, answers_by}
 use Rattle.proto.specs.Sizes.{Sizes}
 use Rattle.proto.specs.Reading.{Reads}
 use Rattle.proto.proofs.GrammarLaws.{has_reading}
@@ -26,17 +28,17 @@ use Rattle.script.specs.Scripts.{Workers, AreEventsOf}
 use Rattle.script.specs.SequentialSessions.{AreTimed}
 use Rattle.worker_port.specs.declared.events.PortRecord.{PortRecord}
 use Rattle.worker_port.specs.declared.events.PortRecord.TheVariants as was
-use Rattle.worker_port.specs.Ports.{PortStory, fed, given, is_in}
+use Rattle.worker_port.specs.Ports.{PortTrace, fed, given, is_in}
 use Rattle.worker.specs.Sessions.{cause_of}
 use Rattle.worker.specs.Reports.{IsCauseOf, AreListed, IsSessionAnswered}
 use Rattle.script.specs.declared.recording_clock.RecordingClock.{RecordingClock}
 use Rattle.script.specs.Readings.{readings_in_order}
 use Rattle.script.specs.ClockLeading.{GivesAnswers}
 use Rattle.script.specs.PortEvents.{is_playable}
-use Rattle.script.specs.Records.{opened}
+use Rattle.script.specs.Records.{opened_sessions}
 use Rattle.script.specs.Following.{IsPlayed}
 use Rattle.script.proofs.EventLemmas.{lt_true}
-use Rattle.script.specs.States.{PortState, story_of, story_told, PlaysOn}
+use Rattle.script.specs.States.{PortState, script_trace, trace_told, PlaysOn}
 use Rattle.group.specs.declared.report.GroupWorker.{GroupWorker}
 use Rattle.group.specs.declared.report.GroupReport.{GroupReport}
 use Rattle.group.specs.Headline.{IsRun}
@@ -57,7 +59,7 @@ outcome_of worker s = record {
 
 -- what came of each session that a worker's port opened, in order
 abbrev outcomes_of : GroupWorker PortState → List SessionOutcome
-outcomes_of worker = map (outcome_of worker) (opened worker.port.player.records)
+outcomes_of worker = map (outcome_of worker) (opened_sessions worker.port.player.records)
 
 -- the bytes joined for a changed list are those joined for what each element changes to
 flat_map-map : {A B : Type 0} (f : B → List ℕ) (g : A → B) (xs : List A)
@@ -71,7 +73,7 @@ lines_are : (w : ℕ) (workers : List (GroupWorker PortState))
 lines_are w [] = refl
 lines_are w (x ∷ workers) =
     (λ i. sym (flat_map-map (λ (o : SessionOutcome). printed_line w o.number o.given) (outcome_of x)
-    (opened x.port.player.records)) i ++ lines_are (w + 1) workers i)
+    (opened_sessions x.port.player.records)) i ++ lines_are (w + 1) workers i)
 
 -- the outcomes of some sessions have their numbers, in the same order
 numbers_are : (worker : GroupWorker PortState) (xs : List ℕ)
@@ -86,7 +88,8 @@ all_mapped P f (x ∷ xs) each zero d low = each x
 all_mapped P f (x ∷ xs) each (suc k) d low = all_mapped P f xs each k d (omega arith)
 
 -- a session is in the list's openings where the list has it opened
-any_opened : (s : ℕ) (events : List PortRecord) → list_any (λ t. t == s) (opened events) ≡ is_in (was.Opened s) events
+any_opened : (s : ℕ) (events : List PortRecord)
+    → list_any (λ t. t == s) (opened_sessions events) ≡ is_in (was.Opened s) events
 any_opened s [] = refl
 any_opened s (was.Opened t ∷ events) = ap (λ b. (t == s) || b) (any_opened s events)
 any_opened s (was.Data t bytes ∷ events) = any_opened s events
@@ -144,9 +147,9 @@ module _ (d : Dialect) (history : List Answered) (w : ℕ) (events : List Script
 
   worker_outcomes : AreOutcomesOf d history w fail_give events (outcomes_of worker)
   worker_outcomes = record {
-    opened_are = numbers_are worker (opened worker.port.player.records) ∙ played.opened_all listed.ended;
+    opened_are = numbers_are worker (opened_sessions worker.port.player.records) ∙ played.opened_all listed.ended;
     each = all_mapped (IsOutcomeOf d history w fail_give events) (outcome_of worker)
-        (opened worker.port.player.records) one_outcome;
+        (opened_sessions worker.port.player.records) one_outcome;
     no_other = λ e has.
         ap (list_any (λ s. s == e.session)) (sym (played.opened_all listed.ended))
         ∙ any_opened e.session worker.port.player.records
@@ -156,39 +159,56 @@ module _ (d : Dialect) (history : List Answered) (w : ℕ) (events : List Script
 
 -- ---- the clock
 
--- the first so many answers of a clock are so many
+-- a list of a clock's first n answers has n
 length-first : (clock : ClockState) (n : ℕ) → length (first_answers clock n) ≡ n
 length-first clock zero = refl
 length-first clock (suc n) = let more = length-append (first_answers clock n) (answer_of clock n ∷ []) in
     let before = length-first clock n in omega (arith, more, before)
 
--- a clock's answers give as many moments as they are
+-- a clock's answers give one moment each
 length-after : (answers : List ℕ) (last : ℕ) → length (moments_after last answers) ≡ length answers
 length-after [] last = refl
 length-after (a ∷ answers) last = ap suc (length-after answers (moment_after last a))
 
+-- the moments of a history are those that its clock's answers give, one for each
+answers_after : (told : List GivenAnswer) (t : ℕ) (history : List Answered) → MomentsFrom told t history
+    → (answers : List GivenAnswer) × (answers_by told history ≡ told ++ answers)
+    × (moments history ≡ moments_after t (map (λ (a : GivenAnswer). a.seconds) answers))
+answers_after told t [] m = ([], sym (append-nil told), refl)
+answers_after told t (e ∷ history) m = let r = answers_after e.clock e.moment history m.3 in (
+  m.0 ∷ r.0,
+  r.1 ∙ ap (λ (l : List GivenAnswer). l ++ r.0) m.1 ∙ append_assoc told (m.0 ∷ []) r.0,
+  ap (λ (l : List ℕ). e.moment ∷ l) r.2
+      ∙ ap (λ (z : ℕ). z ∷ moments_after z (map (λ (a : GivenAnswer). a.seconds) r.0)) m.2,
+)
+
 -- if a new clock was asked once for each request of a history, its first answers gave the requests their moments
 timed_by : (clock : ClockState) (told after : RecordingClock) (history : List Answered) → told.clock ≡ clock
-    → readings_in_order told.answers ≡ []
+    → readings_in_order told.answers ≡ [] → MomentsFrom [] 0 history
     → GivesAnswers told after → IsTimed (Some (readings_in_order told.answers))
     (Some (readings_in_order after.answers)) history
     → AreTimed clock history
-timed_by clock told after history clock_is none gives is =
-    let told_are : Some (readings_in_order after.answers) ≡ Some (readings_in_order told.answers ++ is.0) = is.1 in
-    let listed_are : readings_in_order after.answers ≡ readings_in_order told.answers ++ is.0 = cc in
-    let answers_are : readings_in_order after.answers ≡ is.0 = listed_are ∙ ap (λ (l : List ℕ). l ++ is.0) none in
-    let first_are : is.0 ≡ first_answers clock gives.count =
+timed_by clock told after history clock_is none legal gives is =
+    let seconds : List GivenAnswer → List ℕ = map (λ (a : GivenAnswer). a.seconds) in
+    let by = answers_after [] 0 history legal in
+    let answered : List ℕ = seconds (answers_by [] history) in
+    let moments_are : moments history ≡ moments_after 0 answered =
+    by.2 ∙ ap (λ (l : List GivenAnswer). moments_after 0 (seconds l)) (sym by.1) in
+    let told_are : Some (readings_in_order after.answers) ≡ Some (readings_in_order told.answers ++ answered) = is in
+    let listed_are : readings_in_order after.answers ≡ readings_in_order told.answers ++ answered = cc in
+    let answers_are : readings_in_order after.answers ≡ answered = listed_are ∙ ap (λ (l : List ℕ). l ++ answered) none in
+    let first_are : answered ≡ first_answers clock gives.count =
     sym answers_are ∙ gives.told ∙ (λ i. none i ++ first_answers (clock_is i) gives.count) in
     let count_is : gives.count ≡ length history =
-    sym (sym (length-map history (λ (e : Answered). e.moment)) ∙ ap length is.2 ∙ length-after is.0 0
+    sym (sym (length-map history (λ (e : Answered). e.moment)) ∙ ap length moments_are ∙ length-after answered 0
     ∙ ap length first_are ∙ length-first clock gives.count) in
-    let told_first : is.0 ≡ first_answers clock (length history) = first_are ∙ ap (first_answers clock) count_is in
-    record { answers = is.3 ∙ told_first; moments = is.2 ∙ ap (moments_after 0) told_first }
+    let told_first : answered ≡ first_answers clock (length history) = first_are ∙ ap (first_answers clock) count_is in
+    record { answers = told_first; moments = moments_are ∙ ap (moments_after 0) told_first }
 
 -- ---- a store that keeps what it stores
 
 -- a group's run over it may be read as one that forgets nothing while little is stored
-pub keeping_run : {P C : Type 0} (told : P → Option PortStory) (leads_to : P → P → Type 0)
+pub keeping_run : {P C : Type 0} (told : P → Option PortTrace) (leads_to : P → P → Type 0)
     (clock_told : C → Option (List ℕ)) (clock_leads : C → C → Type 0)
     → (keeps : Type 0) (found sizes : Sizes) (ports : List P) (clock : C) (report : GroupReport P C)
     → IsRun told leads_to clock_told clock_leads keeps found ports clock report → found ≡ sizes → keeps
@@ -211,7 +231,7 @@ pub replayed : (sizes : Sizes) (d : Dialect) (clock : ClockState) (workers accep
     → AreEventsOf workers text scripts
     → (ports : List PortState) → ArePorts sizes d accept fail_give scripts ports → (told : RecordingClock)
     → told.clock ≡ clock → readings_in_order told.answers ≡ []
-    → (report : GroupReport PortState RecordingClock) → IsRun story_told PlaysOn
+    → (report : GroupReport PortState RecordingClock) → IsRun trace_told PlaysOn
     (λ (c : RecordingClock). Some (readings_in_order c.answers)) GivesAnswers ⊤ sizes ports told report
     → ArePlayed report.workers.items
     → IsReplayOf sizes d clock workers fail_give text (lines_from 0 (map events_of report.workers.items))
@@ -222,7 +242,8 @@ replayed sizes d clock workers accept fail_give text scripts read ports ports_ar
       history = run.history;
       legal = run.made.legal;
       inside = subst (λ n. All (λ (e : Answered). e.worker < n) run.history) (sym ports_are.0) run.made.inside;
-      timed = timed_by clock told report.clock run.history clock_is none run.made.leads run.made.moments;
+      timed = timed_by clock told report.clock run.history clock_is none run.made.legal.moments run.made.leads
+          run.made.moments;
       outcomes = map outcomes_of report.workers.items;
       one_each = length-map report.workers.items outcomes_of ∙ run.one_each ∙ sym ports_are.0;
       each = λ w events os there at.
@@ -233,18 +254,18 @@ replayed sizes d clock workers accept fail_give text scripts read ports ports_ar
           let of = run.each w port.0 x.0 port.1 x.1 in
           let script_is : x.0.port.player.script ≡ events = of.leads.0 ∙ ap (λ (p : PortState). p.player.script) is.1 in
           let plays : is_playable x.0.port.player.script ≡ true = ap is_playable script_is ∙ is.0 in
-          let told_is = ap (λ b. cond b (Some (story_of x.0.port)) None) plays in
+          let told_is = ap (λ b. cond b (Some (script_trace x.0.port)) None) plays in
           let first : is_playable port.0.player.script ≡ true =
           ap (λ (p : PortState). is_playable p.player.script) is.1 ∙ is.0 in
           let dialect_is : x.0.port.dialect ≡ d =
-          of.spelled (story_of port.0) (story_of x.0.port) (ap (λ b. cond b (Some (story_of port.0)) None) first) told_is
+          of.spelled (script_trace port.0) (script_trace x.0.port) (ap (λ b. cond b (Some (script_trace port.0)) None) first) told_is
           ∙ ap (λ (p : PortState). p.dialect) is.1 in
           let can_fail_is : x.0.port.player.can_fail ≡ nat_lt 0 fail_give =
           of.leads.2 ∙ ap (λ (p : PortState). p.player.can_fail) is.1 in
           subst (AreOutcomesOf d run.history w fail_give events) x.2
           (worker_outcomes d run.history w events x.0 fail_give x.0.port.player.can_fail of.exactly
-          (of.listed (story_of x.0.port) told_is)
-          (λ s cause messages rest found reads. of.answered (story_of x.0.port) told_is s cause messages rest found
+          (of.listed (script_trace x.0.port) told_is)
+          (λ s cause messages rest found reads. of.answered (script_trace x.0.port) told_is s cause messages rest found
           (subst (λ (e : Dialect). Reads e (fed s x.0.port.player.records) messages rest) (sym dialect_is) reads))
           (subst (λ (s : List ScriptEvent). IsPlayed s x.0.port.player.records x.0.port.player.can_fail) script_is
           (played w x.0 x.1 plays))

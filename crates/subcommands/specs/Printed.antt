@@ -15,9 +15,9 @@ use Rattle.script.specs.declared.recording_clock.RecordingClock.{RecordingClock}
 use Rattle.script.specs.Readings.{readings_in_order}
 use Rattle.script.specs.ClockLeading.{GivesAnswers}
 use Rattle.script.specs.PortEvents.{is_playable}
-use Rattle.script.specs.Records.{opened}
+use Rattle.script.specs.Records.{opened_sessions}
 use Rattle.script.specs.Following.{IsPlayed}
-use Rattle.script.specs.States.{PortState, new_player, with_faults, story_told, PlaysOn}
+use Rattle.script.specs.States.{PortState, new_player, with_faults, trace_told, PlaysOn}
 use Rattle.group.specs.declared.report.GroupWorker.{GroupWorker}
 use Rattle.group.specs.declared.report.GroupReport.{GroupReport}
 use Rattle.group.specs.Headline.{IsRun}
@@ -34,7 +34,7 @@ printed_line worker session bytes = decimal worker ++ codes " " ++ decimal sessi
 -- the lines of a worker's sessions, in the order in which they were opened
 abbrev pub printed_lines : ℕ → List PortRecord → List ℕ
 printed_lines worker events = flat_map (λ (session : ℕ). printed_line worker session (given session events))
-    (opened events)
+    (opened_sessions events)
 
 -- the lines of the workers from this one on
 abbrev pub lines_from : ℕ → List (List PortRecord) → List ℕ
@@ -84,5 +84,5 @@ pub record IsPrinted (sizes : Sizes) (d : Dialect) (clock : ClockState) (workers
   pub told : RecordingClock
   pub told_is : (told.clock ≡ clock) × (readings_in_order told.answers ≡ [])
   pub report : GroupReport PortState RecordingClock
-  pub run : IsRun story_told PlaysOn (λ c. Some (readings_in_order c.answers)) GivesAnswers ⊤ sizes ports told report
+  pub run : IsRun trace_told PlaysOn (λ c. Some (readings_in_order c.answers)) GivesAnswers ⊤ sizes ports told report
   pub printed_is : printed ≡ lines_from 0 (map events_of report.workers.items)

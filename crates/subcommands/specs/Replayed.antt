@@ -19,7 +19,7 @@ use Rattle.session_book.specs.declared.causes.EndCause.{EndCause}
 use Rattle.session_book.specs.declared.causes.EndCause.TheVariants as causes
 use Rattle.storage_thread.specs.Keeping.{MayForgetNothing}
 use Rattle.script.specs.declared.event.ScriptEvent.{ScriptEvent}
-use Rattle.script.specs.Events.{sessions_opened, sent, goes_in_script}
+use Rattle.script.specs.Events.{sessions_opened, sent_bytes, goes_in_script}
 use Rattle.script.specs.Clocks.{ClockState}
 use Rattle.script.specs.Scripts.{Workers, AreEventsOf}
 use Rattle.script.specs.SequentialSessions.{AreTimed}
@@ -61,8 +61,8 @@ pub record GivesAnswersOf (d : Dialect) (history : List Answered) (worker : ℕ)
 -- peer goes, or a `give` was asked to fail.
 pub record IsOutcomeOf (d : Dialect) (history : List Answered) (worker fail_give : ℕ) (script : List ScriptEvent)
     (outcome : SessionOutcome) : Type 0 where
-  pub came_first : StartsWith (sent script outcome.number) outcome.came
-  pub came_all : outcome.cause ≡ Some causes.Drained → outcome.came ≡ sent script outcome.number
+  pub came_first : StartsWith (sent_bytes script outcome.number) outcome.came
+  pub came_all : outcome.cause ≡ Some causes.Drained → outcome.came ≡ sent_bytes script outcome.number
   pub no_room : outcome.cause ≡ None → outcome.given ≡ []
   pub answered : (cause : EndCause) → outcome.cause ≡ Some cause → GivesAnswersOf d history worker outcome cause
   pub gone_by : outcome.cause ≡ Some causes.Gone → (goes_in_script script outcome.number ≡ true) ⊎ (0 < fail_give)

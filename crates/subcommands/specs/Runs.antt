@@ -4,9 +4,9 @@ use mathlib.Core.Option.{some}
 use lib.ListN.{get_elem?}
 use Rattle.proto.specs.declared.dialect.Dialect.{Dialect}
 use Rattle.proto.specs.Sizes.{Sizes}
-use Rattle.worker_port.specs.Ports.{PortStory}
+use Rattle.worker_port.specs.Ports.{PortTrace}
 use Rattle.net.specs.declared.port.MioPort.{MioPort}
-use Rattle.net.specs.Stories.{story_of, IsNew}
+use Rattle.net.specs.Traces.{trace_of, IsNew}
 use Rattle.storage_thread.specs.declared.unix_clock.UnixClock.{UnixClock}
 use Rattle.proto.specs.ClockAnswers.{seconds_since}
 use Rattle.segcache.specs.StoreState.{Store}
@@ -15,8 +15,8 @@ use Rattle.group.specs.Headline.{IsRun}
 use Rattle.subcommands.specs.NewStores.{IsNewStore}
 
 -- what a port over sockets tells
-abbrev pub socket_told : {R : Type 0} → MioPort R → Option PortStory
-socket_told port = Some (story_of port.served)
+abbrev pub socket_told : {R : Type 0} → MioPort R → Option PortTrace
+socket_told port = Some (trace_of port.served)
 
 -- what the system's clock tells
 abbrev pub clock_told : {R : Type 0} → UnixClock R → Option (List ℕ)
@@ -25,7 +25,7 @@ clock_told clock = Some (map (seconds_since clock.system.start) clock.system.rea
 -- each is its worker's port, of which nothing was told
 abbrev pub AreNewPorts : {R : Type 0} → Sizes → Dialect → List (MioPort R) → Type 0
 AreNewPorts {R} sizes d ports =
-    (w : ℕ) (port : MioPort R) → get_elem? ports w ≡ some port → IsNew sizes d w (story_of port.served)
+    (w : ℕ) (port : MioPort R) → get_elem? ports w ≡ some port → IsNew sizes d w (trace_of port.served)
 
 -- A group with this number of workers ran over new ports and a new store, both of these sizes, in this dialect, and
 -- over the system's clock, which was not read yet, and left this report. Each answer of its clock is the seconds of a

@@ -4,7 +4,7 @@ ghost use Rattle.std.specs.Prelude.{◌≡◌, ◌++◌, [], take, false, IfOk, 
 ghost use Rattle.std.specs.Io.{ReadsAtMost};
 ghost use Rattle.std.specs.Io.KnownBytes.{ReadConsumes, IsAtEnd};
 ghost use Rattle.subcommands.specs.Faults.{IsReadFault};
-ghost use Rattle.subcommands.specs.Reading.{ReadsOn};
+ghost use Rattle.subcommands.specs.Reading.{ReadsPiece};
 
 use crate::fault::Fault;
 use command_line::{Options, on_one_line};
@@ -51,7 +51,7 @@ fn add_piece<R: Read>(
 ) -> Result<bool, Fault>
     requires { bytes.old.items ≡ text.old.items }
     ensures same { OnOk result (bytes.new.items ≡ text.new.items) }
-    ensures read { OnOk result (ReadsOn (R.remaining script.old) text.old.items
+    ensures read { OnOk result (ReadsPiece (R.remaining script.old) text.old.items
         (R.remaining script.new) text.new.items) }
     ensures end { IfOk result (λ more. more ≡ false → IsAtEnd (R.remaining script.new)) }
 {

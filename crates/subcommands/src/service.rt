@@ -5,7 +5,7 @@ ghost use Rattle.std.specs.String.{string_bytes};
 ghost use Rattle.std.specs.Io.KnownBytes.{Appends};
 ghost use Rattle.subcommands.specs.Listening.{IsListeningLine};
 ghost use Rattle.subcommands.specs.NewStores.{IsNewStore};
-ghost use Rattle.net.specs.Stories.{story_of, IsNew};
+ghost use Rattle.net.specs.Traces.{trace_of, IsNew};
 ghost use Rattle.subcommands.specs.Runs.{AreNewPorts, IsServed};
 
 use crate::fault::Fault;
@@ -44,7 +44,7 @@ fn cannot_listen(alloc: Global, options: &ServeOptions, fault: NetFault) -> Faul
 fn set_idle_limit<H>(port: &mut MioPort<H>, idle: Option<u64>)
 where
     H: Wait + Net + time::Clock + Copy + Drop,
-    ensures { story_of port.new.served ≡ story_of port.old.served }
+    ensures { trace_of port.new.served ≡ trace_of port.old.served }
 {
     if let Some(seconds) = idle {
         port.set_idle_limit(seconds);
@@ -55,7 +55,7 @@ where
 fn set_spin<H>(port: &mut MioPort<H>, spin: Option<u32>)
 where
     H: Wait + Net + time::Clock + Copy + Drop,
-    ensures { story_of port.new.served ≡ story_of port.old.served }
+    ensures { trace_of port.new.served ≡ trace_of port.old.served }
 {
     if let Some(micros) = spin {
         port.set_spin(micros);
@@ -72,7 +72,7 @@ fn new_port<H>(
 ) -> Result<MioPort<H>, NetFault>
 where
     H: Wait + Net + time::Clock + Copy + Drop,
-    ensures { IfOk result (λ port. IsNew owner.geometry owner.dialect owner.worker (story_of port.served)) }
+    ensures { IfOk result (λ port. IsNew owner.geometry owner.dialect owner.worker (trace_of port.served)) }
 {
     let mut port = MioPort::new(rt, alloc, hand, owner)?;
     set_idle_limit(&mut port, options.idle);
@@ -109,7 +109,7 @@ where
     Ok((hands, ports))
 }
 
-/// The line of the options' address, with the real port behind its last colon.
+/// The line of the options' address, with the real port after its last colon.
 fn listening_line(alloc: Global, options: &ServeOptions, port: u16) -> Result<String, Fault>
     ensures { IfOk result (λ line. IsListeningLine (string_bytes options.entry.now.listen) port (string_bytes line)) }
 {

@@ -127,7 +127,7 @@ fn holds_so_much_input(rt: HostRuntime) -> Result<(), Fail> {
     checked
 }
 
-/// Opens session 1, and feeds it so many requests.
+/// Opens session 1, and feeds it `count` requests.
 fn feed_gets(player: &mut Player, count: u64) -> Result<(), Fail> {
     player.open(1)?;
     for _ in 0..count {
@@ -210,7 +210,7 @@ fn looks_twice_at_a_large_block(rt: HostRuntime) -> Result<(), Fail> {
     checked
 }
 
-/// Feeds so many bytes one by one, before each of which no request is found.
+/// Feeds the byte `count` times. Before each no request is found.
 fn feed_bytes(rt: &impl Abort, player: &mut Player, byte: &[u8], count: u64) -> Result<(), Fail> {
     for _ in 0..count {
         check_ask(rt, player, 1, None)?;
@@ -219,7 +219,7 @@ fn feed_bytes(rt: &impl Abort, player: &mut Player, byte: &[u8], count: u64) -> 
     Ok(())
 }
 
-/// The longest line that the lenient dialect has, of so many bytes behind what it begins with.
+/// The longest line of the lenient dialect: what it begins with, and then the byte `count` times.
 fn check_long_line(
     rt: &impl Abort,
     player: &mut Player,
@@ -237,7 +237,7 @@ fn check_long_line(
     check_ask(rt, player, 1, number)
 }
 
-/// A `get` with 32,761 spaces behind its key.
+/// A `get` with 32,761 spaces after its key.
 fn check_spaces(rt: &impl Abort, player: &mut Player) -> Result<(), Fail> {
     check_long_line(rt, player, b"get a", b" ", 32_761, Some(1))?;
     check_steps(

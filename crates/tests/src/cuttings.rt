@@ -96,7 +96,7 @@ fn scrambled(seed: u64) -> u64 {
         .wrapping_add(1_442_695_040_888_963_407)
 }
 
-/// Feeds at most so many of the bytes, and says what is left.
+/// Feeds at most `length` of the bytes, and answers what is left.
 fn feed<'a>(player: &mut Player, bytes: &'a [u8], length: usize) -> Result<&'a [u8], Fail> {
     let (piece, rest) = bytes.split_at(length.min(bytes.len()));
     player.feed(7, piece)?;

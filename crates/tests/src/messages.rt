@@ -124,7 +124,7 @@ const FAULTS: [(&[u8], &[u8]); 26] = [
     (b"quit\r\n", b""),
 ];
 
-/// Leniently spaces before a line's end don't count, nor does a zero behind the key of a `delete`; a data block is as it was sent.
+/// Leniently spaces before a line's end don't count, nor does a zero after the key of a `delete`; a data block is as it was sent.
 const LENIENT_REQUESTS: [(&[u8], Given, &[u8]); 16] = [
     (b"get a \r\n", Given::Hit, b"VALUE a 0 1\r\nx\r\nEND\r\n"),
     (b"get a   \r\n", Given::Hit, b"VALUE a 0 1\r\nx\r\nEND\r\n"),
@@ -429,7 +429,7 @@ fn check_spelling(
     Ok(())
 }
 
-/// Spellings that the tables above don't have, with a byte so many times between what stands before and behind it.
+/// Spellings that the tables above don't have: some text, a byte and how many times it comes, and further text.
 const SPELLINGS: [(&str, u8, usize, &str); 46] = [
     ("set a 0 0 0\r\n", b'x', 0, "\r\n"),
     ("set a 0 5 1\r\n", b'x', 1, "\r\n"),
@@ -505,7 +505,7 @@ fn no_shorter_beginning_spells(rt: HostRuntime) -> Result<(), Fail> {
     check_spellings(&rt, rt.alloc(), &SPELLINGS)
 }
 
-/// Some text, a byte so many times, and further text.
+/// Some text, a byte as many times as the row says, and further text.
 fn spell(input: &mut Vec<u8>, row: &(&str, u8, usize, &str)) -> Result<(), AllocError> {
     let (before, byte, times, behind) = row;
     input.extend_from_slice(before.as_bytes())?;
@@ -533,7 +533,7 @@ fn check_long(
     checked
 }
 
-/// What a line of so many letters with these bytes behind it is answered; it is read as far as the longest line goes.
+/// What a line of `count` letters with these bytes after it is answered. It is read as far as the longest line goes.
 fn check_long_line(
     rt: &impl Abort,
     alloc: Global,

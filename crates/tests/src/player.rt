@@ -68,7 +68,7 @@ impl Player {
         self.book.out(session) == output.as_bytes()
     }
 
-    /// Gives all output of a session, behind what was given before.
+    /// Gives all output of a session, after what was given before.
     pub fn give(&mut self, session: u64, given: &mut Vec<u8>) -> Result<(), Fail> {
         let out = self.book.out(session);
         given.extend_from_slice(out)?;

@@ -3,7 +3,7 @@
 use std::fmt::Debug;
 use std::process::Abort;
 
-/// The values are the same, or it is said at which place they aren't.
+/// Checks that the values are the same, and else names the place at which they aren't.
 pub fn check_same<T: Copy + PartialEq + Debug, P: Copy + Debug>(
     rt: &impl Abort,
     given: T,
@@ -13,7 +13,7 @@ pub fn check_same<T: Copy + PartialEq + Debug, P: Copy + Debug>(
     assert_eq!(rt; given, wanted, "at {place:?}");
 }
 
-/// The bytes are the same, or it is said at which place they aren't.
+/// Checks that the bytes are the same, and else names the place at which they aren't.
 pub fn check_bytes(rt: &impl Abort, given: &[u8], wanted: &[u8], place: &str) {
     check_same(rt, given, wanted, place);
 }

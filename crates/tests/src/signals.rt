@@ -2,9 +2,13 @@
 
 use crate::same::check_same;
 use exchange::StorageSignals;
+use proto::{MAX_WORKERS, WINDOW};
 use std::hash::{FoldHasher, Hasher};
 use std::process::Abort;
 use std::test::Fail;
+
+/// The messages of all workers that have a hint at a time.
+const MESSAGES: u64 = MAX_WORKERS as u64 * WINDOW;
 
 fn hash_of(key: &[u8]) -> u64 {
     let mut hasher = FoldHasher::default();
@@ -33,14 +37,14 @@ fn check_hint(rt: &impl Abort, signals: &StorageSignals, worker: usize, number: 
 
 fn check_hints(rt: &impl Abort, signals: &StorageSignals) {
     check_same(rt, signals.has_hints(), true, "two workers");
-    for place in 0..512u64 {
-        leave(signals, (place / 64) as usize, place % 64);
+    for place in 0..MESSAGES {
+        leave(signals, (place / WINDOW) as usize, place % WINDOW);
     }
-    for place in 0..512u64 {
-        check_hint(rt, signals, (place / 64) as usize, place % 64);
+    for place in 0..MESSAGES {
+        check_hint(rt, signals, (place / WINDOW) as usize, place % WINDOW);
     }
-    leave(signals, 3, 64);
-    check_hint(rt, signals, 3, 64);
+    leave(signals, 3, WINDOW);
+    check_hint(rt, signals, 3, WINDOW);
     check_hint(rt, signals, 3, 1);
 }
 

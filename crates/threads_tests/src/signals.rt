@@ -6,7 +6,7 @@ use std::hash::FoldHasher;
 use std::process::Abort;
 use std::sync::Arc;
 
-/// The signals of storage and so many workers.
+/// The signals of storage and `workers` workers.
 pub(crate) fn signals_of(rt: &impl Abort, alloc: Global, workers: usize) -> Arc<StorageSignals> {
     let signals = StorageSignals::new(alloc, FoldHasher::default(), workers, None).expect(
         rt, "memory",

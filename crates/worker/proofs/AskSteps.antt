@@ -13,26 +13,26 @@ use Rattle.proto.specs.History.{asked_posted, worker_share}
 use Rattle.proto.specs.Reading.{asks}
 use Rattle.exchange.specs.Ends.{WorkerView, WorkerBatchView}
 use Rattle.session_book.specs.declared.causes.Unsettled.{Unsettled}
-use Rattle.session_book.specs.Session.{SessionState, ReadsOn}
+use Rattle.session_book.specs.Session.{SessionState, ReadsMessages}
 use Rattle.session_book.specs.Book.{BookState, session_of, NextAsk, held_of, given_in, unsettled_of as unsettled_at}
-use Rattle.worker_port.specs.Ports.{PortStory}
+use Rattle.worker_port.specs.Ports.{PortTrace}
 use Rattle.worker.specs.declared.state.WorkerState.{WorkerState}
 use Rattle.worker.specs.Sessions.{RunView, facts, asked_by, AreFactsConsistent}
 use Rattle.worker_port.specs.PortFacts.{port_facts}
 use Rattle.worker.specs.EndCauses.{piece_of}
-use Rattle.worker.specs.Workers.{once_flushed, end_of, posted_by, unsettled_post, IsNumbered, IsSteady, IsStoryKnown}
+use Rattle.worker.specs.Workers.{once_flushed, end_of, posted_by, unsettled_post, IsNumbered, IsSteady, IsTraceKnown}
 use Rattle.worker.specs.Workers.{run_view, IsWorkerServing, WasToldOfHistory}
 use Rattle.exchange.proofs.Lists.{starts_longer}
 use Rattle.worker.proofs.Facts.{asked_here, asked_elsewhere}
 use Rattle.worker.proofs.SessionSteps.{runs, runs_on, served_read}
 use Rattle.worker.proofs.RunViews.{facts_equal, change_at, at_other, at_same}
-use Rattle.worker.proofs.StoryLaws.{same_story, paused_kept}
+use Rattle.worker.proofs.TraceLaws.{same_trace, paused_kept}
 use Rattle.worker.proofs.PieceLaws.{pieces_kept}
 use Rattle.worker.proofs.WorkerSteps.{WorkerGoesOn, steps_on, steady_same, same_end, later_view, later_is}
 use Rattle.worker.proofs.OutputSteps.{told_within}
 
 -- a worker that went on from a to b, and from b to c, went on from a to c
-pub goes_on_trans : {P : Type 0} (told : P → Option PortStory) (a b c : WorkerState P) → WorkerGoesOn told a b
+pub goes_on_trans : {P : Type 0} (told : P → Option PortTrace) (a b c : WorkerState P) → WorkerGoesOn told a b
     → WorkerGoesOn told b c → WorkerGoesOn told a c
 goes_on_trans told a b c h k = record {
   tells = k.tells ∙ h.tells;
@@ -46,24 +46,24 @@ goes_on_trans told a b c h k = record {
 
 -- ---- the session reads on
 
--- where the new requests are just that of one post, they add this one request behind any others
+-- where the new requests are just that of one post, they add this one request after any others
 one_request : (qs : List Request) (p : Posted) → qs ≡ p.request ∷ [] → (xs : List Request)
     → xs ++ qs ≡ xs ++ p.request ∷ []
 one_request qs p e xs = ap (λ (y : List Request). xs ++ y) e
 
 -- the requests of the messages read are those that were posted or are held
 pub told_read : (v v' : RunView) (unopened : ℕ) (ended : Bool) (t : ℕ) (s read : SessionState) (ms : List Message)
-    → IsStoryKnown v unopened ended
-    → session_of v.book t ≡ Some s → ReadsOn s ms read → asked_by v'.posted t ≡ asked_by v.posted t ++ asks ms
+    → IsTraceKnown v unopened ended
+    → session_of v.book t ≡ Some s → ReadsMessages s ms read → asked_by v'.posted t ≡ asked_by v.posted t ++ asks ms
     → ((k : ℕ) → t ≢ k → asked_by v'.posted k ≡ asked_by v.posted k)
     → v'.dialect ≡ v.dialect → v'.events ≡ v.events → v'.back ≡ v.back → v'.sessions ≡ v.sessions
     → ((k : ℕ) → session_of v'.book k ≡ cond (k == t) (Some read) (session_of v.book k)) → v'.piece ≡ v.piece
-    → IsStoryKnown v' unopened ended
+    → IsTraceKnown v' unopened ended
 told_read v v' unopened ended t s read ms h open_is reads here_asked other_asked d e b r book piece =
     let run = runs (facts v t) s (h.each t) open_is in
     let s_is : Some run.running.s ≡ Some s = sym run.running.state ∙ open_is in
-    let reads' : ReadsOn run.running.s ms read =
-    subst (λ (x : SessionState). ReadsOn x ms read) (some_is s run.running.s (sym s_is)) reads in
+    let reads' : ReadsMessages run.running.s ms read =
+    subst (λ (x : SessionState). ReadsMessages x ms read) (some_is s run.running.s (sym s_is)) reads in
     let served = served_read (facts v t) run.running.s read (v.piece t) ms reads' run.running.served in
     let f' = record (facts v t) { asked = asked_by v.posted t ++ asks ms; state = Some read } in
     let here : facts v' t ≡ f' = facts_equal (facts v' t) f' d (ap (λ l. port_facts l t) e) here_asked
@@ -81,7 +81,7 @@ told_read v v' unopened ended t s read ms h open_is reads here_asked other_asked
     (change_at t v v' others (subst AreFactsConsistent (sym here) now) (λ k ne. h.each k))
 
 -- with no request
-pub none_goes_on : {P : Type 0} (told : P → Option PortStory) (old new : WorkerState P) (t : ℕ) (s : SessionState)
+pub none_goes_on : {P : Type 0} (told : P → Option PortTrace) (old new : WorkerState P) (t : ℕ) (s : SessionState)
     (result : Result (Option (Request × ℕ)) NoMemory) → new.port ≡ old.port → end_of new ≡ end_of old
     → new.request ≡ old.request
     → new.sessions ≡ old.sessions → new.unopened ≡ old.unopened → new.strangers ≡ old.strangers → new.ended ≡ old.ended
@@ -95,7 +95,7 @@ none_goes_on told old new t s result port end request sessions unopened stranger
     let no_more : (k : ℕ) → asked_by (posted_by (end_of new) new.request) k
     ≡ asked_by (posted_by (end_of old) old.request) k = λ k i. asked_by
     (posted_by (end i) (request i)) k in
-    steps_on told old new (λ story. story) (λ s q. q) (same_story (told old.port) (told new.port) (ap told port)) (record {
+    steps_on told old new (λ trace. trace) (λ s q. q) (same_trace (told old.port) (told new.port) (ap told port)) (record {
       same_end = same_end old new end;
       later = later_is (end_of old) (end_of new) end;
       steady = subst (λ (y : WorkerView × Option Posted). IsSteady y.0 y.1 new.book) (λ i. (sym end i, sym request i))
@@ -110,14 +110,14 @@ none_goes_on told old new t s result port end request sessions unopened stranger
       unopened = unopened;
       ended = ended;
     }) h
-    (λ story e was_so. (
-      told_read (run_view story old) (run_view story new) old.unopened old.ended t s a.read a.messages was_so.0 open_is
+    (λ trace e was_so. (
+      told_read (run_view trace old) (run_view trace new) old.unopened old.ended t s a.read a.messages was_so.0 open_is
           a.reading.reads
           (no_more t ∙ sym (append-nil (asked_by (posted_by (end_of old) old.request) t))
           ∙ ap (λ (x : List Request). asked_by (posted_by (end_of old) old.request) t ++ x) (sym no_asks))
           (λ k ne. no_more k) refl refl
           (ap (λ (w : WorkerView). w.back) end) (λ i. (sessions i).items) a.only_at (λ i q. pieces q i),
-      paused_kept story story (piece_of old.book) (piece_of new.book) pieces (λ q. refl) was_so.1,
+      paused_kept trace trace (piece_of old.book) (piece_of new.book) pieces (λ q. refl) was_so.1,
     ))
 
 -- ---- a request is read
@@ -136,7 +136,7 @@ back_le end e =
     omega (arith, length-take (length end.back) end.sent)
 
 -- the worker goes on where a session gives a request, which is held from then on
-pub one_goes_on : {P : Type 0} (told : P → Option PortStory) (old new : WorkerState P) (t : ℕ) (s : SessionState)
+pub one_goes_on : {P : Type 0} (told : P → Option PortTrace) (old new : WorkerState P) (t : ℕ) (s : SessionState)
     (q : Request) (n : ℕ)
     → new.port ≡ old.port → end_of new ≡ end_of old → old.request ≡ None
     → new.request ≡ Some (record { session = t; number = n; request = q }) → new.sessions ≡ old.sessions
@@ -161,7 +161,7 @@ one_goes_on told old new t s q n port end was_none request sessions unopened str
     let le = back_le (end_of old) h.steady.back in
     let posted : old.book.posted ≡ length sent = h.steady.posted ∙ ap (length {A = Posted}) before in
     let numbered : n ≡ old.book.posted + 1 = ap (λ (l : List ℕ). get_or l 0 0) a.numbers in
-    steps_on told old new (λ story. story) (λ s q. q) (same_story (told old.port) (told new.port) (ap told port)) (record {
+    steps_on told old new (λ trace. trace) (λ s q. q) (same_trace (told old.port) (told new.port) (ap told port)) (record {
       same_end = same_end old new end;
       later = later_is (end_of old) (end_of new) end;
       steady = subst (λ (y : WorkerView × Option Posted). IsSteady y.0 y.1 new.book) (λ i. (sym end i, sym request i))
@@ -183,16 +183,16 @@ one_goes_on told old new t s q n port end was_none request sessions unopened str
       unopened = unopened;
       ended = ended;
     }) h
-    (λ story e was_so. (
-      told_read (run_view story old)
-          (run_view story new) old.unopened old.ended t s a.read a.messages was_so.0 open_is a.reading.reads more
+    (λ trace e was_so. (
+      told_read (run_view trace old)
+          (run_view trace new) old.unopened old.ended t s a.read a.messages was_so.0 open_is a.reading.reads more
           others refl refl
           (ap (λ (w : WorkerView). w.back) end) (λ i. (sessions i).items) a.only_at (λ i q. pieces q i),
-      paused_kept story story (piece_of old.book) (piece_of new.book) pieces (λ q. refl) was_so.1,
+      paused_kept trace trace (piece_of old.book) (piece_of new.book) pieces (λ q. refl) was_so.1,
     ))
 
 -- no request is left, or the session isn't open
-pub quiet_goes_on : {P : Type 0} (told : P → Option PortStory) (old new : WorkerState P) (t : ℕ) (o : Option SessionState)
+pub quiet_goes_on : {P : Type 0} (told : P → Option PortTrace) (old new : WorkerState P) (t : ℕ) (o : Option SessionState)
     → o ≡ session_of old.book t
     → new.port ≡ old.port → end_of new ≡ end_of old → new.request ≡ old.request → new.sessions ≡ old.sessions
     → new.unopened ≡ old.unopened → new.strangers ≡ old.strangers → new.ended ≡ old.ended → IsWorkerServing told old
@@ -204,7 +204,7 @@ quiet_goes_on told old new t (Some s) o port end request sessions unopened stran
 quiet_goes_on told old new t None o port end request sessions unopened strangers ended h closed open_is =
     let book = closed (sym o) in let pieces : (q : ℕ) → piece_of new.book q ≡ piece_of old.book q =
     λ q i. piece_of (book i) q in
-    steps_on told old new (λ story. story) (λ s q. q) (same_story (told old.port) (told new.port) (ap told port)) (record {
+    steps_on told old new (λ trace. trace) (λ s q. q) (same_trace (told old.port) (told new.port) (ap told port)) (record {
       same_end = same_end old new end;
       later = later_is (end_of old) (end_of new) end;
       steady = subst (λ (y : WorkerView × Option Posted × BookState). IsSteady y.0 y.1 y.2)
@@ -214,10 +214,10 @@ quiet_goes_on told old new t None o port end request sessions unopened strangers
       unopened = unopened;
       ended = ended;
     }) h
-    (λ story e was_so. (
-      subst (λ (v : RunView). IsStoryKnown v old.unopened old.ended) (λ i. record {
-        dialect = story.dialect;
-        events = story.events;
+    (λ trace e was_so. (
+      subst (λ (v : RunView). IsTraceKnown v old.unopened old.ended) (λ i. record {
+        dialect = trace.dialect;
+        events = trace.events;
         posted = posted_by (sym end i)
             (sym request i);
         back = (sym end i).back;
@@ -225,11 +225,11 @@ quiet_goes_on told old new t None o port end request sessions unopened strangers
         book = sym book i;
         piece = piece_of (sym book i);
       }) was_so.0,
-      paused_kept story story (piece_of old.book) (piece_of new.book) pieces (λ q. refl) was_so.1,
+      paused_kept trace trace (piece_of old.book) (piece_of new.book) pieces (λ q. refl) was_so.1,
     ))
 
 -- the request that is held is sent, if there is one
-pub posted_goes_on : {P : Type 0} (told : P → Option PortStory) (old : WorkerState P) (batch : WorkerBatchView)
+pub posted_goes_on : {P : Type 0} (told : P → Option PortTrace) (old : WorkerState P) (batch : WorkerBatchView)
     (request : Option Posted)
     → request ≡ None → once_flushed batch ≡ record (end_of old) { sent = posted_by (end_of old) old.request }
     → IsWorkerServing told old
@@ -240,7 +240,7 @@ posted_goes_on told old batch request taken sent h =
     (λ i. posted_by (sent i) (taken i)) ∙ append-nil (posted_by w old.request) in
     let back : end.back ≡ w.back = ap (λ (x : WorkerView). x.back) sent in
     let le = back_le w h.steady.back in
-    steps_on told old new (λ story. story) (λ s q. q) (same_story (told old.port) (told old.port) refl) (record {
+    steps_on told old new (λ trace. trace) (λ s q. q) (same_trace (told old.port) (told old.port) refl) (record {
       same_end = record {
         exchange = ap (λ (x : WorkerView). x.exchange) sent;
         worker = ap (λ (x : WorkerView). x.worker) sent;
@@ -266,14 +266,14 @@ posted_goes_on told old batch request taken sent h =
       unopened = refl;
       ended = refl;
     }) h
-    (λ story e was_so. (
-      subst (λ (v : RunView). IsStoryKnown v old.unopened old.ended)
-          (λ i. record (run_view story old) { posted = sym all i; back = sym back i }) was_so.0,
+    (λ trace e was_so. (
+      subst (λ (v : RunView). IsTraceKnown v old.unopened old.ended)
+          (λ i. record (run_view trace old) { posted = sym all i; back = sym back i }) was_so.0,
       was_so.1,
     ))
 
 -- a worker that doesn't change goes on
-pub goes_on_same : {P : Type 0} (told : P → Option PortStory) (a : WorkerState P) → IsWorkerServing told a
+pub goes_on_same : {P : Type 0} (told : P → Option PortTrace) (a : WorkerState P) → IsWorkerServing told a
     → WorkerGoesOn told a a
 goes_on_same told a h = record {
   tells = refl;

@@ -1,10 +1,12 @@
 -- What a cause written at its entry makes of the report.
-use Rattle.std.proofs.Common.{◌≡◌, ◌≢◌, ℕ, ◌<◌, ◌==◌, cond, eq-eqb, ne_eqb}
-use Rattle.std.proofs.Common.{List, [], ◌∷◌, ◌++◌, length, refl, sym}
+use Rattle.std.proofs.Common.{◌≡◌, ◌≢◌, ℕ, zero, suc, ◌<◌, ◌==◌, cond, eq-eqb, ne_eqb}
+use Rattle.std.proofs.Common.{List, [], ◌∷◌, ◌++◌, length, map, refl, sym}
+use Rattle.std.specs.Prelude.{◌+◌, slice_index}
+use Rattle.std.specs.List.Sorted.{IsStrictlyIncreasing}
 use Rattle.std.proofs.Common.{ap, subst, ◌∙◌, arith, Some, None}
 use Rattle.session_book.specs.declared.causes.EndCause.{EndCause}
 use Rattle.worker.specs.Sessions.{cause_of}
-use Rattle.worker.specs.EndCauses.{RisesFrom, with_cause}
+use Rattle.worker.specs.EndCauses.{CausesRiseFrom, with_cause}
 use Rattle.proto.proofs.CountLemmas.{either_way}
 
 -- the report: the numbers of sessions, each with its cause
@@ -59,16 +61,31 @@ number_stays e s c =
     (λ (ne : e.0 ≢ s). ap (λ (y : ℕ × EndCause). y.0) (kept_apart e s c ne))
 
 -- numbers that rise from one above n do so after a cause is written
-with_rises : (n : ℕ) (xs : Report) (s : ℕ) (c : EndCause) → RisesFrom n xs → RisesFrom n (with_cause xs s c)
+with_rises : (n : ℕ) (xs : Report) (s : ℕ) (c : EndCause) → CausesRiseFrom n xs → CausesRiseFrom n (with_cause xs s c)
 with_rises n [] s c h = tt
 with_rises n (x ∷ xs) s c h = let same = number_stays x s c in (
   subst (λ k. n < k) (sym same) h.0,
-  subst (λ k. RisesFrom k (with_cause xs s c)) (sym same) (with_rises x.0 xs s c h.1),
+  subst (λ k. CausesRiseFrom k (with_cause xs s c)) (sym same) (with_rises x.0 xs s c h.1),
 )
 
 -- the numbers of a report rise after a cause is written, if they rose before
-pub rises_with : (xs : Report) (s : ℕ) (c : EndCause) → RisesFrom 0 xs → RisesFrom 0 (with_cause xs s c)
+pub rises_with : (xs : Report) (s : ℕ) (c : EndCause) → CausesRiseFrom 0 xs → CausesRiseFrom 0 (with_cause xs s c)
 rises_with xs s c h = with_rises 0 xs s c h
+
+-- the item after the first one is that of the rest
+index_after : (n : ℕ) (l : List ℕ) (k j : ℕ) → j ≡ suc k → slice_index (n ∷ l) j ≡ slice_index l k
+index_after n l k j is = ap (slice_index (n ∷ l)) is
+
+-- numbers that rise from one above n are strictly increasing, with n before them
+pub rises_strictly : (n : ℕ) (xs : Report) → CausesRiseFrom n xs
+    → IsStrictlyIncreasing (n ∷ map (λ (e : ℕ × EndCause). e.0) xs)
+rises_strictly n [] h k low = absurd (omega (arith, low))
+rises_strictly n (x ∷ xs) h zero low = h.0
+rises_strictly n (x ∷ xs) h (suc k) low =
+    let l : List ℕ = map (λ (e : ℕ × EndCause). e.0) (x ∷ xs) in
+    subst (λ (z : ℕ × ℕ). z.0 < z.1)
+    (λ i. (sym (index_after n l k (suc k) refl) i, sym (index_after n l (k + 1) (suc k + 1) (omega arith)) i))
+    (rises_strictly x.0 xs h.1 k (omega (arith, low)))
 
 -- writing a cause leaves the number of entries
 pub length-with : (xs : Report) (s : ℕ) (c : EndCause) → length (with_cause xs s c) ≡ length xs
@@ -92,9 +109,9 @@ cause_new (x ∷ xs) s c e =
     ∙ cause_new xs s c (sym (ap (λ b. cond b (Some x.1) (cause_of xs s)) (ne_eqb x.0 s ne)) ∙ e))
 
 -- numbers that rise from one above n do so with one more at the end that is above n and above them all
-more_from : (n : ℕ) (xs : Report) (t : ℕ) (c : EndCause) → RisesFrom n xs → n < t
+more_from : (n : ℕ) (xs : Report) (t : ℕ) (c : EndCause) → CausesRiseFrom n xs → n < t
     → ((s : ℕ) (d : EndCause) → cause_of xs s ≡ Some d → s < t)
-    → RisesFrom n (xs ++ (t, c) ∷ [])
+    → CausesRiseFrom n (xs ++ (t, c) ∷ [])
 more_from n [] t c h lt below = (lt, tt)
 more_from n (x ∷ xs) t c h lt below = (
   h.0,
@@ -106,6 +123,6 @@ more_from n (x ∷ xs) t c h lt below = (
 )
 
 -- the numbers of a report rise with one more at the end that is above 0 and above them all
-pub rises_more : (xs : Report) (t : ℕ) (c : EndCause) → RisesFrom 0 xs → 0 < t
-    → ((s : ℕ) (d : EndCause) → cause_of xs s ≡ Some d → s < t) → RisesFrom 0 (xs ++ (t, c) ∷ [])
+pub rises_more : (xs : Report) (t : ℕ) (c : EndCause) → CausesRiseFrom 0 xs → 0 < t
+    → ((s : ℕ) (d : EndCause) → cause_of xs s ≡ Some d → s < t) → CausesRiseFrom 0 (xs ++ (t, c) ∷ [])
 rises_more xs t c h lt below = more_from 0 xs t c h lt below

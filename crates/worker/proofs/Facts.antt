@@ -32,7 +32,7 @@ module _ {E R : Type 0} (session : E → ℕ) (part : E → R) where
   parts_elsewhere l e s ne = parts_more l e s
       ∙ ap (λ c. parts l s ++ cond c (part e ∷ []) []) (ne_eqb (session e) s ne) ∙ append-nil (parts l s)
 
--- one more post of a session adds its request behind the session's others, and to those of another session nothing
+-- one more post of a session adds its request after the session's others, and to those of another session nothing
 pub asked_here : (l : List Posted) (p : Posted) (s : ℕ) → p.session ≡ s
     → asked_by (l ++ p ∷ []) s ≡ asked_by l s ++ p.request ∷ []
 asked_here = parts_here (λ (p : Posted). p.session) (λ (p : Posted). p.request)

@@ -6,7 +6,7 @@ pub mod SessionSteps
 pub mod EndCauseLemmas
 pub mod Listing
 pub mod RunViews
-pub mod StoryLaws
+pub mod TraceLaws
 pub mod PieceLaws
 pub mod WorkerSteps
 pub mod PortSteps

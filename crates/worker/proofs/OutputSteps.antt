@@ -16,30 +16,30 @@ use Rattle.session_book.specs.Book.{BookState, session_of, out_of, held_of, Only
 use Rattle.worker_port.specs.declared.events.PortRecord.{PortRecord}
 use Rattle.worker_port.specs.declared.events.PortRecord.TheVariants as was
 use Rattle.worker.specs.declared.state.WorkerState.{WorkerState}
-use Rattle.worker_port.specs.Ports.{PortStory, then_gave, with_pause, is_open, is_in, opened_count}
+use Rattle.worker_port.specs.Ports.{PortTrace, then_gave, with_pause, is_open, is_in, opened_count}
 use Rattle.worker.specs.Sessions.{RunView, facts, AreFactsConsistent, IsSessionServed}
 use Rattle.worker_port.specs.PortFacts.{port_facts}
-use Rattle.worker.specs.EndCauses.{RisesFrom, piece_of}
-use Rattle.worker.specs.Workers.{end_of, posted_by, IsStoryKnown, run_view, IsWorkerServing, IsStoryBy, Closes, LeavesWorker}
+use Rattle.worker.specs.EndCauses.{CausesRiseFrom, piece_of}
+use Rattle.worker.specs.Workers.{end_of, posted_by, IsTraceKnown, run_view, IsWorkerServing, IsTraceBy, Closes, LeavesWorker}
 use Rattle.worker_port.proofs.Facts.{elsewhere, accepted_here}
 use Rattle.worker.proofs.SessionSteps.{runs, served_fed, served_holding, served_gave}
 use Rattle.worker.proofs.RunViews.{AreSessionsCounted, facts_equal, change_at, at_other, at_same}
 use Rattle.worker_port.proofs.Lists.{AcceptsOnlyOpen, ended_same, count_same, accepts_more}
-use Rattle.worker.proofs.StoryLaws.{paused_but}
+use Rattle.worker.proofs.TraceLaws.{paused_but}
 use Rattle.worker.proofs.PieceLaws.{pieces_at}
-use Rattle.worker.proofs.WorkerSteps.{WorkerGoesOn, StoryFacts, steps_on, closes_in, own_closed, own_within}
+use Rattle.worker.proofs.WorkerSteps.{WorkerGoesOn, TraceFacts, steps_on, closes_in, own_closed, own_within}
 use Rattle.worker.proofs.WorkerSteps.{told_gone, told_open, fact_at, running_on}
 use Rattle.proto.proofs.CountLemmas.{either_way}
 
 -- ---- a held piece is fed
 
 -- the view changes at one session, and the list not at all
-pub told_within : (v v' : RunView) (unopened : ℕ) (ended : Bool) → IsStoryKnown v unopened ended → v'.events ≡ v.events
+pub told_within : (v v' : RunView) (unopened : ℕ) (ended : Bool) → IsTraceKnown v unopened ended → v'.events ≡ v.events
     → v'.sessions ≡ v.sessions
-    → ((s : ℕ) → AreFactsConsistent (facts v' s)) → IsStoryKnown v' unopened ended
+    → ((s : ℕ) → AreFactsConsistent (facts v' s)) → IsTraceKnown v' unopened ended
 told_within v v' unopened ended h e r each = record {
   each = each;
-  rising = subst (RisesFrom 0) (sym r) h.rising;
+  rising = subst (CausesRiseFrom 0) (sym r) h.rising;
   counted = subst (λ (y : List PortRecord × List (ℕ × EndCause)). AreSessionsCounted y.0 y.1 unopened)
       (λ i. (sym e i, sym r i)) h.counted;
   at_end = ap (is_in was.Ended) e ∙ h.at_end;
@@ -58,10 +58,11 @@ others_within v v' t d e p b r book piece s ne =
 
 -- all that is known stays true where an open session is fed its held piece
 pub told_refed : (v v' : RunView) (unopened : ℕ) (ended : Bool) (t : ℕ) (s : SessionState)
-    → IsStoryKnown v unopened ended → session_of v.book t ≡ Some s
-    → v.piece t ≡ s.held → v'.dialect ≡ v.dialect → v'.events ≡ v.events → v'.posted ≡ v.posted → v'.back ≡ v.back → v'.sessions ≡ v.sessions
+    → IsTraceKnown v unopened ended → session_of v.book t ≡ Some s
+    → v.piece t ≡ s.held → v'.dialect ≡ v.dialect → v'.events ≡ v.events → v'.posted ≡ v.posted
+    → v'.back ≡ v.back → v'.sessions ≡ v.sessions
     → ((k : ℕ) → session_of v'.book k ≡ cond (k == t) (Some (held_fed s)) (session_of v.book k))
-    → ((k : ℕ) → v'.piece k ≡ cond (k == t) [] (v.piece k)) → IsStoryKnown v' unopened ended
+    → ((k : ℕ) → v'.piece k ≡ cond (k == t) [] (v.piece k)) → IsTraceKnown v' unopened ended
 told_refed v v' unopened ended t s h open_is held d e p b r book piece =
     let run = runs (facts v t) s (h.each t) open_is in
     let same : run.running.s ≡ s = some_is run.running.s s (sym run.running.state ∙ open_is) in
@@ -80,15 +81,15 @@ told_refed v v' unopened ended t s h open_is held d e p b r book piece =
     (λ k ne. piece k ∙ at_other t k [] (v.piece k) ne)) (subst AreFactsConsistent (sym here) now) (λ k ne. h.each k))
 
 -- what goes on where only the port and the book change
-pub within_goes_on : {P : Type 0} (told : P → Option PortStory) (old new : WorkerState P) (f : PortStory → PortStory)
+pub within_goes_on : {P : Type 0} (told : P → Option PortTrace) (old new : WorkerState P) (f : PortTrace → PortTrace)
     → LeavesWorker old new
-    → ((story : PortStory) → IsStoryBy story (end_of old) old.book → IsStoryBy (f story) (end_of old) old.book)
+    → ((trace : PortTrace) → IsTraceBy trace (end_of old) old.book → IsTraceBy (f trace) (end_of old) old.book)
     → told new.port ≡ option_map f (told old.port) → new.book.posted ≡ old.book.posted
     → new.book.unsettled ≡ old.book.unsettled → new.book.dialect ≡ old.book.dialect → IsWorkerServing told old
-    → ((story : PortStory) → StoryFacts story old old.unopened old.ended
-    → StoryFacts (f story) new old.unopened old.ended) → WorkerGoesOn told old new
+    → ((trace : PortTrace) → TraceFacts trace old old.unopened old.ended
+    → TraceFacts (f trace) new old.unopened old.ended) → WorkerGoesOn told old new
 within_goes_on told old new f rest stays port p u d h each =
-    steps_on told old new f stays port (own_within told old new old.port rest (p, u, d) h) h (λ story e was_so. each story was_so)
+    steps_on told old new f stays port (own_within told old new old.port rest (p, u, d) h) h (λ trace e was_so. each trace was_so)
 
 -- ---- output is given
 
@@ -140,12 +141,12 @@ gave_list l t n out opened =
 
 -- all that is known stays true where n bytes of an open session's output are given
 pub told_gave : (v v' : RunView) (unopened : ℕ) (ended : Bool) (t n : ℕ) (s : SessionState)
-    → IsStoryKnown v unopened ended → session_of v.book t ≡ Some s
+    → IsTraceKnown v unopened ended → session_of v.book t ≡ Some s
     → v'.dialect ≡ v.dialect → v'.events ≡ v.events ++ accepted t n s.out → v'.posted ≡ v.posted → v'.back ≡ v.back
     → v'.sessions ≡ v.sessions
     → ((k : ℕ) → session_of v'.book k ≡ cond (k == t)
     (option_map (λ (x : SessionState). gave x n) (session_of v.book t)) (session_of v.book k))
-    → v'.piece ≡ v.piece → IsStoryKnown v' unopened ended
+    → v'.piece ≡ v.piece → IsTraceKnown v' unopened ended
 told_gave v v' unopened ended t n s h open_is d e p b r book piece =
     let l = v.events in
     let run = runs (facts v t) s (h.each t) open_is in let st = run.running.s in
@@ -171,7 +172,7 @@ told_gave v v' unopened ended t n s h open_is d e p b r book piece =
     (option_map (λ (x : SessionState). gave x n) (session_of v.book t)) (session_of v.book k) ne) (λ i. piece i k) in
     record {
       each = change_at t v v' others (subst AreFactsConsistent (sym here) now) (λ k ne. h.each k);
-      rising = subst (RisesFrom 0) (sym r) h.rising;
+      rising = subst (CausesRiseFrom 0) (sym r) h.rising;
       counted = subst (λ (y : List PortRecord × List (ℕ × EndCause)). AreSessionsCounted y.0 y.1 unopened)
           (λ i. (sym e i, sym r i))
           (subst (λ (y : ℕ). (length v.sessions ≤ y) × (unopened ≡ min (y - length v.sessions) (2 ^ 64 - 1)))
@@ -180,10 +181,10 @@ told_gave v v' unopened ended t n s h open_is d e p b r book piece =
       accepts = subst AcceptsOnlyOpen (sym e) (same.accepts h.accepts);
     }
 
--- by the history that the end was told of last the story is still its worker's
+-- by the history that the end was told of last the trace is still its worker's
 still_by : (end : WorkerView) (book : BookState) (history : List Answered) → history ≡ end.seen
-    → (story : PortStory) → IsStoryBy story end book → IsStoryBy (record story { history = history }) end book
-still_by end book history is story (h, d) = (
+    → (trace : PortTrace) → IsTraceBy trace end book → IsTraceBy (record trace { history = history }) end book
+still_by end book history is trace (h, d) = (
   record {
     worker_is = h.worker_is;
     terms_are = h.terms_are;
@@ -195,13 +196,13 @@ still_by end book history is story (h, d) = (
 -- so it is where bytes are given by it
 pub gives_by : {P : Type 0} (old : WorkerState P) (t : ℕ) (b : List ℕ) (result : Result ℕ Gone) (history : List Answered)
     → history ≡ (end_of old).seen
-    → (story : PortStory) → IsStoryBy story (end_of old) old.book
-    → IsStoryBy (then_gave t b result history story) (end_of old) old.book
-gives_by old t b (Ok n) history is story h = still_by (end_of old) old.book history is story h
-gives_by old t b (Err e) history is story h = still_by (end_of old) old.book history is story h
+    → (trace : PortTrace) → IsTraceBy trace (end_of old) old.book
+    → IsTraceBy (then_gave t b result history trace) (end_of old) old.book
+gives_by old t b (Ok n) history is trace h = still_by (end_of old) old.book history is trace h
+gives_by old t b (Err e) history is trace h = still_by (end_of old) old.book history is trace h
 
 -- a session whose peer has gone at a `give`
-pub lost_goes_on : {P : Type 0} (told : P → Option PortStory) (old new : WorkerState P) (port : P) (t : ℕ) (s : SessionState)
+pub lost_goes_on : {P : Type 0} (told : P → Option PortTrace) (old new : WorkerState P) (port : P) (t : ℕ) (s : SessionState)
     (b : List ℕ) (e : Gone) (history : List Answered) → history ≡ (end_of old).seen
     → session_of old.book t ≡ Some s → told port ≡ option_map (then_gave t b (Err e) history) (told old.port)
     → IsWorkerServing told old → new.port ≡ port
@@ -210,13 +211,13 @@ lost_goes_on told old new port t s b gone history history_is open_is told_is h p
     let f = then_gave t b (Err gone) history in
     steps_on told old new f (gives_by old t b (Err gone) history history_is) (ap told port_is ∙ told_is)
     (own_closed told old new port t causes.Gone k h) h
-    (λ story e was_so.
-    let run = runs (facts (run_view story old) t) s (was_so.0.each t) open_is in (
-      told_gone (run_view story old) (run_view (f story) new) old.unopened old.ended t was_so.0
-          (closes_in story (record old { port = port }) new t causes.Gone (was.Gone t) k was_so.0.rising) run,
-      paused_but story (f story) t (piece_of old.book) (piece_of new.book)
+    (λ trace e was_so.
+    let run = runs (facts (run_view trace old) t) s (was_so.0.each t) open_is in (
+      told_gone (run_view trace old) (run_view (f trace) new) old.unopened old.ended t was_so.0
+          (closes_in trace (record old { port = port }) new t causes.Gone (was.Gone t) k was_so.0.rising) run,
+      paused_but trace (f trace) t (piece_of old.book) (piece_of new.book)
           (pieces_at old.book new.book t None k.book.only_at)
-          (λ q ne. at_other t q false (story.paused q) ne) was_so.1,
+          (λ q ne. at_other t q false (trace.paused q) ne) was_so.1,
     ))
 
 -- ---- which session it was
@@ -246,7 +247,7 @@ offered_is o out (inl none) some = absurd (true≢false (sym (ap (λ (x : List �
 offered_is o out (inr is) some = some_out o out is (λ none. true≢false (sym (eq-eqb (length out) 0 none) ∙ some))
 
 -- the held piece of a session was fed, which is resumed
-pub refed_goes_on : {P : Type 0} (told : P → Option PortStory) (old new : WorkerState P) (t : ℕ) → LeavesWorker old new
+pub refed_goes_on : {P : Type 0} (told : P → Option PortTrace) (old new : WorkerState P) (t : ℕ) → LeavesWorker old new
     → told new.port ≡ option_map (with_pause t false) (told old.port) → IsWorkerServing told old
     → ChangesOpen old.book new.book t (λ (s u : SessionState). ¬ (IsInputFull s s.held) × (u ≡ held_fed s))
     → WorkerGoesOn told old new
@@ -257,12 +258,12 @@ refed_goes_on told old new t rest port h k =
     within_goes_on told old new (with_pause t false) rest (λ s q. q) port
     (ap (λ (b : BookState). b.posted) k.only.rest) (ap (λ (b : BookState). b.unsettled) k.only.rest)
     (ap (λ (b : BookState). b.dialect) k.only.rest) h
-    (λ story was_so. (
-      told_refed (run_view story old)
-          (run_view (with_pause t false story) new) old.unopened old.ended t k.s was_so.0 k.was_open
+    (λ trace was_so. (
+      told_refed (run_view trace old)
+          (run_view (with_pause t false trace) new) old.unopened old.ended t k.s was_so.0 k.was_open
           (ap held_of k.was_open) refl refl
           (λ i. posted_by (rest.end i) (rest.request i))
           (ap (λ (w : WorkerView). w.back) rest.end) rest.sessions only pieces,
-      paused_but story (with_pause t false story) t (piece_of old.book) (piece_of new.book) pieces
-          (λ q ne. at_other t q false (story.paused q) ne) was_so.1,
+      paused_but trace (with_pause t false trace) t (piece_of old.book) (piece_of new.book) pieces
+          (λ q ne. at_other t q false (trace.paused q) ne) was_so.1,
     ))

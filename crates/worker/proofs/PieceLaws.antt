@@ -40,7 +40,7 @@ pieces_gone old mid new t first second s =
     pieces_at mid new t None second s ∙ ap (λ (x : List ℕ). cond (s == t) [] x) (pieces_at old mid t None first s)
     ∙ twice (s == t) (piece_of old s)
 
--- new bytes, dropped by a session that has ended and else put behind its unread ones, leave its held piece
+-- new bytes, dropped by a session that has ended and else put after its unread ones, leave its held piece
 fed_if : (ended : Bool) (s : SessionState) (b : List ℕ)
     → (cond ended s (record s { unread = s.unread ++ b })).held ≡ s.held
 fed_if true s b = refl

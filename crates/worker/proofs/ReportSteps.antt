@@ -20,14 +20,16 @@ use Rattle.exchange.specs.Beginnings.{StartsWith, posted_of}
 use Rattle.exchange.specs.Ends.{WorkerView}
 use Rattle.session_book.specs.declared.causes.EndCause.{EndCause}
 use Rattle.session_book.specs.declared.causes.EndCause.TheVariants as causes
-use Rattle.session_book.specs.Session.{SessionState, left, ended_by, ending_of, finished_by, IsEmptied, Stops, ended, waiting, no_message}
+use Rattle.session_book.specs.Session.{SessionState, messages_left, ended_by, ending_of, finished_by, IsEmptied, Stops}
+use Rattle.session_book.specs.Session.{ended, waiting, no_message}
 use Rattle.session_book.specs.Book.{session_of, held_of}
 use Rattle.session_book.proofs.Reading.{has_ended_by, none_ends}
 use Rattle.worker_port.specs.Ports.{fed, given}
 use Rattle.worker.specs.Sessions.{SessionFacts, RunView, facts, asked_by, had_by, cause_of, IsKnownAs, IsReportedAs, IsClosed, IsRunning, IsSessionServed}
 use Rattle.worker.specs.Sessions.{BeginsWith}
-use Rattle.worker.specs.Workers.{IsStoryKnown}
+use Rattle.worker.specs.Workers.{IsTraceKnown}
 use Rattle.worker.specs.Reports.{IsReported, IsCauseOf}
+use Rattle.worker.proofs.EndCauseLemmas.{rises_strictly}
 use Rattle.worker.proofs.Answering.{said_further, begins_on}
 use Rattle.worker.proofs.Readings.{same_reading, first_of_reading}
 use Rattle.worker.proofs.SessionSteps.{not_both, opened_if_placed}
@@ -80,7 +82,7 @@ as_many back posted s e = ap (λ (p : List Posted). length (asked_by p s)) (sym 
 -- ---- the messages
 
 -- where no request is left without its reply, no message is left
-left_none : (ms : List Message) (rs : List Reply) → length (asks (left ms rs)) ≡ 0 → left ms rs ≡ []
+left_none : (ms : List Message) (rs : List Reply) → length (asks (messages_left ms rs)) ≡ 0 → messages_left ms rs ≡ []
 left_none [] rs e = refl
 left_none (Ask q quiet ∷ ms) [] e = absurd (omega arith)
 left_none (Ask q quiet ∷ ms) (r ∷ rs) e = left_none ms rs e
@@ -337,7 +339,7 @@ split_at (y ∷ xs) (suc k) d low = let t = split_at xs k d (omega arith) in (y 
 
 -- the report is right where the port has ended and all is known, each request came back, and each session that is still
 -- open is emptied
-pub reported : (v : RunView) (end : WorkerView) (unopened : ℕ) → IsStoryKnown v unopened true → v.posted ≡ end.sent
+pub reported : (v : RunView) (end : WorkerView) (unopened : ℕ) → IsTraceKnown v unopened true → v.posted ≡ end.sent
     → v.back ≡ end.back
     → asked_posted end.back ≡ end.sent → ((s : ℕ) → v.piece s ≡ held_of (session_of v.book s))
     → ((s : ℕ) → cause_of v.sessions s ≡ Some causes.Drained → (st : SessionState) → session_of v.book s ≡ Some st
@@ -346,7 +348,7 @@ pub reported : (v : RunView) (end : WorkerView) (unopened : ℕ) → IsStoryKnow
 reported v end unopened h posted back all none emptied = record {
   listed = record {
     ended = h.at_end;
-    once = h.rising;
+    once = rises_strictly 0 v.sessions h.rising;
     opened = λ s e. let c = there_is (cause_of v.sessions s) e in opened_if_placed (facts v s) c.0 (h.each s) c.1;
     refused = λ s o e. unplaced_shut (facts v s) (facts v s).port.opened (facts v s).cause (h.each s).known o e;
     counted = h.counted;

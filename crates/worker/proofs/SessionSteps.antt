@@ -14,7 +14,8 @@ use Rattle.proto.specs.Answers.{said}
 use Rattle.exchange.specs.Beginnings.{StartsWith}
 use Rattle.session_book.specs.declared.causes.EndCause.{EndCause}
 use Rattle.session_book.specs.declared.causes.EndCause.TheVariants as causes
-use Rattle.session_book.specs.Session.{SessionState, ended_by, new_session, once_fed, once_over, holding, ReadsOn, with_reply, gave}
+use Rattle.session_book.specs.Session.{SessionState, ended_by, new_session, once_fed, once_over, holding, ReadsMessages}
+use Rattle.session_book.specs.Session.{with_reply, gave}
 use Rattle.session_book.specs.Accounts.{HasRead, HasSaid}
 use Rattle.worker.specs.Sessions.{SessionFacts, IsUntouched, IsUnopened, IsSessionServed, IsRunning, BeginsWith, IsWhole, IsCaused, IsClosed, IsReportedAs}
 use Rattle.worker.specs.Sessions.{IsKnownAs, AreFactsConsistent}
@@ -228,7 +229,7 @@ served_over f s held h = record {
 
 -- messages are read, and their requests asked
 pub served_read : (f : SessionFacts) (s after : SessionState) (held : List ℕ) (more : List Message)
-    → ReadsOn s more after → IsSessionServed held f s
+    → ReadsMessages s more after → IsSessionServed held f s
     → IsSessionServed held (record f { asked = f.asked ++ asks more }) after
 served_read f s after held more r h =
     let k = read_keeps f.dialect h.bytes f.port.given h.messages more f.had s after r h.has_read h.has_said in record {

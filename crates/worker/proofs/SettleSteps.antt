@@ -25,17 +25,17 @@ use Rattle.worker_port.specs.declared.events.PortRecord.TheVariants as was
 use Rattle.worker.specs.declared.state.WorkerState.{WorkerState}
 use Rattle.worker.specs.Sessions.{RunView, facts, asked_by, had_by, cause_of, AreFactsConsistent, IsSessionServed}
 use Rattle.worker_port.specs.PortFacts.{PortFacts, port_facts}
-use Rattle.worker_port.specs.Ports.{PortStory, then_told, is_in}
-use Rattle.worker.specs.EndCauses.{RisesFrom, piece_of}
+use Rattle.worker_port.specs.Ports.{PortTrace, then_told, is_in}
+use Rattle.worker.specs.EndCauses.{CausesRiseFrom, piece_of}
 use Rattle.worker.specs.Workers.{once_flushed, end_of, posted_by, unsettled_post, IsNumbered}
-use Rattle.worker.specs.Workers.{IsSteady, IsStoryKnown, run_view, IsWorkerServing}
+use Rattle.worker.specs.Workers.{IsSteady, IsTraceKnown, run_view, IsWorkerServing}
 use Rattle.worker.specs.Workers.{TakesNone, TakesBack, Shuts, WasToldOfHistory}
 use Rattle.worker.proofs.Facts.{had_here, had_elsewhere}
 use Rattle.worker.proofs.SessionSteps.{runs, runs_on, Stays, served_settled, closed_starved, dropped}
 use Rattle.worker.proofs.EndCauseLemmas.{rises_with, length-with}
 use Rattle.worker.proofs.RunViews.{AreSessionsCounted, facts_equal, change_at, at_other, at_same, ClosesIn, close_all, shuts_here, apart_shut}
 use Rattle.worker_port.proofs.Lists.{AcceptsOnlyOpen, ended_same, count_same, accepts_more}
-use Rattle.worker.proofs.StoryLaws.{same_story, paused_kept, paused_but, paused_elsewhere}
+use Rattle.worker.proofs.TraceLaws.{same_trace, paused_kept, paused_but, paused_elsewhere}
 use Rattle.worker.proofs.PieceLaws.{pieces_kept, pieces_gone}
 use Rattle.worker.proofs.WorkerSteps.{WorkerGoesOn, steps_on, steady_closed, same_end, later_is, later_trans, closes_in}
 use Rattle.worker.proofs.OutputSteps.{told_within}
@@ -46,7 +46,7 @@ use Rattle.worker.proofs.OutputSteps.{told_within}
 some_same : {A : Type 0} (x y : A) → some x ≡ some y → x ≡ y
 some_same x y e = cc
 
--- a list without a request of a session has none behind its first element either
+-- a list without a request of a session has none after its first element either
 none_behind : (b : Bool) (x : Posted) (l : List Posted) (t : ℕ)
     → map (λ (y : Posted). y.request) (cond b (x ∷ filter (λ (y : Posted). y.session == t) l)
     (filter (λ (y : Posted). y.session == t) l)) ≡ []
@@ -84,7 +84,7 @@ some_asked (x ∷ l) (suc n) t p e q none = some_asked l n t p e q (none_behind 
 
 -- ---- what was taken
 
--- a list behind it moves no element
+-- a list after it moves no element
 pub at_append : {A : Type 0} (l m : List A) (n : ℕ) (x : A) → get_elem? l n ≡ some x → get_elem? (l ++ m) n ≡ some x
 at_append [] m n x e = absurd (cc)
 at_append (y ∷ l) m zero x e = e
@@ -166,9 +166,9 @@ taken_here v v' a st h =
 
 -- all is known still once an open session with an unsettled request got the reply that came back
 told_kept : (v v' : RunView) (unopened : ℕ) (ended : Bool) (a : Answered) (s : SessionState)
-    → IsStoryKnown v unopened ended
+    → IsTraceKnown v unopened ended
     → session_of v.book a.session ≡ Some s → 0 < length (asks s.queue) → TakesIn v v' a (Some (with_reply s a.reply))
-    → IsStoryKnown v' unopened ended
+    → IsTraceKnown v' unopened ended
 told_kept v v' unopened ended a s h open_is has k =
     let t = a.session in
     let run = runs (facts v t) s (h.each t) open_is in
@@ -185,9 +185,9 @@ told_kept v v' unopened ended a s h open_is has k =
     (subst AreFactsConsistent (sym (taken_here v v' a (Some (with_reply s a.reply)) k)) now) (λ j ne. h.each j))
 
 -- all is known still once an answer came back for a session that is no longer open and has asked something
-told_dropped : (v v' : RunView) (unopened : ℕ) (ended : Bool) (a : Answered) → IsStoryKnown v unopened ended
+told_dropped : (v v' : RunView) (unopened : ℕ) (ended : Bool) (a : Answered) → IsTraceKnown v unopened ended
     → session_of v.book a.session ≡ None
-    → (asked_by v.posted a.session ≡ [] → ⊥) → TakesIn v v' a None → IsStoryKnown v' unopened ended
+    → (asked_by v.posted a.session ≡ [] → ⊥) → TakesIn v v' a None → IsTraceKnown v' unopened ended
 told_dropped v v' unopened ended a h closed has k =
     let t = a.session in
     let now = dropped (facts v t) a.reply closed has (h.each t) in
@@ -210,12 +210,12 @@ pub record KeepsRest {P : Type 0} (old new : WorkerState P) : Type 0 where
   pub ended : new.ended ≡ old.ended
 
 -- what taking back an answer makes of the worker's view, the held pieces left as they were
-taken_in : {P : Type 0} (story : PortStory) (old new : WorkerState P) (a : Answered) (st : Option SessionState)
+taken_in : {P : Type 0} (trace : PortTrace) (old new : WorkerState P) (a : Answered) (st : Option SessionState)
     → KeepsRest old new
     → TakesBack (end_of old) (end_of new) a
     → ((k : ℕ) → session_of new.book k ≡ cond (k == a.session) st (session_of old.book k))
-    → TakesIn (run_view story old) (record (run_view story new) { piece = piece_of old.book }) a st
-taken_in story old new a st k b book = record {
+    → TakesIn (run_view trace old) (record (run_view trace new) { piece = piece_of old.book }) a st
+taken_in trace old new a st k b book = record {
   dialect = refl;
   events = refl;
   posted = λ i. b.sent i ++ option_to_list (k.request i);
@@ -227,15 +227,15 @@ taken_in story old new a st k b book = record {
 
 -- a worker that took back an answer goes on, where the book's oldest request is no longer unsettled, the held pieces stay, and
 -- all is known still
-answer_goes_on : {P : Type 0} (told : P → Option PortStory) (old new : WorkerState P) (a : Answered) → KeepsRest old new
+answer_goes_on : {P : Type 0} (told : P → Option PortTrace) (old new : WorkerState P) (a : Answered) → KeepsRest old new
     → TakesBack (end_of old) (end_of new) a → IsWorkerServing told old → new.book.posted ≡ old.book.posted
     → new.book.unsettled ≡ drop 1 old.book.unsettled → new.book.dialect ≡ old.book.dialect
     → ((s : ℕ) → piece_of new.book s ≡ piece_of old.book s)
-    → ((story : PortStory) → IsStoryKnown (run_view story old) old.unopened old.ended
-    → IsStoryKnown (record (run_view story new) { piece = piece_of old.book }) old.unopened old.ended)
+    → ((trace : PortTrace) → IsTraceKnown (run_view trace old) old.unopened old.ended
+    → IsTraceKnown (record (run_view trace new) { piece = piece_of old.book }) old.unopened old.ended)
     → WorkerGoesOn told old new
 answer_goes_on told old new a k b h p u d pieces is_told =
-    steps_on told old new (λ story. story) (λ s q. q) (same_story (told old.port) (told new.port) (ap told k.port)) (record {
+    steps_on told old new (λ trace. trace) (λ s q. q) (same_trace (told old.port) (told new.port) (ap told k.port)) (record {
       same_end = b.same;
       later = b.later;
       steady = subst (λ (r : Option Posted). IsSteady (end_of new) r new.book) (sym k.request)
@@ -245,11 +245,11 @@ answer_goes_on told old new a k b h p u d pieces is_told =
       unopened = k.unopened;
       ended = k.ended;
     }) h
-    (λ story e was_so. (
-      subst (λ (x : ℕ → List ℕ). IsStoryKnown (record (run_view story new) { piece = x }) old.unopened old.ended)
+    (λ trace e was_so. (
+      subst (λ (x : ℕ → List ℕ). IsTraceKnown (record (run_view trace new) { piece = x }) old.unopened old.ended)
           (λ i s. sym (pieces s) i)
-          (is_told story was_so.0),
-      paused_kept story story (piece_of old.book) (piece_of new.book) pieces (λ q. refl) was_so.1,
+          (is_told trace was_so.0),
+      paused_kept trace trace (piece_of old.book) (piece_of new.book) pieces (λ q. refl) was_so.1,
     ))
 
 -- the end and the book agree still where the end looked for an answer and found none
@@ -268,12 +268,12 @@ steady_still end end' request book k h =
     }
 
 -- a worker whose end found no answer goes on
-pub none_taken_goes_on : {P : Type 0} (told : P → Option PortStory) (old : WorkerState P) (batch : WorkerBatchView)
+pub none_taken_goes_on : {P : Type 0} (told : P → Option PortTrace) (old : WorkerState P) (batch : WorkerBatchView)
     → TakesNone (end_of old) (once_flushed batch)
     → IsWorkerServing told old → WorkerGoesOn told old (record old { batch = batch })
 none_taken_goes_on told old batch k h =
     let new = record old { batch = batch } in
-    steps_on told old new (λ story. story) (λ s q. q) (same_story (told old.port) (told old.port) refl) (record {
+    steps_on told old new (λ trace. trace) (λ s q. q) (same_trace (told old.port) (told old.port) refl) (record {
       same_end = k.same;
       later = k.later;
       steady = steady_still (end_of old) (once_flushed batch) old.request old.book k h.steady;
@@ -282,9 +282,9 @@ none_taken_goes_on told old batch k h =
       unopened = refl;
       ended = refl;
     }) h
-    (λ story e was_so. (
-      subst (λ (v : RunView). IsStoryKnown v old.unopened old.ended)
-          (λ i. record (run_view story old) {
+    (λ trace e was_so. (
+      subst (λ (v : RunView). IsTraceKnown v old.unopened old.ended)
+          (λ i. record (run_view trace old) {
             posted = sym k.sent i ++ option_to_list old.request;
             back = sym k.back i;
           }) was_so.0,
@@ -292,7 +292,7 @@ none_taken_goes_on told old batch k h =
     ))
 
 -- a worker whose end is the same once all that was put is flushed goes on
-pub flushed_goes_on : {P : Type 0} (told : P → Option PortStory) (old : WorkerState P) (batch : WorkerBatchView)
+pub flushed_goes_on : {P : Type 0} (told : P → Option PortTrace) (old : WorkerState P) (batch : WorkerBatchView)
     → once_flushed batch ≡ end_of old
     → IsWorkerServing told old → WorkerGoesOn told old (record old { batch = batch })
 flushed_goes_on told old batch same h = none_taken_goes_on told old batch (record {
@@ -308,7 +308,7 @@ flushed_goes_on told old batch same h = none_taken_goes_on told old batch (recor
 }) h
 
 -- a worker goes on where the answer that came back went to its session
-pub kept_goes_on : {P : Type 0} (told : P → Option PortStory) (old new : WorkerState P) (a : Answered) → KeepsRest old new
+pub kept_goes_on : {P : Type 0} (told : P → Option PortTrace) (old new : WorkerState P) (a : Answered) → KeepsRest old new
     → TakesBack (end_of old) (end_of new) a → IsWorkerServing told old → SettlesReply old.book new.book a
     → WorkerGoesOn told old new
 kept_goes_on told old new a k b h r =
@@ -316,12 +316,12 @@ kept_goes_on told old new a k b h r =
     (ap (λ (x : BookState). x.unsettled) r.settles.rest) (ap (λ (x : BookState). x.dialect) r.settles.rest)
     (pieces_kept old.book new.book a.session (Some (with_reply r.s a.reply)) r.settles.only_at
     (sym (ap held_of r.was_open)))
-    (λ story was_told. told_kept (run_view story old) (record (run_view story new) { piece = piece_of old.book })
+    (λ trace was_told. told_kept (run_view trace old) (record (run_view trace new) { piece = piece_of old.book })
     old.unopened old.ended a r.s was_told r.was_open r.unsettled
-    (taken_in story old new a (Some (with_reply r.s a.reply)) k b r.settles.only_at))
+    (taken_in trace old new a (Some (with_reply r.s a.reply)) k b r.settles.only_at))
 
 -- a worker goes on where the answer that came back was dropped, as its session was closed
-pub dropped_goes_on : {P : Type 0} (told : P → Option PortStory) (old new : WorkerState P) (a : Answered) → KeepsRest old new
+pub dropped_goes_on : {P : Type 0} (told : P → Option PortTrace) (old new : WorkerState P) (a : Answered) → KeepsRest old new
     → TakesBack (end_of old) (end_of new) a → IsWorkerServing told old → session_of old.book a.session ≡ None
     → SettlesOldest old.book new.book a None
     → WorkerGoesOn told old new
@@ -329,17 +329,17 @@ dropped_goes_on told old new a k b h closed r =
     answer_goes_on told old new a k b h (ap (λ (x : BookState). x.posted) r.rest)
     (ap (λ (x : BookState). x.unsettled) r.rest) (ap (λ (x : BookState). x.dialect) r.rest)
     (pieces_kept old.book new.book a.session None r.only_at (sym (ap held_of closed)))
-    (λ story was_told.
-    told_dropped (run_view story old) (record (run_view story new) { piece = piece_of old.book }) old.unopened old.ended
+    (λ trace was_told.
+    told_dropped (run_view trace old) (record (run_view trace new) { piece = piece_of old.book }) old.unopened old.ended
     a was_told closed
     (some_asked (posted_by (end_of old) old.request) (length (end_of old).back) a.session (posted_of a)
-    (at_posted (end_of old) old.request a b.own) refl) (taken_in story old new a None k b r.only_at))
+    (at_posted (end_of old) old.request a b.own) refl) (taken_in trace old new a None k b r.only_at))
 
 -- all is known still once a reply came back that found no memory, and its session was shut
 told_starved : (v u v' : RunView) (unopened : ℕ) (ended : Bool) (a : Answered) (s : SessionState)
-    → IsStoryKnown v unopened ended
+    → IsTraceKnown v unopened ended
     → session_of v.book a.session ≡ Some s → TakesIn v u a None
-    → ClosesIn u v' a.session causes.NoMemory (was.Shut a.session) → IsStoryKnown v' unopened ended
+    → ClosesIn u v' a.session causes.NoMemory (was.Shut a.session) → IsTraceKnown v' unopened ended
 told_starved v u v' unopened ended a s h open_is k c =
     let t = a.session in
     let run = runs (facts v t) s (h.each t) open_is in
@@ -364,8 +364,8 @@ told_starved v u v' unopened ended a s h open_is k c =
       each = close_all u v' t causes.NoMemory (was.Shut t) (record (port_facts l t) { shut = true }) c
           (apart_shut t) here
           (ap (λ (p : PortFacts). p.opened) port_same ∙ run.opened) closed before;
-      rising = subst (RisesFrom 0) (sym c.sessions)
-          (rises_with u.sessions t causes.NoMemory (subst (RisesFrom 0) (sym k.sessions) h.rising));
+      rising = subst (CausesRiseFrom 0) (sym c.sessions)
+          (rises_with u.sessions t causes.NoMemory (subst (CausesRiseFrom 0) (sym k.sessions) h.rising));
       counted = subst (λ (y : List PortRecord × List (ℕ × EndCause)). AreSessionsCounted y.0 y.1 unopened)
           (λ i. (sym c.events i, sym c.sessions i))
           (subst (λ (y : ℕ × ℕ). (y.1 ≤ y.0) × (unopened ≡ min (y.0 - y.1) (2 ^ 64 - 1))) (λ i. (sym one i, sym len i))
@@ -377,7 +377,7 @@ told_starved v u v' unopened ended a s h open_is k c =
     }
 
 -- a worker goes on where the answer that came back found no memory, and its session was shut
-pub starved_goes_on : {P : Type 0} (told : P → Option PortStory) (old mid new : WorkerState P) (a : Answered)
+pub starved_goes_on : {P : Type 0} (told : P → Option PortTrace) (old mid new : WorkerState P) (a : Answered)
     (s : SessionState) → KeepsRest old mid
     → TakesBack (end_of old) (end_of mid) a → IsWorkerServing told old → session_of old.book a.session ≡ Some s
     → SettlesOldest old.book mid.book a None → Shuts told mid new a.session causes.NoMemory → WorkerGoesOn told old new
@@ -397,14 +397,15 @@ starved_goes_on {P} told old mid new a s k b h open_is r c =
       unopened = c.closes.unopened ∙ k.unopened;
       ended = c.closes.ended ∙ k.ended;
     }) h
-    (λ story e was_so.
-    let rising : RisesFrom 0 mid.sessions.items = subst (RisesFrom 0) (λ i. (sym k.sessions i).items) was_so.0.rising in
-    let closes = closes_in story mid new a.session causes.NoMemory (was.Shut a.session) c.closes rising in
+    (λ trace e was_so.
+    let rising : CausesRiseFrom 0 mid.sessions.items =
+    subst (CausesRiseFrom 0) (λ i. (sym k.sessions i).items) was_so.0.rising in
+    let closes = closes_in trace mid new a.session causes.NoMemory (was.Shut a.session) c.closes rising in
     let pieces = pieces_gone old.book mid.book new.book a.session r.only_at c.closes.book.only_at in (
-      told_starved (run_view story old)
-          (record (run_view story mid) { piece = piece_of old.book })
-          (run_view (f story) new) old.unopened old.ended a s was_so.0 open_is
-          (taken_in story old mid a None k b r.only_at) (record {
+      told_starved (run_view trace old)
+          (record (run_view trace mid) { piece = piece_of old.book })
+          (run_view (f trace) new) old.unopened old.ended a s was_so.0 open_is
+          (taken_in trace old mid a None k b r.only_at) (record {
             dialect = closes.dialect;
             events = closes.events;
             posted = closes.posted;
@@ -413,6 +414,6 @@ starved_goes_on {P} told old mid new a s k b h open_is r c =
             book = closes.book;
             piece = pieces;
           }),
-      paused_but story (f story) a.session (piece_of old.book) (piece_of new.book) pieces
-          (λ q ne. paused_elsewhere story (was.Shut a.session) q (ne_eqb a.session q ne)) was_so.1,
+      paused_but trace (f trace) a.session (piece_of old.book) (piece_of new.book) pieces
+          (λ q ne. paused_elsewhere trace (was.Shut a.session) q (ne_eqb a.session q ne)) was_so.1,
     ))

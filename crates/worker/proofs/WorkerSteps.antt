@@ -12,34 +12,34 @@ use Rattle.session_book.specs.Book.{BookState, session_of}
 use Rattle.worker_port.specs.declared.events.PortRecord.{PortRecord}
 use Rattle.worker_port.specs.declared.events.PortRecord.TheVariants as was
 use Rattle.worker.specs.declared.state.WorkerState.{WorkerState}
-use Rattle.worker_port.specs.Ports.{PortStory, then_told, is_open, is_in, opened_count}
+use Rattle.worker_port.specs.Ports.{PortTrace, then_told, is_open, is_in, opened_count}
 use Rattle.worker.specs.Sessions.{SessionFacts, RunView, facts, asked_by, had_by, cause_of, AreFactsConsistent, IsSessionServed}
 use Rattle.worker_port.specs.PortFacts.{PortFacts, port_facts}
 use Rattle.worker.specs.Sessions.{IsClosed}
-use Rattle.worker.specs.EndCauses.{RisesFrom, piece_of}
-use Rattle.worker.specs.Workers.{end_of, posted_by, IsSteady, IsStoryKnown, run_view, ArePaused, IsWorkerServing, IsSameEnd, IsLaterEnd}
-use Rattle.worker_port.specs.Giving.{IsStoryOf}
+use Rattle.worker.specs.EndCauses.{CausesRiseFrom, piece_of}
+use Rattle.worker.specs.Workers.{end_of, posted_by, IsSteady, IsTraceKnown, run_view, ArePaused, IsWorkerServing, IsSameEnd, IsLaterEnd}
+use Rattle.worker_port.specs.Giving.{IsTraceOf}
 use Rattle.exchange.proofs.Lists.{starts_trans}
-use Rattle.worker.specs.Workers.{Continues, Closes, Shuts, LeavesWorker, IsStoryBy}
+use Rattle.worker.specs.Workers.{Continues, Closes, Shuts, LeavesWorker, IsTraceBy}
 use Rattle.worker.proofs.EndCauseLemmas.{rises_with, length-with}
 use Rattle.worker_port.proofs.Facts.{about, elsewhere, fed_here, over_here}
 use Rattle.worker.proofs.SessionSteps.{Runs, runs, runs_at_port, runs_on, Ends, closed_gone, closed_no_memory, closed_finished, served_came, served_fed}
 use Rattle.worker.proofs.SessionSteps.{served_holding, served_over}
-use Rattle.worker.proofs.StoryLaws.{told_before, tells_as, paused_but, paused_elsewhere}
+use Rattle.worker.proofs.TraceLaws.{told_before, tells_as, paused_but, paused_elsewhere}
 use Rattle.worker.proofs.PieceLaws.{pieces_at}
 use Rattle.worker.proofs.RunViews.{facts_equal, change_at, at_other, at_same, ClosesIn, shuts_here, goes_here, stays}
 use Rattle.worker_port.proofs.Lists.{AcceptsOnlyOpen, IsProper, ended_same, count_same, accepts_more}
 use Rattle.worker.proofs.RunViews.{AreSessionsCounted, close_all, apart_shut, apart_gone}
 
 -- a worker went on, and still serves
-pub record WorkerGoesOn {P : Type 0} (told : P → Option PortStory) (old new : WorkerState P) : Type 0 where
+pub record WorkerGoesOn {P : Type 0} (told : P → Option PortTrace) (old new : WorkerState P) : Type 0 where
   pub tells : is_some (told new.port) ≡ is_some (told old.port)
   pub same_end : IsSameEnd (end_of old) (end_of new)
   pub dialect : new.book.dialect ≡ old.book.dialect
   pub serving : IsWorkerServing told new
 
 -- so it continues, where its port leads on
-pub continues : {P : Type 0} (told : P → Option PortStory) (leads_to : P → P → Type 0) (old now new : WorkerState P)
+pub continues : {P : Type 0} (told : P → Option PortTrace) (leads_to : P → P → Type 0) (old now new : WorkerState P)
     → old ≡ now → leads_to old.port new.port → WorkerGoesOn told old new → Continues told leads_to now new
 continues told leads_to old now new same leads h =
     subst (λ (w : WorkerState _). Continues told leads_to w new) same (record {
@@ -50,7 +50,7 @@ continues told leads_to old now new same leads h =
     })
 
 -- what goes on from a to b, and from b to c, goes on from a to c
-pub continues_trans : {P : Type 0} (told : P → Option PortStory) (leads_to : P → P → Type 0) (a b c : WorkerState P)
+pub continues_trans : {P : Type 0} (told : P → Option PortTrace) (leads_to : P → P → Type 0) (a b c : WorkerState P)
     → ((p q r : P) → leads_to p q → leads_to q r → leads_to p r)
     → Continues told leads_to a b → Continues told leads_to b c → Continues told leads_to a c
 continues_trans told leads_to a b c leads_on h k = record {
@@ -93,13 +93,13 @@ steady_same end request book book' p u h = record {
 -- all is known still once a session is closed by a proper entry that opens nothing and isn't the end, where the facts of all
 -- sessions are consistent
 told_closed : (v v' : RunView) (unopened : ℕ) (ended : Bool) (t : ℕ) (c : EndCause) (x : PortRecord)
-    → IsStoryKnown v unopened ended → ClosesIn v v' t c x
+    → IsTraceKnown v unopened ended → ClosesIn v v' t c x
     → is_in was.Ended (v.events ++ x ∷ []) ≡ is_in was.Ended v.events → opened_count (v.events ++ x ∷ []) ≡ opened_count v.events
     → IsProper v.events x
-    → ((s : ℕ) → AreFactsConsistent (facts v' s)) → IsStoryKnown v' unopened ended
+    → ((s : ℕ) → AreFactsConsistent (facts v' s)) → IsTraceKnown v' unopened ended
 told_closed v v' unopened ended t c x h k same count proper each = record {
   each = each;
-  rising = subst (RisesFrom 0) (sym k.sessions) (rises_with v.sessions t c h.rising);
+  rising = subst (CausesRiseFrom 0) (sym k.sessions) (rises_with v.sessions t c h.rising);
   counted = subst (λ (y : List PortRecord × List (ℕ × EndCause)). AreSessionsCounted y.0 y.1 unopened)
       (λ i. (sym k.events i, sym k.sessions i))
       (let len = length-with v.sessions t c in
@@ -110,9 +110,9 @@ told_closed v v' unopened ended t c x h k same count proper each = record {
 }
 
 -- all is known still once a running session was shut, and is closed
-pub told_shut : (v v' : RunView) (unopened : ℕ) (ended : Bool) (t : ℕ) (c : EndCause) → IsStoryKnown v unopened ended
+pub told_shut : (v v' : RunView) (unopened : ℕ) (ended : Bool) (t : ℕ) (c : EndCause) → IsTraceKnown v unopened ended
     → ClosesIn v v' t c (was.Shut t)
-    → Runs (facts v t) → IsClosed (facts v' t) c → IsStoryKnown v' unopened ended
+    → Runs (facts v t) → IsClosed (facts v' t) c → IsTraceKnown v' unopened ended
 told_shut v v' unopened ended t c h k r closed =
     told_closed v v' unopened ended t c (was.Shut t) h k (ended_same v.events (was.Shut t) refl)
     (count_same v.events (was.Shut t) refl) tt
@@ -120,9 +120,9 @@ told_shut v v' unopened ended t c h k r closed =
     (shuts_here v v' t c causes.Drained k r.cause) r.opened closed (λ s ne. h.each s))
 
 -- all is known still once a running session has gone
-pub told_gone : (v v' : RunView) (unopened : ℕ) (ended : Bool) (t : ℕ) → IsStoryKnown v unopened ended
+pub told_gone : (v v' : RunView) (unopened : ℕ) (ended : Bool) (t : ℕ) → IsTraceKnown v unopened ended
     → ClosesIn v v' t causes.Gone (was.Gone t)
-    → Runs (facts v t) → IsStoryKnown v' unopened ended
+    → Runs (facts v t) → IsTraceKnown v' unopened ended
 told_gone v v' unopened ended t h k r =
     let here = goes_here v v' t causes.Gone causes.Drained k r.cause in
     let port = record (port_facts v.events t) { gone = true } in
@@ -133,10 +133,10 @@ told_gone v v' unopened ended t h k r =
     (count_same v.events (was.Gone t) refl) tt
     (close_all v v' t causes.Gone (was.Gone t) port k (apart_gone t) here r.opened closed (λ s ne. h.each s))
 
--- shut for want of memory
-pub told_no_memory : (v v' : RunView) (unopened : ℕ) (ended : Bool) (t : ℕ) → IsStoryKnown v unopened ended
+-- shut as it is out of memory
+pub told_no_memory : (v v' : RunView) (unopened : ℕ) (ended : Bool) (t : ℕ) → IsTraceKnown v unopened ended
     → ClosesIn v v' t causes.NoMemory (was.Shut t)
-    → Runs (facts v t) → IsStoryKnown v' unopened ended
+    → Runs (facts v t) → IsTraceKnown v' unopened ended
 told_no_memory v v' unopened ended t h k r =
     let here = shuts_here v v' t causes.NoMemory causes.Drained k r.cause in
     let port = record (port_facts v.events t) { shut = true } in
@@ -146,9 +146,9 @@ told_no_memory v v' unopened ended t h k r =
 
 -- shut as it has finished
 pub told_finished : (v v' : RunView) (unopened : ℕ) (ended : Bool) (t : ℕ) (c : EndCause)
-    → IsStoryKnown v unopened ended → ClosesIn v v' t c (was.Shut t)
+    → IsTraceKnown v unopened ended → ClosesIn v v' t c (was.Shut t)
     → (r : Runs (facts v t)) → r.running.s.queue ≡ [] → r.running.s.out ≡ [] → v.piece t ≡ r.running.s.held
-    → Ends r.running.s c → IsStoryKnown v' unopened ended
+    → Ends r.running.s c → IsTraceKnown v' unopened ended
 told_finished v v' unopened ended t c h k r queue out held ends =
     let here = shuts_here v v' t c causes.Drained k r.cause in
     let port = record (port_facts v.events t) { shut = true } in
@@ -158,10 +158,11 @@ told_finished v v' unopened ended t c h k r queue out held ends =
     (ap (λ (p : PortFacts). p.shut) here.port_is))
 
 -- what a closing of the worker makes of its view
-pub closes_in : {P : Type 0} (story : PortStory) (old new : WorkerState P) (t : ℕ) (c : EndCause) (x : PortRecord)
+pub closes_in : {P : Type 0} (trace : PortTrace) (old new : WorkerState P) (t : ℕ) (c : EndCause) (x : PortRecord)
     → Closes old new t c
-    → RisesFrom 0 old.sessions.items → ClosesIn (run_view story old) (run_view (then_told (x ∷ []) story) new) t c x
-closes_in story old new t c x k rises = record {
+    → CausesRiseFrom 0 old.sessions.items → ClosesIn (run_view trace old)
+    (run_view (then_told (x ∷ []) trace) new) t c x
+closes_in trace old new t c x k rises = record {
   dialect = refl;
   events = refl;
   posted = λ i. posted_by (k.end i) (k.request i);
@@ -204,17 +205,17 @@ later_trans a b c h k = record {
   later = starts_trans c.seen b.seen a.seen k.later h.later;
 }
 
--- the story is still that of the end's worker, later
-pub story_later : (story : PortStory) (a b : WorkerView) → IsStoryOf story a → IsLaterEnd a b → IsStoryOf story b
-story_later story a b h k = record {
+-- the trace is still that of the end's worker, later
+pub trace_later : (trace : PortTrace) (a b : WorkerView) → IsTraceOf trace a → IsLaterEnd a b → IsTraceOf trace b
+trace_later trace a b h k = record {
   worker_is = h.worker_is ∙ sym k.worker;
   terms_are = h.terms_are ∙ sym k.terms;
-  later = starts_trans b.seen a.seen story.history k.later h.later;
+  later = starts_trans b.seen a.seen trace.history k.later h.later;
 }
 
 -- ---- a worker goes on
 
--- what is true of a worker beside its port's story
+-- what is true of a worker beside its port's trace
 pub record OwnFacts {P : Type 0} (old new : WorkerState P) : Type 0 where
   pub same_end : IsSameEnd (end_of old) (end_of new)
   pub later : IsLaterEnd (end_of old) (end_of new)
@@ -225,7 +226,7 @@ pub record OwnFacts {P : Type 0} (old new : WorkerState P) : Type 0 where
   pub ended : new.ended ≡ old.ended
 
 -- where a session was closed, and the port may be another one
-pub own_closed : {P : Type 0} (told : P → Option PortStory) (old new : WorkerState P) (port : P) (t : ℕ) (c : EndCause)
+pub own_closed : {P : Type 0} (told : P → Option PortTrace) (old new : WorkerState P) (port : P) (t : ℕ) (c : EndCause)
     → Closes (record old { port = port }) new t c → IsWorkerServing told old → OwnFacts old new
 own_closed told old new port t c k h = record {
   same_end = same_end old new k.end;
@@ -238,7 +239,7 @@ own_closed told old new port t c k h = record {
 }
 
 -- where the port and the book changed, which posted nothing
-pub own_within : {P : Type 0} (told : P → Option PortStory) (old new : WorkerState P) (port : P)
+pub own_within : {P : Type 0} (told : P → Option PortTrace) (old new : WorkerState P) (port : P)
     → LeavesWorker (record old { port = port }) new
     → (new.book.posted ≡ old.book.posted) × (new.book.unsettled ≡ old.book.unsettled)
     × (new.book.dialect ≡ old.book.dialect) → IsWorkerServing told old → OwnFacts old new
@@ -254,31 +255,31 @@ own_within told old new port rest b h = record {
   ended = rest.ended;
 }
 
--- what is true of it beside its own facts, at this story
-abbrev pub StoryFacts : {P : Type 0} → PortStory → WorkerState P → ℕ → Bool → Type 0
-StoryFacts story w unopened ended = IsStoryKnown (run_view story w) unopened ended × ArePaused story (piece_of w.book)
+-- what is true of it beside its own facts, at this trace
+abbrev pub TraceFacts : {P : Type 0} → PortTrace → WorkerState P → ℕ → Bool → Type 0
+TraceFacts trace w unopened ended = IsTraceKnown (run_view trace w) unopened ended × ArePaused trace (piece_of w.book)
 
--- of a serving worker all is known at the story that its port tells, and each session of which bytes are held is paused
-pub story_facts : {P : Type 0} (told : P → Option PortStory) (w : WorkerState P) → IsWorkerServing told w
-    → (story : PortStory) → told w.port ≡ Some story
-    → StoryFacts story w w.unopened w.ended
-story_facts told w h story e = (h.known story e, h.paused story e)
+-- of a serving worker all is known at the trace that its port tells, and each session of which bytes are held is paused
+pub trace_facts : {P : Type 0} (told : P → Option PortTrace) (w : WorkerState P) → IsWorkerServing told w
+    → (trace : PortTrace) → told w.port ≡ Some trace
+    → TraceFacts trace w w.unopened w.ended
+trace_facts told w h trace e = (h.known trace e, h.paused trace e)
 
--- a step that makes of each story what f does
-pub steps : {P : Type 0} (told : P → Option PortStory) (old new : WorkerState P) (f : PortStory → PortStory)
-    → ((story : PortStory) → IsStoryBy story (end_of old) old.book → IsStoryBy (f story) (end_of old) old.book)
+-- a step that makes of each trace what f does
+pub steps : {P : Type 0} (told : P → Option PortTrace) (old new : WorkerState P) (f : PortTrace → PortTrace)
+    → ((trace : PortTrace) → IsTraceBy trace (end_of old) old.book → IsTraceBy (f trace) (end_of old) old.book)
     → told new.port ≡ option_map f (told old.port) → IsSameEnd (end_of old) (end_of new)
     → IsLaterEnd (end_of old) (end_of new) → new.book.dialect ≡ old.book.dialect
     → IsSteady (end_of new) new.request new.book
     → new.strangers ≡ 0 → IsWorkerServing told old
-    → ((story : PortStory) → told old.port ≡ Some story → StoryFacts story old old.unopened old.ended
-    → StoryFacts (f story) new new.unopened new.ended) → WorkerGoesOn told old new
+    → ((trace : PortTrace) → told old.port ≡ Some trace → TraceFacts trace old old.unopened old.ended
+    → TraceFacts (f trace) new new.unopened new.ended) → WorkerGoesOn told old new
 steps told old new f stays port same later dialect steady strangers h each =
-    let at : (after : PortStory) → told new.port ≡ Some after → StoryFacts after new new.unopened new.ended =
+    let at : (after : PortTrace) → told new.port ≡ Some after → TraceFacts after new new.unopened new.ended =
     λ after e.
     let b = told_before f (told old.port) (told new.port) port after e in
-    subst (λ (y : PortStory). StoryFacts y new new.unopened new.ended) b.2
-    (each b.0 b.1 (story_facts told old h b.0 b.1)) in record {
+    subst (λ (y : PortTrace). TraceFacts y new new.unopened new.ended) b.2
+    (each b.0 b.1 (trace_facts told old h b.0 b.1)) in record {
       tells = tells_as f (told old.port) (told new.port) port;
       same_end = same;
       dialect = dialect;
@@ -290,46 +291,46 @@ steps told old new f stays port same later dialect steady strangers h each =
         whose = λ after e.
             let b = told_before f (told old.port) (told new.port) port after e in
             let now = stays b.0 (h.whose b.0 b.1) in
-            subst (λ (y : PortStory). IsStoryBy y (end_of new) new.book) b.2
-            (story_later (f b.0) (end_of old) (end_of new) now.0 later, now.1 ∙ sym dialect);
+            subst (λ (y : PortTrace). IsTraceBy y (end_of new) new.book) b.2
+            (trace_later (f b.0) (end_of old) (end_of new) now.0 later, now.1 ∙ sym dialect);
       };
     }
 
 -- the same where the counts stay
-pub steps_on : {P : Type 0} (told : P → Option PortStory) (old new : WorkerState P) (f : PortStory → PortStory)
-    → ((story : PortStory) → IsStoryBy story (end_of old) old.book → IsStoryBy (f story) (end_of old) old.book)
+pub steps_on : {P : Type 0} (told : P → Option PortTrace) (old new : WorkerState P) (f : PortTrace → PortTrace)
+    → ((trace : PortTrace) → IsTraceBy trace (end_of old) old.book → IsTraceBy (f trace) (end_of old) old.book)
     → told new.port ≡ option_map f (told old.port) → OwnFacts old new → IsWorkerServing told old
-    → ((story : PortStory) → told old.port ≡ Some story → StoryFacts story old old.unopened old.ended
-    → StoryFacts (f story) new old.unopened old.ended) → WorkerGoesOn told old new
+    → ((trace : PortTrace) → told old.port ≡ Some trace → TraceFacts trace old old.unopened old.ended
+    → TraceFacts (f trace) new old.unopened old.ended) → WorkerGoesOn told old new
 steps_on told old new f stays port own h each =
     steps told old new f stays port own.same_end own.later own.dialect own.steady own.strangers h
-    (λ story e k. subst (λ (y : ℕ × Bool). StoryFacts (f story) new y.0 y.1)
-    (λ i. (sym own.unopened i, sym own.ended i)) (each story e k))
+    (λ trace e k. subst (λ (y : ℕ × Bool). TraceFacts (f trace) new y.0 y.1)
+    (λ i. (sym own.unopened i, sym own.ended i)) (each trace e k))
 
 -- a worker whose session was shut goes on, if all is told of it
-pub shut_goes_on : {P : Type 0} (told : P → Option PortStory) (old new : WorkerState P) (t : ℕ) (c : EndCause)
+pub shut_goes_on : {P : Type 0} (told : P → Option PortTrace) (old new : WorkerState P) (t : ℕ) (c : EndCause)
     → Shuts told old new t c → IsWorkerServing told old
-    → ((story : PortStory) → IsStoryKnown (run_view story old) old.unopened old.ended
-    → ClosesIn (run_view story old) (run_view (then_told (was.Shut t ∷ []) story) new) t c (was.Shut t)
-    → IsStoryKnown (run_view (then_told (was.Shut t ∷ []) story) new) old.unopened old.ended)
+    → ((trace : PortTrace) → IsTraceKnown (run_view trace old) old.unopened old.ended
+    → ClosesIn (run_view trace old) (run_view (then_told (was.Shut t ∷ []) trace) new) t c (was.Shut t)
+    → IsTraceKnown (run_view (then_told (was.Shut t ∷ []) trace) new) old.unopened old.ended)
     → WorkerGoesOn told old new
 shut_goes_on told old new t c k h is_told =
     steps_on told old new (then_told (was.Shut t ∷ [])) (λ s q. q) k.port (own_closed told old new old.port t c k.closes h) h
-    (λ story e was_so. (
-      is_told story was_so.0 (closes_in story old new t c (was.Shut t) k.closes was_so.0.rising),
-      paused_but story (then_told (was.Shut t ∷ []) story) t (piece_of old.book) (piece_of new.book)
+    (λ trace e was_so. (
+      is_told trace was_so.0 (closes_in trace old new t c (was.Shut t) k.closes was_so.0.rising),
+      paused_but trace (then_told (was.Shut t ∷ []) trace) t (piece_of old.book) (piece_of new.book)
           (pieces_at old.book new.book t None k.closes.book.only_at)
-          (λ s ne. paused_elsewhere story (was.Shut t) s (ne_eqb t s ne)) was_so.1,
+          (λ s ne. paused_elsewhere trace (was.Shut t) s (ne_eqb t s ne)) was_so.1,
     ))
 
--- a worker that has shut an open session for want of memory goes on
-pub no_memory_goes_on : {P : Type 0} (told : P → Option PortStory) (old new : WorkerState P) (t : ℕ) (s : SessionState)
+-- a worker that has shut an open session that is out of memory goes on
+pub no_memory_goes_on : {P : Type 0} (told : P → Option PortTrace) (old new : WorkerState P) (t : ℕ) (s : SessionState)
     → Shuts told old new t causes.NoMemory → IsWorkerServing told old → session_of old.book t ≡ Some s
     → WorkerGoesOn told old new
 no_memory_goes_on told old new t s k h e =
-    shut_goes_on told old new t causes.NoMemory k h (λ story was_told closes. told_no_memory (run_view story old)
-    (run_view (then_told (was.Shut t ∷ []) story) new) old.unopened old.ended t was_told closes
-    (runs (facts (run_view story old) t) s (was_told.each t) e))
+    shut_goes_on told old new t causes.NoMemory k h (λ trace was_told closes. told_no_memory (run_view trace old)
+    (run_view (then_told (was.Shut t ∷ []) trace) new) old.unopened old.ended t was_told closes
+    (runs (facts (run_view trace old) t) s (was_told.each t) e))
 
 -- ---- an event of the port
 
@@ -339,7 +340,7 @@ pub open_here : (l : List PortRecord) (t : ℕ) → is_open t l ≡ true
 open_here l t e = open_parts (is_in (was.Opened t) l) (is_in (was.Gone t) l) (is_in (was.Shut t) l) e
 
 -- a session that is open in the book is open at the port
-pub told_open : (v : RunView) (unopened : ℕ) (ended : Bool) (t : ℕ) (s : SessionState) → IsStoryKnown v unopened ended
+pub told_open : (v : RunView) (unopened : ℕ) (ended : Bool) (t : ℕ) (s : SessionState) → IsTraceKnown v unopened ended
     → session_of v.book t ≡ Some s
     → is_open t v.events ≡ true
 told_open v unopened ended t s h e =
@@ -347,10 +348,10 @@ told_open v unopened ended t s h e =
     (is_in (was.Shut t) v.events) r.opened r.running.gone r.running.shut
 
 -- the same of a worker
-pub open_at : {P : Type 0} (told : P → Option PortStory) (w : WorkerState P) (t : ℕ) (s : SessionState)
+pub open_at : {P : Type 0} (told : P → Option PortTrace) (w : WorkerState P) (t : ℕ) (s : SessionState)
     → IsWorkerServing told w → session_of w.book t ≡ Some s
-    → (story : PortStory) → told w.port ≡ Some story → is_open t story.events ≡ true
-open_at told w t s h e = λ story q. told_open (run_view story w) w.unopened w.ended t s (h.known story q) e
+    → (trace : PortTrace) → told w.port ≡ Some trace → is_open t trace.events ≡ true
+open_at told w t s h e = λ trace q. told_open (run_view trace w) w.unopened w.ended t s (h.known trace q) e
 
 -- the other facts stay where only the port's list, the book and a piece change at one session
 pub others_same : (v v' : RunView) (t : ℕ) (x : PortRecord) → v'.dialect ≡ v.dialect → v'.events ≡ v.events ++ x ∷ [] → v'.posted ≡ v.posted
@@ -364,14 +365,14 @@ others_same v v' t x d e p b r other book piece s ne =
     (ap (λ l. had_by l s) b) (ap (λ l. cause_of l s) r) (book s ne) (piece s ne)
 
 -- the view but for its list, where an entry that opens nothing was added
-pub told_same : (v v' : RunView) (unopened : ℕ) (ended : Bool) (x : PortRecord) → IsStoryKnown v unopened ended
+pub told_same : (v v' : RunView) (unopened : ℕ) (ended : Bool) (x : PortRecord) → IsTraceKnown v unopened ended
     → v'.events ≡ v.events ++ x ∷ []
     → v'.sessions ≡ v.sessions → is_in was.Ended (v.events ++ x ∷ []) ≡ is_in was.Ended v.events
     → opened_count (v.events ++ x ∷ []) ≡ opened_count v.events
-    → IsProper v.events x → ((s : ℕ) → AreFactsConsistent (facts v' s)) → IsStoryKnown v' unopened ended
+    → IsProper v.events x → ((s : ℕ) → AreFactsConsistent (facts v' s)) → IsTraceKnown v' unopened ended
 told_same v v' unopened ended x h e r same count proper each = record {
   each = each;
-  rising = subst (RisesFrom 0) (sym r) h.rising;
+  rising = subst (CausesRiseFrom 0) (sym r) h.rising;
   counted = subst (λ (y : List PortRecord × List (ℕ × EndCause)). AreSessionsCounted y.0 y.1 unopened)
       (λ i. (sym e i, sym r i))
       (subst (λ (y : ℕ). (length v.sessions ≤ y) × (unopened ≡ min (y - length v.sessions) (2 ^ 64 - 1)))
@@ -398,13 +399,13 @@ running_on f port s q r o g h served =
     runs_on f (record f { port = port }) s q r o g h refl served
 
 -- bytes came and were fed
-pub told_fed : (v v' : RunView) (unopened : ℕ) (ended : Bool) (t : ℕ) (b : List ℕ) → IsStoryKnown v unopened ended
+pub told_fed : (v v' : RunView) (unopened : ℕ) (ended : Bool) (t : ℕ) (b : List ℕ) → IsTraceKnown v unopened ended
     → is_open t v.events ≡ true
     → v.piece t ≡ [] → v'.dialect ≡ v.dialect → v'.events ≡ v.events ++ was.Data t b ∷ [] → v'.posted ≡ v.posted → v'.back ≡ v.back
     → v'.sessions ≡ v.sessions
     → ((s : ℕ) → session_of v'.book s ≡ cond (s == t)
     (option_map (λ (x : SessionState). once_fed x b) (session_of v.book t)) (session_of v.book s))
-    → ((s : ℕ) → v'.piece s ≡ v.piece s) → IsStoryKnown v' unopened ended
+    → ((s : ℕ) → v'.piece s ≡ v.piece s) → IsTraceKnown v' unopened ended
 told_fed v v' unopened ended t b h opened none d e p k r book piece =
     let o = open_here v.events t opened in
     let run = runs_at_port (facts v t) (h.each t) o.0 o.1 o.2 in
@@ -429,12 +430,12 @@ told_fed v v' unopened ended t b h opened none d e p k r book piece =
     (λ s ne. piece s)) (subst AreFactsConsistent (sym here) now) (λ s ne. h.each s))
 
 -- the input has ended
-pub told_over : (v v' : RunView) (unopened : ℕ) (ended : Bool) (t : ℕ) → IsStoryKnown v unopened ended
+pub told_over : (v v' : RunView) (unopened : ℕ) (ended : Bool) (t : ℕ) → IsTraceKnown v unopened ended
     → is_open t v.events ≡ true
     → v'.dialect ≡ v.dialect → v'.events ≡ v.events ++ was.EndOfInput t ∷ [] → v'.posted ≡ v.posted → v'.back ≡ v.back
     → v'.sessions ≡ v.sessions
     → ((s : ℕ) → session_of v'.book s ≡ cond (s == t) (option_map once_over (session_of v.book t)) (session_of v.book s))
-    → ((s : ℕ) → v'.piece s ≡ v.piece s) → IsStoryKnown v' unopened ended
+    → ((s : ℕ) → v'.piece s ≡ v.piece s) → IsTraceKnown v' unopened ended
 told_over v v' unopened ended t h opened d e p k r book piece =
     let o = open_here v.events t opened in
     let run = runs_at_port (facts v t) (h.each t) o.0 o.1 o.2 in
@@ -454,13 +455,13 @@ told_over v v' unopened ended t h opened d e p k r book piece =
     (λ s ne. piece s)) (subst AreFactsConsistent (sym here) now) (λ s ne. h.each s))
 
 -- bytes came and are held
-pub told_held : (v v' : RunView) (unopened : ℕ) (ended : Bool) (t : ℕ) (b : List ℕ) → IsStoryKnown v unopened ended
+pub told_held : (v v' : RunView) (unopened : ℕ) (ended : Bool) (t : ℕ) (b : List ℕ) → IsTraceKnown v unopened ended
     → is_open t v.events ≡ true
     → v.piece t ≡ [] → v'.dialect ≡ v.dialect → v'.events ≡ v.events ++ was.Data t b ∷ [] → v'.posted ≡ v.posted → v'.back ≡ v.back
     → v'.sessions ≡ v.sessions
     → ((s : ℕ) → session_of v'.book s ≡ cond (s == t)
     (option_map (λ (x : SessionState). holding x b) (session_of v.book t)) (session_of v.book s))
-    → ((s : ℕ) → v'.piece s ≡ cond (s == t) b (v.piece s)) → IsStoryKnown v' unopened ended
+    → ((s : ℕ) → v'.piece s ≡ cond (s == t) b (v.piece s)) → IsTraceKnown v' unopened ended
 told_held v v' unopened ended t b h opened none d e p k r book piece =
     let o = open_here v.events t opened in
     let run = runs_at_port (facts v t) (h.each t) o.0 o.1 o.2 in

@@ -4,9 +4,9 @@ use Rattle.session_book.specs.declared.causes.EndCause.{EndCause}
 use Rattle.session_book.specs.Book.{BookState, session_of, held_of}
 
 -- the numbers rise from one above this one, so that no session has two entries
-abbrev pub RisesFrom : ℕ → List (ℕ × EndCause) → Type 0
-RisesFrom n [] = ⊤
-RisesFrom n (e ∷ sessions) = (n < e.0) × RisesFrom e.0 sessions
+abbrev pub CausesRiseFrom : ℕ → List (ℕ × EndCause) → Type 0
+CausesRiseFrom n [] = ⊤
+CausesRiseFrom n (e ∷ sessions) = (n < e.0) × CausesRiseFrom e.0 sessions
 
 -- the report with this cause at the session's entry
 abbrev pub with_cause : List (ℕ × EndCause) → ℕ → EndCause → List (ℕ × EndCause)

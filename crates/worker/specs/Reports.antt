@@ -1,6 +1,8 @@
 -- What a worker's report says.
-use Rattle.std.specs.Prelude.{◌≡◌, ◌≢◌, ℕ, ◌-◌, ◌^◌, ◌≤◌, true, false, min, List, [], ◌∷◌, ◌++◌, length, All, Some, None, IsSome}
+use Rattle.std.specs.Prelude.{◌≡◌, ◌≢◌, ℕ, ◌-◌, ◌^◌, ◌≤◌, true, false, min, List, [], ◌∷◌, ◌++◌, length, map}
+use Rattle.std.specs.Prelude.{All, Some, None, IsSome}
 use Rattle.std.specs.List.{list_any, last_or}
+use Rattle.std.specs.List.Sorted.{IsStrictlyIncreasing}
 use Rattle.proto.specs.declared.dialect.Dialect.{Dialect}
 use Rattle.proto.specs.declared.message.FatalKind.{FatalKind}
 use Rattle.proto.specs.declared.message.Message.{Message}
@@ -18,8 +20,9 @@ use Rattle.worker_port.specs.declared.events.PortRecord.TheVariants as was
 use Rattle.worker_port.specs.Ports.{fed, given, is_in, is_open, opened_count}
 use Rattle.worker_port.specs.Giving.{BeginsAnswers}
 use Rattle.worker.specs.Sessions.{cause_of}
-use Rattle.worker.specs.EndCauses.{RisesFrom}
 
+-- What the list and the messages say of a session with this cause. Gone says only that the port told Gone, and NoMemory only that
+-- the session was shut.
 abbrev pub IsCauseOf : List PortRecord → ℕ → List Message → EndCause → Type 0
 IsCauseOf events s messages causes.Drained =
     (is_in (was.EndOfInput s) events ≡ false) × (is_in (was.Gone s) events ≡ false) × (is_in (was.Shut s) events ≡ false)
@@ -32,7 +35,8 @@ IsCauseOf events s messages causes.Quit = (is_in (was.Shut s) events ≡ true) �
 IsCauseOf events s messages causes.Fatal =
     (is_in (was.Shut s) events ≡ true) × (kind : FatalKind) × (last_or None messages ≡ Some (Fatal kind))
 
--- of a session whose bytes spell these messages; it was answered to its end but where it has gone or memory was refused
+-- Of a session whose bytes spell these messages: the port gave it a beginning of their answers. If its cause is neither Gone nor
+-- NoMemory, the port gave it all of them, and the history has all its requests.
 pub record IsSessionAnswered (events : List PortRecord) (history : List Answered) (worker s : ℕ) (cause : EndCause)
     (messages : List Message) : Type 0 where
   pub answers : BeginsAnswers history worker s (given s events) messages
@@ -40,11 +44,12 @@ pub record IsSessionAnswered (events : List PortRecord) (history : List Answered
       × (given s events ≡ said messages (had (session_share history worker s)))
   pub caused : IsCauseOf events s messages cause
 
--- the report has each session that was opened once, or it was shut and is counted, and nothing was given to or asked by another
+-- The report lists sessions that were opened, once each, by rising numbers. An opened session that it doesn't list was shut, and
+-- unopened counts these. A session that it doesn't list was given nothing and asked nothing.
 pub record AreListed (events : List PortRecord) (sent : List Posted) (sessions : List (ℕ × EndCause)) (unopened : ℕ)
     : Type 0 where
   pub ended : is_in was.Ended events ≡ true
-  pub once : RisesFrom 0 sessions
+  pub once : IsStrictlyIncreasing (0 ∷ map (λ (e : ℕ × EndCause). e.0) sessions)
   pub opened : (s : ℕ) → IsSome (cause_of sessions s) → is_in (was.Opened s) events ≡ true
   pub refused : (s : ℕ) → is_in (was.Opened s) events ≡ true → cause_of sessions s ≡ None → is_in (was.Shut s) events ≡ true
   pub counted : (length sessions ≤ opened_count events) × (unopened ≡ min (opened_count events - length sessions) (2 ^ 64 - 1))

@@ -20,5 +20,5 @@ listed_from sessions [] = sessions
 listed_from sessions (note ∷ notes) = listed_from (and_noted sessions note) notes
 
 -- the list that the notes tell
-abbrev pub listed : List SessionNote → List (ℕ × EndCause)
-listed notes = listed_from [] notes
+abbrev pub listed_sessions : List SessionNote → List (ℕ × EndCause)
+listed_sessions notes = listed_from [] notes

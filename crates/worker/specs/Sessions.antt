@@ -82,7 +82,7 @@ pub record IsRunning (f : SessionFacts) : Type 0 where
   pub state : f.state ≡ Some s
   pub served : IsSessionServed f.piece f s
 
--- bytes at the front of b are read as the messages, and rest is behind them
+-- bytes at the front of b are read as the messages, and rest is after them
 pub record BeginsWith (d : Dialect) (b : List ℕ) (messages : List Message) (rest : List ℕ) : Type 0 where
   pub read : List ℕ
   pub whole : b ≡ read ++ rest

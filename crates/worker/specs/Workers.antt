@@ -8,7 +8,7 @@ use lib.ListN.{get_elem?}
 use Rattle.proto.specs.declared.history.Posted.{Posted}
 use Rattle.proto.specs.declared.history.Answered.{Answered}
 use Rattle.proto.specs.History.{LegalBy, worker_share, asked_posted}
-use Rattle.exchange.specs.Ends.{WorkerView, WorkerBatchView, flushed}
+use Rattle.exchange.specs.Ends.{WorkerView, WorkerBatchView, with_put_sent}
 use Rattle.exchange.specs.Beginnings.{StartsWith, posted_of}
 use Rattle.session_book.specs.declared.causes.EndCause.{EndCause}
 use Rattle.session_book.specs.declared.causes.Unsettled.{Unsettled}
@@ -18,14 +18,14 @@ use Rattle.session_book.specs.Book.{BookState, session_of, ChangesSession, OnlyA
 use Rattle.worker_port.specs.declared.events.PortRecord.{PortRecord}
 use Rattle.worker_port.specs.declared.events.PortRecord.TheVariants as was
 use Rattle.worker.specs.declared.state.WorkerState.{WorkerState}
-use Rattle.worker_port.specs.Ports.{PortStory, then_told, with_pause, is_in, is_open, opened_count}
-use Rattle.worker_port.specs.Giving.{IsStoryOf}
+use Rattle.worker_port.specs.Ports.{PortTrace, then_told, with_pause, is_in, is_open, opened_count}
+use Rattle.worker_port.specs.Giving.{IsTraceOf}
 use Rattle.worker.specs.Sessions.{RunView, facts, AreFactsConsistent}
-use Rattle.worker.specs.EndCauses.{RisesFrom, with_cause, piece_of}
+use Rattle.worker.specs.EndCauses.{CausesRiseFrom, with_cause, piece_of}
 
 -- a worker's end as it is once all that was put is flushed: so what was put counts as sent
 abbrev pub once_flushed : WorkerBatchView → WorkerView
-once_flushed batch = (flushed batch).end
+once_flushed batch = (with_put_sent batch).end
 
 abbrev pub end_of : {P : Type 0} → WorkerState P → WorkerView
 end_of w = once_flushed w.batch
@@ -59,20 +59,20 @@ pub record IsSteady (end : WorkerView) (request : Option Posted) (book : BookSta
   pub told : WasToldOfHistory end
 
 -- All that is known where the port tells its list.
-pub record IsStoryKnown (v : RunView) (unopened : ℕ) (ended : Bool) : Type 0 where
+pub record IsTraceKnown (v : RunView) (unopened : ℕ) (ended : Bool) : Type 0 where
   pub each : (s : ℕ) → AreFactsConsistent (facts v s)
-  pub rising : RisesFrom 0 v.sessions
+  pub rising : CausesRiseFrom 0 v.sessions
   pub counted : (length v.sessions ≤ opened_count v.events)
       × (unopened ≡ min (opened_count v.events - length v.sessions) (2 ^ 64 - 1))
   pub at_end : is_in was.Ended v.events ≡ ended
   pub accepts : (before behind : List PortRecord) (s : ℕ) (bytes : List ℕ) → v.events ≡ before ++ was.Accepted s bytes ∷ behind
       → is_open s before ≡ true
 
-abbrev pub run_view : {P : Type 0} → PortStory → WorkerState P → RunView
-run_view story w =
+abbrev pub run_view : {P : Type 0} → PortTrace → WorkerState P → RunView
+run_view trace w =
     record {
-      dialect = story.dialect;
-      events = story.events;
+      dialect = trace.dialect;
+      events = trace.events;
       posted = posted_by (end_of w) w.request;
       back = (end_of w).back;
       sessions = w.sessions.items;
@@ -81,20 +81,20 @@ run_view story w =
     }
 
 -- each session of which bytes are held is paused
-abbrev pub ArePaused : PortStory → (ℕ → List ℕ) → Type 0
-ArePaused story piece = (s : ℕ) → (piece s ≡ [] → ⊥) → story.paused s ≡ true
+abbrev pub ArePaused : PortTrace → (ℕ → List ℕ) → Type 0
+ArePaused trace piece = (s : ℕ) → (piece s ≡ [] → ⊥) → trace.paused s ≡ true
 
--- the story is that of the end's worker, and its bytes are read in the dialect of the worker's book
-abbrev pub IsStoryBy : PortStory → WorkerView → BookState → Type 0
-IsStoryBy story end book = IsStoryOf story end × (story.dialect ≡ book.dialect)
+-- the trace is that of the end's worker, and its bytes are read in the dialect of the worker's book
+abbrev pub IsTraceBy : PortTrace → WorkerView → BookState → Type 0
+IsTraceBy trace end book = IsTraceOf trace end × (trace.dialect ≡ book.dialect)
 
 -- what stays true of a worker over a port
-pub record IsWorkerServing {P : Type 0} (told : P → Option PortStory) (w : WorkerState P) : Type 0 where
+pub record IsWorkerServing {P : Type 0} (told : P → Option PortTrace) (w : WorkerState P) : Type 0 where
   pub steady : IsSteady (end_of w) w.request w.book
   pub strangers : w.strangers ≡ 0
-  pub known : (story : PortStory) → told w.port ≡ Some story → IsStoryKnown (run_view story w) w.unopened w.ended
-  pub paused : (story : PortStory) → told w.port ≡ Some story → ArePaused story (piece_of w.book)
-  pub whose : (story : PortStory) → told w.port ≡ Some story → IsStoryBy story (end_of w) w.book
+  pub known : (trace : PortTrace) → told w.port ≡ Some trace → IsTraceKnown (run_view trace w) w.unopened w.ended
+  pub paused : (trace : PortTrace) → told w.port ≡ Some trace → ArePaused trace (piece_of w.book)
+  pub whose : (trace : PortTrace) → told w.port ≡ Some trace → IsTraceBy trace (end_of w) w.book
 
 -- it is the same end, later
 pub record IsSameEnd (old new : WorkerView) : Type 0 where
@@ -127,7 +127,7 @@ pub record TakesBack (old new : WorkerView) (a : Answered) : Type 0 where
   pub later : IsLaterEnd old new
 
 -- the worker goes on: over the same port, later, at the same end, and in the same dialect
-pub record Continues {P : Type 0} (told : P → Option PortStory) (leads_to : P → P → Type 0)
+pub record Continues {P : Type 0} (told : P → Option PortTrace) (leads_to : P → P → Type 0)
     (old new : WorkerState P) : Type 0 where
   pub tells : is_some (told new.port) ≡ is_some (told old.port)
   pub leads : leads_to old.port new.port
@@ -140,19 +140,19 @@ pub record Closes {P : Type 0} (old new : WorkerState P) (session : ℕ) (cause 
   pub end : end_of new ≡ end_of old
   pub request : new.request ≡ old.request
   pub book : ChangesSession old.book new.book session None
-  pub sessions : RisesFrom 0 old.sessions.items → new.sessions.items ≡ with_cause old.sessions.items session cause
+  pub sessions : CausesRiseFrom 0 old.sessions.items → new.sessions.items ≡ with_cause old.sessions.items session cause
   pub unopened : new.unopened ≡ old.unopened
   pub strangers : new.strangers ≡ old.strangers
   pub ended : new.ended ≡ old.ended
 
 -- the session is shut at the port, and closed
-pub record Shuts {P : Type 0} (told : P → Option PortStory) (old new : WorkerState P) (session : ℕ)
+pub record Shuts {P : Type 0} (told : P → Option PortTrace) (old new : WorkerState P) (session : ℕ)
     (cause : EndCause) : Type 0 where
   pub port : told new.port ≡ option_map (then_told (was.Shut session ∷ [])) (told old.port)
   pub closes : Closes old new session cause
 
 -- A session was just opened: it has an entry in the report and is in the book; or it is shut and counted.
-pub record Admits {P : Type 0} (told : P → Option PortStory) (old new : WorkerState P) (session : ℕ) : Type 0 where
+pub record Admits {P : Type 0} (told : P → Option PortTrace) (old new : WorkerState P) (session : ℕ) : Type 0 where
   pub port : new.port ≡ old.port
   pub sessions : new.sessions.items ≡ old.sessions.items ++ (session, causes.Drained) ∷ []
   pub book : OnlyAt old.book new.book session (Some (new_session old.book.dialect))
@@ -160,7 +160,7 @@ pub record Admits {P : Type 0} (told : P → Option PortStory) (old new : Worker
   pub dialect : new.book.dialect ≡ old.book.dialect
   pub unopened : new.unopened ≡ old.unopened
 
-pub record Refuses {P : Type 0} (told : P → Option PortStory) (old new : WorkerState P) (session : ℕ) : Type 0 where
+pub record Refuses {P : Type 0} (told : P → Option PortTrace) (old new : WorkerState P) (session : ℕ) : Type 0 where
   pub port : told new.port ≡ option_map (then_told (was.Shut session ∷ [])) (told old.port)
   pub sessions : new.sessions.items ≡ old.sessions.items
   pub book : new.book ≡ old.book
@@ -183,15 +183,15 @@ pub record LeavesWorker {P : Type 0} (old new : WorkerState P) : Type 0 where
   pub ended : new.ended ≡ old.ended
 
 -- the piece is held, and nothing else changes but for a pause
-pub record HoldsPiece {P : Type 0} (told : P → Option PortStory) (old : WorkerState P) (session : ℕ) (bytes : List ℕ)
+pub record HoldsPiece {P : Type 0} (told : P → Option PortTrace) (old : WorkerState P) (session : ℕ) (bytes : List ℕ)
     (new : WorkerState P) : Type 0 where
   pub book : ChangesSession old.book new.book session (option_map (λ s. holding s bytes) (session_of old.book session))
   pub port : told new.port ≡ option_map (with_pause session true) (told old.port)
   pub leaves : LeavesWorker old new
 
--- A piece of input came: it is fed, or held, or its session is shut for want of memory; a session that isn't
+-- A piece of input came: it is fed, or held, or its session is shut as memory ran out; a session that isn't
 -- open drops it. That bytes are held already is a reason to shut only at a port that tells nothing.
-pub data HandlesData {P : Type 0} (told : P → Option PortStory) (old : WorkerState P) (session : ℕ) (bytes : List ℕ)
+pub data HandlesData {P : Type 0} (told : P → Option PortTrace) (old : WorkerState P) (session : ℕ) (bytes : List ℕ)
     (new : WorkerState P) : Type 0 where
   feeds : piece_of old.book session ≡ []
       → ChangesSession old.book new.book session (option_map (λ s. once_fed s bytes) (session_of old.book session))

@@ -1,6 +1,6 @@
 //! What may hold a worker's requests back.
 
-/// May hold a request back, and is told of each answer.
+/// May hold a request back, and learns of each answer.
 pub trait Gate {
     /// Asked before each try to post the request of this number.
     fn may_post(&self, worker: usize, number: u64) -> bool;

@@ -2,8 +2,8 @@
 
 ghost use Rattle.std.specs.Prelude.{◌≡◌, ◌<◌, [], true, false, None, is_some};
 ghost use Rattle.worker.specs.Workers.{end_of, Continues, IsDrained};
-ghost use Rattle.worker_port.specs.Ports.{PortStory};
-ghost use Rattle.worker_port.specs.Giving.{IsStoryOf};
+ghost use Rattle.worker_port.specs.Ports.{PortTrace};
+ghost use Rattle.worker_port.specs.Giving.{IsTraceOf};
 ghost use Rattle.worker.specs.Reports.{IsReported, IsOver};
 
 use crate::gate::Gate;
@@ -20,7 +20,7 @@ use std::sync::Wait;
 use std::time::Clock;
 use worker_port::Port;
 
-/// The most events that are taken in a turn. Storage is told of their requests together, so it is woken once for them.
+/// The most events that are taken in a turn. The worker tells storage of their requests together, so it wakes it once.
 const EVENTS_A_TURN: usize = 32;
 
 /// The most sessions whose peer accepted nothing that are offered their output again in a turn.
@@ -89,15 +89,22 @@ fn ask_next<P: Port, G: Gate>(worker: &mut Worker<P>, gate: &G, storage: &Storag
     }
 }
 
-/// Asks the sessions in turn while the window has room.
-fn ask_sessions<P: Port, G: Gate>(worker: &mut Worker<P>, gate: &G, storage: &StorageSignals)
+/// Asks the sessions in turn while the window has room. False where none was asked.
+fn ask_sessions<P: Port, G: Gate>(
+    worker: &mut Worker<P>,
+    gate: &G,
+    storage: &StorageSignals,
+) -> bool
     ensures { Continues P.told P.leads_to worker.old worker.new }
 {
+    let mut moved = false;
     for _ in 0..worker.state.book.ready(Task::Ask) {
         if !ask_next(worker, gate, storage) {
             break;
         }
+        moved = true;
     }
+    moved
 }
 
 /// Posts the held request, then what has come and what fits by now, and tells storage of all of it.
@@ -111,9 +118,7 @@ fn post_requests<P: Port, G: Gate>(
     let held = worker.post(gate, storage);
     let came = take_events(worker, gate, storage);
     let fed = feed_pieces(worker);
-    let posted = worker.state.posted();
-    ask_sessions(worker, gate, storage);
-    let asked = worker.state.posted() > posted;
+    let asked = ask_sessions(worker, gate, storage);
     worker.flush(storage);
     held || came || fed || asked
 }
@@ -123,7 +128,7 @@ fn settle_answers<P: Port, G: Gate>(worker: &mut Worker<P>, gate: &G) -> bool
     ensures { Continues P.told P.leads_to worker.old worker.new }
 {
     let mut moved = false;
-    for _ in 0..worker.state.outstanding() {
+    for _ in 0..worker.state.batch.outstanding() {
         if !worker.settle_next(gate) {
             break;
         }
@@ -187,19 +192,19 @@ pub fn run_worker<P: Port, G: Gate, R: Wait + Clock>(
     gate: &G,
     storage: &StorageSignals,
 ) -> WorkerReport<P>
-    requires port { (story : PortStory) → P.told port ≡ Some story → story.events ≡ [] }
-    requires whose { (story : PortStory) → P.told port ≡ Some story → IsStoryOf story worker_end }
-    requires spelled { (story : PortStory) → P.told port ≡ Some story → story.dialect ≡ dialect }
+    requires port { (trace : PortTrace) → P.told port ≡ Some trace → trace.events ≡ [] }
+    requires whose { (trace : PortTrace) → P.told port ≡ Some trace → IsTraceOf trace worker_end }
+    requires spelled { (trace : PortTrace) → P.told port ≡ Some trace → trace.dialect ≡ dialect }
     requires fresh { (worker_end.sent ≡ []) × (worker_end.back ≡ []) × (worker_end.said_bye ≡ false) }
     requires untold { worker_end.seen ≡ [] }
     ensures leads { P.leads_to port result.port }
     ensures tells { is_some (P.told result.port) ≡ is_some (P.told port) }
     ensures over { IsOver worker_end result.worker_end }
     ensures strangers { result.strangers ≡ 0 }
-    ensures reported { (story : PortStory) → P.told result.port ≡ Some story
-        → IsReported story.dialect story.events result.worker_end result.sessions.items result.unopened }
-    ensures whose { (story : PortStory) → P.told result.port ≡ Some story → IsStoryOf story result.worker_end }
-    ensures spelled { (story : PortStory) → P.told result.port ≡ Some story → story.dialect ≡ dialect }
+    ensures reported { (trace : PortTrace) → P.told result.port ≡ Some trace
+        → IsReported trace.dialect trace.events result.worker_end result.sessions.items result.unopened }
+    ensures whose { (trace : PortTrace) → P.told result.port ≡ Some trace → IsTraceOf trace result.worker_end }
+    ensures spelled { (trace : PortTrace) → P.told result.port ≡ Some trace → trace.dialect ≡ dialect }
 {
     let parking = storage.worker_parking(worker_end.worker());
     let mut worker = Worker::new(alloc, port, worker_end, dialect);
@@ -210,7 +215,7 @@ pub fn run_worker<P: Port, G: Gate, R: Wait + Clock>(
         } else if has_drained(&mut worker) {
             return leave(worker, storage);
         } else {
-            pauses.turn(rt, worker.state.outstanding() > 0, parking);
+            pauses.turn(rt, worker.state.batch.outstanding() > 0, parking);
         }
     }
     unreachable!()
@@ -222,10 +227,11 @@ fn leave<P: Port>(worker: Worker<P>, storage: &StorageSignals) -> WorkerReport<P
     ensures port { result.port ≡ worker.port }
     ensures over { IsOver (end_of worker) result.worker_end }
     ensures strangers { result.strangers ≡ 0 }
-    ensures reported { (story : PortStory) → P.told result.port ≡ Some story
-        → IsReported story.dialect story.events result.worker_end result.sessions.items result.unopened }
-    ensures whose { (story : PortStory) → P.told result.port ≡ Some story → IsStoryOf story result.worker_end }
-    ensures spelled { (story : PortStory) → P.told result.port ≡ Some story → story.dialect ≡ worker.book.dialect }
+    ensures reported { (trace : PortTrace) → P.told result.port ≡ Some trace
+        → IsReported trace.dialect trace.events result.worker_end result.sessions.items result.unopened }
+    ensures whose { (trace : PortTrace) → P.told result.port ≡ Some trace → IsTraceOf trace result.worker_end }
+    ensures spelled { (trace : PortTrace) → P.told result.port ≡ Some trace
+        → trace.dialect ≡ worker.book.dialect }
 {
     let Worker { state } = worker;
     let WorkerState {

@@ -14,7 +14,7 @@ pub(crate) fn hold(held: &mut Option<Posted>, posted: Posted)
     drop(held.replace(posted));
 }
 
-/// Puts the request that is held, which stays held where there is no room for it. Storage is told of it at the next flush. A
+/// Puts the request that is held, which stays held where there is no room for it. The next flush tells storage of it. A
 /// hint of the key is left for it.
 pub(crate) fn post_held(
     batch: &mut WorkerBatch,
@@ -22,9 +22,10 @@ pub(crate) fn post_held(
     storage: &StorageSignals,
 ) -> bool
     requires { IsNumbered (once_flushed batch.old) held.old }
-    ensures posted { result ≡ true → (held.new ≡ None)
-        × (once_flushed batch.new ≡ record (once_flushed batch.old) { sent = posted_by (once_flushed batch.old) held.old }) }
-    ensures stays { result ≡ false → (held.new ≡ held.old) × (once_flushed batch.new ≡ once_flushed batch.old) }
+    ensures posted { result ≡ true → (held.new ≡ None) × (once_flushed batch.new
+        ≡ record (once_flushed batch.old) { sent = posted_by (once_flushed batch.old) held.old }) }
+    ensures stays { result ≡ false → (held.new ≡ held.old)
+        × (once_flushed batch.new ≡ once_flushed batch.old) }
 {
     let Some(posted) = held.take() else {
         return false;

@@ -24,11 +24,11 @@ pub struct SessionList {
 }
 
 impl Model for SessionList {
-    ghost use Rattle.worker.specs.SessionLists.{SessionEntries, listed};
+    ghost use Rattle.worker.specs.SessionLists.{SessionEntries, listed_sessions};
 
     ghost Value = { SessionEntries };
 
-    ghost view = { λ l. record { items = listed l.notes.items } };
+    ghost view = { λ l. record { items = listed_sessions l.notes.items } };
 }
 
 impl SessionList {

@@ -1,9 +1,10 @@
 //! What a worker holds while it runs, and the parts of its steps.
 
 ghost use Rattle.std.specs.Prelude.{◌≡◌, ◌≤◌, ◌+◌, ◌⊎◌, Some, None, IsSome, [], length, true};
+ghost use Rattle.proto.specs.declared.limits.TheConstants.{WINDOW};
 ghost use Rattle.session_book.specs.Book.{session_of};
 ghost use Rattle.worker.specs.EndCauses.{piece_of};
-ghost use Rattle.worker_port.specs.Ports.{PortStory, is_open};
+ghost use Rattle.worker_port.specs.Ports.{PortTrace, is_open};
 ghost use Rattle.worker.specs.Workers.{end_of, Closes, Shuts, Admits, Refuses, SameRest, HandlesData};
 
 use crate::session_list::SessionList;
@@ -30,17 +31,10 @@ pub(crate) struct WorkerState<P> {
 }
 
 impl<P: Port> WorkerState<P> {
-    /// How many requests were posted.
-    pub(crate) fn posted(&self) -> u64
-        ensures { result ≡ length (end_of self.now).sent }
-    {
-        self.batch.sent() + self.batch.waiting()
-    }
-
     /// How many requests were posted and not taken back.
     pub(crate) fn outstanding(&self) -> u64
         ensures value { result + length (end_of self.now).back ≡ length (end_of self.now).sent }
-        ensures range { result ≤ 64 }
+        ensures range { result ≤ WINDOW }
     {
         self.batch.outstanding()
     }
@@ -56,7 +50,8 @@ impl<P: Port> WorkerState<P> {
     }
 
     pub(crate) fn shut(&mut self, session: u64, cause: EndCause)
-        requires { (story : PortStory) → P.told self.old.port ≡ Some story → is_open session story.events ≡ true }
+        requires { (trace : PortTrace) → P.told self.old.port ≡ Some trace
+            → is_open session trace.events ≡ true }
         ensures shuts { Shuts P.told self.old self.new session cause }
         ensures leads { P.leads_to self.old.port self.new.port }
     {
@@ -66,7 +61,8 @@ impl<P: Port> WorkerState<P> {
 
     /// Shuts a session that was just opened, as there is no room for it.
     fn refuse(&mut self, newcomer: u64)
-        requires { (story : PortStory) → P.told self.old.port ≡ Some story → is_open newcomer story.events ≡ true }
+        requires { (trace : PortTrace) → P.told self.old.port ≡ Some trace
+            → is_open newcomer trace.events ≡ true }
         ensures leads { P.leads_to self.old.port self.new.port }
         ensures rest { SameRest self.old self.new }
         ensures refuses { Refuses P.told self.old self.new newcomer }
@@ -77,7 +73,8 @@ impl<P: Port> WorkerState<P> {
 
     /// Opens a session in the book, and writes its entry in the report.
     pub(crate) fn admit(&mut self, session: u64)
-        requires { (story : PortStory) → P.told self.old.port ≡ Some story → is_open session story.events ≡ true }
+        requires { (trace : PortTrace) → P.told self.old.port ≡ Some trace
+            → is_open session trace.events ≡ true }
         ensures leads { P.leads_to self.old.port self.new.port }
         ensures rest { SameRest self.old self.new }
         ensures admits { Admits P.told self.old self.new session ⊎ Refuses P.told self.old self.new session }
@@ -92,8 +89,10 @@ impl<P: Port> WorkerState<P> {
     /// Feeds a piece of input that came, or holds it until it fits, and then pauses its session. Input of a session that
     /// isn't open is dropped. At a port that tells, a session of which bytes are held is paused and has no data.
     pub(crate) fn receive(&mut self, session: u64, bytes: Bytes)
-        requires open { (story : PortStory) → P.told self.old.port ≡ Some story → is_open session story.events ≡ true }
-        requires resumed { (story : PortStory) → P.told self.old.port ≡ Some story → piece_of self.old.book session ≡ [] }
+        requires open { (trace : PortTrace) → P.told self.old.port ≡ Some trace
+            → is_open session trace.events ≡ true }
+        requires resumed { (trace : PortTrace) → P.told self.old.port ≡ Some trace
+            → piece_of self.old.book session ≡ [] }
         ensures receives { HandlesData P.told self.old session bytes self.new }
         ensures leads { P.leads_to self.old.port self.new.port }
         ensures drops { session_of self.old.book session ≡ None → self.new ≡ self.old }

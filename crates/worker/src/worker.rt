@@ -3,8 +3,8 @@
 ghost use Rattle.std.specs.Prelude.{◌≡◌, true, false, Some, None, []};
 ghost use Rattle.session_book.specs.Session.{finished_by, HasReadAll};
 ghost use Rattle.session_book.specs.Book.{session_of};
-ghost use Rattle.worker_port.specs.Ports.{PortStory};
-ghost use Rattle.worker_port.specs.Giving.{IsStoryOf};
+ghost use Rattle.worker_port.specs.Ports.{PortTrace};
+ghost use Rattle.worker_port.specs.Giving.{IsTraceOf};
 ghost use Rattle.worker.specs.Workers.{end_of, Continues};
 ghost use Rattle.std.specs.Option.{option_and_then};
 
@@ -19,7 +19,7 @@ use std::alloc::Global;
 use std::marker::Model;
 use worker_port::{Gone, Port, PortEvent, ToldHistory};
 
-/// A worker. Contracts see it as its state, of which all parts agree between its steps, with the port's story too where the
+/// A worker. Contracts see it as its state, of which all parts agree between its steps, with the port's trace too where the
 /// port tells it.
 #[derive(Drop)]
 pub(crate) struct Worker<P: Port> {
@@ -40,9 +40,9 @@ impl<P: Port> Model for Worker<P> {
 impl<P: Port> Worker<P> {
     /// A worker whose end has sent nothing yet, over a port that has told nothing.
     pub(crate) fn new(alloc: Global, port: P, worker_end: WorkerEnd, dialect: Dialect) -> Worker<P>
-        requires port { (story : PortStory) → P.told port ≡ Some story → story.events ≡ [] }
-        requires whose { (story : PortStory) → P.told port ≡ Some story → IsStoryOf story worker_end }
-        requires spelled { (story : PortStory) → P.told port ≡ Some story → story.dialect ≡ dialect }
+        requires port { (trace : PortTrace) → P.told port ≡ Some trace → trace.events ≡ [] }
+        requires whose { (trace : PortTrace) → P.told port ≡ Some trace → IsTraceOf trace worker_end }
+        requires spelled { (trace : PortTrace) → P.told port ≡ Some trace → trace.dialect ≡ dialect }
         requires fresh { (worker_end.sent ≡ []) × (worker_end.back ≡ []) × (worker_end.said_bye ≡ false) }
         requires untold { worker_end.seen ≡ [] }
         ensures port { result.port ≡ port }
@@ -66,7 +66,9 @@ impl<P: Port> Worker<P> {
 
     /// Whether the port may wait: nothing is outstanding or held back, and no session has anything to do.
     fn may_wait(&self) -> bool {
-        self.state.request.is_none() && self.state.outstanding() == 0 && self.state.book.is_idle()
+        self.state.request.is_none()
+            && self.state.batch.outstanding() == 0
+            && self.state.book.is_idle()
     }
 
     /// One event of the port, unless it has ended. False where there was none.
@@ -138,7 +140,7 @@ impl<P: Port> Worker<P> {
     {
         self.state.request.is_some()
             || self.state.book.is_full()
-            || (self.state.outstanding() > 0 && self.state.book.is_crowded())
+            || (self.state.batch.outstanding() > 0 && self.state.book.is_crowded())
     }
 
     /// Reads the session's next request and posts it. True where another one may be asked now. Where there may be one that
@@ -167,7 +169,7 @@ impl<P: Port> Worker<P> {
         true
     }
 
-    /// Posts the held request, if the gate lets it and there is room. Storage is told of it at the next flush.
+    /// Posts the held request, if the gate lets it and there is room. The next flush tells storage of it.
     pub(crate) fn post<G: Gate>(&mut self, gate: &G, storage: &StorageSignals) -> bool
         ensures goes_on { Continues P.told P.leads_to self.old self.new }
         ensures posted { result ≡ true → self.new.request ≡ None }

@@ -10,7 +10,7 @@ use Rattle.proto.specs.Reading.{Reads, asks}
 use Rattle.proto.specs.Answers.{said}
 use Rattle.exchange.specs.Beginnings.{StartsWith}
 use Rattle.exchange.specs.Ends.{WorkerView}
-use Rattle.worker_port.specs.Ports.{PortStory, fed, given}
+use Rattle.worker_port.specs.Ports.{PortTrace, fed, given}
 
 -- the sizes, and moments by the system's clock
 abbrev pub by_system_clock : Sizes → Terms
@@ -25,23 +25,23 @@ pub record BeginsAnswers (history : List Answered) (worker s : ℕ) (bytes : Lis
   pub first : StartsWith (asks messages) (asked (session_share history worker s))
   pub begins : StartsWith (said messages (had (session_share history worker s))) bytes
 
--- by this history these bytes may go behind those that the session took, whatever messages those spell that came of it
+-- by this history these bytes may go after those that the session took, whatever messages those spell that came of it
 pub record MayBeSent (terms : Terms) (d : Dialect) (worker : ℕ) (history : List Answered) (s : ℕ) (came took bytes : List ℕ)
     : Type 0 where
   pub legal : LegalBy terms history
   pub said_there : (messages : List Message) (rest : List ℕ) → Reads d came messages rest
       → BeginsAnswers history worker s (took ++ bytes) messages
 
--- by what the port tells: the history begins with the one of the last bytes, and these may be sent
-pub record MayBeGiven (story : PortStory) (history : List Answered) (s : ℕ) (bytes : List ℕ) : Type 0 where
-  pub later : StartsWith history story.history
-  pub may : MayBeSent story.terms story.dialect story.worker history s (fed s story.events) (given s story.events) bytes
+-- by what the port tells: the history begins with that of the last give, and these bytes may be sent
+pub record MayBeGiven (trace : PortTrace) (history : List Answered) (s : ℕ) (bytes : List ℕ) : Type 0 where
+  pub later : StartsWith history trace.history
+  pub may : MayBeSent trace.terms trace.dialect trace.worker history s (fed s trace.events) (given s trace.events) bytes
 
--- The terms and the number are those of the worker's end, and its history begins with the one by which bytes were given last.
+-- The terms and the number are those of the worker's end, and its history begins with that of the last give.
 pub record IsOf (worker : ℕ) (terms : Terms) (history : List Answered) (end : WorkerView) : Type 0 where
   pub worker_is : worker ≡ end.worker
   pub terms_are : terms ≡ end.terms
   pub later : StartsWith end.seen history
 
-abbrev pub IsStoryOf : PortStory → WorkerView → Type 0
-IsStoryOf story end = IsOf story.worker story.terms story.history end
+abbrev pub IsTraceOf : PortTrace → WorkerView → Type 0
+IsTraceOf trace end = IsOf trace.worker trace.terms trace.history end

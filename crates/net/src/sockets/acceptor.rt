@@ -51,7 +51,8 @@ impl Acceptor {
 
     /// The next stream that waits; `WouldBlock` if none does.
     pub(crate) fn accept(&mut self) -> io::Result<NewStream>
-        ensures ok { IfOk result (λ stream. self.new.accepted.items ≡ self.old.accepted.items ++ socket_of stream ∷ []) }
+        ensures ok { IfOk result
+            (λ stream. self.new.accepted.items ≡ self.old.accepted.items ++ socket_of stream ∷ []) }
         ensures err { OnErr result (self.new.accepted.items ≡ self.old.accepted.items) }
     {
         let (stream, _) = self.listener.accept()?;

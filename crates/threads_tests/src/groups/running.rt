@@ -1,5 +1,7 @@
 //! Ports with their bytes, runs over them, and what a group's workers were given.
 
+ghost use Rattle.std.specs.Prelude.{◌≡◌, [], Some, IsSome};
+
 use crate::groups::counters::{CountedPort, Counters};
 use bytes::Bytes;
 use group::{Config, GroupFault, GroupReport, GroupWorker, run_group};
@@ -58,7 +60,9 @@ pub(crate) fn run<
     ports: Vec<CountedPort<'a>>,
     clock: C,
     gate: &G,
-) -> Result<GroupReport<CountedPort<'a>, C>, GroupFault> {
+) -> Result<GroupReport<CountedPort<'a>, C>, GroupFault>
+    requires unasked { IsSome (C.start clock) → C.told clock ≡ Some [] }
+{
     let geometry = Geometry::new(65_536, 64).expect(rt, "a geometry");
     let store = Store::new(alloc, geometry).expect(rt, "memory");
     let config = Config {

@@ -12,7 +12,7 @@ use proto::{ByteString, Geometry, Request, Terms};
 use segcache::Store;
 use std::alloc::Global;
 
-/// The ends of so many workers and of storage, and a store for the same sizes.
+/// The ends of `workers` workers and of storage, and a store for the same sizes.
 pub(crate) fn made(
     alloc: Global,
     workers: usize,

@@ -55,7 +55,8 @@ fn execute<S: StorageEngine, C: Clock>(
 /// Executes and answers one request, and says whether there was one.
 fn serve_one<C: Clock>(store: &mut Store, clock: &mut AskedClock<C>, end: &mut StorageEnd) -> bool
     requires answers { clock.old.answers ≡ answers_by [] end.old.history }
-    requires reaches { Reaches end.old.terms.geometry end.old.history (segmented_cache store.old) (last_moment store.old) }
+    requires reaches { Reaches end.old.terms.geometry end.old.history
+        (segmented_cache store.old) (last_moment store.old) }
     requires sizes { sizes_in store.old ≡ end.old.terms.geometry }
     requires any_clock { end.old.terms.system_clock ≡ false }
     requires shut { end.old.open_request ≡ None }
@@ -69,7 +70,7 @@ fn serve_one<C: Clock>(store: &mut Store, clock: &mut AskedClock<C>, end: &mut S
     }
 }
 
-/// So many requests are sent, and the next one is handed back.
+/// `count` requests are sent, and the next one is handed back.
 fn check_sent(rt: &impl Abort, alloc: Global, end: &mut WorkerEnd, count: usize) {
     for _ in 0..count {
         check_same(rt, ask(alloc, end), Some(true), "one that has room");
@@ -102,7 +103,8 @@ fn check_room(
     store: &mut Store,
 )
     requires unused { IsUnused storage.old }
-    requires reaches { Reaches storage.old.terms.geometry storage.old.history (segmented_cache store.old) (last_moment store.old) }
+    requires reaches { Reaches storage.old.terms.geometry storage.old.history
+        (segmented_cache store.old) (last_moment store.old) }
     requires sizes { sizes_in store.old ≡ storage.old.terms.geometry }
     requires any_clock { storage.old.terms.system_clock ≡ false }
 {

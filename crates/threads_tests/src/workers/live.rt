@@ -18,21 +18,21 @@ use worker_port::{Gone, MAX_PIECE, Port, PortEvent, ToldHistory};
 /// How often a port is asked in vain until it gives up.
 const PATIENCE: u64 = 3_000_000;
 
-/// Opens session 7, sends its pieces, and may end its input. It ends once so many bytes were given, or once the session was
-/// shut.
+/// Opens session 7, sends its pieces, and may end its input. It ends once the wanted bytes were given, or once the session
+/// was shut.
 #[derive(Drop)]
 struct LivePort {
     is_open: bool,
     is_paused: bool,
     pieces: VecDeque<Bytes>,
-    /// The input ends behind the pieces, and the port ends only once the session was shut.
+    /// The input ends after the pieces, and the port ends only once the session was shut.
     ends_input: bool,
     is_over: bool,
     wanted: usize,
     given: usize,
-    /// At most so many bytes of each give are accepted.
+    /// The most bytes of each give that are accepted.
     accept: usize,
-    /// So many gives accept nothing.
+    /// The number of gives that accept nothing.
     slow_gives: u64,
     was_shut: bool,
     has_ended: bool,
@@ -48,7 +48,7 @@ impl LivePort {
         self.was_shut || (!self.ends_input && self.wanted > 0 && self.given >= self.wanted)
     }
 
-    /// The next piece, or the end of the input behind the last one.
+    /// The next piece, or the end of the input after the last one.
     fn next_input(&mut self) -> Option<PortEvent> {
         if self.is_paused {
             return None;
@@ -126,9 +126,9 @@ struct Peer<'a> {
     /// The most bytes of one piece.
     piece: usize,
     ends_input: bool,
-    /// So many bytes answer it.
+    /// The number of bytes that answer it.
     wanted: usize,
-    /// The worker shuts the session, by itself or behind the end of its input.
+    /// The worker shuts the session, by itself or after the end of its input.
     is_shut: bool,
     accept: usize,
     slow_gives: u64,
@@ -141,6 +141,7 @@ where
     R: Abort + Threads + Wait + Clock + Copy + Drop + Send + Sync + 'static,
     G: Gate,
 {
+    assert!(*rt; peer.piece > 0);
     let mut pieces = VecDeque::new(alloc);
     for piece in peer.input.chunks(peer.piece) {
         pieces
@@ -172,7 +173,7 @@ where
     executed
 }
 
-/// Peers that send these bytes, are given so many, and take so many at once.
+/// Peers: the bytes that each sends, how many it is given, and how many it takes at once.
 fn check_rows<R>(rt: &R, alloc: Global, rows: &[(&[u8], usize, usize)])
 where
     R: Abort + Threads + Wait + Clock + Copy + Drop + Send + Sync + 'static,

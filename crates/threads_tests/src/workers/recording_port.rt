@@ -27,9 +27,9 @@ pub(crate) enum Step {
 /// How a port takes what is given. Gives are counted for session 1 alone.
 #[derive(Clone, Copy, Drop)]
 pub(crate) struct Manners {
-    /// At most so many bytes of each give are accepted.
+    /// The most bytes of each give that are accepted.
     pub(crate) accept: usize,
-    /// So many gives accept nothing.
+    /// The number of gives that accept nothing.
     pub(crate) slow_gives: u64,
     /// At this give the peer has gone; none where it is 0.
     pub(crate) gone_at: u64,

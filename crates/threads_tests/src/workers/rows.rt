@@ -102,7 +102,7 @@ where
 }
 
 /// Session 1 sends the bytes, in pieces as long as they may be, and drains. Its port was paused, and resumed as often, and
-/// so many requests were executed.
+/// `executed` requests were executed.
 fn run_paused<R>(rt: &R, alloc: Global, input: &[u8], executed: u64) -> Outcome<R>
 where
     R: Abort + Threads + Wait + Clock + Copy + Drop + Send + Sync + 'static,
@@ -203,7 +203,7 @@ fn sessions_have_answers_of_their_own(rt: HostRuntime) {
     check_pieces(&rt, alloc, &outcome, FIRST_OUTPUT.len(), Ending::Open);
 }
 
-/// Session 1 was given so many bytes of its output, and session 2 all of its own.
+/// Session 1 was given `given` bytes of its output, and session 2 all of its own.
 fn check_pieces<R: Abort + Drop>(
     rt: &R,
     alloc: Global,

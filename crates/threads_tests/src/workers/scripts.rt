@@ -45,7 +45,7 @@ impl<R: Abort + Copy + Drop> Script<R> {
     }
 }
 
-/// The bytes, so many times.
+/// The bytes, `times` times.
 pub(crate) fn repeated<R: Abort>(rt: &R, alloc: Global, bytes: &[u8], times: usize) -> Vec<u8> {
     let mut all = Vec::new(alloc);
     for _ in 0..times {
@@ -54,7 +54,7 @@ pub(crate) fn repeated<R: Abort>(rt: &R, alloc: Global, bytes: &[u8], times: usi
     all
 }
 
-/// The parts, one behind the other.
+/// The parts, one after the other.
 pub(crate) fn joined<R: Abort>(rt: &R, alloc: Global, parts: &[&[u8]]) -> Vec<u8> {
     let mut all = Vec::new(alloc);
     for part in parts {

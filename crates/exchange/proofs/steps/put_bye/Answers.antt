@@ -3,7 +3,7 @@ use Rattle.exchange.specs.declared.messages.LaneMessage.TheVariants.{Bye}
 use Rattle.exchange.specs.declared.views.WorkerState.{WorkerState}
 use Rattle.exchange.specs.declared.views.LaneView.TheVariants.{Worker}
 use Rattle.exchange.specs.Lanes.{SeatState, lane_slot}
-use Rattle.exchange.specs.Steps.{holding_slot, placed}
+use Rattle.exchange.specs.Steps.{holding_slot, placed_count}
 use Rattle.exchange.specs.Seats.{worker_state_in}
 use Rattle.exchange.proofs.WorkerSteps.{begins_post}
 use Rattle.exchange.proofs.Known.{exchanged, in_front, posts_bye_as}
@@ -19,14 +19,14 @@ load-requires c = let room = c.requires.room in (
 
 pub put_message-requires-clause-empty : goal.put_message-requires-clause-empty
 put_message-requires-clause-empty c = let room = c.requires.room in
-    let d : WorkerState = worker_state_in c.args.seat.now.me.0 in let k : ℕ = placed d in
+    let d : WorkerState = worker_state_in c.args.seat.now.me.0 in let k : ℕ = placed_count d in
     let did = c.load.ensures.2 d (ap (λ (m : SeatState). m.0) room.0)
     ∙ (λ j. (Worker (holding_slot d (suc k)), (lane_slot d.worker k, None) ∷ (room.0 j).1)) in
     in_front _ _ _ _ _ _ did (λ j. lane_slot (sym room.1 j) (sym room.2 j))
 
 pub store-requires : goal.store-requires
 store-requires c = let room = c.requires.room in let d : WorkerState = worker_state_in c.args.seat.now.me.0 in
-    let k : ℕ = placed d in
+    let k : ℕ = placed_count d in
     let did = c.load.ensures.2 d (ap (λ (m : SeatState). m.0) room.0)
     ∙ (λ j. (Worker (holding_slot d (suc k)), (lane_slot d.worker k, None) ∷ (room.0 j).1)) in
     let slot : lane_slot c.args.worker c.args.number ≡ lane_slot d.worker k =
@@ -41,7 +41,7 @@ store-requires c = let room = c.requires.room in let d : WorkerState = worker_st
 
 pub returns-clause-sent : goal.returns-clause-sent
 returns-clause-sent c = let room = c.requires.room in let d : WorkerState = worker_state_in c.args.seat.now.me.0 in
-    let k : ℕ = placed d in
+    let k : ℕ = placed_count d in
     let did = c.load.ensures.2 d (ap (λ (m : SeatState). m.0) room.0)
     ∙ (λ j. (Worker (holding_slot d (suc k)), (lane_slot d.worker k, None) ∷ (room.0 j).1)) in
     let slot : lane_slot c.args.worker c.args.number ≡ lane_slot d.worker k =

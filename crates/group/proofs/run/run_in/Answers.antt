@@ -10,8 +10,8 @@ start_workers-requires-clause-ends g c κs within =
 
 pub start_workers-requires-clause-ports : goal.start_workers-requires-clause-ports
 start_workers-requires-clause-ports g c κs within =
-    ports_at g.P.Port.told _ c.args.context.now.config.terms c.args.context.now.config.dialect c.args.ports.items c.in_ok-ends.ends.items c.in_ok-ends.storage_end
-    c.in_ok-ends.ensures.made (search rules) c.requires.ports
+    ports_at g.P.Port.told _ c.args.context.now.config.terms c.args.context.now.config.dialect c.args.ports.items
+    c.in_ok-ends.ends.items c.in_ok-ends.storage_end c.in_ok-ends.ensures.made (search rules) c.requires.ports
 
 pub join_workers-reports-requires-clause-began : goal.join_workers-reports-requires-clause-began
 join_workers-reports-requires-clause-began g c =

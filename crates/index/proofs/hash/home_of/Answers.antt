@@ -18,7 +18,8 @@ overflow_sub-result c =
 
 pub returns-then-home-count-clause-value : goal.returns-then-home-count-clause-value
 returns-then-home-count-clause-value c =
-    let is : bit_and c.args.hash (c.floor_power_of_two-power.result - 1 + c.floor_power_of_two-power.result) ≡ c.args.hash % (2 * floor_power_of_two c.args.count) =
+    let is : bit_and c.args.hash (c.floor_power_of_two-power.result - 1 + c.floor_power_of_two-power.result)
+    ≡ c.args.hash % (2 * floor_power_of_two c.args.count) =
     ap (λ r. bit_and c.args.hash (r - 1 + r)) c.floor_power_of_two-power.ensures.value ∙ masked c.args.count c.args.hash c.requires in
     let lt = c.if-home-count.true in
     elim (home_cases c.args.count c.args.hash) [
@@ -28,7 +29,8 @@ returns-then-home-count-clause-value c =
 
 pub returns-else-home-count-clause-value : goal.returns-else-home-count-clause-value
 returns-else-home-count-clause-value c =
-    let is : bit_and c.args.hash (c.floor_power_of_two-power.result - 1 + c.floor_power_of_two-power.result) ≡ c.args.hash % (2 * floor_power_of_two c.args.count) =
+    let is : bit_and c.args.hash (c.floor_power_of_two-power.result - 1 + c.floor_power_of_two-power.result)
+    ≡ c.args.hash % (2 * floor_power_of_two c.args.count) =
     ap (λ r. bit_and c.args.hash (r - 1 + r)) c.floor_power_of_two-power.ensures.value ∙ masked c.args.count c.args.hash c.requires in
     let le = c.if-home-count.false in
     let value = c.floor_power_of_two-power.ensures.value in
@@ -39,7 +41,8 @@ returns-else-home-count-clause-value c =
 
 pub returns-else-home-count-clause-in_range : goal.returns-else-home-count-clause-in_range
 returns-else-home-count-clause-in_range c =
-    let is : bit_and c.args.hash (c.floor_power_of_two-power.result - 1 + c.floor_power_of_two-power.result) ≡ c.args.hash % (2 * floor_power_of_two c.args.count) =
+    let is : bit_and c.args.hash (c.floor_power_of_two-power.result - 1 + c.floor_power_of_two-power.result)
+    ≡ c.args.hash % (2 * floor_power_of_two c.args.count) =
     ap (λ r. bit_and c.args.hash (r - 1 + r)) c.floor_power_of_two-power.ensures.value ∙ masked c.args.count c.args.hash c.requires in
     let le = c.if-home-count.false in
     let value = c.floor_power_of_two-power.ensures.value in

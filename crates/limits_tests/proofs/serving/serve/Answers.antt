@@ -2,9 +2,9 @@ use Rattle.std.proofs.Common.{[], append-nil, sym, ◌∙◌}
 use Rattle.limits_tests.proofs.serving.serve.Goals as goal
 
 pub run_worker-report-requires-clause-whose : goal.run_worker-report-requires-clause-whose
-run_worker-report-requires-clause-whose g c story told =
-    let of = c.requires.whose story told in let end = c.made-end.ensures.whose in record {
+run_worker-report-requires-clause-whose g c trace told =
+    let of = c.requires.whose trace told in let end = c.made-end.ensures.whose in record {
       worker_is = of.0 ∙ sym end.0;
-      sizes_are = of.1 ∙ sym end.1;
-      later = ([], end.2 ∙ sym of.2 ∙ sym (append-nil story.history));
+      terms_are = of.1 ∙ sym end.1;
+      later = ([], end.2 ∙ sym of.2 ∙ sym (append-nil trace.history));
     }

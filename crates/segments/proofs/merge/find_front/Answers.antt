@@ -1,14 +1,14 @@
 use Rattle.std.proofs.Common.{◌≡◌, ◌-◌, Bool, length, take, sym, ap, ◌∙◌}
 use Rattle.std.specs.Prelude.{if◌then◌else◌}
 use Rattle.std.proofs.lemmas.Bool.{ne_eqb}
-use Rattle.segments.specs.Inside.{shown}
+use Rattle.segments.specs.Inside.{shown_segments}
 use Rattle.segments.specs.Pools.{chain_in, lasting}
 use Rattle.segments.proofs.FrontLemmas.{first_four, same_opening, front_cut}
 use Rattle.segments.proofs.merge.find_front.Goals as goal
 
 pub returns-then-bucket-ne-LASTING-clause-items : goal.returns-then-bucket-ne-LASTING-clause-items
 returns-then-bucket-ne-LASTING-clause-items c =
-    let us = shown c.args.segments.now in
+    let us = shown_segments c.args.segments.now in
     let chain = chain_in us c.args.order.now c.args.bucket in
     let popped : c.pop.new.self.items ≡ first_four chain = c.pop.ensures.rest
     ∙ ap (λ n. take (n - 1) c.find_first.new.front.items) c.find_first.new.front.ok.0

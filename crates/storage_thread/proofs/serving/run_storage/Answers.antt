@@ -6,7 +6,9 @@ use Rattle.proto.specs.ClockAnswers.{GivenAnswer}
 use Rattle.storage_thread.specs.Serving.{IsReadSince, SaidBye, GetsNone, IsStorageServing}
 use Rattle.storage_thread.specs.Keeping.{LeadsKeeping, MayForgetNothing}
 use Rattle.storage_thread.proofs.Kept.{leads_first, none_forgotten}
-use Rattle.storage_thread.proofs.Turns.{serving_first, longer, same_sizes, same_byes, same_workers, serving_asked, serving_none, serving_bye, asked_read, answers_asked, read_first, timed_asked, all_said}
+use Rattle.storage_thread.proofs.Turns.{serving_first, longer, same_sizes, same_byes, same_workers, serving_asked}
+use Rattle.storage_thread.proofs.Turns.{serving_none, serving_bye, asked_read, answers_asked, read_first, timed_asked}
+use Rattle.storage_thread.proofs.Turns.{all_said}
 use Rattle.storage_thread.proofs.serving.run_storage.Goals as goal
 
 pub loop-init : goal.loop-init
@@ -49,7 +51,7 @@ loop-preserved-in-Some-Asked g c = let i = c.loop.invariant in
       omega (arith, all, byes, workers),
       g.met.C.Clock.leads_transitive c.args.clock c.loop.clock.clock c.execute.new.clock.clock i.5 c.execute.ensures.leads,
       timed_asked now mid w p f new m told a g.C.Clock.told g.C.Clock.start (g.C.Clock.told c.args.clock) c.loop.clock c.execute.new.clock
-          (g.S.StorageEngine.moment c.loop.store) i.2.reaches.moment_is i.9 refl i.6 c.execute.ensures.moment,
+          (g.S.StorageEngine.moment c.loop.store) i.9 refl i.6 c.execute.ensures.moment,
       omega (arith, added, so_far, long),
       λ start. c.execute.ensures.kept
           (subst (λ (z : StorageView). LeadsKeeping z.terms.geometry z.history (g.S.StorageEngine.cache c.loop.store)

@@ -3,7 +3,7 @@ use Rattle.std.specs.Prelude.{map}
 use Rattle.script.specs.declared.recording_clock.RecordingClock.{RecordingClock}
 use Rattle.script.specs.Readings.{readings_in_order}
 use Rattle.script.specs.ClockLeading.{GivesAnswers}
-use Rattle.script.specs.States.{story_told, PlaysOn}
+use Rattle.script.specs.States.{trace_told, PlaysOn}
 use Rattle.subcommands.specs.Printed.{lines_from, events_of}
 use Rattle.subcommands.proofs.ReplayLemmas.{replayed, keeping_run}
 use Rattle.subcommands.proofs.Lines.{owned}
@@ -26,7 +26,7 @@ returns-clause-ran g c =
         told = c.new-clock.result;
         told_is = (c.new-clock.ensures.clock ∙ c.new.ensures, c.new-clock.ensures.answers);
         report = c.in_ok-report.report;
-        run = keeping_run story_told PlaysOn
+        run = keeping_run trace_told PlaysOn
             (λ (k : RecordingClock). Some
             (readings_in_order k.answers)) GivesAnswers _ _ c.args.geometry c.in_ok-ports.ports.items c.new-clock.result
             c.in_ok-report.report
@@ -44,7 +44,7 @@ returns-clause-printed g c =
           c.in_ok-scripts.text.items c.in_ok-scripts.scripts.items c.in_ok-scripts.ensures.events
           c.in_ok-ports.ports.items c.in_ok-ports.ensures c.new-clock.result
           (c.new-clock.ensures.clock ∙ c.new.ensures) c.new-clock.ensures.answers c.in_ok-report.report
-          (keeping_run story_told PlaysOn
+          (keeping_run trace_told PlaysOn
           (λ (k : RecordingClock). Some
           (readings_in_order k.answers)) GivesAnswers _ _ c.args.geometry c.in_ok-ports.ports.items c.new-clock.result
           c.in_ok-report.report

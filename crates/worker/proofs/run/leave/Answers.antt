@@ -4,21 +4,21 @@ use Rattle.proto.specs.History.{asked_posted}
 use Rattle.exchange.specs.Ends.{WorkerView}
 use Rattle.worker.specs.declared.state.WorkerState.{WorkerState}
 use Rattle.worker.specs.Reports.{IsOver}
-use Rattle.worker.specs.Workers.{end_of, IsStoryKnown, IsDrained, run_view}
+use Rattle.worker.specs.Workers.{end_of, IsTraceKnown, IsDrained, run_view}
 use Rattle.worker.proofs.DrainSteps.{sent_posted}
 use Rattle.worker.proofs.ReportSteps.{reported}
 use Rattle.worker.proofs.run.leave.Goals as goal
 
 pub returns-clause-reported : goal.returns-clause-reported
 returns-clause-reported g c =
-    λ story e.
+    λ trace e.
     let w = c.worker.inside.state in let k = c.worker.invariant in
     let d = subst (λ v. IsDrained v) (sym c.worker.view_is) c.requires in
     let bye : c.say_bye.result ≡ record (end_of w) { said_bye = true } = c.say_bye.ensures in
-    let v = run_view story w in
+    let v = run_view trace w in
     let all : asked_posted (end_of w).back ≡ (end_of w).sent = k.steady.back
     ∙ take_all (length (end_of w).back) (end_of w).sent (omega (arith, d.back)) in
-    reported v c.say_bye.result w.unopened (subst (λ b. IsStoryKnown v w.unopened b) d.ended (k.known story e))
+    reported v c.say_bye.result w.unopened (subst (λ b. IsTraceKnown v w.unopened b) d.ended (k.known trace e))
     (sent_posted (end_of w) w.request d.request ∙ sym (ap (λ (e : WorkerView). e.sent) bye))
     (sym (ap (λ (e : WorkerView). e.back) bye))
     (ap (λ (e : WorkerView). asked_posted e.back) bye ∙ all ∙ sym (ap (λ (e : WorkerView). e.sent) bye)) (λ s. refl)
@@ -26,12 +26,12 @@ returns-clause-reported g c =
 
 pub returns-clause-spelled : goal.returns-clause-spelled
 returns-clause-spelled g c =
-    λ story e. (c.worker.invariant.whose story e).1 ∙ ap (λ (w : WorkerState _). w.book.dialect) c.worker.view_is
+    λ trace e. (c.worker.invariant.whose trace e).1 ∙ ap (λ (w : WorkerState _). w.book.dialect) c.worker.view_is
 
 pub returns-clause-whose : goal.returns-clause-whose
 returns-clause-whose g c =
-    λ story e.
-    let k = (c.worker.invariant.whose story e).0 in let bye = c.say_bye.ensures in record {
+    λ trace e.
+    let k = (c.worker.invariant.whose trace e).0 in let bye = c.say_bye.ensures in record {
       worker_is = k.worker_is ∙ sym (ap (λ (e : WorkerView). e.worker) bye);
       terms_are = k.terms_are ∙ sym (ap (λ (e : WorkerView). e.terms) bye);
       later = (k.later.0, ap (λ (e : WorkerView). e.seen) bye ∙ k.later.1);

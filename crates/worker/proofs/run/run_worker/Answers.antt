@@ -34,4 +34,4 @@ returns-then-has_drained-clause-spelled g c =
     let all = (continues_trans g.P.Port.told g.P.Port.leads_to _ _ _ g.met.P.Port.leads_transitive
     (continues_trans g.P.Port.told g.P.Port.leads_to _ _ _ g.met.P.Port.leads_transitive c.loop.invariant
     c.take_turn.ensures) c.has_drained.ensures.goes_on).dialect in
-    λ story e. c.leave.ensures.spelled story e ∙ all ∙ c.new-worker.ensures.dialect
+    λ trace e. c.leave.ensures.spelled trace e ∙ all ∙ c.new-worker.ensures.dialect

@@ -6,7 +6,7 @@ use Rattle.proto.specs.declared.history.Posted.{Posted}
 use Rattle.proto.specs.declared.history.Answered.{Answered}
 use Rattle.proto.specs.History.{LegalBy, worker_share, asked_posted}
 use Rattle.exchange.specs.Beginnings.{StartsWith, posted_of}
-use Rattle.exchange.specs.Ends.{WorkerView, WorkerBatchView, TakesAnswer, TakesSeen, IsToldDone, flushed}
+use Rattle.exchange.specs.Ends.{WorkerView, WorkerBatchView, TakesAnswer, TakesSeen, IsToldDone, with_put_sent}
 use Rattle.exchange.proofs.Lists.{starts_take, starts_longer, starts_more}
 use Rattle.worker.specs.Workers.{TakesNone, TakesBack, WasToldOfHistory, IsLaterEnd}
 use Rattle.worker.proofs.WorkerSteps.{later_view}
@@ -16,8 +16,8 @@ use Rattle.worker.proofs.sending.take_answer.Goals as goal
 
 -- what is told of an answer, or of none
 abbrev Takes : WorkerBatchView → Option Answered → WorkerBatchView → Type 0
-Takes old result new = MatchOption result (TakesNone (flushed old).end (flushed new).end)
-    (λ a. TakesBack (flushed old).end (flushed new).end a)
+Takes old result new = MatchOption result (TakesNone (with_put_sent old).end (with_put_sent new).end)
+    (λ a. TakesBack (with_put_sent old).end (with_put_sent new).end a)
 
 -- the answer is that of the first request that was sent and hadn't come back
 abbrev IsFirst : WorkerBatchView → Answered → Type 0
@@ -26,8 +26,8 @@ IsFirst old a = (a.worker ≡ old.end.worker) × (get_elem? old.end.sent (length
 -- the history that a look told of
 looked : (old new : WorkerBatchView) (done : ℕ) (told : List Answered) → IsToldDone old.end done told
     → new.end.terms ≡ old.end.terms → new.end.worker ≡ old.end.worker → new.end.seen ≡ told
-    → (flushed new).end.sent ≡ (flushed old).end.sent
-    → StartsWith (worker_share told old.end.worker) new.end.back → WasToldOfHistory (flushed new).end
+    → (with_put_sent new).end.sent ≡ (with_put_sent old).end.sent
+    → StartsWith (worker_share told old.end.worker) new.end.back → WasToldOfHistory (with_put_sent new).end
 looked old new done told k terms worker seen sent back = record {
   legal = subst (λ (y : Terms × List Answered). LegalBy y.0 y.1) (λ i. (sym terms i, sym seen i)) k.legal;
   asked = subst (λ (y : List Posted × ℕ × List Answered). StartsWith y.0 (asked_posted (worker_share y.2 y.1)))
@@ -48,7 +48,7 @@ by_look : (old new : WorkerBatchView) (result : Option Answered) → TakesAnswer
     → new.put ≡ old.put
     → IfSome result (IsFirst old) → Takes old result new
 by_look old new None k put own = let e = k.3.1 in record {
-  later = later_looked (flushed old).end (flushed new).end k.1 (ap (λ (w : WorkerView). w.worker) e)
+  later = later_looked (with_put_sent old).end (with_put_sent new).end k.1 (ap (λ (w : WorkerView). w.worker) e)
       (ap (λ (w : WorkerView). w.terms) e) (ap (λ (w : WorkerView). w.seen) e) k.2.later;
   sent = λ i. (e i).sent ++ put i;
   back = ap (λ (w : WorkerView). w.back) e;
@@ -59,7 +59,7 @@ by_look old new None k put own = let e = k.3.1 in record {
       (subst (λ l. StartsWith (worker_share k.1 old.end.worker) l) (sym (ap (λ (w : WorkerView). w.back) e)) k.2.back);
 }
 by_look old new (Some a) k put own = let e = k.3.1 in record {
-  later = later_looked (flushed old).end (flushed new).end k.1 (ap (λ (w : WorkerView). w.worker) e)
+  later = later_looked (with_put_sent old).end (with_put_sent new).end k.1 (ap (λ (w : WorkerView). w.worker) e)
       (ap (λ (w : WorkerView). w.terms) e) (ap (λ (w : WorkerView). w.seen) e) k.2.later;
   own = at_append old.end.sent old.put (length old.end.back) (posted_of a) own.1;
   sent = λ i. (e i).sent ++ put i;
@@ -75,7 +75,7 @@ by_look old new (Some a) k put own = let e = k.3.1 in record {
 seen_before : (old new : WorkerBatchView) (a : Answered) → TakesSeen old.end (Some a) new.end → new.put ≡ old.put
     → IsFirst old a → Takes old (Some a) new
 seen_before old new a k put own = let e = k.1.1 in record {
-  later = later_view (flushed old).end (flushed new).end (ap (λ (w : WorkerView). w.worker) e)
+  later = later_view (with_put_sent old).end (with_put_sent new).end (ap (λ (w : WorkerView). w.worker) e)
       (ap (λ (w : WorkerView). w.terms) e) (ap (λ (w : WorkerView). w.seen) e);
   own = at_append old.end.sent old.put (length old.end.back) (posted_of a) own.1;
   sent = λ i. (e i).sent ++ put i;
@@ -96,8 +96,8 @@ seen_before old new a k put own = let e = k.1.1 in record {
 }
 
 none_seen : (old new : WorkerBatchView) → TakesSeen old.end None new.end → new.put ≡ old.put
-    → (flushed new).end ≡ (flushed old).end
-none_seen old new k put = λ i. (flushed (record { end = k.1.1 i; put = put i })).end
+    → (with_put_sent new).end ≡ (with_put_sent old).end
+none_seen old new k put = λ i. (with_put_sent (record { end = k.1.1 i; put = put i })).end
 
 pub returns-in-Some : goal.returns-in-Some
 returns-in-Some c =
@@ -109,6 +109,6 @@ returns-in-None c =
     let old = c.args.batch.now in let mid = c.take_seen.new.self in let new = c.take.new.self in
     let k = c.take.ensures in
     let none = c.in-None.ensures in
-    subst (λ (w : WorkerView). MatchOption c.take.result (TakesNone w (flushed new).end)
-    (λ (a : Answered). TakesBack w (flushed new).end a))
+    subst (λ (w : WorkerView). MatchOption c.take.result (TakesNone w (with_put_sent new).end)
+    (λ (a : Answered). TakesBack w (with_put_sent new).end a))
     (none_seen old mid none.taken none.put) (by_look mid new c.take.result k.taken k.put k.own)

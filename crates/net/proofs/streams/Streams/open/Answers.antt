@@ -1,6 +1,6 @@
 use Rattle.std.proofs.Common.{rules, ◌≡◌, ◌+◌, ◌∷◌, [], ◌++◌, List, sym, subst}
 use Rattle.std.specs.Prelude.{Some, ℤ}
-use Rattle.net.specs.Shown.{shown, seen_of}
+use Rattle.net.specs.Shown.{shown_stream, seen_of}
 use Rattle.net.specs.Seen.{Seen, IsSet, fresh}
 use Rattle.net.specs.Ties.{SocketTies}
 use Rattle.net.specs.Sockets.{socket_of}
@@ -14,8 +14,10 @@ invariant_of-self-2-clause-ties c =
     let socket = socket_of c.args.stream in
     let number : s ≡ old.last + 1 = search rules in
     let new : seen_of c.new-open.result ≡ fresh socket = c.new-open.ensures socket c.in_ok-stream.ensures in
-    let added : IsSet s (Some (seen_of c.new-open.result)) (shown old.open.entries) (shown after) = search rules in
-    let opened = subst (λ (x : Seen). IsSet s (Some x) (shown old.open.entries) (shown after)) new added in
+    let added : IsSet s (Some (seen_of c.new-open.result)) (shown_stream old.open.entries) (shown_stream after) =
+    search rules in
+    let opened = subst (λ (x : Seen). IsSet s (Some x) (shown_stream old.open.entries)
+    (shown_stream after)) new added in
     agree_opened old after s c.note_as-2.new.self.items socket number c.note_as-2.ensures opened
 
 pub invariant_of-self-2-clause-kept : goal.invariant_of-self-2-clause-kept
@@ -24,11 +26,14 @@ invariant_of-self-2-clause-kept c =
     let socket = socket_of c.args.stream in
     let number : s ≡ old.last + 1 = search rules in
     let new : seen_of c.new-open.result ≡ fresh socket = c.new-open.ensures socket c.in_ok-stream.ensures in
-    let added : IsSet s (Some (seen_of c.new-open.result)) (shown old.open.entries) (shown after) = search rules in
-    let opened = subst (λ (x : Seen). IsSet s (Some x) (shown old.open.entries) (shown after)) new added in
+    let added : IsSet s (Some (seen_of c.new-open.result)) (shown_stream old.open.entries) (shown_stream after) =
+    search rules in
+    let opened = subst (λ (x : Seen). IsSet s (Some x) (shown_stream old.open.entries)
+    (shown_stream after)) new added in
     let sockets : c.note_as.new.self.items ≡ old.sockets.items ++ socket ∷ [] = search rules in
-    subst (λ (l : List ℤ). SocketTies (shown after) s l) (sym sockets)
-    (kept_opened (shown old.open.entries) (shown after) old.last old.sockets.items s old.kept socket number opened)
+    subst (λ (l : List ℤ). SocketTies (shown_stream after) s l) (sym sockets)
+    (kept_opened (shown_stream old.open.entries)
+    (shown_stream after) old.last old.sockets.items s old.kept socket number opened)
 
 pub returns-clause-told : goal.returns-clause-told
 returns-clause-told c =
@@ -36,6 +41,8 @@ returns-clause-told c =
     let socket = socket_of c.args.stream in
     let number : s ≡ old.last + 1 = search rules in
     let new : seen_of c.new-open.result ≡ fresh socket = c.new-open.ensures socket c.in_ok-stream.ensures in
-    let added : IsSet s (Some (seen_of c.new-open.result)) (shown old.open.entries) (shown after) = search rules in
-    let opened = subst (λ (x : Seen). IsSet s (Some x) (shown old.open.entries) (shown after)) new added in
+    let added : IsSet s (Some (seen_of c.new-open.result)) (shown_stream old.open.entries) (shown_stream after) =
+    search rules in
+    let opened = subst (λ (x : Seen). IsSet s (Some x) (shown_stream old.open.entries)
+    (shown_stream after)) new added in
     tell_opened old after s c.note_as-2.new.self.items socket number c.note_as-2.ensures opened c.requires

@@ -2,11 +2,11 @@ use Rattle.std.proofs.Common.{rules, ◌≡◌, false}
 use Rattle.std.specs.Prelude.{Some, is_some}
 use Rattle.std.specs.Map.{lookup}
 use Rattle.std.specs.Bool.{nat_eq}
-use Rattle.net.specs.Shown.{shown, seen_of}
+use Rattle.net.specs.Shown.{shown_stream, seen_of}
 use Rattle.net.specs.Seen.{IsSet, then_paused}
-use Rattle.net.specs.Stories.{whose_of}
+use Rattle.net.specs.Traces.{whose_of}
 use Rattle.net.proofs.StreamLemmas.{set_by, shown_with}
-use Rattle.net.proofs.StoryLemmas.{tells_pause}
+use Rattle.net.proofs.TraceLemmas.{tells_pause}
 use Rattle.net.proofs.streams.Streams.resume.Goals as goal
 
 pub returns-in-Some-clause-told : goal.returns-in-Some-clause-told
@@ -14,7 +14,8 @@ returns-in-Some-clause-told c =
     let old = c.args.self.now in let s = c.args.session in let x = c.in-Some.open.now in let y = c.resume.new.self in
     let after = (c.get_mut.follows.lender y).entries in
     let found : Some x ≡ lookup (nat_eq s) old.open.entries = search rules in
-    let set : IsSet s (Some (seen_of y)) (shown old.open.entries) (shown after) = search rules in
-    let there : is_some (shown old.open.entries s) ≡ is_some (Some (seen_of x)) = search (rules, shown_with old s x found) in
-    tells_pause (whose_of old) (shown old.open.entries) (shown after) old.told.items s false there
+    let set : IsSet s (Some (seen_of y)) (shown_stream old.open.entries) (shown_stream after) = search rules in
+    let there : is_some (shown_stream old.open.entries s) ≡ is_some (Some (seen_of x)) =
+    search (rules, shown_with old s x found) in
+    tells_pause (whose_of old) (shown_stream old.open.entries) (shown_stream after) old.told.items s false there
     (set_by old after s x y (then_paused false) found c.resume.ensures set)

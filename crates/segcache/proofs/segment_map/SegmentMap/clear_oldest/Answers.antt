@@ -1,6 +1,6 @@
 use Rattle.std.proofs.Common.{◌≡◌, ℕ, sym, ap, subst, ◌∙◌}
 use Rattle.segments.specs.Pools.{PoolState}
-use Rattle.segments.specs.Changes.{IsPoolFull, cleared}
+use Rattle.segments.specs.Changes.{IsPoolFull, without_segment}
 use Rattle.segcache.specs.Kept.{IsTied, IsPast}
 use Rattle.segcache.specs.Leaving.{HasLeft}
 use Rattle.segcache.specs.Room.{IsCrowded}
@@ -26,8 +26,8 @@ invariant_of-self c =
     (let h = c.unindex_segment.ensures.left in rw (← c.self.view_is, ← c.self-in-Some.view_is) at h) in
     let gone : HasLeft n (current a.pool a.index) (current a.pool b.index) =
     subst (λ (q : PoolState). HasLeft n (current a.pool a.index) (current q b.index)) pool left in
-    let is : c.clear.new.self ≡ cleared a.pool n =
-    c.clear.ensures.cleared ∙ ap (λ (q : PoolState). cleared q n) pool in
+    let is : c.clear.new.self ≡ without_segment a.pool n =
+    c.clear.ensures.cleared ∙ ap (λ (q : PoolState). without_segment q n) pool in
     let crowded : IsCrowded a.pool a.index a.moment = (let h = c.requires.crowded in rw (← c.self.view_is) at h) in
     record {
       tied = (tied_cleared a.pool c.clear.new.self n b.index b.marks tied c.clear.ensures.pool is
@@ -50,8 +50,8 @@ returns-in-Some-clause-made c =
     (let h = c.unindex_segment.ensures.left in rw (← c.self.view_is, ← c.self-in-Some.view_is) at h) in
     let gone : HasLeft n (current a.pool a.index) (current a.pool b.index) =
     subst (λ (q : PoolState). HasLeft n (current a.pool a.index) (current q b.index)) pool left in
-    let is : c.clear.new.self ≡ cleared a.pool n =
-    c.clear.ensures.cleared ∙ ap (λ (q : PoolState). cleared q n) pool in
+    let is : c.clear.new.self ≡ without_segment a.pool n =
+    c.clear.ensures.cleared ∙ ap (λ (q : PoolState). without_segment q n) pool in
     let crowded : IsCrowded a.pool a.index a.moment = (let h = c.requires.crowded in rw (← c.self.view_is) at h) in
     rw (← c.self.view_is)
     (cleared_made a.pool c.clear.new.self n a.index b.index a.marks b.marks a.moment
@@ -70,8 +70,8 @@ returns-in-Some-clause-evicted c =
     (let h = c.unindex_segment.ensures.left in rw (← c.self.view_is, ← c.self-in-Some.view_is) at h) in
     let gone : HasLeft n (current a.pool a.index) (current a.pool b.index) =
     subst (λ (q : PoolState). HasLeft n (current a.pool a.index) (current q b.index)) pool left in
-    let is : c.clear.new.self ≡ cleared a.pool n =
-    c.clear.ensures.cleared ∙ ap (λ (q : PoolState). cleared q n) pool in
+    let is : c.clear.new.self ≡ without_segment a.pool n =
+    c.clear.ensures.cleared ∙ ap (λ (q : PoolState). without_segment q n) pool in
     rw (← c.self.view_is) (λ none.
     cleared_evicted a.pool c.clear.new.self n a.index b.index a.marks b.marks c.self.invariant.tied tied
     c.clear.ensures.pool is c.in-Some.ensures.in_chain gone (sym c.in-Some.ensures.first) none)

@@ -6,7 +6,7 @@ use Rattle.segments.specs.Items.{Item, IsStorable}
 use Rattle.segments.specs.Shown.{item_of}
 use Rattle.segments.specs.Pools.{PoolState, Used}
 use Rattle.segments.specs.Inside.{IsSegment, HasMergeRoom}
-use Rattle.segments.specs.Changes.{overwritten, change_in}
+use Rattle.segments.specs.Changes.{with_item_at, change_in}
 use Rattle.segments.specs.declared.segment.Segment.{Segment}
 use Rattle.segments.proofs.ItemChanges.{keeps_over}
 use Rattle.segments.proofs.PoolLemmas.{changing, change_kept, change_shown, kept_one, linked_items, changed_shown, pool_kept}
@@ -67,7 +67,7 @@ returns-clause-overwritten c =
     })
     (changed_shown a c.args.place.segment s t (change_in (λ _. new) c.args.place.offset) q.within at
     (change_shown (λ _. new) s t c.args.place.offset refl items))
-    ∙ ap (λ p. overwritten p c.args.place new) c.self.view_is
+    ∙ ap (λ p. with_item_at p c.args.place new) c.self.view_is
 
 pub returns-clause-pool : goal.returns-clause-pool
 returns-clause-pool c = pool_kept _ (invariant_of-self c)

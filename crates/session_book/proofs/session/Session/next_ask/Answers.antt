@@ -5,7 +5,7 @@ use Rattle.session_book.specs.Session.{SessionState, begins_asked, IsReady, Stop
 use Rattle.session_book.proofs.Steps.{starts_locals, reads_nothing, reads_stops}
 use Rattle.session_book.proofs.session.Session.next_ask.Goals as goal
 
--- nothing was read, for want of memory
+-- nothing was read, as memory ran out
 refused_at_once : (before now : SessionState) (looks : ℕ) (e : NoMemory) → before ≡ now
     → begins_asked before.queue ≡ true → IsReady now
     → ReadsAsk now looks (Err e) now looks

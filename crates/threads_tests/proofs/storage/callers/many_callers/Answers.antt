@@ -1,5 +1,6 @@
 use Rattle.std.proofs.Common.{rules, List, length, drop, get_or, sym, ap, ◌∙◌, subst}
 use Rattle.exchange.specs.Ends.{WorkerView, AreTogether}
+use Rattle.worker_port.specs.Giving.{by_any_clock}
 use Rattle.storage_thread.specs.Serving.{IsSameExchange}
 use Rattle.storage_thread.proofs.Callers.{AreSame, together, whole}
 use Rattle.threads_tests.proofs.storage.callers.many_callers.Goals as goal
@@ -22,4 +23,4 @@ gather-gathered-requires g c = let each = c.for_each_mut.ensures in let made = c
     let stays : IsSameExchange c.in_ok-ends.storage c.join-report.result.storage_end = search rules in
     subst (λ (x : List WorkerView). AreTogether x c.join-report.result.storage_end)
     (sym (whole c.in_ok-ends.ends.len now (drop (length now) ends) (search rules)))
-    (together _ made.0 ends now c.in_ok-ends.storage c.join-report.result.storage_end made.1 stays same)
+    (together _ (by_any_clock made.0) ends now c.in_ok-ends.storage c.join-report.result.storage_end made.1 stays same)

@@ -24,6 +24,7 @@ one_more t records i x within at opened =
 opening_is : (t : ℕ) (x : PortRecord) → is_entry (was.Opened t) x ≡ true → x ≡ was.Opened t
 opening_is t (was.Opened s) e = grind (arith, e)
 opening_is t (was.Data s bytes) e = grind (arith, e)
+opening_is t (was.EndOfInput s) e = grind (arith, e)
 opening_is t (was.Gone s) e = grind (arith, e)
 opening_is t was.Ended e = grind (arith, e)
 opening_is t (was.Accepted s bytes) e = grind (arith, e)

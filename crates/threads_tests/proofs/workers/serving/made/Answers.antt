@@ -2,13 +2,14 @@ use Rattle.std.proofs.Common.{◌≡◌, List, [], ◌∷◌, ◌++◌, length, 
 use lib.ListN.{get_elem?}
 use Rattle.std.specs.Option.{option_to_list}
 use Rattle.std.specs.Result.{IfOk}
-use Rattle.proto.specs.Sizes.{Sizes}
+use Rattle.proto.specs.declared.terms.Terms.{Terms}
 use Rattle.exchange.specs.Ends.{WorkerView, StorageView, AreMade, new_worker_view}
 use Rattle.exchange.proofs.FreshEnds.{last_is_fresh}
+use Rattle.worker_port.specs.Giving.{by_any_clock}
 use Rattle.threads_tests.proofs.workers.serving.made.Goals as goal
 
 -- the last end of a new exchange of one worker is as it was made
-last_is_new : (g : Sizes) (storage : StorageView) (ends others : List WorkerView) (v : WorkerView)
+last_is_new : (g : Terms) (storage : StorageView) (ends others : List WorkerView) (v : WorkerView)
     → AreMade 1 g ends storage → ends ≡ others ++ v ∷ [] → v ≡ new_worker_view storage.exchange g 0
 last_is_new g storage ends [] v made is = made.1 0 v (ap (λ (z : List WorkerView). get_elem? z 0) is)
 last_is_new g storage ends (x ∷ others) v made is =
@@ -16,20 +17,20 @@ last_is_new g storage ends (x ∷ others) v made is =
 
 pub returns-clause-worker : goal.returns-clause-worker
 returns-clause-worker g c =
-    let made = subst (λ z. IfOk z (λ r. AreMade 1 c.args.geometry r.0.items r.1)) c.expect-ends.ensures
+    let made = subst (λ z. IfOk z (λ r. AreMade 1 (by_any_clock c.args.geometry) r.0.items r.1)) c.expect-ends.ensures
     c.make.ensures.made in
     let is = c.pop.ensures.items ∙ ap (λ z. c.pop.new.self.items ++ option_to_list z) c.expect-end.ensures in
-    last_is_fresh 1 c.args.geometry c.expect-ends.result.1 c.expect-ends.result.0.items c.pop.new.self.items
+    last_is_fresh 1 (by_any_clock c.args.geometry) c.expect-ends.result.1 c.expect-ends.result.0.items c.pop.new.self.items
     c.expect-end.result made is
 
 pub returns-clause-whose : goal.returns-clause-whose
 returns-clause-whose g c =
-    let made = subst (λ z. IfOk z (λ r. AreMade 1 c.args.geometry r.0.items r.1)) c.expect-ends.ensures
+    let made = subst (λ z. IfOk z (λ r. AreMade 1 (by_any_clock c.args.geometry) r.0.items r.1)) c.expect-ends.ensures
     c.make.ensures.made in
     let is = c.pop.ensures.items ∙ ap (λ z. c.pop.new.self.items ++ option_to_list z) c.expect-end.ensures in
-    let end = last_is_new c.args.geometry c.expect-ends.result.1 c.expect-ends.result.0.items c.pop.new.self.items
+    let end = last_is_new (by_any_clock c.args.geometry) c.expect-ends.result.1 c.expect-ends.result.0.items c.pop.new.self.items
     c.expect-end.result made is in (
       ap (λ (z : WorkerView). z.worker) end,
-      ap (λ (z : WorkerView). z.geometry) end,
+      ap (λ (z : WorkerView). z.terms) end,
       ap (λ (z : WorkerView). z.seen) end,
     )

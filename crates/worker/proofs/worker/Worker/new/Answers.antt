@@ -6,12 +6,12 @@ pub invariant_of-result : goal.invariant_of-result
 invariant_of-result g c = record {
   steady = search rules;
   strangers = search rules;
-  known = λ story e. record {
+  known = λ trace e. record {
     each = search rules;
     rising = search rules;
     counted = search rules;
     at_end = search rules;
-    accepts = accepts_none story.events (c.requires.port story e);
+    accepts = accepts_none trace.events (c.requires.port trace e);
   };
   paused = search rules;
   whose = search rules;

@@ -7,7 +7,7 @@ use Rattle.proto.specs.declared.history.Answered.{Answered}
 use Rattle.proto.specs.declared.terms.Terms.{Terms}
 use Rattle.worker.specs.EndCauses.{piece_of}
 use Rattle.worker.specs.Workers.{run_view}
-use Rattle.worker.proofs.StoryLaws.{paused_kept}
+use Rattle.worker.proofs.TraceLaws.{paused_kept}
 use Rattle.worker.proofs.PieceLaws.{pieces_kept, gave_piece}
 use Rattle.worker.proofs.WorkerSteps.{continues, open_at}
 use Rattle.worker.proofs.OutputSteps.{accepted, told_gave, gives_by, lost_goes_on, within_goes_on, offered_is}
@@ -23,15 +23,15 @@ give-requires g c =
     c.offer-offer.result.out.now c.offer-offer.ensures.out (sym c.is_empty.ensures ∙ c.if-is_empty.false) in
     record {
       «open» = open_at g.P.Port.told w c.args.session s.0 c.self.invariant s.1;
-      said = λ story e.
-          let whose = c.self.invariant.whose story e in
-          subst (λ (y : List ℕ × List Answered). MayBeGiven story y.1 c.args.session y.0) (λ i. (sym s.2 i, sym c.of-history.ensures i))
+      said = λ trace e.
+          let whose = c.self.invariant.whose trace e in
+          subst (λ (y : List ℕ × List Answered). MayBeGiven trace y.1 c.args.session y.0) (λ i. (sym s.2 i, sym c.of-history.ensures i))
           (record {
             later = whose.0.later;
-            may = subst (λ (y : ℕ × Terms). MayBeSent y.1 story.dialect y.0 (end_of w).seen c.args.session (fed c.args.session story.events)
-                (given c.args.session story.events) s.0.out) (λ i. (sym whose.0.worker_is i, sym whose.0.terms_are i))
-                (may_be_given (run_view story w) (end_of w) w.request c.args.session s.0
-                ((c.self.invariant.known story e).each c.args.session) s.1 refl refl c.self.invariant.steady.told);
+            may = subst (λ (y : ℕ × Terms). MayBeSent y.1 trace.dialect y.0 (end_of w).seen c.args.session (fed c.args.session trace.events)
+                (given c.args.session trace.events) s.0.out) (λ i. (sym whose.0.worker_is i, sym whose.0.terms_are i))
+                (may_be_given (run_view trace w) (end_of w) w.request c.args.session s.0
+                ((c.self.invariant.known trace e).each c.args.session) s.1 refl refl c.self.invariant.steady.told);
           });
     }
 
@@ -50,11 +50,11 @@ invariant_of-self g c = let w = c.self.inside.state in let t = c.args.session in
     (gives_by w t out (Ok n) c.of-history.result c.of-history.ensures) c.in-Ok.ensures.told
     (ap (λ (b : BookState). b.posted) k.rest) (ap (λ (b : BookState). b.unsettled) k.rest)
     (ap (λ (b : BookState). b.dialect) k.rest) c.self.invariant
-    (λ story was_so. (
-      told_gave (run_view story w) (run_view (f story) new) w.unopened w.ended t n s.0 was_so.0 s.1 refl
-          (ap (λ (b : List ℕ). story.events ++ accepted t n b) s.2) refl refl refl k.only_at
+    (λ trace was_so. (
+      told_gave (run_view trace w) (run_view (f trace) new) w.unopened w.ended t n s.0 was_so.0 s.1 refl
+          (ap (λ (b : List ℕ). trace.events ++ accepted t n b) s.2) refl refl refl k.only_at
           (λ i q. pieces q i),
-      paused_kept story (f story) (piece_of w.book) (piece_of new.book) pieces
+      paused_kept trace (f trace) (piece_of w.book) (piece_of new.book) pieces
           (λ q. refl) was_so.1,
     ))).serving
 
@@ -76,11 +76,11 @@ returns-in-Ok-clause-goes_on g c = let w = c.self.inside.state in let t = c.args
     (gives_by w t out (Ok n) c.of-history.result c.of-history.ensures) c.in-Ok.ensures.told
     (ap (λ (b : BookState). b.posted) k.rest) (ap (λ (b : BookState). b.unsettled) k.rest)
     (ap (λ (b : BookState). b.dialect) k.rest) c.self.invariant
-    (λ story was_so. (
-      told_gave (run_view story w) (run_view (f story) new) w.unopened w.ended t n s.0 was_so.0 s.1 refl
-          (ap (λ (b : List ℕ). story.events ++ accepted t n b) s.2) refl refl refl k.only_at
+    (λ trace was_so. (
+      told_gave (run_view trace w) (run_view (f trace) new) w.unopened w.ended t n s.0 was_so.0 s.1 refl
+          (ap (λ (b : List ℕ). trace.events ++ accepted t n b) s.2) refl refl refl k.only_at
           (λ i q. pieces q i),
-      paused_kept story (f story) (piece_of w.book) (piece_of new.book) pieces
+      paused_kept trace (f trace) (piece_of w.book) (piece_of new.book) pieces
           (λ q. refl) was_so.1,
     )))
 

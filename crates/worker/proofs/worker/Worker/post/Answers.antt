@@ -1,7 +1,7 @@
 use Rattle.std.proofs.Common.{◌≡◌, Bool, true, false, refl, sym, subst, Option, None}
 use Rattle.proto.specs.declared.history.Posted.{Posted}
 use Rattle.exchange.specs.Ends.{WorkerBatchView}
-use Rattle.worker_port.specs.Ports.{PortStory}
+use Rattle.worker_port.specs.Ports.{PortTrace}
 use Rattle.worker.specs.declared.state.WorkerState.{WorkerState}
 use Rattle.worker.specs.Workers.{end_of, once_flushed, posted_by, IsWorkerServing}
 use Rattle.worker.proofs.WorkerSteps.{WorkerGoesOn, continues}
@@ -10,7 +10,7 @@ use Rattle.worker.proofs.SettleSteps.{flushed_goes_on}
 use Rattle.worker.proofs.worker.Worker.post.Goals as goal
 
 -- the held request is sent, or stays held
-held_goes_on : {P : Type 0} (told : P → Option PortStory) (old : WorkerState P) (batch : WorkerBatchView)
+held_goes_on : {P : Type 0} (told : P → Option PortTrace) (old : WorkerState P) (batch : WorkerBatchView)
     (request : Option Posted) (result : Bool)
     → (result ≡ true
     → (request ≡ None) × (once_flushed batch ≡ record (end_of old) { sent = posted_by (end_of old) old.request }))

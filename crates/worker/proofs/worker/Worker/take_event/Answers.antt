@@ -1,7 +1,8 @@
 use Rattle.std.proofs.Common.{refl}
 use Rattle.session_book.specs.Book.{session_of}
 use Rattle.worker.proofs.WorkerSteps.{continues}
-use Rattle.worker.proofs.PortSteps.{opened_goes_on, opened_is_open, still_open, came_unheld, received_goes_on, over_goes_on, lose_goes_on, idle_goes_on, ended_goes_on}
+use Rattle.worker.proofs.PortSteps.{opened_goes_on, opened_is_open, still_open, came_unheld, received_goes_on}
+use Rattle.worker.proofs.PortSteps.{over_goes_on, lose_goes_on, idle_goes_on, ended_goes_on}
 use Rattle.worker.proofs.worker.Worker.take_event.Goals as goal
 
 pub admit-requires : goal.admit-requires
@@ -12,12 +13,12 @@ admit-requires g c = let n = c.in-Opened.ensures in
 pub receive-requires-clause-open : goal.receive-requires-clause-open
 receive-requires-clause-open g c = let n = c.in-Data.ensures in
     still_open g.P.Port.told c.self.inside.state.port c.next.new.self c.in-Data.session c.in-Data.bytes n.told
-    (λ story e. (n.may story e).0.0)
+    (λ trace e. (n.may trace e).0.0)
 
 pub receive-requires-clause-resumed : goal.receive-requires-clause-resumed
 receive-requires-clause-resumed g c = let n = c.in-Data.ensures in
     came_unheld g.P.Port.told c.self.inside.state c.next.new.self c.in-Data.session c.in-Data.bytes c.self.invariant n.told
-    (λ story e. (n.may story e).0.1)
+    (λ trace e. (n.may trace e).0.1)
 
 pub invariant_of-self : goal.invariant_of-self
 invariant_of-self g c = (opened_goes_on g.P.Port.told c.self.inside.state c.admit.new.self c.next.new.self c.in-Opened.session
@@ -34,7 +35,7 @@ returns-in-Opened g c =
 
 pub invariant_of-self-in-Data : goal.invariant_of-self-in-Data
 invariant_of-self-in-Data g c = (received_goes_on g.P.Port.told c.self.inside.state c.receive.new.self c.next.new.self c.in-Data.session
-    c.in-Data.bytes (record { told_is = c.in-Data.ensures.told; opened = λ story e. (c.in-Data.ensures.may story e).0.0 })
+    c.in-Data.bytes (record { told_is = c.in-Data.ensures.told; opened = λ trace e. (c.in-Data.ensures.may trace e).0.0 })
     c.self.invariant c.receive.ensures.receives).serving
 
 pub returns-in-Data : goal.returns-in-Data
@@ -42,20 +43,20 @@ returns-in-Data g c =
     continues g.P.Port.told g.P.Port.leads_to c.self.inside.state c.args.self.now c.receive.new.self c.self.view_is
     (g.met.P.Port.leads_transitive _ _ _ c.in-Data.ensures.leads c.receive.ensures.leads)
     (received_goes_on g.P.Port.told c.self.inside.state c.receive.new.self c.next.new.self c.in-Data.session
-    c.in-Data.bytes (record { told_is = c.in-Data.ensures.told; opened = λ story e. (c.in-Data.ensures.may story e).0.0 })
+    c.in-Data.bytes (record { told_is = c.in-Data.ensures.told; opened = λ trace e. (c.in-Data.ensures.may trace e).0.0 })
     c.self.invariant c.receive.ensures.receives)
 
 pub invariant_of-self-in-EndOfInput : goal.invariant_of-self-in-EndOfInput
 invariant_of-self-in-EndOfInput g c = (over_goes_on g.P.Port.told c.self.inside.state c.next.new.self c.end_input-finished.new.self
     c.in-EndOfInput.session (record {
       told_is = c.in-EndOfInput.ensures.told;
-      opened = λ story e. (c.in-EndOfInput.ensures.may story e).0;
+      opened = λ trace e. (c.in-EndOfInput.ensures.may trace e).0;
     }) c.self.invariant c.end_input-finished.ensures.over).serving
 
 pub invariant_of-self-in-Gone : goal.invariant_of-self-in-Gone
 invariant_of-self-in-Gone g c = (lose_goes_on g.P.Port.told c.self.inside.state c.lose.new.self c.next.new.self c.in-Gone.session
     (session_of c.self.inside.state.book c.in-Gone.session) refl
-    (record { told_is = c.in-Gone.ensures.told; opened = λ story e. (c.in-Gone.ensures.may story e).0 }) c.self.invariant
+    (record { told_is = c.in-Gone.ensures.told; opened = λ trace e. (c.in-Gone.ensures.may trace e).0 }) c.self.invariant
     c.lose.ensures.port c.lose.ensures.loses c.lose.ensures.drops).serving
 
 pub returns-in-Gone : goal.returns-in-Gone
@@ -64,7 +65,7 @@ returns-in-Gone g c =
     (g.met.P.Port.leads_transitive _ _ _ c.in-Gone.ensures.leads c.lose.ensures.leads)
     (lose_goes_on g.P.Port.told c.self.inside.state c.lose.new.self c.next.new.self c.in-Gone.session
     (session_of c.self.inside.state.book c.in-Gone.session) refl
-    (record { told_is = c.in-Gone.ensures.told; opened = λ story e. (c.in-Gone.ensures.may story e).0 }) c.self.invariant
+    (record { told_is = c.in-Gone.ensures.told; opened = λ trace e. (c.in-Gone.ensures.may trace e).0 }) c.self.invariant
     c.lose.ensures.port c.lose.ensures.loses c.lose.ensures.drops)
 
 pub invariant_of-self-in-Idle : goal.invariant_of-self-in-Idle

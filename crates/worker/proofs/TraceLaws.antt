@@ -1,4 +1,4 @@
--- What the calls of a port make of its story, and which sessions that leaves paused.
+-- What the calls of a port make of its trace, and which sessions that leaves paused.
 use Rattle.std.proofs.Common.{◌≡◌, ◌≢◌, ℕ, ◌==◌, Bool, true, false, true≢false, ◌||◌, cond, eq-eqb, List, [], ◌∷◌}
 use Rattle.std.proofs.Common.{refl, sym, ap, ◌∙◌, Option, Some}
 use Rattle.std.proofs.Common.{None, is_some}
@@ -6,39 +6,39 @@ use Rattle.std.specs.Option.{option_map}
 use Rattle.proto.proofs.Options.{some_is}
 use Rattle.worker_port.specs.declared.events.PortRecord.{PortRecord}
 use Rattle.worker_port.specs.declared.events.PortRecord.TheVariants as was
-use Rattle.worker_port.specs.Ports.{PortStory, is_in, then_told}
+use Rattle.worker_port.specs.Ports.{PortTrace, is_in, then_told}
 use Rattle.worker.specs.Workers.{ArePaused}
 use Rattle.worker_port.proofs.Facts.{about}
 use Rattle.worker.proofs.RunViews.{at_other}
 use Rattle.proto.proofs.CountLemmas.{either_way}
 
 -- what a port tells after a call, it told before but for what the call added
-pub told_before : (f : PortStory → PortStory) (o o' : Option PortStory) → o' ≡ option_map f o → (after : PortStory)
+pub told_before : (f : PortTrace → PortTrace) (o o' : Option PortTrace) → o' ≡ option_map f o → (after : PortTrace)
     → o' ≡ Some after
-    → (story : PortStory) × (o ≡ Some story) × (f story ≡ after)
+    → (trace : PortTrace) × (o ≡ Some trace) × (f trace ≡ after)
 told_before f None o' e after h = absurd (cc)
-told_before f (Some story) o' e after h = (story, refl, some_is (f story) after (sym e ∙ h))
+told_before f (Some trace) o' e after h = (trace, refl, some_is (f trace) after (sym e ∙ h))
 
 -- a port that tells goes on to tell, and no other begins to
-pub tells_as : (f : PortStory → PortStory) (o o' : Option PortStory) → o' ≡ option_map f o → is_some o' ≡ is_some o
+pub tells_as : (f : PortTrace → PortTrace) (o o' : Option PortTrace) → o' ≡ option_map f o → is_some o' ≡ is_some o
 tells_as f None o' e = ap is_some e
-tells_as f (Some story) o' e = ap is_some e
+tells_as f (Some trace) o' e = ap is_some e
 
 -- a port that wasn't called
-pub same_story : (o o' : Option PortStory) → o' ≡ o → o' ≡ option_map (λ story. story) o
-same_story None o' e = e
-same_story (Some story) o' e = e
+pub same_trace : (o o' : Option PortTrace) → o' ≡ o → o' ≡ option_map (λ trace. trace) o
+same_trace None o' e = e
+same_trace (Some trace) o' e = e
 
 -- two calls
-pub two_calls : (f g : PortStory → PortStory) (o m o' : Option PortStory) → m ≡ option_map f o → o' ≡ option_map g m
-    → o' ≡ option_map (λ story. g (f story)) o
+pub two_calls : (f g : PortTrace → PortTrace) (o m o' : Option PortTrace) → m ≡ option_map f o → o' ≡ option_map g m
+    → o' ≡ option_map (λ trace. g (f trace)) o
 two_calls f g None m o' e h = h ∙ ap (option_map g) e
-two_calls f g (Some story) m o' e h = h ∙ ap (option_map g) e
+two_calls f g (Some trace) m o' e h = h ∙ ap (option_map g) e
 
--- a story of which nothing is known is the story of a port that tells nothing
-pub tells_none : (o : Option PortStory) → ((story : PortStory) → o ≡ Some story → ⊥) → o ≡ None
+-- a trace of which nothing is known is the trace of a port that tells nothing
+pub tells_none : (o : Option PortTrace) → ((trace : PortTrace) → o ≡ Some trace → ⊥) → o ≡ None
 tells_none None h = refl
-tells_none (Some story) h = absurd (h story refl)
+tells_none (Some trace) h = absurd (h trace refl)
 
 -- ---- which sessions an entry ends
 
@@ -54,33 +54,33 @@ ends_elsewhere (was.Accepted t b) s e = refl
 ends_elsewhere (was.Shut t) s e = ap (λ b. (false || b) || false) e
 
 -- an entry about another session leaves a session paused, or not
-pub paused_elsewhere : (story : PortStory) (x : PortRecord) (s : ℕ) → about s x ≡ false
-    → (then_told (x ∷ []) story).paused s ≡ story.paused s
-paused_elsewhere story x s e = ap (λ b. cond b false (story.paused s)) (ends_elsewhere x s e)
+pub paused_elsewhere : (trace : PortTrace) (x : PortRecord) (s : ℕ) → about s x ≡ false
+    → (then_told (x ∷ []) trace).paused s ≡ trace.paused s
+paused_elsewhere trace x s e = ap (λ b. cond b false (trace.paused s)) (ends_elsewhere x s e)
 
 -- ---- the sessions of which bytes are held are paused
 
 -- nothing more is held, and nothing is resumed
-pub paused_kept : (story after : PortStory) (old new : ℕ → List ℕ) → ((s : ℕ) → new s ≡ old s)
-    → ((s : ℕ) → after.paused s ≡ story.paused s)
-    → ArePaused story old → ArePaused after new
-paused_kept story after old new held same h = λ s some. same s ∙ h s (λ e. some (held s ∙ e))
+pub paused_kept : (trace after : PortTrace) (old new : ℕ → List ℕ) → ((s : ℕ) → new s ≡ old s)
+    → ((s : ℕ) → after.paused s ≡ trace.paused s)
+    → ArePaused trace old → ArePaused after new
+paused_kept trace after old new held same h = λ s some. same s ∙ h s (λ e. some (held s ∙ e))
 
 -- no more is held of one session, and the others stay paused
-pub paused_but : (story after : PortStory) (t : ℕ) (old new : ℕ → List ℕ) → ((s : ℕ) → new s ≡ cond (s == t) [] (old s))
-    → ((s : ℕ) → t ≢ s → after.paused s ≡ story.paused s) → ArePaused story old → ArePaused after new
-paused_but story after t old new held same h =
+pub paused_but : (trace after : PortTrace) (t : ℕ) (old new : ℕ → List ℕ) → ((s : ℕ) → new s ≡ cond (s == t) [] (old s))
+    → ((s : ℕ) → t ≢ s → after.paused s ≡ trace.paused s) → ArePaused trace old → ArePaused after new
+paused_but trace after t old new held same h =
     λ s some.
     either_way t s
     (λ (e : t ≡ s). absurd (some (held s ∙ ap (λ b. cond b [] (old s)) (eq-eqb s t (sym e)))))
     (λ (ne : t ≢ s). same s ne ∙ h s (λ e. some (held s ∙ at_other t s [] (old s) ne ∙ e)))
 
 -- bytes are held of one more session, which is paused
-pub paused_more : (story after : PortStory) (t : ℕ) (b : List ℕ) (old new : ℕ → List ℕ)
+pub paused_more : (trace after : PortTrace) (t : ℕ) (b : List ℕ) (old new : ℕ → List ℕ)
     → ((s : ℕ) → new s ≡ cond (s == t) b (old s))
-    → after.paused t ≡ true → ((s : ℕ) → t ≢ s → after.paused s ≡ story.paused s) → ArePaused story old
+    → after.paused t ≡ true → ((s : ℕ) → t ≢ s → after.paused s ≡ trace.paused s) → ArePaused trace old
     → ArePaused after new
-paused_more story after t b old new held here same h =
+paused_more trace after t b old new held here same h =
     λ s some.
     either_way t s
     (λ (e : t ≡ s). ap after.paused (sym e) ∙ here)

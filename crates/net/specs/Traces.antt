@@ -10,10 +10,10 @@ use Rattle.worker_port.specs.declared.events.PortEvent.TheVariants as event
 use Rattle.worker_port.specs.declared.events.PortRecord.TheVariants as was
 use Rattle.exchange.specs.Beginnings.{StartsWith}
 use Rattle.worker_port.specs.Giving.{by_system_clock}
-use Rattle.worker_port.specs.Ports.{PortStory, event_records, then_told, MayCome, is_open, is_in, opened_count}
+use Rattle.worker_port.specs.Ports.{PortTrace, event_records, then_told, MayCome, is_open, is_in, opened_count}
 use Rattle.net.specs.declared.streams.Streams.{Streams}
-use Rattle.net.specs.Shown.{shown}
-use Rattle.net.specs.Seen.{Seen, is_paused}
+use Rattle.net.specs.Shown.{shown_stream}
+use Rattle.net.specs.Seen.{Seen, is_paused_stream}
 
 -- whose port it is, and the history by which bytes were given last
 pub record Whose : Type 0 where
@@ -31,47 +31,47 @@ whose_of streams =
       history = streams.history.items;
     }
 
--- the story of these streams and this list
-abbrev pub story : Whose → (ℕ → Option Seen) → List PortRecord → PortStory
-story whose streams events =
+-- the trace of these streams and this list
+abbrev pub trace : Whose → (ℕ → Option Seen) → List PortRecord → PortTrace
+trace whose streams events =
     record {
       events = events;
-      paused = λ s. is_paused (streams s);
+      paused = λ s. is_paused_stream (streams s);
       terms = whose.terms;
       dialect = whose.dialect;
       worker = whose.worker;
       history = whose.history;
     }
 
-abbrev pub story_of : Streams → PortStory
-story_of streams = story (whose_of streams) (shown streams.open.entries) streams.told.items
+abbrev pub trace_of : Streams → PortTrace
+trace_of streams = trace (whose_of streams) (shown_stream streams.open.entries) streams.told.items
 
 -- the port of this worker, of which nothing was told
-pub record IsNew (sizes : Sizes) (d : Dialect) (worker : ℕ) (story : PortStory) : Type 0 where
-  pub none : story.events ≡ []
-  pub terms_are : story.terms ≡ by_system_clock sizes
-  pub dialect_is : story.dialect ≡ d
-  pub worker_is : story.worker ≡ worker
-  pub untold : story.history ≡ []
+pub record IsNew (sizes : Sizes) (d : Dialect) (worker : ℕ) (trace : PortTrace) : Type 0 where
+  pub none : trace.events ≡ []
+  pub terms_are : trace.terms ≡ by_system_clock sizes
+  pub dialect_is : trace.dialect ≡ d
+  pub worker_is : trace.worker ≡ worker
+  pub untold : trace.history ≡ []
 
 -- the paused sessions are the open ones whose stream is paused
-abbrev pub PausesAgree : (ℕ → Option Seen) → PortStory → Type 0
-PausesAgree streams story = (s : ℕ) → story.paused s ≡ is_paused (streams s)
+abbrev pub PausesAgree : (ℕ → Option Seen) → PortTrace → Type 0
+PausesAgree streams trace = (s : ℕ) → trace.paused s ≡ is_paused_stream (streams s)
 
 -- the end was not told yet
-abbrev pub GoesOn : PortStory → Type 0
-GoesOn story = is_in was.Ended story.events ≡ false
+abbrev pub GoesOn : PortTrace → Type 0
+GoesOn trace = is_in was.Ended trace.events ≡ false
 
 -- the session is open
-abbrev pub HasOpen : ℕ → PortStory → Type 0
-HasOpen s story = is_open s story.events ≡ true
+abbrev pub HasOpen : ℕ → PortTrace → Type 0
+HasOpen s trace = is_open s trace.events ≡ true
 
 -- no session is open
-abbrev pub HasNoneOpen : PortStory → Type 0
-HasNoneOpen story = (s : ℕ) → is_open s story.events ≡ false
+abbrev pub HasNoneOpen : PortTrace → Type 0
+HasNoneOpen trace = (s : ℕ) → is_open s trace.events ≡ false
 
 -- sessions are numbered from 1, a piece has some bytes, and no session is open at the end
-abbrev pub IsInOrder : PortStory → PortEvent → Type 0
+abbrev pub IsInOrder : PortTrace → PortEvent → Type 0
 IsInOrder before (event.Opened s) = s ≡ opened_count before.events + 1
 IsInOrder before (event.Data s bytes) = 0 < length bytes
 IsInOrder before (event.EndOfInput s) = ⊤
@@ -80,7 +80,7 @@ IsInOrder before event.Idle = ⊤
 IsInOrder before event.Ended = HasNoneOpen before
 
 -- the event may come, and was told
-pub record Tells (before : PortStory) (e : PortEvent) (after : PortStory) : Type 0 where
+pub record Tells (before : PortTrace) (e : PortEvent) (after : PortTrace) : Type 0 where
   pub told : after ≡ then_told (event_records e) before
   pub may : MayCome before e
   pub orders : IsInOrder before e
@@ -89,6 +89,6 @@ pub record Tells (before : PortStory) (e : PortEvent) (after : PortStory) : Type
 abbrev pub KeepsSockets : Streams → Streams → Type 0
 KeepsSockets before after = after.sockets.items ≡ before.sockets.items
 
--- the sessions keep their sockets; behind them stand those of the sessions that were opened meanwhile
+-- the sessions keep their sockets; after them stand those of the sessions that were opened meanwhile
 abbrev pub AddsSockets : Streams → Streams → Type 0
 AddsSockets before after = StartsWith after.sockets.items before.sockets.items

@@ -35,7 +35,8 @@
 typedef ParkingWord { bool is_parked, sleeps };
 
 ParkingWord storage_word, worker_words[WORKERS];   /* exchange/signals.rt: parking, worker_parking */
-byte posted[WORKERS], done[WORKERS];               /* exchange/steps.rt: send_put, tell_answers */
+byte posted[WORKERS];                              /* exchange/worker_batch.rt: flush */
+byte done[WORKERS];                                /* exchange/storage_batch.rt: flush_answers */
 byte bye[WORKERS];                                 /* the number of the worker's bye, once it stands in its slot */
 byte streams[WORKERS];                             /* net/hand.rt: Hand */
 bool has_ended[WORKERS];                           /* net/hand.rt: Hand */
@@ -87,50 +88,40 @@ inline turn(word) {                                /* exchange/idle_turns.rt: tu
 
 inline flush_answers() {                           /* exchange/storage_batch.rt: flush_answers */
   if
-  :: waiting -> d_step { done[waiting_lane] = counts[waiting_lane]; waiting = false; waiting_lane = 0; untold = 0 }
+  :: waiting -> d_step {
+       done[waiting_lane] = counts[waiting_lane];
+       told = waiting_lane; waiting = false; waiting_lane = 0; untold = 0
+     }
   :: else
   fi
 }
 
-inline unpark_answered() {                         /* storage_thread/answered_worker.rt: unpark */
+inline unpark_told() {                             /* storage_thread/serving.rt: tell, execute */
   if
-  :: answered != NOBODY -> unpark(worker_words[answered]); answered = NOBODY
+  :: told != NOBODY -> unpark(worker_words[told]); told = NOBODY
   :: else
   fi
 }
 
 inline tell() {                                    /* storage_thread/serving.rt: tell */
 #ifdef UNPARK_BEFORE_TELL
-  unpark_answered();
-  flush_answers()
+  if :: waiting -> unpark(worker_words[waiting_lane]) :: else fi;
+  flush_answers(); told = NOBODY
 #else
   flush_answers();
-  unpark_answered()
+  unpark_told()
 #endif
 }
 
-inline flush_every_eighth() {                      /* storage_thread/serving.rt: flush_every_eighth */
+inline flush_eighth() {                            /* storage_thread/serving.rt: take_next */
 #ifdef NO_EIGHTH
   skip
 #else
   if
-#ifdef EIGHTH_UNPARKS_ALONE
-  :: executed == 0 -> unpark_answered()
-#else
   :: executed == 0 -> tell()
-#endif
   :: else
   fi
 #endif
-}
-
-inline note() {                                    /* storage_thread/answered_worker.rt: note */
-  if
-  :: answered != lane ->
-     unpark_answered();
-     answered = lane
-  :: else
-  fi
 }
 
 inline look() {                                    /* exchange/storage_batch.rt: look */
@@ -141,10 +132,10 @@ inline look() {                                    /* exchange/storage_batch.rt:
 }
 
 inline take_next() {                               /* storage_thread/serving.rt: take_next */
-  flush_every_eighth();
   if
   :: named > counts[looked_lane] ->                /* exchange/storage_batch.rt: next_seen */
-     d_step { lane = looked_lane; found = true; is_bye = (counts[lane] + 1 == bye[lane]) }
+     d_step { lane = looked_lane; found = true; is_bye = (counts[lane] + 1 == bye[lane]) };
+     flush_eighth()
   :: else ->
 #ifndef TELLS_EIGHTHS_ALONE
      tell();
@@ -158,20 +149,21 @@ inline take_next() {                               /* storage_thread/serving.rt:
 
 inline execute() {                                 /* storage_thread/serving.rt: execute */
   assert(untold < EIGHTH);
-  if                                               /* exchange/storage_batch.rt: make_way */
+  if                                               /* exchange/storage_batch.rt: answer_later */
   :: waiting && waiting_lane != lane -> flush_answers()
   :: else
   fi;
   d_step {                                         /* exchange/storage_batch.rt: add_answer */
     counts[lane]++; waiting = true; waiting_lane = lane; untold++;
     executed = (executed + 1) % EIGHTH
-  }
+  };
+  unpark_told()
 }
 
 proctype storage() {                               /* storage_thread/serving.rt: run_storage */
   byte counts[WORKERS];
   byte last = WORKERS - 1, looked_lane, named, lane, looks, waiting_lane, untold, executed;
-  byte left = WORKERS, answered = NOBODY;
+  byte left = WORKERS, told = NOBODY;
   bool waiting, found, is_bye, announced, was_parked;
   do
   :: left == 0 -> tell(); break
@@ -182,7 +174,7 @@ proctype storage() {                               /* storage_thread/serving.rt:
         d_step { last = lane; counts[lane]++; done[lane] = counts[lane]; left-- };   /* exchange/steps.rt: settle_bye */
         reset(storage_word)
      :: found && !is_bye ->
-        last = lane; execute(); note(); reset(storage_word)
+        last = lane; execute(); reset(storage_word)
      :: !found -> turn(storage_word)               /* storage_thread/serving.rt: pass_turn */
      fi;
      d_step { found = false; is_bye = false; lane = 0 }
@@ -194,12 +186,13 @@ proctype storage() {                               /* storage_thread/serving.rt:
 #ifdef SOCKETS
 inline open_next() {                               /* net/port.rt: open_next */
   if
-  :: streams[me] > 0 ->                            /* net/hand.rt: take */
+  :: has_streams && streams[me] > 0 ->             /* net/hand.rt: take */
      d_step {                                      /* net/streams.rt: open */
        streams[me]--; is_open = true; event = true;
        is_registered[me] = true; stream_event[me] = input[me] > 0 || has_closed[me]
      }
-  :: else
+  :: has_streams && streams[me] == 0 -> has_streams = false
+  :: !has_streams
   fi
 }
 
@@ -218,23 +211,22 @@ inline next_input() {                              /* net/streams.rt: next_input
   fi
 }
 
-inline known_event() {                             /* net/port.rt: known_event */
-  open_next();
-  next_input()
-}
-
-inline look_at_sockets(waits) {                    /* net/port.rt: look */
+inline poll(waits) {                               /* net/port.rt: look */
   atomic {
     !waits || waker_event[me] || stream_event[me];
     d_step {
       woken = waker_event[me]; waker_event[me] = false;
+      has_streams = has_streams || (!woken && !stream_event[me]);
       if                                           /* net/streams.rt: hear_all */
       :: stream_event[me] -> stream_event[me] = false; is_ready = true; saw_close = has_closed[me]
       :: else
       fi
     }
   };
-  if :: woken -> d_step { wakes[me] = 0; woken = false } :: else fi   /* net/hand.rt: clear_wakes */
+  if
+  :: woken -> d_step { wakes[me] = 0; woken = false; has_streams = true }   /* net/hand.rt: clear_wakes */
+  :: else
+  fi
 }
 
 inline end_if_drained() {                          /* net/hand.rt: is_drained */
@@ -245,20 +237,24 @@ inline end_if_drained() {                          /* net/hand.rt: is_drained */
   fi
 }
 
-inline next_event() {                              /* net/port.rt: next_event */
-  known_event();
-#ifndef ENDS_BEHIND_ITS_LOOK
-  end_if_drained();
-#endif
+inline known_event() {                             /* net/port.rt: next_event */
+  open_next();
+  next_input();
+  end_if_drained()
+}
+
+inline next_event() {                              /* net/port.rt: next, look */
   if
-  :: event
-  :: !event && !may_wait                           /* net/port.rt: CALLS_EACH_POLL */
-  :: !event ->
-     look_at_sockets(may_wait);
-     known_event();
-#ifdef ENDS_BEHIND_ITS_LOOK
-     end_if_drained()
+  :: is_ready || has_streams -> known_event()
+  :: !is_ready && !has_streams ->
+#ifndef ENDS_BEHIND_ITS_LOOK
+     end_if_drained();
 #endif
+     if
+     :: event
+     :: !event && !may_wait                        /* net/polls.rt: CALLS_EACH_POLL */
+     :: !event -> poll(may_wait); known_event()
+     fi
   fi
 }
 #else
@@ -283,7 +279,7 @@ inline take_events() {                             /* worker/run.rt: take_events
   do
   :: port_ended -> break
   :: !port_ended ->
-     d_step {                                      /* worker/worker.rt: may_wait */
+     d_step {                                      /* worker/worker.rt: take_event */
        event = false;
 #ifdef WAITS_OVER_UNSENT
        may_wait = sent == back && unasked == 0
@@ -303,7 +299,7 @@ inline take_events() {                             /* worker/run.rt: take_events
   atomic { event = false; may_wait = false }
 }
 
-inline flush() {                                   /* worker/sending.rt: flush */
+inline flush() {                                   /* worker/worker.rt: flush */
   if
   :: put > 0 ->
 #ifdef WAKE_BEFORE_STORE
@@ -335,7 +331,7 @@ inline give_output() {                             /* worker/run.rt: give_output
 
 proctype worker(byte me) {                         /* worker/run.rt: run_worker */
   byte unsent = REQUESTS - me, unasked, asked, put, sent, back, known, unoffered;
-  bool is_open, is_ready, saw_close, port_ended, woken, event, may_wait, moved, known_all, announced, was_parked;
+  bool is_open, is_ready, has_streams = true, saw_close, port_ended, woken, event, may_wait, moved, known_all, announced, was_parked;
   do
   :: OWN {                                         /* worker/run.rt: take_turn */
        take_events();

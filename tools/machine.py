@@ -3,7 +3,8 @@
 
     tools/machine.py
 
-The kit that the repository is proved with stands in tools/kit.txt, by the line that `rt version` prints.
+The logic that the repository is proved with stands in tools/logic.txt, as the last words of the line that `rt version` prints. Kits with
+other numbers may have the same logic.
 """
 import os
 import re
@@ -12,7 +13,7 @@ import subprocess
 import sys
 
 TOP = os.path.dirname(os.path.dirname(os.path.abspath(__file__)))
-KIT = f"{TOP}/tools/kit.txt"
+LOGIC = f"{TOP}/tools/logic.txt"
 # What the proof of a crate may take, in gigabytes, if nothing is kept.
 GIGABYTES_A_PROOF = 4.5
 # Where the free memory of the machine stands, and the limit of a control group beside the line of what it uses, by both versions of such groups.
@@ -23,9 +24,9 @@ GROUPS = (
 )
 
 
-def kit():
-    """The line of the kit that the repository is proved with."""
-    with open(KIT, encoding="utf-8") as file:
+def logic():
+    """The logic that the repository is proved with."""
+    with open(LOGIC, encoding="utf-8") as file:
         return file.read().strip()
 
 
@@ -55,13 +56,13 @@ def free_gigabytes(memory=MEMORY, groups=GROUPS):
 
 def lacks_kit():
     """What is wrong with the kit here, in one line, or None."""
-    wanted = kit()
+    wanted = logic()
     if not shutil.which("rt"):
-        return f"there is no rt on the path: segcached is proved with the Rattle kit '{wanted}'"
+        return f"there is no rt on the path: segcached is proved with a Rattle kit of '{wanted}'"
     ran = subprocess.run(["rt", "version"], stdin=subprocess.DEVNULL, capture_output=True, text=True, errors="replace")
     found = ran.stdout.strip().partition("\n")[0]
-    if found != wanted:
-        return f"the rt on the path is of another kit, '{found}': segcached is proved with '{wanted}'"
+    if not f" {found}".endswith(f" {wanted}"):
+        return f"the rt on the path has another logic, '{found}': segcached is proved with '{wanted}'"
     return None
 
 

@@ -90,9 +90,9 @@ def sum_of_file(path):
 
 
 def sum_of_sources(name):
-    """A sum of all that a crate is proved from, the kit too."""
+    """A sum of all that a crate is proved from, the logic too."""
     lines = read_lines()
-    whole = hashlib.sha256(machine.kit().encode())
+    whole = hashlib.sha256(machine.logic().encode())
     for crate in sorted(with_those_below(read_crates(), name)):
         whole.update(f"{crate}: {lines[crate]}\n".encode())
         for path in files_of(crate):
@@ -291,7 +291,9 @@ def how_to_prove(name, crates, ways, proved):
     whole, longest = max(ways.values()), max(way for it, way in ways.items() if it not in proved)
     is_near = longest - ways[name] <= NEAR * whole
     nice = 0 if is_near else NICE
-    if is_waited_for(name, crates, ways, proved) or not crates[name]:
+    if not crates[name]:
+        return How(machine.processors(), machine.processors() > 1, nice)
+    if is_waited_for(name, crates, ways, proved):
         return How(machine.processors(), False, nice)
     processes = min(JOBS, machine.processors()) if is_near and ways[name] > LAST * whole else 1
     return How(processes, processes > 1, nice)

@@ -2,13 +2,17 @@
 
 libfaketime stands between the program and its clocks. It steps the clock of Unix time alone, by what a file says at each reading, and
 leaves the monotonic clock and all waiting as they are. (All waits are in one test, which takes eleven seconds.)
+
+And a test of the sources: only the module of the system's clock can make a reading of it.
 """
 import glob
 import os
+import re
 import time
 
 import pytest
 from asking import ask, hit
+from served import TOP
 
 DAY = 86_400
 HOUR = 3_600
@@ -62,3 +66,15 @@ def test_a_step_of_the_clock_by_a_day_changes_no_life(stepped):
             for name in (b"before", b"between", b"after"):
                 ask(stream, b"get ten-%b\r\n" % name, b"END\r\n")
                 ask(stream, b"get hour-%b\r\n" % name, hit(b"hour-" + name, b"x"))
+
+
+def test_only_its_own_module_makes_a_reading():
+    sources = {}
+    for path in glob.glob(f"{TOP}/crates/proto/src/*.rt"):
+        with open(path, encoding="utf-8") as file:
+            sources[os.path.basename(path)] = re.sub(r"//.*", "", file.read())
+    made = {name for name, text in sources.items() if re.search(r"\b(ClockReading|ClockStart) \{", text)}
+    assert made == {"logged_clock.rt"}
+    for name in ("ClockStart", "ClockReading"):
+        fields = re.search(rf"pub struct {name} \{{(.*?)\}}", sources["logged_clock.rt"], re.DOTALL)[1]
+        assert ":" in fields and "pub" not in fields, name

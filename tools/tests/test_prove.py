@@ -49,7 +49,7 @@ def test_those_with_the_longest_way_start_first_and_are_proved_by_several_proces
     monkeypatch.setattr(prove, "LAST", 0.2)
     monkeypatch.setattr(machine, "processors", lambda: 4)
     monkeypatch.setattr(machine, "at_once", lambda: 2)
-    assert prove.to_start(CRATES, ways, set(), {}) == [("base", how(4, False, 0))]
+    assert prove.to_start(CRATES, ways, set(), {}) == [("base", how(4, True, 0))]
     assert prove.to_start(CRATES, ways, {"base"}, {}) == [("left", how(2, True, 0)), ("right", how(1, False, nice))]
     assert prove.to_start(CRATES, ways, {"base"}, {"left": None, "right": None}) == []
     assert prove.to_start(CRATES, ways, {"base", "right"}, {"left": None}) == [("aside", how(1, False, nice))]
@@ -120,13 +120,13 @@ def test_what_is_gone_is_seen(repository, path):
     assert not prove.is_kept()
 
 
-def test_a_new_file_and_another_kit_are_seen(repository, monkeypatch):
+def test_a_new_file_and_another_logic_are_seen(repository, monkeypatch):
     (repository / "crates" / "low" / "specs").mkdir()
     (repository / "crates" / "low" / "specs" / "More.antt").write_text("")
     assert not prove.is_kept()
     (repository / "crates" / "low" / "specs" / "More.antt").unlink()
     assert prove.is_kept()
-    monkeypatch.setattr(machine, "kit", lambda: "another")
+    monkeypatch.setattr(machine, "logic", lambda: "another")
     assert not prove.is_kept()
 
 
@@ -223,9 +223,9 @@ def test_the_page_has_the_recorded_minutes():
     assert gate_times.table_of(gate_times.read_minutes(gate_times.MINUTES)) in page
 
 
-def test_the_page_names_the_kit():
+def test_the_page_names_the_logic():
     with open(gate_times.PAGE, encoding="utf-8") as file:
-        assert f"`{machine.kit()}`" in file.read()
+        assert f"`{machine.logic()}`" in file.read()
 
 
 def memory_file(folder, gigabytes):
@@ -265,13 +265,13 @@ def folder_with_rt(folder, line):
 def test_a_run_without_rt_says_so_in_one_line(tmp_path):
     status, printed, said = run_with(str(tmp_path))
     assert (status, printed) == (1, "")
-    assert said == f"segcached: there is no rt on the path: segcached is proved with the Rattle kit '{machine.kit()}'\n"
+    assert said == f"segcached: there is no rt on the path: segcached is proved with a Rattle kit of '{machine.logic()}'\n"
 
 
-def test_a_run_with_an_rt_of_another_kit_says_so_in_one_line(tmp_path):
+def test_a_run_with_an_rt_of_another_logic_says_so_in_one_line(tmp_path):
     status, printed, said = run_with(folder_with_rt(tmp_path, "rattle-kit-99x logic 0000000000000000"))
     assert (status, printed) == (1, "")
-    assert said.count("\n") == 1 and "'rattle-kit-99x logic 0000000000000000'" in said and machine.kit() in said
+    assert said.count("\n") == 1 and "'rattle-kit-99x logic 0000000000000000'" in said and machine.logic() in said
 
 
 def test_a_run_with_little_memory_says_so_in_one_line(tmp_path):
@@ -282,6 +282,7 @@ def test_a_run_with_little_memory_says_so_in_one_line(tmp_path):
     assert text.count('MEMORY = "/proc/meminfo"') == 1
     (tools / "machine.py").write_text(text.replace('MEMORY = "/proc/meminfo"', f'MEMORY = "{memory_file(tmp_path, 5.5)}"'))
     (tmp_path / "crates.txt").write_text("segcached:\n")
-    status, printed, said = run_with(f"{folder_with_rt(tmp_path, machine.kit())}:/usr/bin:/bin", tools=str(tools))
+    folder = folder_with_rt(tmp_path, f"rattle-kit-99x {machine.logic()}")
+    status, printed, said = run_with(f"{folder}:/usr/bin:/bin", tools=str(tools))
     assert (status, printed) == (1, "")
     assert said == "segcached: 5.5 GB of memory are free, and proving needs 9 GB\n"

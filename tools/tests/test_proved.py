@@ -30,7 +30,7 @@ def test_a_log_says_what_was_proved_of_each_crate_and_not_of_its_tests(tmp_path)
     assert last == "2 passed, 1 failed"
 
 
-def test_the_program_names_its_version_and_the_kit_that_it_is_proved_with(program):
+def test_the_program_names_its_version_and_the_logic_that_it_is_proved_with(program):
     lines = subprocess.run([program, "--version"], capture_output=True, text=True, check=True).stdout.splitlines()
     assert lines[0].startswith("segcached ")
-    assert lines[1] == f"proved with {machine.kit()}"
+    assert lines[1] == f"proved with Rattle's {machine.logic()}"

@@ -1,10 +1,12 @@
 -- What an engine makes of a request is a step, and `NoMemory` is answered only out of memory.
-use Rattle.std.proofs.Common.{◌≡◌, ◌≢◌, ℕ, Bool, true, false, List, [], Option, Some, None, refl, sym, subst, ◌∙◌, inl, inr}
-use Rattle.std.specs.Prelude.{◌⊎◌, ◌||◌, ◌&&◌, is_some}
+use Rattle.std.proofs.Common.{◌≡◌, ◌≢◌, ℕ, Bool, true, false, true≢false, List, [], ◌∷◌, Option, Some, None, refl, sym, subst, ◌∙◌, inl, inr}
+use Rattle.std.specs.Prelude.{◌⊎◌, ◌||◌, ◌&&◌, is_some, IsSome}
 use Rattle.std.specs.FinMap as map
+use Rattle.proto.specs.declared.hits.Hit.{Hit}
 use Rattle.proto.specs.declared.message.Request.{Request}
 use Rattle.proto.specs.declared.message.Reply.{Reply}
-use Rattle.proto.specs.declared.message.Reply.TheVariants.{NoMemory}
+use Rattle.proto.specs.declared.message.Reply.TheVariants.{Stored, NotStored, Exists, NotFound, Values, Deleted, Number, Flushed, TooLarge, NoMemory}
+use Rattle.proto.specs.declared.message.Reply.TheVariants.{NotNumber, NoCas}
 use Rattle.proto.specs.Sizes.{Sizes, item_limit}
 use Rattle.proto.specs.Cache.{Entry, Entries, Cache, found_at}
 use Rattle.proto.specs.Commands.{Outcome, act}
@@ -119,6 +121,24 @@ asks_memory true stored hits e = e
 asks_memory false true hits e = refl
 asks_memory false false hits e = e
 
+-- what asks for memory stores an item or shows a hit
+wants_memory : (stored : Option (List ℕ)) (answered : Reply) → (is_some stored || has_hits answered) ≡ true
+    → IsSome stored ⊎ ((h : Hit) × (hits : List Hit) × (answered ≡ Values (h ∷ hits)))
+wants_memory (Some key) answered e = inl refl
+wants_memory None (Values (h ∷ hits)) e = inr (h, hits, refl)
+wants_memory None (Values []) e = absurd (true≢false (sym e))
+wants_memory None (Number n) e = absurd (true≢false (sym e))
+wants_memory None Stored e = absurd (true≢false (sym e))
+wants_memory None NotStored e = absurd (true≢false (sym e))
+wants_memory None Exists e = absurd (true≢false (sym e))
+wants_memory None NotFound e = absurd (true≢false (sym e))
+wants_memory None Deleted e = absurd (true≢false (sym e))
+wants_memory None Flushed e = absurd (true≢false (sym e))
+wants_memory None TooLarge e = absurd (true≢false (sym e))
+wants_memory None NoMemory e = absurd (true≢false (sym e))
+wants_memory None NotNumber e = absurd (true≢false (sym e))
+wants_memory None NoCas e = absurd (true≢false (sym e))
+
 -- where memory was refused, the cache stays
 denied_same : {M P : Type 0} (m : MapOf M P) (old new : Engine M) (done : Outcome) (reply : Reply)
     → IsDenied m old new done reply → cache_in m.entries new ≡ cache_in m.entries old
@@ -136,7 +156,8 @@ denied m old new found done reply is d =
     record {
       reply_is = d.reply_is;
       stays = denied_same m old new done reply d ∙ is;
-      cause = asks_memory m.may_refuse (is_some done.stored) (has_hits done.reply) d.cause;
+      cause = wants_memory done.stored done.reply
+          (asks_memory m.may_refuse (is_some done.stored) (has_hits done.reply) d.cause);
     }
 
 -- a request that was handled is a step

@@ -9,9 +9,9 @@ use Rattle.proto.specs.declared.message.Put.{Put}
 use Rattle.proto.specs.declared.message.Request.{Request}
 use Rattle.proto.specs.declared.message.Request.TheVariants.{Get, Set, Add, Replace, Cas, Delete, Incr, Decr, FlushAll}
 use Rattle.proto.specs.declared.message.Reply.{Reply}
-use Rattle.proto.specs.declared.message.Reply.TheVariants.{Stored, Number}
+use Rattle.proto.specs.declared.message.Reply.TheVariants.{Stored, Exists, NotFound, Number}
 use Rattle.proto.specs.Cache.{Entry, Entries, no_entries, Cache, has_arrived, deadline_of}
-use Rattle.proto.specs.Commands.{Outcome, write, put, is_too_large, put_same, is_number, change, act}
+use Rattle.proto.specs.Commands.{Outcome, leaving, write, put, is_too_large, is_number, change, act}
 use Rattle.proto.specs.Steps.{deadline_at}
 use Rattle.proto.specs.Stored.{SetsNoDeadline}
 use Rattle.proto.proofs.CacheLemmas.{get-insert, get-remove, get-no_entries}
@@ -91,7 +91,7 @@ none_put cache t p sets =
 
 -- a put in place of an entry with a number
 none_same : (o : Option Entry) (cache : Cache) (t : ℕ) (p : Put) (unique : ℕ) → p.exptime ≡ pos 0
-    → AddsNone cache.entries (put_same o cache t p unique).entries
+    → AddsNone cache.entries (option_map_or (λ (e : Entry). if e.cas == unique then put cache t p else leaving cache Exists) o (leaving cache NotFound)).entries
 none_same None cache t p unique sets = none_stay cache.entries
 none_same (Some e) cache t p unique sets =
     none_if cache.entries (e.cas == unique) _ _ (none_put cache t p sets) (none_stay cache.entries)

@@ -11,6 +11,7 @@ use Rattle.proto.specs.Steps.{Step}
 use Rattle.proto.specs.History.{max_moment, MomentsFrom, answers_by, Chain, NumbersFrom, worker_share, Legal}
 use Rattle.engine.specs.Reaching.{moments_after, last_or, last_cache, Reaches}
 use Rattle.proto.proofs.CountLemmas.{share_mine, share_other}
+use Rattle.proto.proofs.HistoryLemmas.{numbered}
 
 -- a chain with one step more
 pub chain_more : (sizes : Sizes) (before : Cache) (h : List Answered) (caches : List Cache) (e : Answered)
@@ -86,7 +87,12 @@ reaches_more sizes h c after m e r s high answer by at next = record {
 
 -- a history that leads somewhere is legal
 pub legal_of : (sizes : Sizes) (h : List Answered) (c : Cache) (m : ℕ) → Reaches sizes h c m → Legal sizes h
-legal_of sizes h c m r = record { moments = r.moments_are; caches = r.caches; chain = r.chain; numbers = r.numbers }
+legal_of sizes h c m r = record {
+  moments = r.moments_are;
+  caches = r.caches;
+  chain = r.chain;
+  numbers = λ worker. numbered (worker_share h worker) (r.numbers worker);
+}
 
 -- the moment of one more request is that of the clock's next answer
 pub times_more : (last : ℕ) (answers : List ℕ) (n : ℕ)

@@ -1,15 +1,16 @@
 -- No outcome is out of memory.
 use Rattle.std.proofs.Common.{◌≢◌, ℕ, ◌+◌, ◌-◌, ◌%◌, ◌^◌, Bool, true, false, List, Option, Some, None}
 use Rattle.std.specs.Prelude.{decimal, if◌then◌else◌, ◌==◌}
+use Rattle.std.specs.Option.{option_map_or}
 use Rattle.std.specs.Str.Parse.{digits_value}
 use Rattle.std.specs.FinMap as map
 use Rattle.proto.specs.declared.message.Put.{Put}
 use Rattle.proto.specs.declared.message.Request.{Request}
 use Rattle.proto.specs.declared.message.Request.TheVariants.{Get, Set, Add, Replace, Cas, Delete, Incr, Decr, FlushAll}
 use Rattle.proto.specs.declared.message.Reply.{Reply}
-use Rattle.proto.specs.declared.message.Reply.TheVariants.{NoMemory, Stored, Number}
+use Rattle.proto.specs.declared.message.Reply.TheVariants.{NoMemory, Stored, Exists, NotFound, Number}
 use Rattle.proto.specs.Cache.{Entry, Cache, has_arrived, deadline_of}
-use Rattle.proto.specs.Commands.{Outcome, write, put, is_too_large, put_same, is_number, change, act}
+use Rattle.proto.specs.Commands.{Outcome, write, put, is_too_large, leaving, is_number, change, act}
 
 -- the outcome isn't answered as out of memory
 abbrev pub Answers : Outcome → Type 0
@@ -37,7 +38,8 @@ answers_put cache t p =
     }) Stored (λ e. cc))
 
 -- nor a put under the cas number given
-answers_same : (o : Option Entry) (cache : Cache) (t : ℕ) (p : Put) (unique : ℕ) → Answers (put_same o cache t p unique)
+answers_same : (o : Option Entry) (cache : Cache) (t : ℕ) (p : Put) (unique : ℕ)
+    → Answers (option_map_or (λ (e : Entry). if e.cas == unique then put cache t p else leaving cache Exists) o (leaving cache NotFound))
 answers_same None cache t p unique = λ e. cc
 answers_same (Some e) cache t p unique = answers_if (e.cas == unique) _ _ (answers_put cache t p) (λ e. cc)
 

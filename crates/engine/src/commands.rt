@@ -14,12 +14,12 @@ ghost use Rattle.engine.specs.AnswerSizes.{shown_size, answer_size};
 
 use crate::deadline::{deadline_of, has_arrived};
 use crate::entry_ref::EntryRef;
-use crate::hits::hits_of;
+use crate::hits::{hit_of_only, hits_of_keys};
 use crate::live_map::LiveMap;
 use crate::number::{Change, number_of};
 use crate::size::is_too_large;
 use itoa::Buffer;
-use proto::{Keys, MAX_ANSWER, Put, Reply, Request};
+use proto::{HitWriter, Keys, MAX_ANSWER, Put, Reply, Request};
 
 /// A cache over a map of live entries.
 #[derive(Drop)]
@@ -201,7 +201,8 @@ impl<M: LiveMap> Engine<M> {
         is_too_large(self.map.item_limit(), item)
     }
 
-    /// Shows the entries at the keys, whose hits are all dropped if they take more than `MAX_ANSWER` bytes.
+    /// Shows the entries at the keys, in the buffer that the keys were lent if that is large enough, and counts a read of each.
+    /// All hits are dropped, and no read is counted, if they take more than `MAX_ANSWER` bytes.
     fn get(&mut self, keys: &mut Keys, with_cas: bool) -> Reply
         ensures limit { MAX_ANSWER < shown_size (hits_of with_cas (M.entries self.old.map) keys.old)
             → result ≡ Reply.NoMemory }
@@ -210,7 +211,12 @@ impl<M: LiveMap> Engine<M> {
             (Reply.Values (hits_of with_cas (M.entries self.old.map) keys.old))) result }
         ensures same { keys.new ≡ keys.old }
     {
-        match hits_of(&mut self.map, keys, with_cas) {
+        let hits = HitWriter::in_buffer(keys.take_buffer());
+        let written = match keys.only() {
+            Some(only) => hit_of_only(&mut self.map, only, with_cas, hits),
+            None => hits_of_keys(&mut self.map, keys, with_cas, hits),
+        };
+        match written {
             Ok(hits) => Reply::Values(hits.finish()),
             Err(_) => Reply::NoMemory,
         }

@@ -5,18 +5,16 @@ ghost use Rattle.std.specs.Prelude.{OnOk, OnErr};
 ghost use Rattle.proto.specs.Commands.{hits_of};
 ghost use Rattle.proto.specs.Hits.{hit_bytes, hit_room};
 ghost use Rattle.proto.specs.SeenHits.{seen_hit};
-ghost use Rattle.engine.specs.Shown.{entry_of};
 ghost use Rattle.engine.specs.Finding.{AreFound, HasFound, keys_found};
 ghost use Rattle.engine.specs.AnswerSizes.{shown_size};
 ghost use Rattle.engine.specs.Showing.{HasShown};
 
 use crate::answer_size::left_after;
-use crate::entry_ref::EntryRef;
 use crate::live_map::LiveMap;
 use proto::{HitRef, HitWriter, Keys, MAX_ANSWER, NoMemory};
 use std::hash::Hasher;
 
-/// A hit that shows its cas number or doesn't. Its room is enough for the bytes that show it.
+/// A hit of these parts of an entry, which shows its cas number or doesn't. Its room is enough for the bytes that show it.
 fn hit_with<'a>(key: &'a [u8], value: &'a [u8], flags: u32, cas: u64, with_cas: bool) -> HitRef<'a>
     requires { length value.now < 2 ^ 64 }
     ensures hit { seen_hit result
@@ -29,15 +27,6 @@ fn hit_with<'a>(key: &'a [u8], value: &'a [u8], flags: u32, cas: u64, with_cas: 
         value,
         cas: if with_cas { Some(cas) } else { None },
     }
-}
-
-/// The hit of the entry at the key.
-fn hit_of<'a>(key: &'a [u8], entry: EntryRef<'a>, with_cas: bool) -> HitRef<'a>
-    ensures hit { let e = entry_of entry.entry in seen_hit result
-        ≡ record { key = key.now; flags = e.flags; value = e.value; cas = if with_cas then Some e.cas else None } }
-    ensures room { length (hit_bytes (seen_hit result)) ≤ hit_room (seen_hit result) }
-{
-    hit_with(key, entry.value, entry.flags, entry.cas, with_cas)
 }
 
 /// A key that is there, and where its entry stands.
@@ -79,7 +68,8 @@ fn find_keys<'k, M: LiveMap>(
     let mut words = keys.iter();
     while let Some(key) = words.next() {
         if let Some((entry, place)) = map.get(key) {
-            room = room_with(room, hit_of(key, entry, with_cas)).ok_or(NoMemory)?;
+            let hit = hit_with(key, entry.value, entry.flags, entry.cas, with_cas);
+            room = room_with(room, hit).ok_or(NoMemory)?;
             // With the first key that is there, the list takes memory for all of them.
             let wanted = if found.is_empty() { keys.len() } else { 1 };
             found.reserve(wanted)?;
@@ -98,7 +88,9 @@ fn are_too_long<M: LiveMap>(map: &M, found: &[Found<M::Place>], with_cas: bool) 
     for i in 0..found.len() {
         let key = found[i].key;
         let place = found[i].place;
-        match left_after(left, hit_of(key, map.entry_at(key, place), with_cas)) {
+        let entry = map.entry_at(key, place);
+        let hit = hit_with(key, entry.value, entry.flags, entry.cas, with_cas);
+        match left_after(left, hit) {
             Some(rest) => left = rest,
             None => return true,
         }
@@ -122,7 +114,8 @@ fn hits_found<M: LiveMap>(
     for i in 0..found.len() {
         let key = found[i].key;
         let place = found[i].place;
-        hits.push(hit_of(key, map.entry_at(key, place), with_cas));
+        let entry = map.entry_at(key, place);
+        hits.push(hit_with(key, entry.value, entry.flags, entry.cas, with_cas));
         map.count_read(key, place);
     }
     hits
@@ -130,7 +123,7 @@ fn hits_found<M: LiveMap>(
 
 /// Writes the hit of the only key, which is looked up once, and counts its read. NoMemory if the hit takes more than
 /// `MAX_ANSWER` bytes, or memory is refused. The writer is new.
-fn hit_of_only<M: LiveMap>(
+pub fn hit_of_only<M: LiveMap>(
     map: &mut M,
     only: &[u8],
     with_cas: bool,
@@ -144,8 +137,8 @@ fn hit_of_only<M: LiveMap>(
 {
     let mut hits = hits;
     if let Some((entry, place)) = map.get(only) {
-        let hit = hit_of(only, entry, with_cas);
-        let wanted = room_with(0, hit).ok_or(NoMemory)?;
+        let hit = hit_with(only, entry.value, entry.flags, entry.cas, with_cas);
+        let wanted = hit.room().ok_or(NoMemory)?;
         if wanted > MAX_ANSWER && left_after(MAX_ANSWER, hit).is_none() {
             return Err(NoMemory);
         }
@@ -172,7 +165,7 @@ fn read_ahead<M: LiveMap>(map: &M, keys: &Keys) {
 /// Writes the hits of the keys, each of which is looked up once, and counts a read of each. Memory is taken in two
 /// steps: for the list of the keys that are there, and then for all their hits. NoMemory if the hits take more than
 /// `MAX_ANSWER` bytes, or memory is refused. The writer is new.
-fn hits_of_keys<M: LiveMap>(
+pub fn hits_of_keys<M: LiveMap>(
     map: &mut M,
     keys: &Keys,
     with_cas: bool,
@@ -192,25 +185,4 @@ fn hits_of_keys<M: LiveMap>(
     }
     hits.reserve(room)?;
     Ok(hits_found(map, found.as_slice(), with_cas, hits))
-}
-
-/// The hits of the keys, in the buffer that they were lent if that is large enough; a read of each is counted. If
-/// none of the keys is there, no memory is taken. NoMemory if the hits take more than `MAX_ANSWER` bytes, or memory
-/// is refused: then no read is counted.
-pub fn hits_of<M: LiveMap>(
-    map: &mut M,
-    keys: &mut Keys,
-    with_cas: bool,
-) -> Result<HitWriter, NoMemory>
-    ensures same { keys.new ≡ keys.old }
-    ensures ok { IfOk result (λ written. HasShown M.LiveMap with_cas map.old keys.old map.new written) }
-    ensures limit { OnOk result (shown_size (hits_of with_cas (M.entries map.old) keys.old) ≤ MAX_ANSWER) }
-    ensures err { OnErr result (0 < length (hits_of with_cas (M.entries map.old) keys.old)) }
-    ensures refused { OnErr result (map.new ≡ map.old) }
-{
-    let hits = HitWriter::in_buffer(keys.take_buffer());
-    match keys.only() {
-        Some(only) => hit_of_only(map, only, with_cas, hits),
-        None => hits_of_keys(map, keys, with_cas, hits),
-    }
 }

@@ -8,7 +8,7 @@ use mathlib.Core.Logic.{dite}
 use native.Mathlib.Decide.{ℕ_discrete}
 use Rattle.std.specs.Prelude.{IfSome}
 use Rattle.atomic_table.proofs.Lists.{at_map}
-use Rattle.proto.specs.History.{asked_posted, NumbersFrom}
+use Rattle.proto.specs.History.{asked_posted}
 use Rattle.std.proofs.Common.{◌≡◌, ◌≢◌, ◌⊎◌, ℕ, zero, suc, ◌+◌, ◌<◌, ◌≤◌, List, [], ◌∷◌, ◌++◌, length}
 use Rattle.std.proofs.Common.{get_or, replicate, Option, Some, None, Bool, true, false}
 use Rattle.std.proofs.Common.{true≢false}
@@ -394,24 +394,16 @@ seen_own v a h at = (
       (asked_at (worker_share v.seen v.worker) (length v.back) a at)),
 )
 
--- the nth number is n more than the first
-number_at : (l : List Answered) (n k : ℕ) (a : Answered) → NumbersFrom n l → get_elem? l k ≡ some a → a.number ≡ n + k
-number_at [] n k a h e = absurd (some-ne-none a (sym e))
-number_at (b ∷ l) n zero a h e = ap (λ (x : Answered). x.number) (sym (some-injective b a e)) ∙ (h.0 ∙ (omega arith))
-number_at (b ∷ l) n (suc k) a h e = number_at l (n + 1) k a h.1 e ∙ (omega arith)
-
 -- the answers come in the order of their numbers
 pub taken_next : (v v' : WorkerView) (result : Option Answered) → TakesAnswer v result v'
     → IfSome result (λ a. a.number ≡ length v.back + 1)
 taken_next v v' None t = tt
-taken_next v v' (Some a) t = number_at (worker_share t.1 v.worker) 1 (length v.back) a
-    (t.2.legal.legal.numbers v.worker) t.3.0 ∙ (omega arith)
+taken_next v v' (Some a) t = t.2.legal.legal.numbers v.worker (length v.back) a t.3.0
 
 -- an answer that was seen is the next one by its number
 pub seen_next : (v : WorkerView) (a : Answered) → WasTold v
     → get_elem? (worker_share v.seen v.worker) (length v.back) ≡ some a → a.number ≡ length v.back + 1
-seen_next v a h at = number_at (worker_share v.seen v.worker) 1 (length v.back) a (h.legal.legal.numbers v.worker) at
-    ∙ (omega arith)
+seen_next v a h at = h.legal.legal.numbers v.worker (length v.back) a at
 
 -- what storage holds is its open request
 

@@ -19,7 +19,7 @@ use Rattle.exchange.specs.declared.views.LaneView.TheVariants.{Worker, Storage}
 use Rattle.exchange.specs.Beginnings.{posted_of}
 use Rattle.proto.specs.History.{LegalBy, worker_share}
 use Rattle.exchange.specs.Lanes.{SeatState, lane_slot, LanesHold}
-use Rattle.exchange.specs.Steps.{placed_count, request_put, tells_post, bye_posted, done_loaded, slot_returned}
+use Rattle.exchange.specs.Steps.{holding_slot, placed_count, request_put, tells_post, bye_posted, done_loaded, slot_returned}
 use Rattle.exchange.specs.Steps.{settled_count, tells_answer, told_done, settle_bye}
 use Rattle.exchange.proofs.WorkerSteps.{item_or, answer_or, puts_it, posts_it, posts_bye, loads_done, returns_it}
 use Rattle.exchange.proofs.StorageSteps.{answers_it, tells_it, settles_bye_it}
@@ -29,6 +29,19 @@ pub exchanged : (now was : SeatState) (v : LaneView) (q q' : ℕ) (x y : Option 
     → now ≡ (was.0, (q, y) ∷ rest was.1) → was ≡ (v, (q', x) ∷ [])
     → q ≡ q' → now ≡ (v, (q', y) ∷ [])
 exchanged now was v q q' x y e was_is q_is = e ∙ (λ j. ((was_is j).0, (q_is j, y) ∷ rest (was_is j).1))
+
+-- a seat that took its next slot and put a message there
+pub stands_put : (was loaded now : SeatState) (c : WorkerState) (w k q : ℕ) (m : LaneMessage) → was ≡ (Worker c, [])
+    → ((d : WorkerState) → was.0 ≡ Worker d → loaded ≡ (
+      Worker (holding_slot d (suc (placed_count d))),
+      (lane_slot d.worker (placed_count d), None) ∷ was.1,
+    ))
+    → now ≡ (loaded.0, (q, Some m) ∷ rest loaded.1) → q ≡ lane_slot w k → c.worker ≡ w → placed_count c ≡ k
+    → now ≡ (Worker (holding_slot c (suc (placed_count c))), (lane_slot c.worker (placed_count c), Some m) ∷ [])
+stands_put was loaded now c w k q m is begun put slot worker_is many = exchanged now loaded _ _ _ None (Some m) put
+    (begun c (ap (λ (s : SeatState). s.0) is)
+    ∙ (λ j. (Worker (holding_slot c (suc (placed_count c))), (lane_slot c.worker (placed_count c), None) ∷ (is j).1)))
+    (slot ∙ (λ j. lane_slot (sym worker_is j) (sym many j)))
 
 module _ (key : LaneKey) (n id : ℕ) (me : SeatState) where
   -- a request is put into its slot
@@ -115,6 +128,11 @@ pub in_front : (now : SeatState) (v : LaneView) (q q' : ℕ) (x : Option LaneMes
     → now ≡ (v, (q', x) ∷ cs) → q ≡ q'
     → now.1 ≡ (q, x) ∷ rest now.1
 in_front now v q q' x cs e q_is = let f = ap (λ (m : SeatState). m.1) e in f ∙ (λ j. (sym q_is j, x) ∷ rest (sym f j))
+
+-- a slot has one content
+pub same_content : (cs : List (ℕ × Option LaneMessage)) (q : ℕ) (x y : Option LaneMessage)
+    (ds : List (ℕ × Option LaneMessage)) → cs ≡ (q, x) ∷ ds → cs ≡ (q, y) ∷ rest cs → x ≡ y
+same_content cs q x y ds e f = ap (λ (l : List (ℕ × Option LaneMessage)). item_or None l) (sym e ∙ f)
 
 -- a slot has one answer
 pub same_answer : (cs : List (ℕ × Option LaneMessage)) (q : ℕ) (a b : Answered) (ds : List (ℕ × Option LaneMessage))

@@ -1,6 +1,6 @@
 -- The looks of one call of `next`.
 use Rattle.std.proofs.Common.{◌≡◌, ◌≢◌, ◌⊎◌, ℕ, zero, suc, ◌+◌, ◌-◌, ◌<◌, ◌≤◌, List, [], ◌∷◌, ◌++◌}
-use Rattle.std.proofs.Common.{map, Option, Some, None, Bool, cond, refl, sym, ap, ◌∙◌}
+use Rattle.std.proofs.Common.{map, length, take, length-append, Option, Some, None, Bool, cond, refl, sym, ap, ◌∙◌}
 use Rattle.std.proofs.Common.{subst, inl}
 use Rattle.std.proofs.Common.{inr, ⊎_elim, arith, append_assoc, eq-eqb, ne_eqb}
 use Rattle.std.specs.Prelude.{◌==◌, MatchOption}
@@ -17,7 +17,12 @@ use Rattle.exchange.specs.Beginnings.{StartsWith}
 use Rattle.exchange.specs.Ends.{StorageView, looks_of_lane, lanes_of, lanes_in_turn, done_in, FoundNone, LookedOnce}
 use Rattle.exchange.specs.Ends.{IsNextMessage, with_taken, LooksAt, FindsNone}
 use Rattle.exchange.specs.Ends.{FindsOne}
-use Rattle.proto.proofs.CountLemmas.{one_more_time, no_more_time, times-append, range_more_from, range_more}
+use Rattle.proto.proofs.CountLemmas.{one_more_time, no_more_time, times-append}
+use Rattle.std.proofs.lemmas.List.FromFn.{length-range_with_len}
+use mathlib.Core.Option.{some}
+use lib.ListN.{get_elem?}
+use Rattle.atomic_table.proofs.Lists.{at_longer}
+use Rattle.exchange.proofs.Lists.{take_more, take_whole, starts_take}
 
 -- looks: lanes, each with its posted word
 abbrev Pairs : Type 0
@@ -201,114 +206,81 @@ each_once old new w inside small f = let one = one_there (λ (x : ℕ × ℕ). x
 
 -- the next lane in turn
 
--- a range of one more, at its end
-range_end : (a k : ℕ) → range_with_len a (k + 1) ≡ range_with_len a k ++ (a + k) ∷ []
-range_end a k = ap (range_with_len a) (let e : k + 1 ≡ suc k = omega arith in e) ∙ range_more_from a k
+-- a number of a range, by its place
+range_at : (a n k : ℕ) → k < n → get_elem? (range_with_len a n) k ≡ some (a + k)
+range_at a zero k h = let h' : k < 0 = h in absurd (omega arith)
+range_at a (suc n) zero h = ap (λ (z : ℕ). some z) (let e : a ≡ a + 0 = omega arith in e)
+range_at a (suc n) (suc k) h = let h' : suc k < suc n = h in range_at (a + 1) n k (omega arith)
+    ∙ ap (λ (z : ℕ). some z) (let e : a + 1 + k ≡ a + suc k = omega arith in e)
 
--- a range in two parts
-range_split : (a k m : ℕ) → range_with_len a (k + m) ≡ range_with_len a k ++ range_with_len (a + k) m
-range_split a zero m = ap (range_with_len a) (let e : 0 + m ≡ m = omega arith in e)
-    ∙ ap (λ (z : ℕ). range_with_len z m) (let e : a ≡ a + 0 = omega arith in e)
-range_split a (suc k) m = ap (range_with_len a) (let e : suc k + m ≡ suc (k + m) = omega arith in e) ∙
-    ap (λ (l : List ℕ). a ∷ l)
-    (range_split (a + 1) k m ∙ ap (λ (z : ℕ). range_with_len (a + 1) k ++ range_with_len z m)
-    (let e : a + 1 + k ≡ a + suc k = omega arith in e))
+-- a number of the second of two lists
+at_behind : (l m : List ℕ) (k i a : ℕ) → i ≡ length l + k → get_elem? m k ≡ some a → get_elem? (l ++ m) i ≡ some a
+at_behind [] m k i a e h = let e' : i ≡ 0 + k = e in let g : k ≡ i = omega arith in
+    subst (λ (z : ℕ). get_elem? m z ≡ some a) g h
+at_behind (x ∷ l) m k zero a e h = let e' : 0 ≡ suc (length l) + k = e in absurd (omega arith)
+at_behind (x ∷ l) m k (suc i) a e h = let e' : suc i ≡ suc (length l) + k = e in at_behind l m k i a (omega arith) h
 
--- the lane after k looks after the last one
-pub turn_above : (workers last k : ℕ) → last + 1 + k < workers
-    → StartsWith (lanes_in_turn workers last) (range_with_len (last + 1) k ++ (last + 1 + k) ∷ [])
-turn_above workers last k small = let small' : last + 1 + k < workers = small in
-    let rest : ℕ = workers - (last + 1) - (k + 1) in
-    let all : workers - (last + 1) ≡ k + 1 + rest = omega arith in (
-      range_with_len (last + 1 + (k + 1)) rest ++ range_with_len 0 (last + 1),
-      ap (λ (z : ℕ). range_with_len (last + 1) z ++ range_with_len 0 (last + 1)) all
-          ∙ (ap (λ (l : List ℕ). l ++ range_with_len 0 (last + 1))
-          (range_split (last + 1) (k + 1) rest
-          ∙ ap (λ (l : List ℕ). l ++ range_with_len (last + 1 + (k + 1)) rest) (range_end (last + 1) k))
-          ∙ append_assoc (range_with_len (last + 1) k ++ (last + 1 + k) ∷ []) (range_with_len (last + 1 + (k + 1)) rest)
-          (range_with_len 0 (last + 1))),
-    )
+-- this lane comes as the one with this number, counted from the one after the last
+abbrev pub IsTurn : ℕ → ℕ → ℕ → Type 0
+IsTurn workers turn lane = ((turn < workers) × (lane ≡ turn)) ⊎ ((workers ≤ turn) × (lane + workers ≡ turn))
 
--- the lanes after the last one and the first k
-abbrev pub up_to : ℕ → ℕ → ℕ → List ℕ
-up_to workers last k = range_with_len (last + 1) (workers - (last + 1)) ++ range_with_len 0 k
+-- the lane at a place of the turn
+lane_at : (workers last k lane : ℕ) → last < workers → k < workers → IsTurn workers (last + 1 + k) lane
+    → get_elem? (lanes_in_turn workers last) k ≡ some lane
+lane_at workers last k lane inside small is = let a : ℕ = last + 1 in let n : ℕ = workers - (last + 1) in
+    let long = length-range_with_len a n in ⊎_elim
+    (λ (h : (last + 1 + k < workers) × (lane ≡ last + 1 + k)). let h0 : last + 1 + k < workers = h.0 in
+    at_longer (range_with_len a n) (range_with_len 0 a) k lane
+    (range_at a n k (omega arith) ∙ ap (λ (z : ℕ). some z) (sym h.1)))
+    (λ (h : (workers ≤ last + 1 + k) × (lane + workers ≡ last + 1 + k)). let h0 : workers ≤ last + 1 + k = h.0 in
+    let h1 : lane + workers ≡ last + 1 + k = h.1 in
+    at_behind (range_with_len a n) (range_with_len 0 a) lane k lane (omega (arith, long))
+    (range_at 0 a lane (omega arith) ∙ ap (λ (z : ℕ). some z) (let e : 0 + lane ≡ lane = omega arith in e))) is
 
--- one more lane of the first part
-pub more_below : (workers last k : ℕ) → up_to workers last k ++ k ∷ [] ≡ up_to workers last (k + 1)
-more_below workers last k = let high : List ℕ = range_with_len (last + 1) (workers - (last + 1)) in
-    append_assoc high (range_with_len 0 k) (k ∷ [])
-    ∙ ap (λ (l : List ℕ). high ++ l) (sym (range_more k))
+-- the first lanes of the turn
+abbrev pub first_lanes : ℕ → ℕ → ℕ → List ℕ
+first_lanes workers last k = take k (lanes_in_turn workers last)
 
--- the turn, up to a lane of the second part
-pub turn_below : (workers last k : ℕ) → k < last + 1
-    → StartsWith (lanes_in_turn workers last) (up_to workers last k ++ k ∷ [])
-turn_below workers last k small = let small' : k < last + 1 = small in let rest : ℕ = last + 1 - (k + 1) in
-    let all : last + 1 ≡ k + 1 + rest = omega arith in
-    let high : List ℕ = range_with_len (last + 1) (workers - (last + 1)) in (
-      range_with_len (0 + (k + 1)) rest,
-      ap (λ (z : ℕ). high ++ range_with_len 0 z) all ∙ (ap (λ (l : List ℕ). high ++ l) (range_split 0 (k + 1) rest)
-          ∙ (sym (append_assoc high (range_with_len 0 (k + 1)) (range_with_len (0 + (k + 1)) rest))
-          ∙ ap (λ (l : List ℕ). l ++ range_with_len (0 + (k + 1)) rest) (sym (more_below workers last k)))),
-    )
+-- the looks of `next` at the first k lanes, whose variables are those of the end
+module _ (old now : StorageView) (workers last k : ℕ)
+    (same : (workers ≡ old.workers) × (last ≡ old.last) × (last < workers))
+    (r : InVain old now (first_lanes workers last k)) where
+  turn_same : lanes_in_turn workers last ≡ lanes_in_turn old.workers old.last
+  turn_same = λ i. lanes_in_turn (same.0 i) (same.1 i)
 
--- one more lane of the second part
-pub more_above : (last k : ℕ) → range_with_len (last + 1) k ++ (last + 1 + k) ∷ [] ≡ range_with_len (last + 1) (k + 1)
-more_above last k = sym (range_end (last + 1) k)
+  -- one more look
+  module _ (new : StorageView) (turn lane : ℕ) (turn_is : last + 1 + k ≡ turn) (below : turn < last + 1 + workers)
+      (is : IsTurn workers turn lane) where
+    one_more : first_lanes workers last (suc k) ≡ first_lanes workers last k ++ lane ∷ []
+    one_more = take_more (lanes_in_turn workers last) k lane
+        (lane_at workers last k lane same.2 (omega arith) (subst (λ (z : ℕ). IsTurn workers z lane) (sym turn_is) is))
 
--- the first part, whole
-pub all_above : (workers last k : ℕ) → last + 1 + k ≡ workers → range_with_len (last + 1) k ≡ up_to workers last 0
-all_above workers last k e = ap (range_with_len (last + 1))
-    (let e' : last + 1 + k ≡ workers = e in let h : k ≡ workers - (last + 1) = omega arith in h)
-    ∙ sym (append-nil (range_with_len (last + 1) (workers - (last + 1))))
+    inside : lane < workers
+    inside = let low : last < workers = same.2 in ⊎_elim
+        (λ (h : (turn < workers) × (lane ≡ turn)). let h0 : turn < workers = h.0 in let h1 : lane ≡ turn = h.1 in
+        omega arith)
+        (λ (h : (workers ≤ turn) × (lane + workers ≡ turn)). let h1 : lane + workers ≡ turn = h.1 in omega arith) is
 
--- a look of each of the two loops of `next`, whose variables are those of the end
-module _ (old now new : StorageView) (workers last lane : ℕ) (workers_is : workers ≡ old.workers)
-    (last_is : last ≡ old.last) where
-  -- the turn depends on the last lane alone
-  same_turn : (l : List ℕ) → StartsWith (lanes_in_turn workers last) l
-      → StartsWith (lanes_in_turn old.workers old.last) l
-  same_turn l h = subst (λ (z : ℕ × ℕ). StartsWith (lanes_in_turn z.0 z.1) l) (λ i. (workers_is i, last_is i)) h
+    -- that found a message
+    pub found_in_turn : (t : Taken) → LooksAt now lane (Some t) new → FindsOne old new t
+    found_in_turn t l = look_found old now (first_lanes workers last k) r new lane t
+        (subst (λ (z : ℕ). lane < z) same.0 inside)
+        (subst (λ (z : List ℕ). StartsWith z (first_lanes workers last k ++ lane ∷ [])) turn_same
+        (subst (StartsWith (lanes_in_turn workers last)) one_more (starts_take (lanes_in_turn workers last) (suc k)))) l
 
-  -- a message found in the first part
-  pub found_above : (k : ℕ) (t : Taken) → last + 1 + k ≡ lane → lane < workers
-      → InVain old now (range_with_len (last + 1) k)
-      → LooksAt now lane (Some t) new → FindsOne old new t
-  found_above k t e small r l = look_found old now (range_with_len (last + 1) k) r new lane t
-      (subst (λ (z : ℕ). lane < z) workers_is small)
-      (same_turn (range_with_len (last + 1) k ++ lane ∷ [])
-      (subst (λ (z : ℕ). StartsWith (lanes_in_turn workers last) (range_with_len (last + 1) k ++ z ∷ [])) e
-      (turn_above workers last k (subst (λ (z : ℕ). z < workers) (sym e) small)))) l
+    -- in vain
+    pub vain_in_turn : (n : ℕ) → n ≤ done_in now lane → new ≡ record now { looks = now.looks ++ (lane, n) ∷ [] }
+        → InVain old new (first_lanes workers last (suc k))
+    vain_in_turn n few now_is = subst (InVain old new) (sym one_more)
+        (look_more old now (first_lanes workers last k) r new lane n few now_is)
 
-  -- a message found in the second part
-  pub found_below : (t : Taken) → lane < last + 1 → last < workers → InVain old now (up_to workers last lane)
-      → LooksAt now lane (Some t) new
-      → FindsOne old new t
-  found_below t small inside r l = let small' : lane < last + 1 = small in let inside' : last < workers = inside in
-      let w_is : workers ≡ old.workers = workers_is in
-      look_found old now (up_to workers last lane) r new lane t (omega arith)
-      (same_turn (up_to workers last lane ++ lane ∷ []) (turn_below workers last lane small)) l
-
-  -- a look in vain in the first part
-  pub vain_above : (k n : ℕ) → last + 1 + k ≡ lane → n ≤ done_in now lane
-      → new ≡ record now { looks = now.looks ++ (lane, n) ∷ [] }
-      → InVain old now (range_with_len (last + 1) k) → InVain old new (range_with_len (last + 1) (k + 1))
-  vain_above k n e small is r = subst (InVain old new)
-      (ap (λ (z : ℕ). range_with_len (last + 1) k ++ z ∷ []) (sym e) ∙ more_above last k)
-      (look_more old now (range_with_len (last + 1) k) r new lane n small is)
-
-  -- a look in vain in the second part
-  pub vain_below : (n : ℕ) → n ≤ done_in now lane → new ≡ record now { looks = now.looks ++ (lane, n) ∷ [] }
-      → InVain old now (up_to workers last lane)
-      → InVain old new (up_to workers last (lane + 1))
-  vain_below n small is r = subst (InVain old new) (more_below workers last lane)
-      (look_more old now (up_to workers last lane) r new lane n small is)
-
-  -- where all looks were in vain, each lane was looked at once
-  pub all_looked : lane ≤ last + 1 → last + 1 ≤ lane → InVain old now (up_to workers last lane) → FindsNone old now
-  all_looked low high r = looked_all old now (up_to workers last lane) r
-      ((let low' : lane ≤ last + 1 = low in let high' : last + 1 ≤ lane = high in
-      let e : lane ≡ last + 1 = omega arith in ap (up_to workers last) e)
-      ∙ (λ i. lanes_in_turn (workers_is i) (last_is i)))
+  -- where all looks were in vain, each lane was looked at
+  pub all_looked : workers ≤ k → FindsNone old now
+  all_looked all = let a : ℕ = last + 1 in let n : ℕ = workers - (last + 1) in let low : last < workers = same.2 in
+      let long = length-append (range_with_len a n) (range_with_len 0 a) in
+      let first = length-range_with_len a n in let second = length-range_with_len 0 a in
+      looked_all old now (first_lanes workers last k) r
+      (take_whole (lanes_in_turn workers last) k (omega (arith, long, first, second)) ∙ turn_same)
 
 -- taking a message leaves the history as it was
 taken_history : (v : StorageView) (w : ℕ) (t : Taken) → (with_taken v w t).history ≡ v.history

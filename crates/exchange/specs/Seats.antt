@@ -159,12 +159,6 @@ MayPost me worker count = (me ≡ (Worker (worker_at me), [])) × ((worker_at me
     × ((worker_at me).slot_held ≡ 0) × ((worker_at me).said_bye ≡ false)
     × (placed_count (worker_at me) < length (worker_at me).back + WINDOW) × (count < 2 ^ 63)
 
--- the seat is this worker's, has sent or put `count` requests, and holds no slot
-abbrev pub MayPut : SeatState → ℕ → ℕ → Type 0
-MayPut me worker count = (me ≡ (Worker (worker_at me), [])) × ((worker_at me).worker ≡ worker)
-    × (placed_count (worker_at me) ≡ count)
-    × ((worker_at me).slot_held ≡ 0) × ((worker_at me).said_bye ≡ false)
-
 -- the seat is this worker's, has taken back `back` answers, holds no slot, and saw a further one
 abbrev pub HasSeen : SeatState → ℕ → ℕ → Type 0
 HasSeen me worker back = (me ≡ (Worker (worker_at me), [])) × ((worker_at me).worker ≡ worker)
@@ -229,12 +223,6 @@ abbrev pub HoldsTaken : SeatState → ℕ → ℕ → LaneMessage → Type 0
 HoldsTaken me lane count message = (me ≡ (Storage (storage_at me), (lane_slot lane count, None) ∷ []))
     × (settled_count (storage_at me) lane ≡ count)
     × ((storage_at me).holding ≡ Some (lane, message)) × (count + 1 < 2 ^ 64)
-
--- storage's seat has settled `count` messages of this lane, and the answers that weren't told of are all of it
-abbrev pub MayTell : SeatState → ℕ → ℕ → Type 0
-MayTell me lane count = (known_by me ≡ Storage (storage_at me)) × (settled_count (storage_at me) lane ≡ count)
-    × ((other : ℕ) → other ≢ lane → worker_share (storage_at me).history other
-    ≡ worker_share (storage_at me).told other)
 
 -- The answers that weren't told of are all of this lane, and there are none where nothing waits
 pub record IsWaiting (storage : StorageState) (waiting : Bool) (lane workers : ℕ) : Type 0 where

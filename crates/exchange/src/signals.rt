@@ -70,6 +70,13 @@ impl StorageSignals {
         self.workers.get(worker)
     }
 
+    /// Unparks the worker of this number, if it has parked or is about to.
+    pub fn unpark(&self, worker: usize) {
+        if let Some(parking) = self.workers.get(worker) {
+            parking.unpark();
+        }
+    }
+
     /// The worker is about to post its message of this number, a request that begins with the key. Messages are counted
     /// from 0.
     pub fn leave_hint(&self, worker: usize, number: u64, key: &[u8]) {

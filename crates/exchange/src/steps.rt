@@ -6,58 +6,26 @@ ghost use Rattle.exchange.specs.Beginnings.{posted_of};
 ghost use mathlib.Core.Option.{some};
 ghost use lib.ListN.{get_elem?};
 ghost use Rattle.proto.specs.History.{LegalBy, worker_share};
-ghost use Rattle.exchange.specs.Lanes.{slots_of, lane_slot};
-ghost use Rattle.exchange.specs.Steps.{put_on, all_sent, holding_slot, took_seen, with_bye, with_held_answered};
-ghost use Rattle.exchange.specs.Steps.{all_told};
+ghost use Rattle.exchange.specs.Lanes.{lane_slot};
+ghost use Rattle.exchange.specs.Steps.{put_on, holding_slot, took_seen, with_bye, with_held_answered};
 ghost use Rattle.exchange.specs.Steps.{bye_settled, with_message_held, settled_count, IsSent};
-ghost use Rattle.exchange.specs.Seats.{worker_at, storage_at, IsLane, SameSeat, MayPost, MayPut, MayTake, HasSeen};
-ghost use Rattle.exchange.specs.Seats.{MayLook, HasSeenMessage, StateTakes, Looks, HoldsTaken, MayTell};
+ghost use Rattle.exchange.specs.Seats.{worker_at, storage_at, IsLane, SameSeat, MayPost, MayTake, HasSeen};
+ghost use Rattle.exchange.specs.Seats.{MayLook, HasSeenMessage, StateTakes, Looks, HoldsTaken};
 
 use crate::messages::LaneMessage;
 use crate::rule::{
-    Answers, Begins, LaneSeat, LaneTable, LoadsDone, LoadsPosted, OpensSeen, Posts, PostsBye,
-    PutsRequest, ReturnsSlot, SettlesBye, TakesSeen, TellsDone,
+    Answers, Begins, LaneSeat, LaneTable, LoadsDone, LoadsPosted, OpensSeen, PostsBye, ReturnsSlot,
+    SettlesBye, TakesSeen,
 };
-use crate::slots::{put_in_answer, put_message, take_out_answer, take_out_message};
+use crate::slots::{slot_at, take_out_answer};
 use proto::{Answered, Posted};
 
 /// A lane has two words that its two threads store, posted first and then done. Each is followed by enough unused words of
 /// eight bytes that no two share a line of a processor's cache.
-const DONE: usize = 8;
+pub(crate) const DONE: usize = 8;
 
 /// The words of a lane.
 pub(crate) const LANE: usize = 2 * DONE;
-
-/// Puts a request into its slot. It loads the worker's own word alone, which no other thread writes.
-pub(crate) fn put_request(
-    lane_table: &LaneTable,
-    seat: &mut LaneSeat,
-    worker: usize,
-    number: u64,
-    posted: Posted,
-)
-    requires table { (seat.old.table_id ≡ lane_table.now.shared.table_id) × IsLane seat.old.table_id worker }
-    requires room { MayPost seat.old.me worker number }
-    requires next { posted.number ≡ number + 1 }
-    ensures table { SameSeat seat.old seat.new }
-    ensures put { seat.new.me ≡ (Worker (put_on (worker_at seat.old.me) posted), []) }
-{
-    lane_table.shared.load::<Begins>(seat, LANE * worker);
-    put_message(lane_table, seat, worker, number, LaneMessage::Ask(posted));
-    lane_table.shared.load::<PutsRequest>(seat, LANE * worker);
-}
-
-/// Stores posted for all requests that were put.
-pub(crate) fn send_put(lane_table: &LaneTable, seat: &mut LaneSeat, worker: usize, number: u64)
-    requires table { (seat.old.table_id ≡ lane_table.now.shared.table_id) × IsLane seat.old.table_id worker }
-    requires idle { MayPut seat.old.me worker number }
-    ensures table { SameSeat seat.old seat.new }
-    ensures sent { seat.new.me ≡ (Worker (all_sent (worker_at seat.old.me)), []) }
-{
-    lane_table
-        .shared
-        .store::<Posts>(seat, LANE * worker, number);
-}
 
 /// Puts the Bye into its slot, and stores posted.
 pub(crate) fn put_bye(lane_table: &LaneTable, seat: &mut LaneSeat, worker: usize, number: u64)
@@ -69,7 +37,12 @@ pub(crate) fn put_bye(lane_table: &LaneTable, seat: &mut LaneSeat, worker: usize
     ensures sent { seat.new.me ≡ (Worker (with_bye (worker_at seat.old.me)), []) }
 {
     lane_table.shared.load::<Begins>(seat, LANE * worker);
-    put_message(lane_table, seat, worker, number, LaneMessage::Bye);
+    let slot = slot_at(worker, number);
+    drop(
+        lane_table
+            .shared
+            .exchange(seat, slot, Some(LaneMessage::Bye)),
+    );
     lane_table
         .shared
         .store::<PostsBye>(seat, LANE * worker, number + 1);
@@ -138,7 +111,8 @@ pub(crate) fn take_message(
     if posted <= count {
         return (posted, None);
     }
-    let message = take_out_message(lane_table, seat, lane, count);
+    let slot = slot_at(lane, count);
+    let message = lane_table.shared.exchange(seat, slot, None).unwrap();
     (posted, Some(message))
 }
 
@@ -163,7 +137,8 @@ pub(crate) fn take_seen_message(
     lane_table
         .shared
         .load::<OpensSeen>(seat, LANE * lane + DONE);
-    take_out_message(lane_table, seat, lane, count)
+    let slot = slot_at(lane, count);
+    lane_table.shared.exchange(seat, slot, None).unwrap()
 }
 
 /// Puts an answer into the slot of its request. It loads done, which no other thread writes.
@@ -181,21 +156,10 @@ pub(crate) fn put_answer(
     ensures answered { seat.new.me ≡ (Storage (with_held_answered (storage_at seat.old.me) answered), []) }
 {
     let lane = answered.worker;
-    put_in_answer(lane_table, seat, lane, count, answered);
+    let slot = slot_at(lane, count);
+    let answer = LaneMessage::Answer(answered);
+    drop(lane_table.shared.exchange(seat, slot, Some(answer)));
     lane_table.shared.load::<Answers>(seat, LANE * lane + DONE);
-}
-
-/// Stores done for all answers of the lane.
-pub(crate) fn tell_answers(lane_table: &LaneTable, seat: &mut LaneSeat, lane: usize, count: u64)
-    requires table { (seat.old.table_id ≡ lane_table.now.shared.table_id) × IsLane seat.old.table_id lane
-        × (lane < lane_table.now.shared.key.workers) }
-    requires ready { MayTell seat.old.me lane count }
-    ensures table { SameSeat seat.old seat.new }
-    ensures told { seat.new.me ≡ (Storage (all_told (storage_at seat.old.me)), slots_of seat.old.me) }
-{
-    lane_table
-        .shared
-        .store::<TellsDone>(seat, LANE * lane + DONE, count);
 }
 
 /// Gives the slot of a Bye back, and stores done.

@@ -1,8 +1,8 @@
 //! The storage thread's end of all lanes, for a storage thread that tells the workers of several answers at once.
 
 use crate::messages::{LaneMessage, Taken};
-use crate::rule::{Compares, JoinsWorker, LaneSeat, LaneTable};
-use crate::steps::{put_answer, settle_bye, take_message, take_seen_message, tell_answers};
+use crate::rule::{Compares, JoinsWorker, LaneSeat, LaneTable, TellsDone};
+use crate::steps::{DONE, LANE, put_answer, settle_bye, take_message, take_seen_message};
 use crate::storage::StorageEnd;
 use crate::worker::WorkerEnd;
 use proto::{Answered, AskedClock, Clock, MAX_WORKERS};
@@ -106,27 +106,20 @@ impl StorageBatch {
     }
 
     /// Answers the open request. Its worker isn't told of it before the next `flush_answers`, or the next answer to
-    /// another worker. Waits for nobody and takes no memory.
-    pub fn answer_later(&mut self, answered: Answered)
+    /// another worker. It gives the worker that was told of its answers now, if one was. Waits for nobody and takes no memory.
+    pub fn answer_later(&mut self, answered: Answered) -> Option<usize>
         requires open_request { self.old.end.open_request ≡ Some (answered.worker, posted_of answered) }
         requires legal { LegalBy self.old.end.terms (self.old.end.history ++ answered ∷ []) }
         ensures answered { self.new.end ≡ with_answer self.old.end answered }
         ensures told { (self.new.told ≡ self.old.told) ⊎ (self.new.told ≡ self.old.end.history) }
     {
-        self.make_way(answered.worker);
+        let told = if self.waiting_lane == answered.worker {
+            None
+        } else {
+            self.flush_answers()
+        };
         self.add_answer(answered);
-    }
-
-    /// Tells of the answers that wait, where they are of another lane.
-    fn make_way(&mut self, lane: usize)
-        ensures end { self.new.end ≡ self.old.end }
-        ensures told { (self.new.told ≡ self.old.told) ⊎ (self.new.told ≡ self.old.end.history) }
-        ensures others { (j : ℕ) → j ≢ lane
-            → worker_share self.new.end.history j ≡ worker_share self.new.told j }
-    {
-        if self.waiting && self.waiting_lane != lane {
-            self.flush_answers();
-        }
+        told
     }
 
     /// Answers the open request, where the answers that wait are of its lane.
@@ -149,16 +142,21 @@ impl StorageBatch {
         self.waiting_lane = lane;
     }
 
-    /// Tells the workers of all answers, in one step. Waits for nobody and takes no memory.
-    pub fn flush_answers(&mut self)
+    /// Tells the workers of all answers, in one step. It gives the worker whose answers they are, if there are any. Waits for
+    /// nobody and takes no memory.
+    pub fn flush_answers(&mut self) -> Option<usize>
         ensures { self.new ≡ record self.old { told = self.old.end.history } }
     {
-        if self.waiting {
-            let lane = self.waiting_lane;
-            let count = self.counts[lane];
-            tell_answers(&self.lane_table, &mut self.seat, lane, count);
-            self.waiting = false;
+        if !self.waiting {
+            return None;
         }
+        let lane = self.waiting_lane;
+        let count = self.counts[lane];
+        self.lane_table
+            .shared
+            .store::<TellsDone>(&mut self.seat, LANE * lane + DONE, count);
+        self.waiting = false;
+        Some(lane)
     }
 
     /// Looks at one lane, and takes its next message out, if there is one.
@@ -206,12 +204,8 @@ impl StorageBatch {
     {
         let workers = self.workers;
         let last = self.last;
-        for lane in last + 1..workers {
-            if let Some(taken) = self.look(lane) {
-                return Some(taken);
-            }
-        }
-        for lane in 0..last + 1 {
+        for turn in last + 1..last + 1 + workers {
+            let lane = if turn < workers { turn } else { turn - workers };
             if let Some(taken) = self.look(lane) {
                 return Some(taken);
             }

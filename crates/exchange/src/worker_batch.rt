@@ -1,7 +1,9 @@
 //! The worker's end of its lane, for a worker that tells storage of several requests at once.
 
-use crate::rule::{LaneSeat, LaneTable};
-use crate::steps::{put_bye, put_request, send_put, take_answer, take_seen_answer};
+use crate::messages::LaneMessage;
+use crate::rule::{Begins, LaneSeat, LaneTable, Posts, PutsRequest};
+use crate::slots::slot_at;
+use crate::steps::{LANE, put_bye, take_answer, take_seen_answer};
 use crate::worker::WorkerEnd;
 use proto::{Answered, MAX_POSTS, Posted, WINDOW};
 use std::alloc::Global;
@@ -146,13 +148,14 @@ impl WorkerBatch {
         if number - self.back == WINDOW || self.said_bye || number == MAX_POSTS {
             return Err(posted);
         }
-        put_request(
-            &self.lane_table,
-            &mut self.seat,
-            self.worker,
-            number,
-            posted,
-        );
+        let posted_word = LANE * self.worker;
+        let slot = slot_at(self.worker, number);
+        let request = LaneMessage::Ask(posted);
+        let lanes = &self.lane_table.shared;
+        // These load the worker's own word, which no other thread writes. The slot was empty, so what comes out is None.
+        lanes.load::<Begins>(&mut self.seat, posted_word);
+        drop(lanes.exchange(&mut self.seat, slot, Some(request)));
+        lanes.load::<PutsRequest>(&mut self.seat, posted_word);
         self.put += 1;
         Ok(())
     }
@@ -163,7 +166,9 @@ impl WorkerBatch {
     {
         if self.put > 0 {
             let number = self.sent + self.put;
-            send_put(&self.lane_table, &mut self.seat, self.worker, number);
+            self.lane_table
+                .shared
+                .store::<Posts>(&mut self.seat, LANE * self.worker, number);
             self.sent = number;
             self.put = 0;
         }

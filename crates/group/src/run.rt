@@ -1,5 +1,5 @@
 //! A whole run of a group.
-ghost use Rattle.std.specs.Prelude.{◌≡◌, ℕ, Some, IsSome, ◌≤◌, ◌≢◌, ◌⊎◌, List, [], IfOk, IfErr, MatchResult, vec_len, vec_capacity, true};
+ghost use Rattle.std.specs.Prelude.{◌≡◌, ℕ, Some, IsSome, ◌<◌, ◌≤◌, ◌≢◌, ◌⊎◌, List, [], IfOk, IfErr, MatchResult, vec_len, vec_capacity, true};
 ghost use Rattle.proto.specs.declared.terms.Terms.{Terms};
 ghost use Rattle.proto.specs.Cache.{empty_cache};
 ghost use Rattle.exchange.specs.Ends.{AreTogether, IsCount};
@@ -187,9 +187,9 @@ pub fn run_group<
     requires unasked { IsSome (C.start clock) → C.told clock ≡ Some [] }
     ensures run { IfOk result (λ report. IsRun P.told P.leads_to C.told C.leads_to (E.keeps store []) (E.sizes store)
         ports.items clock report) }
-    ensures count { MatchResult result (λ _. IsCount (vec_len ports))
-        (λ fault. (IsCount (vec_len ports) × (fault ≢ BadConfig))
-        ⊎ ((¬ (IsCount (vec_len ports))) × (fault ≡ BadConfig))) }
+    ensures count { MatchResult result (λ _. (1 ≤ vec_len ports) × (vec_len ports ≤ 8))
+        (λ fault. ((1 ≤ vec_len ports) × (vec_len ports ≤ 8) × (fault ≢ BadConfig))
+        ⊎ (((vec_len ports ≡ 0) ⊎ (8 < vec_len ports)) × (fault ≡ BadConfig))) }
 {
     if ports.is_empty() || ports.len() > MAX_WORKERS {
         return Err(GroupFault::BadConfig);

@@ -27,12 +27,13 @@ below a b m k h lt = omega (arith, h, lt)
 pub word_below : (l : Layout) (s : Slot) → CanHold l s → packed_of l s < packed_limit l
 unfolding packed_of
 word_below l s c =
-    below ((s.tag - 1) * 2 ^ l.place_bits) (s.segment * 2 ^ l.offset_bits + s.offset / 8 + 1) (2 ^ l.place_bits)
+    below ((s.tag - 1) * 2 ^ l.place_bits) (s.place.segment * 2 ^ l.offset_bits + s.place.offset / 8 + 1) (2 ^ l.place_bits)
     (packed_limit l) c.tag c.place.number
 
 -- slots with equal tags, segments and offsets are equal
 same_slot : (t u g h o p : ℕ) → t ≡ u → g ≡ h → o ≡ p
-    → ◌≡◌ {A = Slot} record { tag = t; segment = g; offset = o } record { tag = u; segment = h; offset = p }
+    → ◌≡◌ {A = Slot} record { tag = t; place = record { segment = g; offset = o } }
+    record { tag = u; place = record { segment = h; offset = p } }
 same_slot t u g h o p e f d = rw (e, f, d) refl
 
 -- a number without its last one
@@ -50,19 +51,19 @@ word_slot l s c =
     let high = s.tag - 1 in
     let places = 2 ^ l.place_bits in
     let offsets = 2 ^ l.offset_bits in
-    let step = s.offset / 8 in
-    let number = s.segment * offsets + step in
+    let step = s.place.offset / 8 in
+    let number = s.place.segment * offsets + step in
     let packed = high * places + (number + 1) in
     let over : packed / places ≡ high = div-mul-add high places (number + 1) c.place.number in
     let under : packed % places - 1 ≡ number =
     ap (λ n. n - 1) (mod-mul-add high places (number + 1) c.place.number) ∙ less_one number in
-    let segment : (packed % places - 1) / offsets % 2 ^ 16 ≡ s.segment = ap (λ n. n / offsets % 2 ^ 16) under
-    ∙ ap (λ n. n % 2 ^ 16) (div-mul-add s.segment offsets step c.place.offset) ∙ mod-eq_of_lt c.place.segment in
-    let offset : 8 * ((packed % places - 1) % offsets) ≡ s.offset = ap (λ n. 8 * (n % offsets)) under
-    ∙ ap (λ n. 8 * n) (mod-mul-add s.segment offsets step c.place.offset) ∙ c.place.aligned in
+    let segment : (packed % places - 1) / offsets % 2 ^ 16 ≡ s.place.segment = ap (λ n. n / offsets % 2 ^ 16) under
+    ∙ ap (λ n. n % 2 ^ 16) (div-mul-add s.place.segment offsets step c.place.offset) ∙ mod-eq_of_lt c.place.segment in
+    let offset : 8 * ((packed % places - 1) % offsets) ≡ s.place.offset = ap (λ n. 8 * (n % offsets)) under
+    ∙ ap (λ n. 8 * n) (mod-mul-add s.place.segment offsets step c.place.offset) ∙ c.place.aligned in
     elim (eqb_tells packed 0) [
       | inl y ↦ absurd (let e = y.1 in omega (arith, e))
-      | inr y ↦ rw y.0 (same_slot (packed / places + 1) s.tag _ s.segment _ s.offset
+      | inr y ↦ rw y.0 (same_slot (packed / places + 1) s.tag _ s.place.segment _ s.place.offset
           (ap (λ n. n + 1) over ∙ one_more s.tag c.some) segment offset)
     ]
 
@@ -195,7 +196,7 @@ shl_kept n k lt = mod-eq_of_lt lt
 
 -- the number of a slot, as shifts make it
 pub word_said : (l : Layout) (s : Slot) → CanHold l s
-    → (s.tag - 1) * 2 ^ l.place_bits % 2 ^ 64 + (s.segment * 2 ^ l.offset_bits % 2 ^ 64 + s.offset / 8 + 1)
+    → (s.tag - 1) * 2 ^ l.place_bits % 2 ^ 64 + (s.place.segment * 2 ^ l.offset_bits % 2 ^ 64 + s.place.offset / 8 + 1)
     ≡ packed_of l s
 unfolding packed_of
 word_said l s c =
@@ -203,5 +204,5 @@ word_said l s c =
     let room = c.tag in
     let number = c.place.number in
     let high : (s.tag - 1) * 2 ^ l.place_bits < 2 ^ 64 = omega (arith, limit, room, number) in
-    let low : s.segment * 2 ^ l.offset_bits < 2 ^ 64 = omega (arith, limit, room, number) in
+    let low : s.place.segment * 2 ^ l.offset_bits < 2 ^ 64 = omega (arith, limit, room, number) in
     rw (mod-eq_of_lt high, mod-eq_of_lt low) refl

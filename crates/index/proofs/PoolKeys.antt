@@ -10,7 +10,8 @@ use Rattle.segments.specs.Items.{Item, item_at, size_of_item}
 use Rattle.segments.specs.Pools.{PoolState, Used, segment_at, items_of, item_in, IsPool}
 use Rattle.segments.specs.Changes.{with_segment, with_item, IsAddedToTail, IsAddedToFree}
 use Rattle.segments.proofs.WalkLemmas.{item_behind}
-use Rattle.index.specs.Keys.{key_at, IsKeyAdded}
+use Rattle.index.specs.Keys.{IsKeyAdded}
+use Rattle.segments.specs.Pools.{key_at}
 
 -- an item stays where it is when one is put after all
 item_at-append : (items : List Item) (offset : ℕ) (more : List Item) → IsSome (item_at items offset)

@@ -16,7 +16,7 @@ use Rattle.segments.specs.Pools.{PoolState, IsPool, Standing, segment_at, items_
 use Rattle.segments.specs.Places.{IsAppended, same_place}
 use Rattle.segments.proofs.Places.{pool_items_few, standing_by}
 use Rattle.segments.proofs.MovedPlaces.{same_place_itself}
-use Rattle.index.specs.Keys.{key_at}
+use Rattle.segments.specs.Pools.{key_at}
 use Rattle.index.specs.Slots.{used_in}
 use Rattle.index.specs.Sizing.{most_items}
 use Rattle.index.specs.Table.{Table, IsIndex}

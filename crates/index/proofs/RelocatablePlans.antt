@@ -12,7 +12,7 @@ use Rattle.segments.specs.Merges.{IsPlan, with_merge_planned, carried_out, merge
 use Rattle.segments.proofs.AgreeingTests.{in_segment}
 use Rattle.segments.proofs.PlanLemmas.{found_from}
 use Rattle.segments.proofs.MovedPlaces.{carried, moved_other, live_source, sources_live, All-unmap}
-use Rattle.index.specs.Keys.{key_at}
+use Rattle.segments.specs.Pools.{key_at}
 use Rattle.index.specs.Layouts.{IsInLayout, IsLayoutOf}
 use Rattle.index.proofs.PlacesInLayout.{place_in_layout}
 use Rattle.index.specs.Table.{Table, IsIndex}

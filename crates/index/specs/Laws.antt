@@ -3,7 +3,8 @@ use Rattle.std.specs.Prelude.{◌≡◌, ◌≤◌, List, length, Contains}
 use Rattle.segments.specs.declared.place.Place.{Place}
 use Rattle.segments.specs.Pools.{PoolState, Plan, IsPool, Liveness}
 use Rattle.segments.specs.Merges.{IsPlan, with_merge_planned, carried_out}
-use Rattle.index.specs.Keys.{KeysOf, key_at}
+use Rattle.index.specs.Keys.{KeysOf}
+use Rattle.segments.specs.Pools.{key_at}
 use Rattle.index.specs.Relocating.{CanRelocate, HoldsLive, keys_behind}
 use Rattle.index.specs.Layouts.{IsLayoutOf}
 use Rattle.index.specs.Slots.{used_in}

@@ -39,12 +39,14 @@ slot_of l packed =
     if packed == 0 then empty_slot
     else record {
       tag = packed / 2 ^ l.place_bits + 1;
-      segment = (packed % 2 ^ l.place_bits - 1) / 2 ^ l.offset_bits % 2 ^ 16;
-      offset = 8 * ((packed % 2 ^ l.place_bits - 1) % 2 ^ l.offset_bits);
+      place = record {
+        segment = (packed % 2 ^ l.place_bits - 1) / 2 ^ l.offset_bits % 2 ^ 16;
+        offset = 8 * ((packed % 2 ^ l.place_bits - 1) % 2 ^ l.offset_bits);
+      };
     }
 
 unfoldable pub packed_of : Layout → Slot → ℕ
-packed_of l s = (s.tag - 1) * 2 ^ l.place_bits + (s.segment * 2 ^ l.offset_bits + s.offset / 8 + 1)
+packed_of l s = (s.tag - 1) * 2 ^ l.place_bits + (s.place.segment * 2 ^ l.offset_bits + s.place.offset / 8 + 1)
 
 -- the place can be packed
 pub record IsInLayout (l : Layout) (place : Place) : Type 0 where

@@ -9,7 +9,8 @@ use Rattle.segments.specs.Items.{Item}
 use Rattle.segments.specs.Pools.{PoolState, Liveness, item_in, place_deadline}
 use Rattle.segments.specs.Merges.{carried_out}
 use Rattle.segments.specs.Places.{same_place}
-use Rattle.index.specs.Keys.{KeysOf, key_at}
+use Rattle.index.specs.Keys.{KeysOf}
+use Rattle.segments.specs.Pools.{key_at}
 use Rattle.index.specs.Layouts.{IsInLayout}
 use Rattle.index.specs.Table.{Table, IsIndex, HasPlace, place_at}
 

@@ -1,13 +1,13 @@
 //! Deletion by backward shift: no empty slot is left before a place that is found through it.
 
 ghost use Rattle.std.specs.Prelude.{◌≡◌, ◌+◌, ◌-◌, ◌%◌, ◌^◌, ◌<◌, ◌≤◌, length, IsSome, IfSome, true, List, ℕ};
-ghost use Rattle.index.specs.Keys.{key_at, hash_of, home_of};
+ghost use Rattle.index.specs.Keys.{hash_of, home_of};
+ghost use Rattle.segments.specs.Pools.{key_at};
 ghost use Rattle.index.specs.Slots.{used_in, is_used, slot_at, place_of};
 ghost use Rattle.index.specs.Table.{hashing, AreIndexed, IsSlotFound};
 ghost use Rattle.index.specs.BackwardShift.{IsWithout};
 
 use crate::hash::{hash_of, home_of};
-use crate::keys::key_at;
 use crate::search::has_gap;
 use crate::slot::{Slot, behind, distance};
 use crate::slots::Slots;
@@ -21,7 +21,7 @@ pub fn home_at(slot: Slot, count: usize, hasher: FoldHasher, pool: &Pool) -> usi
     ensures in_range { result < count }
     ensures value { IfSome (key_at pool.now (place_of slot)) (λ key. result ≡ home_of count (hash_of hasher key)) }
 {
-    home_of(count, hash_of(hasher, key_at(pool, slot.place())))
+    home_of(count, hash_of(hasher, pool.key(slot.place)))
 }
 
 /// How many slots before this one the nearest slot is whose number has these lowest bits.

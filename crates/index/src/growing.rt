@@ -1,7 +1,7 @@
 //! Linear hashing: a row gets longer by a slot at a time, and the keys of one home are split.
 
 ghost use Rattle.std.specs.Prelude.{◌≡◌, ◌⊎◌, ◌+◌, ◌*◌, ◌<◌, ◌≤◌, length};
-ghost use Rattle.index.specs.Keys.{key_at};
+ghost use Rattle.segments.specs.Pools.{key_at};
 ghost use Rattle.index.specs.Slots.{used_in};
 ghost use Rattle.index.specs.Table.{hashing, AreIndexed, places_in};
 

@@ -5,7 +5,8 @@ ghost use Rattle.std.specs.Prelude.{◌⊎◌, ◌∷◌, [], IfSome, IsSome};
 ghost use Rattle.std.specs.FinMap as map;
 ghost use Rattle.segments.specs.declared.place.Place.{Place as Spot};
 ghost use Rattle.segments.specs.Pools.{item_in};
-ghost use Rattle.index.specs.Keys.{KeysOf, key_at, seeded_hasher};
+ghost use Rattle.index.specs.Keys.{KeysOf, seeded_hasher};
+ghost use Rattle.segments.specs.Pools.{key_at};
 ghost use Rattle.index.specs.Slots.{used_in, empty_slot};
 ghost use Rattle.index.specs.Layouts.{IsLayout, IsInLayout};
 ghost use Rattle.index.specs.Relocating.{IsRelocated, forget_place};
@@ -88,7 +89,7 @@ impl Index {
         let home = home_of(self.slots.len(), hash);
         let slot = self.slots.get(home);
         if slot.tag == self.slots.layout().tag_of(hash) {
-            pool.peek(slot.place())
+            pool.peek(slot.place)
         } else {
             0
         }
@@ -115,7 +116,7 @@ impl Index {
         let home = home_of(self.slots.len(), hash);
         let tag = self.slots.layout().tag_of(hash);
         match find_key(&self.slots, pool, home, tag, key) {
-            Ok(at) => Some(self.slots.get(at).place()),
+            Ok((_, place)) => Some(place),
             Err(_) => None,
         }
     }
@@ -138,16 +139,15 @@ impl Index {
         let home = home_of(self.slots.len(), hash);
         let tag = self.slots.layout().tag_of(hash);
         match find_key(&self.slots, pool, home, tag, key) {
-            Ok(at) => {
-                let source = self.slots.get(at).place();
-                self.slots.set(at, Slot::new(tag, place));
+            Ok((at, source)) => {
+                self.slots.set(at, Slot { tag, place });
                 Some(source)
             }
             Err(_) => {
                 grow_for(&mut self.slots, self.used + 1, self.hasher, pool);
                 let new_home = home_of(self.slots.len(), hash);
                 let gap = first_gap(&self.slots, new_home);
-                self.slots.set(gap, Slot::new(tag, place));
+                self.slots.set(gap, Slot { tag, place });
                 self.used += 1;
                 None
             }
@@ -170,7 +170,7 @@ impl Index {
         let home = home_of(self.slots.len(), hash);
         let at = find_place(&self.slots, home, source).unwrap();
         let tag = self.slots.layout().tag_of(hash);
-        self.slots.set(at, Slot::new(tag, target));
+        self.slots.set(at, Slot { tag, place: target });
     }
 
     /// Takes a key out.

@@ -1,11 +1,12 @@
 //! How a slot is packed into one number.
 
 ghost use Rattle.std.specs.Prelude.{◌≡◌, ◌<◌, ◌≤◌, ◌^◌, nat_le};
-ghost use Rattle.index.specs.Layouts.{IsLayout, IsLayoutOf, CanHold, packed_limit, tag_shift, home_bits, tag_of, low_in};
+ghost use Rattle.index.specs.Layouts.{IsLayout, IsLayoutOf, CanHold, packed_limit, home_bits, tag_of, low_in};
 ghost use Rattle.index.specs.Layouts.{slot_of, packed_of};
 
 use crate::slot::{EMPTY, Slot};
 use proto::Geometry;
+use segments::Place;
 
 /// How many bits an offset takes, counted in eight bytes, and how many a place takes. A packed slot has four bytes, of
 /// which the tag has the bits that a place leaves; if a place takes more than 32 bits, it has eight bytes.
@@ -55,18 +56,6 @@ impl Layout {
         self.place_bits <= 32
     }
 
-    fn tag_shift(self) -> u32
-        requires { IsLayout self }
-        ensures value { result ≡ tag_shift self }
-        ensures few { result ≤ 32 }
-    {
-        if self.is_narrow() {
-            self.place_bits
-        } else {
-            self.place_bits - 32
-        }
-    }
-
     /// How many of a hash's lowest bits stand in a slot. They say most of what the key's home is: they tell keys of
     /// different homes apart, and by them a backward shift mostly needs no keys. The other bits tell keys of one home
     /// apart.
@@ -89,7 +78,12 @@ impl Layout {
         ensures some { 1 ≤ result }
     {
         let bits = self.home_bits();
-        let upper = (hash >> 32) >> (self.tag_shift() + bits);
+        let beside = if self.is_narrow() {
+            self.place_bits
+        } else {
+            self.place_bits - 32
+        };
+        let upper = (hash >> 32) >> (beside + bits);
         (upper << bits) + (hash & ((1u64 << bits) - 1)) + 1
     }
 
@@ -103,18 +97,6 @@ impl Layout {
         (tag - 1) & ((1u64 << self.home_bits()) - 1)
     }
 
-    /// The tag of a packed slot, 0 if the slot is empty.
-    pub fn tag_in(self, packed: u64) -> u64
-        requires { IsLayout self }
-        ensures { result ≡ (slot_of self packed).tag }
-    {
-        if packed == 0 {
-            0
-        } else {
-            (packed >> self.place_bits) + 1
-        }
-    }
-
     /// The slot that was packed.
     pub fn slot_of(self, packed: u64) -> Slot
         requires { IsLayout self }
@@ -126,8 +108,10 @@ impl Layout {
         let number = (packed & ((1u64 << self.place_bits) - 1)).saturating_sub(1);
         Slot {
             tag: (packed >> self.place_bits) + 1,
-            segment: ((number >> self.offset_bits) % MAX_SEGMENTS) as u32,
-            offset: 8 * (number & ((1u64 << self.offset_bits) - 1)) as u32,
+            place: Place {
+                segment: ((number >> self.offset_bits) % MAX_SEGMENTS) as u32,
+                offset: 8 * (number & ((1u64 << self.offset_bits) - 1)) as u32,
+            },
         }
     }
 
@@ -138,7 +122,8 @@ impl Layout {
         ensures value { result ≡ packed_of self slot }
         ensures limit { result < packed_limit self }
     {
-        let number = ((slot.segment as u64) << self.offset_bits) + slot.offset as u64 / 8 + 1;
+        let place = slot.place;
+        let number = ((place.segment as u64) << self.offset_bits) + place.offset as u64 / 8 + 1;
         ((slot.tag - 1) << self.place_bits) + number
     }
 }

@@ -6,7 +6,6 @@ mod backward_shift;
 mod growing;
 mod hash;
 mod index;
-mod keys;
 mod laws;
 mod layout;
 mod reinserting;

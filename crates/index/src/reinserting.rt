@@ -1,7 +1,7 @@
 //! Moves keys to where their searches find them, along a cluster, which is a run of used slots.
 
 ghost use Rattle.std.specs.Prelude.{◌≡◌, ◌<◌, ◌≤◌, length};
-ghost use Rattle.index.specs.Keys.{key_at};
+ghost use Rattle.segments.specs.Pools.{key_at};
 ghost use Rattle.index.specs.Slots.{used_in};
 ghost use Rattle.index.specs.Reinserting.{AreNear, IsFirstStop, IsStretch};
 ghost use Rattle.index.specs.Table.{hashing, AreIndexed, places_in};

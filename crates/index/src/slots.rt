@@ -112,14 +112,6 @@ impl Slots {
         self.layout.slot_of(self.packed(at))
     }
 
-    /// The tag of a slot, 0 if it is empty.
-    pub fn tag(&self, at: usize) -> u64
-        requires { at < length self.now.slots }
-        ensures { result ≡ (slot_at self.now.slots at).tag }
-    {
-        self.layout.tag_in(self.packed(at))
-    }
-
     /// A slot as it is packed, or 0 if there is none.
     pub fn peek(&self, at: usize) -> u64 {
         if at < self.len() { self.packed(at) } else { 0 }

@@ -19,7 +19,7 @@ impl Model for Shelf {
     ghost use Rattle.std.specs.Prelude.{◌≡◌, ◌≤◌, ◌*◌};
     ghost use Rattle.index.specs.Sizing.{most_items};
     ghost use Rattle.index_tests.specs.Pairs.{Pairs};
-    ghost use Rattle.index.specs.Keys.{key_at};
+    ghost use Rattle.segments.specs.Pools.{key_at};
     ghost use Rattle.index.specs.Table.{IsIndex};
     ghost use Rattle.index.specs.Layouts.{IsLayoutOf};
 

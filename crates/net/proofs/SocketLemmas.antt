@@ -1,7 +1,6 @@
 -- How the sessions of a port keep their sockets.
 use Rattle.std.proofs.Common.{◌≡◌, ℕ, zero, suc, ◌+◌, ◌-◌, Bool, true, false, cond, List, [], ◌∷◌, ◌++◌, length, length-append, refl, sym, ap, ◌∙◌, arith}
 use Rattle.std.specs.Prelude.{ℤ, Option, None, Some, is_some, slice_get}
-use Rattle.std.specs.Option.{option_map}
 use Rattle.std.specs.Bool.{nat_eq}
 use Rattle.std.proofs.lemmas.Bool.{both_ways, eqb-true}
 use Rattle.net.specs.Seen.{Seen, IsSet, fresh, socket_of}
@@ -22,12 +21,6 @@ more_at : (l : List ℤ) (k : ℕ) (y : ℤ) (n : Option Seen) → is_some n ≡
 more_at l k y None some h = absurd (both_ways false refl some)
 more_at l k y (Some x) some h = found_more l k x.socket y h
 
--- what leaves a stream's socket leaves its place
-same_at : (f : Seen → Seen) → ((x : Seen) → (f x).socket ≡ x.socket) → (place : Option ℤ) (n : Option Seen)
-    → (is_some n ≡ true → place ≡ socket_of n) → is_some (option_map f n) ≡ true → place ≡ socket_of (option_map f n)
-same_at f same place None h some = absurd (both_ways false refl some)
-same_at f same place (Some x) h some = h refl ∙ ap Some (sym (same x))
-
 -- one stream is set
 module _ (streams next : ℕ → Option Seen) (s : ℕ) (now : Option Seen) (sockets : List ℤ) where
   set_case : (o : ℕ) → next o ≡ cond (nat_eq s o) now (streams o) → (is_some now ≡ true → slice_get sockets (s - 1) ≡ socket_of now)
@@ -45,16 +38,6 @@ module _ (streams next : ℕ → Option Seen) (s : ℕ) (now : Option Seen) (soc
   sockets_set set here old o = set_case o (set o) here (old o) (nat_eq s o) refl
 
 module _ (streams next : ℕ → Option Seen) (last : ℕ) (sockets : List ℤ) (s : ℕ) (t : SocketTies streams last sockets) where
-  pub kept_set : (f : Seen → Seen) → ((x : Seen) → (f x).socket ≡ x.socket) → IsSet s (option_map f (streams s)) streams next
-      → SocketTies next last sockets
-  kept_set f same set = (
-    sockets_set streams next s (option_map f (streams s)) sockets set (same_at f same (slice_get sockets (s - 1)) (streams s) (t.0 s)) t.0,
-    t.1,
-  )
-
-  pub kept_closed : IsSet s None streams next → SocketTies next last sockets
-  kept_closed set = (sockets_set streams next s None sockets set (λ h. absurd (both_ways false refl h)) t.0, t.1)
-
   pub kept_opened : (y : ℤ) → s ≡ last + 1 → IsSet s (Some (fresh y)) streams next → SocketTies next s (sockets ++ y ∷ [])
   kept_opened y n set =
       let place : s - 1 ≡ length sockets = omega (arith, t.1) in (

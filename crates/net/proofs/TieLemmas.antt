@@ -11,7 +11,7 @@ use Rattle.worker_port.specs.Ports.{is_in, is_open, opened_count}
 use Rattle.worker_port.specs.PortFacts.{PortFacts, port_facts}
 use Rattle.worker_port.proofs.Facts.{about, elsewhere, facts_are, opened_here, fed_here, over_here, gone_here, shut_here, accepted_here}
 use Rattle.worker_port.proofs.Lists.{ended_same, ended_now, count_same, count_more}
-use Rattle.net.specs.Seen.{Seen, IsSet, fresh, then_received, then_sent, then_over, then_paused, is_over, received_of, sent_of}
+use Rattle.net.specs.Seen.{Seen, IsSet, fresh, then_received, then_sent, then_over, is_over, received_of, sent_of}
 use Rattle.net.specs.Ties.{Ties, NoneBehind}
 
 -- what the list says of a session, against its stream
@@ -53,12 +53,6 @@ not_behind : (streams : ℕ → Option Seen) (last : ℕ) (l : List PortRecord) 
     → is_open s l ≡ true → last < s → ⊥
 not_behind streams last l e t s o b =
     both_ways (is_in (Opened s) l) (t.2 s b).0 (and_parts (is_in (Opened s) l) (not (is_in (Gone s) l || is_in (Shut s) l)) o).0
-
--- where nothing that clauses see changes, and nothing is told
-pub ties_same : (streams next : ℕ → Option Seen) (last after : ℕ) (l : List PortRecord) (e : Bool) → after ≡ last
-    → ((s : ℕ) → next s ≡ streams s) → Ties streams last l e → Ties next after l e
-ties_same streams next last after l e a h t =
-    subst (λ (n : ℕ). Ties next n l e) (sym a) (subst (λ (f : ℕ → Option Seen). Ties f last l e) (λ i s. sym (h s) i) t)
 
 -- one more entry, about one session whose stream is set
 module _ (streams next : ℕ → Option Seen) (last : ℕ) (l : List PortRecord) (e : Bool) (s : ℕ) (now : Option Seen) (x : PortRecord) where
@@ -122,10 +116,6 @@ at_over None f a = record {
   over = λ h. absurd (both_ways false refl h);
 }
 at_over (Some x) f a = record { opens = a.opens; fed = a.fed; given = a.given; over = λ h. refl }
-
-pub at_paused : (now : Option Seen) (f : PortFacts) (b : Bool) → At now f → At (option_map (then_paused b) now) f
-at_paused None f b a = a
-at_paused (Some x) f b a = record { opens = a.opens; fed = a.fed; given = a.given; over = a.over }
 
 and_none : (b : Bool) → (b && false) ≡ false
 and_none true = refl
@@ -201,37 +191,9 @@ module _ (streams next : ℕ → Option Seen) (last after : ℕ) (l : List PortR
       (ended_same l (Shut s) refl ∙ t.3) (count_same l (Shut s) refl ∙ t.4 ∙ sym a)
       (subst (λ (f : PortFacts). At None f) (sym (shut_here l s)) (at_shut (port_facts l s))) e t
 
-  -- the stream is paused, or no longer, and nothing is told
-  paused_case : (b : Bool) (o : ℕ) → next o ≡ cond (nat_eq s o) (option_map (then_paused b) (streams s)) (streams o) → (c : Bool) → nat_eq s o ≡ c
-      → At (next o) (port_facts l o)
-  paused_case b o set true is =
-      subst (λ (n : Option Seen). At n (port_facts l o)) (sym (set ∙ ap (λ c. cond c (option_map (then_paused b) (streams s)) (streams o)) is))
-      (subst (λ (k : ℕ). At (option_map (then_paused b) (streams s)) (port_facts l k)) (eqb-true s o is)
-      (at_paused (streams s) (port_facts l s) b (at_each streams last l e t s)))
-  paused_case b o set false is =
-      subst (λ (n : Option Seen). At n (port_facts l o)) (sym (set ∙ ap (λ c. cond c (option_map (then_paused b) (streams s)) (streams o)) is))
-      (at_each streams last l e t o)
-
-  pub ties_paused : (b : Bool) → after ≡ last → IsSet s (option_map (then_paused b) (streams s)) streams next → Ties next after l e
-  ties_paused b a set =
-      ties_from next after l e (λ o. paused_case b o (set o) (nat_eq s o) refl) (λ o h. behind_facts last l t.2 o (omega arith)) t.3 (t.4 ∙ sym a)
-
 pub ties_ended : (streams : ℕ → Option Seen) (last : ℕ) (l : List PortRecord) (e : Bool) → Ties streams last l e
     → Ties streams last (l ++ Ended ∷ []) true
 ties_ended streams last l e t =
     ties_from streams last (l ++ Ended ∷ []) true
     (λ s. subst (λ (f : PortFacts). At (streams s) f) (sym (elsewhere l Ended s refl)) (at_each streams last l e t s))
     (λ s b. elsewhere l Ended s refl ∙ behind_facts last l t.2 s b) (ended_now l) (count_same l Ended refl ∙ t.4)
-
--- a port that was just made
-pub ties_none : (streams : ℕ → Option Seen) → ((s : ℕ) → streams s ≡ None) → (last : ℕ) → last ≡ 0 → Ties streams last [] false
-ties_none streams none last zero =
-    ties_from streams last [] false
-    (λ s. subst (λ (n : Option Seen). At n no_facts) (sym (none s))
-    (record {
-      opens = refl;
-      fed = λ h. absurd (both_ways false refl h);
-      given = λ h. absurd (both_ways false refl h);
-      over = λ h. absurd (both_ways false refl h);
-    }))
-    (λ s b. refl) refl (sym zero)

@@ -125,9 +125,6 @@ module _ (w : Whose) (streams next : ℕ → Option Seen) (l : List PortRecord) 
   tells_given b set = told_by w streams next l (Accepted s b ∷ [])
       (kept w streams next s (option_map (then_sent b) (streams s)) set (sent_pause (streams s) b))
 
-  pub tells_lost : IsSet s None streams next → trace w next (l ++ Gone s ∷ []) ≡ then_told (Gone s ∷ []) (trace w streams l)
-  tells_lost set = told_by w streams next l (Gone s ∷ []) (λ o. gone_pause (nat_eq s o) (next o) (streams o) (set o))
-
   lost_at : (o : ℕ) → next o ≡ cond (nat_eq s o) None (streams o) → (c : Bool) → nat_eq s o ≡ c
       → is_paused_stream (next o) ≡ cond (o == s) false (is_paused_stream (streams o))
   lost_at o set true is =

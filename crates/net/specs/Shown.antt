@@ -31,10 +31,11 @@ seen_of o =
 abbrev pub shown_stream : List (ℕ × OpenStream) → ℕ → Option Seen
 shown_stream streams session = option_map seen_of (lookup (nat_eq session) streams)
 
--- What a read of a stream leaves; once its input has ended, nothing comes of it.
+-- What a read of a stream leaves; while it is paused, and once its input has ended, nothing comes of it.
 abbrev pub Arrives : Seen → Reading → Seen → Type 0
 Arrives before (read.Bytes bytes) after =
-    (after ≡ then_received bytes before) × (before.over ≡ false) × (0 < length bytes) × (length bytes ≤ 16384)
+    (after ≡ then_received bytes before) × (before.over ≡ false) × (before.paused ≡ false)
+    × (0 < length bytes) × (length bytes ≤ 16384)
 Arrives before read.Nothing after = after ≡ before
-Arrives before read.Ended after = (after ≡ then_over before) × (before.over ≡ false)
+Arrives before read.Ended after = (after ≡ then_over before) × (before.over ≡ false) × (before.paused ≡ false)
 Arrives before read.Gone after = ⊤

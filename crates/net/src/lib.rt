@@ -3,17 +3,17 @@
 
 mod fault;
 mod hand;
-mod idle;
+mod interval;
 mod lingering;
 mod listener;
 mod notices;
 mod open_stream;
 mod owner;
+mod polls;
 mod port;
 mod port_note;
 mod report;
 mod sockets;
-mod spin;
 mod streams;
 mod waiting;
 

@@ -1,11 +1,12 @@
 //! Streams that were shut, and are read a little longer. A stream that is closed while input waits unread is reset, and its
 //! peer may lose the last answer; so its sending half is ended first, and what still comes is dropped.
 
+use crate::interval::have_passed;
 use crate::sockets::EndedStream;
 use std::alloc::{AllocError, Global};
 use std::collections::VecDeque;
 use std::io::ErrorKind;
-use std::time::{Clock, Duration, Instant};
+use std::time::{Clock, Instant};
 
 /// The most such streams of a port; of more the oldest is closed.
 const MOST_LINGERING: usize = 64;
@@ -19,7 +20,7 @@ const LINGER_BYTES: usize = 16 * 1024 * 1024;
 const READS: usize = 64;
 
 #[derive(Drop)]
-struct LingeringStream {
+pub(crate) struct LingeringStream {
     stream: EndedStream,
     since: Instant,
     // How many more bytes are read at most.
@@ -50,22 +51,14 @@ impl LingeringStream {
         }
         Drained::More
     }
-
-    // Whether it was read for long enough.
-    fn has_expired<R: Clock>(&self, rt: &R) -> bool {
-        match self.since.elapsed(rt) {
-            Ok(read) => read >= Duration::from_millis(LINGER_MILLIS),
-            Err(_) => true,
-        }
-    }
 }
 
 /// Such streams in the order in which they were shut.
 #[derive(Drop)]
 pub(crate) struct LingeringStreams {
-    streams: VecDeque<LingeringStream>,
-    // Something may have come.
-    is_ready: bool,
+    pub(crate) streams: VecDeque<LingeringStream>,
+    // Something may have come of one.
+    pub(crate) is_ready: bool,
 }
 
 impl LingeringStreams {
@@ -74,19 +67,6 @@ impl LingeringStreams {
             streams: VecDeque::with_capacity(alloc, MOST_LINGERING)?,
             is_ready: false,
         })
-    }
-
-    pub(crate) fn len(&self) -> usize {
-        self.streams.len()
-    }
-
-    pub(crate) fn is_ready(&self) -> bool {
-        self.is_ready
-    }
-
-    // Something came, of a stream that isn't open.
-    pub(crate) fn mark(&mut self) {
-        self.is_ready = true;
     }
 
     // If the clock can't be read, the stream is closed.
@@ -120,7 +100,7 @@ impl LingeringStreams {
                     Drained::Empty => {}
                 }
             }
-            if !lingering.has_expired(rt) {
+            if !have_passed(rt, lingering.since, LINGER_MILLIS) {
                 let _ = self.streams.push_back(lingering);
             }
         }

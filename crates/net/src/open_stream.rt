@@ -1,6 +1,6 @@
 //! One open session's stream: what its input and its output are doing.
 
-ghost use Rattle.std.specs.Prelude.{◌≡◌, ◌≤◌, ℤ, true, false, length, take, IsTrue, IfOk};
+ghost use Rattle.std.specs.Prelude.{◌≡◌, ◌≤◌, ℤ, true, false, length, take, IfOk};
 ghost use Rattle.net.specs.Seen.{fresh, then_sent, then_paused};
 ghost use Rattle.net.specs.Sockets.{IsNewLog};
 ghost use Rattle.net.specs.Shown.{seen_of, Arrives};
@@ -139,50 +139,30 @@ impl OpenStream {
         is_freed
     }
 
-    // Puts the stream in the list of those to read. Without memory it waits for another event.
-    fn list(&mut self, session: u64, ready: &mut VecDeque<Heard>)
+    // Puts the stream in the list of those to read, if it is to be read. Without memory it waits for another event.
+    pub(crate) fn list(&mut self, session: u64, ready: &mut VecDeque<Heard>)
         ensures { seen_of self.new ≡ seen_of self.old }
     {
-        if ready.push_back(Heard::nothing(session)).is_err() {
-            self.unlist();
+        if matches!(self.input, Input::Listed | Input::Draining)
+            && ready.push_back(Heard::nothing(session)).is_err()
+        {
+            self.input = Input::Waiting;
         }
     }
 
-    // Whether the stream stands in the list of those to read, and is to be read.
-    pub(crate) fn is_listed(&self) -> bool
-        ensures { IsTrue result → (seen_of self.now).paused ≡ false }
-    {
-        matches!(self.input, Input::Listed | Input::Draining)
-    }
-
-    // It stands in the list no longer.
-    pub(crate) fn unlist(&mut self)
-        ensures { seen_of self.new ≡ seen_of self.old }
-    {
-        self.input = match self.input {
-            Input::Paused { .. } => Input::Paused { is_listed: false },
-            Input::Waiting | Input::Listed | Input::Draining => Input::Waiting,
-        };
-    }
-
-    // Puts it in the list again if more may be there.
-    pub(crate) fn relist(&mut self, session: u64, ready: &mut VecDeque<Heard>)
-        ensures { seen_of self.new ≡ seen_of self.old }
-    {
-        if self.is_listed() {
-            self.list(session, ready);
-        }
-    }
-
-    // Reads once, after this many looks for idle sessions. It is to be listed again if more may be there.
+    // Takes the stream off the list, and reads once if it is to be read, after this many looks for idle sessions. It is to be
+    // listed again if more may be there.
     pub(crate) fn read(&mut self, alloc: Global, scratch: &mut [u8], looks: u64) -> Reading
-        requires ready { (seen_of self.old).paused ≡ false }
-        requires room { length scratch.old ≡ 16384 }
+        requires { length scratch.old ≡ 16384 }
         ensures { Arrives (seen_of self.old) result (seen_of self.new) }
     {
         let input = self.input;
+        if let Input::Paused { .. } = input {
+            self.input = Input::Paused { is_listed: false };
+            return Reading::Nothing;
+        }
         self.input = Input::Waiting;
-        if self.stream.has_ended {
+        if matches!(input, Input::Waiting) || self.stream.has_ended {
             return Reading::Nothing;
         }
         match self.stream.read(scratch) {

@@ -10,38 +10,25 @@ ghost use Rattle.net.specs.Shown.{shown_stream};
 ghost use Rattle.net.specs.Ties.{OpenAgrees, BytesAgree, SocketsAgree};
 
 use crate::fault::NetFault;
-use crate::hand::{Hand, WAKER};
-use crate::idle::IdleLooks;
+use crate::hand::Hand;
+use crate::interval::Interval;
 use crate::owner::Owner;
-use crate::spin::Spin;
+use crate::polls::Polls;
 use crate::streams::{OPEN_SESSIONS, Streams};
 use mio::{Events, Poll};
 use std::alloc::Global;
 use std::mem;
 use std::net::Net;
 use std::sync::Wait;
-use std::time::{Clock, Duration};
+use std::time::Clock;
 use worker_port::{Gone, Port, PortEvent, ToldHistory};
 
 /// Events of one poll.
 const EVENTS: usize = 256;
 
-/// While the worker may not wait, the sockets are looked at only at each fourth idle call, so that a lone
-/// request may be answered before the first of these looks.
-const CALLS_EACH_POLL: u32 = 4;
-
-/// This many idle calls in a row are taken not to end: the worker has output for peers that take none. From then on each
-/// waits a little.
-const STALLED_CALLS: u32 = 8192;
-
-/// How long a port waits, in milliseconds: a new stream wakes it.
-const WAIT_MILLIS: u64 = 100;
-
-/// How long it waits while sessions that were shut are read.
-const DRAINING_WAIT_MILLIS: u64 = 5;
-
-/// How long it waits for peers that take no output.
-const STALLED_WAIT_MILLIS: u64 = 1;
+/// The time between two looks for idle sessions if a session may be idle for a second, in milliseconds: an eighth of it. A
+/// session is ended at the ninth look in a row that finds it idle. So a process that stood still ends nobody whose input waits.
+const LOOK_MILLIS: u64 = 125;
 
 /// A worker's port over sockets.
 #[derive(Drop)]
@@ -51,12 +38,14 @@ pub struct MioPort<R: Drop> {
     poll: Poll,
     events: Events,
     served: Streams,
-    idle_looks: IdleLooks,
+    polls: Polls,
+    // When idle sessions are looked for, if they are ended at all.
+    idle_looks: Option<Interval>,
+    // Some streams may wait in the hand: since it was found empty it has woken a poll; or, as a wake may get lost, a poll
+    // brought nothing.
+    has_streams: bool,
     // Some sessions may have been idle for long enough at the last look.
     has_idle: bool,
-    spin: Spin,
-    // Idle calls in a row.
-    idle_calls: u32,
 }
 
 impl<R: Wait + Clock + Net + Drop> MioPort<R> {
@@ -80,10 +69,10 @@ impl<R: Wait + Clock + Net + Drop> MioPort<R> {
             poll,
             events: Events::with_capacity(alloc, EVENTS)?,
             served: Streams::new(alloc, owner)?,
-            idle_looks: IdleLooks::new(),
+            polls: Polls::new(),
+            idle_looks: None,
+            has_streams: true,
             has_idle: false,
-            spin: Spin::new(),
-            idle_calls: 0,
         })
     }
 }
@@ -114,7 +103,8 @@ impl<R: Wait + Clock + Drop> MioPort<R> {
         ensures told { trace_of self.new.served ≡ trace_of self.old.served }
         ensures sockets { KeepsSockets self.old.served self.new.served }
     {
-        self.idle_looks.set_limit(seconds);
+        let millis = seconds.saturating_mul(LOOK_MILLIS);
+        self.idle_looks = Some(Interval::of_millis(millis));
     }
 
     /// Has the port look on for this many microseconds after an event, before it waits for the next one: until then its polls
@@ -123,118 +113,75 @@ impl<R: Wait + Clock + Drop> MioPort<R> {
         ensures told { trace_of self.new.served ≡ trace_of self.old.served }
         ensures sockets { KeepsSockets self.old.served self.new.served }
     {
-        self.spin.set_limit(micros);
+        self.polls.set_spin(micros);
     }
 
-    /// The next event. Sessions are numbered from 1, and no number is given twice.
-    pub fn next_event(&mut self, may_wait: bool) -> PortEvent
+    /// The next event that is known without a poll: streams that wait in the hand come before what can be read, and that before
+    /// a session that was idle for long enough, so that nobody is ended whose input was heard of. Sessions are numbered from 1,
+    /// and no number is given twice.
+    pub fn next_event(&mut self) -> PortEvent
         ensures told { Tells (trace_of self.old.served) result (trace_of self.new.served) }
         ensures sockets { AddsSockets self.old.served self.new.served }
     {
-        if self.served.has_ended() {
+        if self.served.has_ended {
             return PortEvent::Idle;
         }
-        if let Some(event) = self.known_event() {
+        if self.has_streams {
+            if let Some(event) = self.open_next() {
+                return event;
+            }
+        }
+        if let Some(event) = self.served.next_input() {
             return event;
         }
-        let has_all = self.hand.is_drained() && !self.served.has_lingering();
-        if self.served.is_empty() && has_all {
+        if self.has_idle {
+            if let Some(event) = self.served.end_idle() {
+                return event;
+            }
+            self.has_idle = false;
+        }
+        if self.served.is_empty() && self.hand.is_drained() {
             self.served.end();
             return PortEvent::Ended;
         }
-        if !may_wait && self.idle_calls % CALLS_EACH_POLL < CALLS_EACH_POLL - 1 {
-            return PortEvent::Idle;
-        }
-        match self.looked_event(may_wait) {
-            Some(event) => event,
-            None => PortEvent::Idle,
-        }
+        PortEvent::Idle
     }
 
-    // Something came or went: idle calls are counted from here.
-    fn restart(&mut self)
+    // Polls the sockets, unless an event is known already, the end is to be told, or it is too early. False if there is no event.
+    fn look(&mut self, may_wait: bool) -> bool
         ensures told { trace_of self.new.served ≡ trace_of self.old.served }
         ensures sockets { KeepsSockets self.old.served self.new.served }
     {
-        self.idle_calls = 0;
-        self.spin.restart();
-    }
-
-    // How long the next look at the sockets may wait.
-    fn wait_millis(&mut self, may_wait: bool) -> u64
-        ensures told { trace_of self.new.served ≡ trace_of self.old.served }
-        ensures sockets { KeepsSockets self.old.served self.new.served }
-    {
-        if !may_wait {
-            return if self.idle_calls < STALLED_CALLS {
-                0
-            } else {
-                STALLED_WAIT_MILLIS
-            };
+        let has_heard = !self.served.ready.is_empty() || self.has_idle;
+        if has_heard || (self.has_streams && self.served.len() < OPEN_SESSIONS) {
+            return true;
         }
-        if self.spin.goes_on(&self.rt) {
-            0
-        } else if self.served.is_draining() {
-            DRAINING_WAIT_MILLIS
-        } else {
-            WAIT_MILLIS
+        if self.served.is_empty() && self.hand.is_drained() {
+            return true;
         }
-    }
-
-    // An event that a look at the sockets brings.
-    fn looked_event(&mut self, may_wait: bool) -> Option<PortEvent>
-        requires { GoesOn (trace_of self.old.served) }
-        ensures told { MatchOption result (trace_of self.new.served ≡ trace_of self.old.served)
-            (λ event. Tells (trace_of self.old.served) event (trace_of self.new.served)) }
-        ensures sockets { AddsSockets self.old.served self.new.served }
-    {
+        let is_draining = self.served.lingering.is_ready;
+        let Some(limit) = self.polls.next(&self.rt, may_wait, is_draining) else {
+            return false;
+        };
         self.served.drain(&self.rt);
         self.hand.report_closed(self.served.len());
-        let millis = self.wait_millis(may_wait);
-        self.look(millis);
-        if self.idle_looks.take(&self.rt) {
-            self.served.count_look();
-            self.has_idle = true;
-        }
-        self.known_event()
-    }
-
-    // An event that needs no poll: streams that wait in the hand come before what can be read, and that before a session that
-    // was idle for long enough, so that nobody is ended whose input was heard of.
-    fn known_event(&mut self) -> Option<PortEvent>
-        requires { GoesOn (trace_of self.old.served) }
-        ensures told { MatchOption result (trace_of self.new.served ≡ trace_of self.old.served)
-            (λ event. Tells (trace_of self.old.served) event (trace_of self.new.served)) }
-        ensures sockets { AddsSockets self.old.served self.new.served }
-    {
-        if let Some(event) = self.open_next() {
-            return Some(event);
-        }
-        if let Some(event) = self.served.next_input() {
-            return Some(event);
-        }
-        if !self.has_idle {
-            return None;
-        }
-        let event = self.served.end_idle();
-        self.has_idle = event.is_some();
-        event
-    }
-
-    // Looks which streams are ready, and waits so long for one.
-    fn look(&mut self, millis: u64)
-        ensures told { trace_of self.new.served ≡ trace_of self.old.served }
-        ensures sockets { KeepsSockets self.old.served self.new.served }
-    {
-        let limit = Some(Duration::from_millis(millis));
-        if self.poll.poll(&mut self.events, limit).is_ok() {
-            if self.events.iter().any(|event| event.token() == WAKER) {
+        if self.poll.poll(&mut self.events, Some(limit)).is_ok() {
+            if self.served.hear_all(&self.events) {
                 self.hand.clear_wakes();
+                self.has_streams = true;
             }
-            self.served.hear_all(&self.events);
+            self.has_streams = self.has_streams || self.events.is_empty();
         }
+        if let Some(looks) = &mut self.idle_looks {
+            if looks.take(&self.rt) {
+                self.served.looks = self.served.looks.saturating_add(1);
+                self.has_idle = true;
+            }
+        }
+        true
     }
 
+    // Opens a session for the next stream that waits in the hand and can be served.
     fn open_next(&mut self) -> Option<PortEvent>
         requires { GoesOn (trace_of self.old.served) }
         ensures told { MatchOption result (trace_of self.new.served ≡ trace_of self.old.served)
@@ -245,7 +192,10 @@ impl<R: Wait + Clock + Drop> MioPort<R> {
             if self.served.len() >= OPEN_SESSIONS {
                 return None;
             }
-            let stream = self.hand.take(&self.rt)?;
+            let Some(stream) = self.hand.take(&self.rt) else {
+                self.has_streams = false;
+                return None;
+            };
             if let Some(session) = self.served.open(&self.poll, stream) {
                 return Some(PortEvent::Opened(session));
             }
@@ -267,12 +217,12 @@ impl<R: Wait + Clock + Drop> Port for MioPort<R> {
     ghost leads_transitive = { λ _ _ _ _ _. tt };
 
     fn next(&mut self, may_wait: bool) -> PortEvent {
-        let event = self.next_event(may_wait);
-        match &event {
-            PortEvent::Idle if !mem::take(&mut self.served.has_room) => {
-                self.idle_calls = self.idle_calls.saturating_add(1);
-            }
-            _ => self.restart(),
+        if !self.look(may_wait) {
+            return PortEvent::Idle;
+        }
+        let event = self.next_event();
+        if mem::take(&mut self.served.has_room) || !matches!(event, PortEvent::Idle) {
+            self.polls.restart();
         }
         event
     }
@@ -280,7 +230,7 @@ impl<R: Wait + Clock + Drop> Port for MioPort<R> {
     fn give(&mut self, session: u64, bytes: &[u8], history: ToldHistory) -> Result<usize, Gone> {
         let accepted = self.served.write(session, bytes, history)?;
         if accepted > 0 {
-            self.restart();
+            self.polls.restart();
         }
         Ok(accepted)
     }

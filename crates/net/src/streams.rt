@@ -8,6 +8,7 @@ ghost use Rattle.worker_port.specs.Giving.{MayBeGiven};
 ghost use Rattle.net.specs.Shown.{shown_stream};
 ghost use Rattle.net.specs.Ties.{Ties, OpenAgrees, BytesAgree, SocketsAgree, SocketTies};
 
+use crate::hand::WAKER;
 use crate::lingering::LingeringStreams;
 use crate::open_stream::{Heard, OpenStream, Reading};
 use crate::owner::Owner;
@@ -29,15 +30,15 @@ pub(crate) const OPEN_SESSIONS: usize = 1024;
 pub(crate) struct Streams {
     alloc: Global,
     pub(crate) open: HashMap<u64, OpenStream>,
-    ready: VecDeque<Heard>,
+    pub(crate) ready: VecDeque<Heard>,
     /// A stream has room that had none.
     pub(crate) has_room: bool,
-    lingering: LingeringStreams,
+    pub(crate) lingering: LingeringStreams,
     scratch: Vec<u8>,
     /// The number of the session that was opened last.
     pub(crate) last: u64,
-    // How often idle sessions were looked for.
-    looks: u64,
+    /// How often idle sessions were looked for.
+    pub(crate) looks: u64,
     pub(crate) told: Trace<PortRecord>,
     /// The end was told.
     pub(crate) has_ended: bool,
@@ -83,38 +84,22 @@ impl Streams {
         let _has_ended = self.has_ended;
     }
 
+    // Whether none is open or read still.
     pub(crate) fn is_empty(&self) -> bool
         ensures { IsTrue result → HasNoneOpen (trace_of self.now) }
     {
-        self.open.is_empty()
+        self.open.is_empty() && self.lingering.streams.is_empty()
     }
 
     // How many are open, or were shut and are read still.
     pub(crate) fn len(&self) -> usize {
-        self.open.len().saturating_add(self.lingering.len())
-    }
-
-    // Whether some that were shut are read still.
-    pub(crate) fn has_lingering(&self) -> bool {
-        self.lingering.len() > 0
-    }
-
-    // Whether some that were shut may have something to read.
-    pub(crate) fn is_draining(&self) -> bool {
-        self.lingering.len() > 0 && self.lingering.is_ready()
+        self.open.len().saturating_add(self.lingering.streams.len())
     }
 
     pub(crate) fn is_open(&self, session: u64) -> bool
         ensures { is_open session (trace_of self.now).events ≡ result }
     {
         self.open.get(&session).is_some()
-    }
-
-    /// Whether the end was told.
-    pub(crate) fn has_ended(&self) -> bool
-        ensures { result ≡ false → GoesOn (trace_of self.now) }
-    {
-        self.has_ended
     }
 
     /// Opens a session for a stream, and tells of it. None if the stream can't be served; it is closed then.
@@ -137,14 +122,20 @@ impl Streams {
         Some(session)
     }
 
-    // Lists what a poll brought. What finds no memory is lost.
-    pub(crate) fn hear_all(&mut self, events: &Events)
+    // Lists what a poll brought, and says whether the hand woke it. What finds no memory is lost.
+    pub(crate) fn hear_all(&mut self, events: &Events) -> bool
         ensures told { trace_of self.new ≡ trace_of self.old }
         ensures sockets { KeepsSockets self.old self.new }
     {
+        let mut was_woken = false;
         for event in events {
-            let _ = self.ready.push_back(Heard::of(event));
+            if event.token() == WAKER {
+                was_woken = true;
+            } else {
+                let _ = self.ready.push_back(Heard::of(event));
+            }
         }
+        was_woken
     }
 
     // Reads those that were shut, and closes those that were read for long enough.
@@ -152,9 +143,7 @@ impl Streams {
         ensures told { trace_of self.new ≡ trace_of self.old }
         ensures sockets { KeepsSockets self.old self.new }
     {
-        if self.has_lingering() {
-            self.lingering.drain(rt, self.scratch.as_mut_slice());
-        }
+        self.lingering.drain(rt, self.scratch.as_mut_slice());
     }
 
     /// Reads from the streams that may have something, until there is an event to tell.
@@ -183,17 +172,13 @@ impl Streams {
     {
         let session = heard.session;
         let Some(open) = self.open.get_mut(&session) else {
-            self.lingering.mark();
+            self.lingering.is_ready = true;
             return None;
         };
         let has_room = open.hear(heard);
         self.has_room = self.has_room || has_room;
-        if !open.is_listed() {
-            open.unlist();
-            return None;
-        }
         let reading = open.read(self.alloc, self.scratch.as_mut_slice(), self.looks);
-        open.relist(session, &mut self.ready);
+        open.list(session, &mut self.ready);
         match reading {
             Reading::Bytes(piece) => {
                 self.told
@@ -211,14 +196,6 @@ impl Streams {
                 Some(PortEvent::Gone(session))
             }
         }
-    }
-
-    /// Counts a look for idle sessions.
-    pub(crate) fn count_look(&mut self)
-        ensures told { trace_of self.new ≡ trace_of self.old }
-        ensures sockets { KeepsSockets self.old self.new }
-    {
-        self.looks = self.looks.saturating_add(1);
     }
 
     // A session that was idle for long enough.

@@ -1,8 +1,8 @@
 -- The first word of a line, read from the line's front.
 use Rattle.std.proofs.Common.{◌≡◌, ℕ, ℤ, ◌+◌, ◌-◌, ◌*◌, ◌^◌, ◌<◌, ◌≤◌, Bool, true, false, cond, eqb, not}
-use Rattle.std.proofs.Common.{◌&&◌, List, [], ◌∷◌, ◌++◌, length, take, drop}
+use Rattle.std.proofs.Common.{List, [], ◌∷◌, ◌++◌, length, take, drop}
 use Rattle.std.proofs.Common.{get_or, Option, Some, None, refl, sym, ap, ◌∙◌, arith, length-take-le, one-add, take-append-drop, inl, inr, lit<}
-use Rattle.std.specs.Prelude.{nat_le, MatchOption, option_map, decimal, pos, negsuc, is_some, IsTrue, bytes_eq, codes}
+use Rattle.std.specs.Prelude.{nat_le, decimal, pos, negsuc, is_some, IsTrue, bytes_eq, codes}
 use Rattle.std.specs.Borrow.{Bor}
 use Rattle.std.specs.Char.{is_ascii_digit, digit_value}
 use Rattle.std.specs.List.{prefix_len, take_while, list_all, list_any}
@@ -16,7 +16,7 @@ use Rattle.std.proofs.lemmas.Str.Parse.{IsNumeralModel, digit_from_value}
 use Rattle.proto.specs.Lines.{is_key}
 use Rattle.proto.specs.PlainReader.{◌>>=◌, only_if, key_in, taken, number_in, negative_in, plain_in, signed_in}
 use Rattle.proto.specs.PlainReader.{quiet_in}
-use Rattle.proto.specs.Words.{space, spaced, is_space, IsWord, words_of, first_word, is_key_byte, words_behind}
+use Rattle.proto.specs.Words.{space, spaced, is_space, IsWord, words_of, first_word, is_key_byte, is_key_length, words_behind}
 use Rattle.proto.proofs.Numbers.{number_in_some, number_in_none, key_bytes_word, digits_word}
 use Rattle.proto.proofs.WordLists.{some_words, first_word-words_of, words_of_one, words_of_more, spaced-words_of}
 
@@ -44,7 +44,7 @@ pub taken_some : {A : Type 0} (read : List ℕ → Option A) (line word : List �
 taken_some read line word args a parts e = rw (parts, ← e) refl
 
 -- a byte in front that is no space is in the first word
-first_word_cons : (c : ℕ) (line : List ℕ) → is_space c ≡ false → first_word (c ∷ line) ≡ c ∷ first_word line
+pub first_word_cons : (c : ℕ) (line : List ℕ) → is_space c ≡ false → first_word (c ∷ line) ≡ c ∷ first_word line
 first_word_cons c line other = rw (other, one-add) refl
 
 -- the first word before a space has no bytes
@@ -149,17 +149,13 @@ front_longer line behind rest n c within word behind-is parts other =
 
 -- a first word that is a key is as long as the bytes in front that a key may have
 pub key_is : (line : List ℕ) → is_key (first_word line) ≡ true
-    → (prefix_len is_key_byte line ≡ length (first_word line)) × (1 ≤ prefix_len is_key_byte line)
-    × (prefix_len is_key_byte line ≤ 250)
+    → (prefix_len is_key_byte line ≡ length (first_word line)) × (is_key_length (prefix_len is_key_byte line) ≡ true)
 key_is line h =
     let word = first_word line in
-    let outer = and_parts (nat_le 1 (length word) && nat_le (length word) 250) (list_all is_key_byte word) h in
-    let inner = and_parts (nat_le 1 (length word)) (nat_le (length word) 250) outer.0 in
-    let low = leb-true 1 (length word) inner.0 in
-    let high = leb-true (length word) 250 inner.1 in
+    let parts = and_parts (is_key_length (length word)) (list_all is_key_byte word) h in
     let whole : prefix_len is_key_byte line ≡ length word =
-    prefix_first is_key_byte refl line ∙ full_prefix is_key_byte word outer.1 in
-    (whole, omega (arith, low, whole), omega (arith, high, whole))
+    prefix_first is_key_byte refl line ∙ full_prefix is_key_byte word parts.1 in
+    (whole, ap is_key_length whole ∙ parts.0)
 
 -- a word that is no key is not read as one
 no_key_by : (word : List ℕ) (t : Bool) → is_key word ≡ t → (t ≡ true → ⊥) → key_in word ≡ None
@@ -171,30 +167,17 @@ pub no_key : (line : List ℕ) → (is_key (first_word line) ≡ true → ⊥) �
 no_key line never = taken_none key_in line (no_key_by (first_word line) (is_key (first_word line)) refl (λ e. never e))
 
 -- bytes that a key may have are one
-pub is_key_front : (line : List ℕ) → 1 ≤ prefix_len is_key_byte line → prefix_len is_key_byte line ≤ 250
+pub is_key_front : (line : List ℕ) → is_key_length (prefix_len is_key_byte line) ≡ true
     → is_key (take_while is_key_byte line) ≡ true
-is_key_front line low high =
+is_key_front line few =
     let len : length (take_while is_key_byte line) ≡ prefix_len is_key_byte line =
     length-take-le (prefix_len is_key_byte line) line (prefix_len-le-length is_key_byte line) in
-    and_from (nat_le 1 (length (take_while is_key_byte line)) && nat_le (length (take_while is_key_byte line)) 250)
-    (list_all is_key_byte (take_while is_key_byte line))
-    (rw (len, le-leb 1 (prefix_len is_key_byte line) low, le-leb (prefix_len is_key_byte line) 250 high) refl)
-    (all_prefix is_key_byte line)
+    and_from (is_key_length (length (take_while is_key_byte line))) (list_all is_key_byte (take_while is_key_byte line))
+    (ap is_key_length len ∙ few) (all_prefix is_key_byte line)
 
 -- bytes that a key may have are no spaces
 pub key_front_word : (line : List ℕ) → IsWord (take_while is_key_byte line)
 key_front_word line = key_bytes_word (take_while is_key_byte line) (all_prefix is_key_byte line)
-
--- what is split off a line after so many bytes of a key
-pub split_key : (line : List ℕ) (r : Option (Bor (List ℕ) × Option (Bor (List ℕ)))) → 1 ≤ prefix_len is_key_byte line
-    → prefix_len is_key_byte line ≤ 250
-    → MatchOption r (prefix_len is_key_byte line < length (first_word line))
-    (λ s. (s.0.now ≡ take_while is_key_byte line) × (words_of line ≡ s.0.now ∷ words_behind s.1))
-    → option_map (λ s. (s.0.now, words_behind s.1)) r ≡ taken key_in (words_of line)
-split_key line None low high longer = no_key line (λ e. let whole = (key_is line e).0 in omega (arith, whole, longer))
-split_key line (Some s) low high found =
-    let key : is_key s.0.now ≡ true = ap is_key found.0 ∙ is_key_front line low high in
-    taken_some key_in line s.0.now (words_behind s.1) s.0.now found.1 (rw key refl)
 
 -- ---- numbers
 
@@ -251,7 +234,8 @@ read_plain most n ds small digits value high plain =
 -- what is known of the digits of a plain decimal
 pub record IsPlainOf (ds : List ℕ) (n : ℕ) : Type 0 where
   pub whole : prefix_len is_ascii_digit ds ≡ length ds
-  pub value : digits_value 10 (take_while is_ascii_digit ds) ≡ n
+  pub same : take_while is_ascii_digit ds ≡ ds
+  pub value : digits_value 10 ds ≡ n
   pub some : 0 < length ds
   pub plain : get_or ds 0 0 ≡ 48 → length ds ≡ 1
 
@@ -276,7 +260,8 @@ decimal_plain ds n below e =
     ap (λ (k : ℕ). take k ds) whole ∙ take_all (length ds) ds (omega arith) in
     record {
       whole = whole;
-      value = ap (digits_value 10) (same ∙ e) ∙ numeral.1;
+      same = same;
+      value = ap (digits_value 10) e ∙ numeral.1;
       some = rw e numeral.0.0;
       plain = rw e (zero_alone n below (eqb n 0) refl);
     }
@@ -286,16 +271,12 @@ pub no_number : (bound : ℕ) (line : List ℕ) → ((n : ℕ) → n < bound →
     → None ≡ taken (number_in bound) (words_of line)
 no_number bound line never = taken_none (number_in bound) line (sym (number_in_none bound (first_word line) never))
 
--- the digits in front of a line whose first word is a plain decimal
+-- the digits in front of a line whose first word is a plain decimal are that word
 pub first_plain : (line : List ℕ) (n : ℕ) → n < 2 ^ 64 → first_word line ≡ decimal n
-    → (prefix_len is_ascii_digit line ≡ length (first_word line))
-    × (digits_value 10 (take_while is_ascii_digit line) ≡ n) × IsPlainOf (first_word line) n
+    → (prefix_len is_ascii_digit line ≡ length (first_word line)) × (take_while is_ascii_digit line ≡ decimal n)
 first_plain line n below e =
-    let plain = decimal_plain (first_word line) n below e in (
-      prefix_first is_ascii_digit refl line ∙ plain.whole,
-      ap (digits_value 10) (take_first is_ascii_digit refl line) ∙ plain.value,
-      plain,
-    )
+    let plain = decimal_plain (first_word line) n below e in
+    (prefix_first is_ascii_digit refl line ∙ plain.whole, take_first is_ascii_digit refl line ∙ plain.same ∙ e)
 
 -- ---- the loop over digits
 
@@ -329,7 +310,7 @@ digit_counts c rest h = rw h refl
 -- ---- signed numbers
 
 -- a value that was read, and the words after it
-abbrev with_words : {A : Type 0} → List (List ℕ) → A → Option (A × List (List ℕ))
+abbrev pub with_words : {A : Type 0} → List (List ℕ) → A → Option (A × List (List ℕ))
 with_words words a = Some (a, words)
 
 -- the negative of a number that was taken, which isn't 0
@@ -354,7 +335,7 @@ negative_by words None = refl
 negative_by words (Some n) = tested words (not (eqb n 0)) n
 
 -- what a negative number is taken as, by its digits
-pub taken_negative : (bound : ℕ) (words : List (List ℕ))
+taken_negative : (bound : ℕ) (words : List (List ℕ))
     → taken (negative_in bound) words ≡ (taken (number_in bound) words >>= negative_pair)
 unfolding negative_in
 taken_negative bound [] = refl
@@ -367,57 +348,36 @@ plain_by words None = refl
 plain_by words (Some n) = refl
 
 -- what a number without a sign is taken as
-pub taken_plain : (bound : ℕ) (words : List (List ℕ))
+taken_plain : (bound : ℕ) (words : List (List ℕ))
     → taken (plain_in bound) words ≡ (taken (number_in bound) words >>= plain_pair)
 unfolding plain_in
 taken_plain bound [] = refl
 taken_plain bound (word ∷ words) = plain_by words (number_in bound word)
 
--- a number that is taken is taken as the negative one, unless it is 0
-pub negative_some : (bound n : ℕ) (words behind : List (List ℕ)) (z : ℤ)
-    → Some (n, behind) ≡ taken (number_in bound) words → (n ≡ 0 → ⊥) → z ≡ negsuc (n - 1)
-    → Some (z, behind) ≡ taken (negative_in bound) words
-negative_some bound n words behind z read other is =
-    let tested : eqb n 0 ≡ false = ne_eqb n 0 other in
-    let taken-is : taken (negative_in bound) words ≡ negative_pair (n, behind) =
-    taken_negative bound words ∙ ap (λ (o : Option (ℕ × List (List ℕ))). o >>= negative_pair) (sym read) in
-    let pair-is : negative_pair (n, behind) ≡ with_words behind (negsuc (n - 1)) = rw tested refl in
-    ap (with_words behind) is ∙ sym (taken-is ∙ pair-is)
-
--- 0 is taken as no negative number
-pub negative_zero : (bound n : ℕ) (words behind : List (List ℕ)) → Some (n, behind) ≡ taken (number_in bound) words
-    → n ≡ 0 → None ≡ taken (negative_in bound) words
-negative_zero bound n words behind read zero-is =
-    let taken-is : taken (negative_in bound) words ≡ negative_pair (n, behind) =
-    taken_negative bound words ∙ ap (λ (o : Option (ℕ × List (List ℕ))). o >>= negative_pair) (sym read) in
-    sym (taken-is ∙ rw zero-is refl)
-
--- and as it is
-pub plain_some : (bound n : ℕ) (words behind : List (List ℕ)) (z : ℤ) → Some (n, behind) ≡ taken (number_in bound) words
-    → z ≡ pos n → Some (z, behind) ≡ taken (plain_in bound) words
-plain_some bound n words behind z read is =
-    ap (with_words behind) is ∙ sym (taken_plain bound words
-    ∙ ap (λ (o : Option (ℕ × List (List ℕ))). o >>= plain_pair) (sym read))
-
--- a number behind `-`
+-- a number behind `-`, by what its digits are taken as
 pub signed_minus : (bound c : ℕ) (digits line : List ℕ) → line ≡ c ∷ digits → c ≡ 45
-    → taken (negative_in bound) (words_of digits) ≡ taken (signed_in bound) (words_of line)
+    → taken (signed_in bound) (words_of line) ≡ (taken (number_in bound) (words_of digits) >>= negative_pair)
 unfolding signed_in
-signed_minus bound c digits line e minus = let parts = words_parts digits in rw (e, minus, parts.1) refl
+signed_minus bound c digits line e minus =
+    let parts = words_parts digits in
+    let same : taken (negative_in bound) (words_of digits) ≡ taken (signed_in bound) (words_of line) = rw (e, minus, parts.1) refl in
+    sym same ∙ taken_negative bound (words_of digits)
 
 -- a number without a sign
 pub signed_no_minus : (bound c : ℕ) (rest line : List ℕ) → bound ≤ 2 ^ 64 → line ≡ c ∷ rest → (c ≡ 45 → ⊥)
-    → taken (plain_in bound) (words_of line) ≡ taken (signed_in bound) (words_of line)
+    → taken (signed_in bound) (words_of line) ≡ (taken (number_in bound) (words_of line) >>= plain_pair)
 unfolding signed_in plain_in
 signed_no_minus bound c rest line small e other =
     let parts = words_parts rest in
     let nothing : None ≡ number_in bound [] =
     number_in_none bound [] (λ n lt is. let plain = decimal_plain [] n (omega arith) is in let some = plain.some in
     omega (arith, some)) in
+    let same : taken (plain_in bound) (words_of line) ≡ taken (signed_in bound) (words_of line) =
     elim (cases_Bool (is_space c)) [
       | inl here ↦ rw (e, here, ← nothing) refl
       | inr not_space ↦ rw (e, not_space, parts.1, ne_eqb c 45 other) refl
-    ]
+    ] in
+    sym same ∙ taken_plain bound (words_of line)
 
 -- and nothing at all
 pub signed_nothing : (bound : ℕ) (line : List ℕ) → length line ≡ 0 → None ≡ taken (signed_in bound) (words_of line)

@@ -33,7 +33,7 @@ search_ends b back from back-is none before k low high occurs =
     further b back from (length back) back-is none before k low (omega (arith, len, fits)) occurs
 
 -- 13 and 10 stand where a line end begins
-two_bytes : (b : List ℕ) (k j : ℕ) → get_or b k 0 ≡ 13 → get_or b (k + 1) 0 ≡ 10 → j < 2
+pub two_bytes : (b : List ℕ) (k j : ℕ) → get_or b k 0 ≡ 13 → get_or b (k + 1) 0 ≡ 10 → j < 2
     → get_or b (k + j) 0 ≡ get_or line_end j 0
 two_bytes b k zero here ahead lt = rw add-zero here
 two_bytes b k (suc zero) here ahead lt = ahead

@@ -1,5 +1,7 @@
 -- Histories: lists of answered requests, and which are legal.
 use Rattle.std.specs.Prelude.{◌≡◌, ℕ, ◌+◌, ◌^◌, max, min, ⊤, ◌&&◌, List, [], ◌∷◌, ◌++◌, true, All, map, filter, ◌==◌}
+use mathlib.Core.Option.{some}
+use lib.ListN.{get_elem?}
 use Rattle.proto.specs.declared.message.Request.{Request}
 use Rattle.proto.specs.declared.message.Reply.{Reply}
 use Rattle.proto.specs.declared.history.Posted.{Posted}
@@ -11,16 +13,17 @@ use Rattle.proto.specs.Sizes.{Sizes}
 use Rattle.proto.specs.Cache.{Cache, empty_cache}
 use Rattle.proto.specs.Steps.{Step}
 
-abbrev pub max_moment : ℕ
-max_moment = 2 ^ 62
-
 -- After these answers of the clock, and this moment, each request has one answer more, and its moment: that answer, up to the
 -- greatest moment, or the moment before where that is greater. So moments never fall.
 abbrev pub MomentsFrom : List GivenAnswer → ℕ → List Answered → Type 0
 MomentsFrom told t [] = ⊤
 MomentsFrom told t (e ∷ history) =
-    (answer : GivenAnswer) × (e.clock ≡ told ++ answer ∷ []) × (e.moment ≡ max t (min answer.seconds max_moment))
+    (answer : GivenAnswer) × (e.clock ≡ told ++ answer ∷ []) × (e.moment ≡ max t (min answer.seconds (2 ^ 62)))
     × MomentsFrom e.clock e.moment history
+
+-- the greatest moment
+abbrev pub max_moment : ℕ
+max_moment = 2 ^ 62
 
 -- the clock's answers that gave a history its moments, after these
 abbrev pub answers_by : List GivenAnswer → List Answered → List GivenAnswer
@@ -34,6 +37,7 @@ Chain sizes before (e ∷ history) (after ∷ caches) =
     Step sizes before e.moment e.request e.reply after × Chain sizes after history caches
 Chain _ _ _ _ = ⊥
 
+-- the entries are numbered n, n + 1 and so on
 abbrev pub NumbersFrom : ℕ → List Answered → Type 0
 NumbersFrom n [] = ⊤
 NumbersFrom n (e ∷ history) = (e.number ≡ n) × NumbersFrom (n + 1) history
@@ -57,7 +61,7 @@ pub record Legal (sizes : Sizes) (history : List Answered) : Type 0 where
   pub moments : MomentsFrom [] 0 history
   pub caches : List Cache
   pub chain : Chain sizes (empty_cache 0) history caches
-  pub numbers : (worker : ℕ) → NumbersFrom 1 (worker_share history worker)
+  pub numbers : (worker place : ℕ) (e : Answered) → get_elem? (worker_share history worker) place ≡ some e → e.number ≡ place + 1
 
 -- A history that is legal for these sizes. Where the terms say so, the clock's answers in it are readings of the system's clock,
 -- one for each entry, all counted from one start.

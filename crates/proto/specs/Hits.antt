@@ -2,12 +2,11 @@
 use Rattle.std.specs.Prelude.{ℕ, ◌+◌, List, [], ◌++◌, length, codes, decimal}
 use Rattle.std.specs.Option.{option_map_or}
 use Rattle.proto.specs.declared.hits.Hit.{Hit}
-use Rattle.proto.specs.Lines.{line_end}
 
 abbrev pub hit_bytes : Hit → List ℕ
 hit_bytes h =
     ((codes "VALUE " ++ h.key ++ codes " " ++ decimal h.flags ++ codes " " ++ decimal (length h.value)
-    ++ option_map_or (λ cas. codes " " ++ decimal cas) h.cas []) ++ line_end) ++ h.value ++ line_end
+    ++ option_map_or (λ cas. codes " " ++ decimal cas) h.cas []) ++ codes "\r\n") ++ h.value ++ codes "\r\n"
 
 -- how much room is reserved for the text of a hit: key and value, and at most 73 bytes of words, numbers and line ends
 abbrev pub hit_room : Hit → ℕ

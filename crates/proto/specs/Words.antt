@@ -29,6 +29,10 @@ first_word line = before_first (λ b. b == 32) line
 abbrev pub is_key_byte : ℕ → Bool
 is_key_byte b = (nat_le 33 b && nat_le b 126) || (nat_le 128 b && nat_le b 255)
 
+-- how many bytes a key may have
+abbrev pub is_key_length : ℕ → Bool
+is_key_length n = nat_le 1 n && nat_le n 250
+
 -- the words of what is left of a line, if anything is
 abbrev pub words_behind : Option (Bor (List ℕ)) → List (List ℕ)
 words_behind None = []

@@ -6,7 +6,6 @@ ghost use Rattle.proto.specs.ClockAnswers.{GivenAnswer, IsRead};
 use crate::system_clock::ClockAnswer;
 use crate::trace::{Noted, Trace};
 use std::marker::Model;
-use std::slice;
 
 /// A clock, by the list of its answers, where it tells them.
 pub trait Clock: Drop {
@@ -62,6 +61,10 @@ impl ClockAnswers {
     }
 }
 
+impl Noted<ClockAnswer> for ClockAnswer {
+    ghost noted = { λ answer. answer ∷ [] };
+}
+
 impl Noted<ClockAnswer> for ClockAnswers {
     ghost noted = { λ a. a };
 }
@@ -97,8 +100,8 @@ impl<C: Clock> AskedClock<C> {
         ensures leads { C.leads_to self.old.clock self.new.clock }
     {
         let answer = self.clock.now();
-        self.answers.answers.note(slice::from_ref(&answer));
-        answer.seconds()
+        self.answers.answers.note_as(&answer);
+        answer.seconds
     }
 
     /// Its answers so far.

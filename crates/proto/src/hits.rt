@@ -1,16 +1,16 @@
 //! The hits of an answer as they are shown, in one piece of memory.
 
 ghost use Rattle.std.specs.Prelude.{◌≡◌, ◌≤◌, ◌<◌, ◌+◌, ◌-◌, ◌++◌, ◌∷◌, ◌↔◌, [], codes, IfOk, IfSome, IsTrue, OnErr, OnOk};
-ghost use Rattle.std.specs.Prelude.{flat_map};
+ghost use Rattle.std.specs.Prelude.{decimal, flat_map, length, vec_len, vec_capacity};
 ghost use Rattle.proto.specs.Hits.{hit_bytes, hit_room};
 ghost use Rattle.proto.specs.Lines.{line_end};
 ghost use Rattle.proto.specs.SeenHits.{seen_hit};
 
 use crate::byte_string::ByteString;
 use crate::no_memory::NoMemory;
-use crate::showing::push_hit;
 use crate::spare_buffer::SpareBuffer;
 use crate::trace::{Noted, Trace};
+use itoa::Buffer;
 use std::alloc::Global;
 use std::marker::Model;
 use std::mem;
@@ -54,7 +54,7 @@ impl<'a> HitRef<'a> {
 /// Hits in the order of the keys asked: of each there is the text that shows it. Contracts see the hits.
 #[derive(Drop)]
 pub struct Hits {
-    text: Vec<u8>,
+    pub(crate) text: Vec<u8>,
     shown: Trace<Hit>,
 }
 
@@ -86,35 +86,65 @@ impl Hits {
         self.text.is_empty()
     }
 
-    /// The bytes of the memory of their text.
-    pub(crate) fn capacity(&self) -> usize {
-        self.text.capacity()
+    /// Appends their text and the line that ends it, or changes nothing.
+    pub(crate) fn show(&self, out: &mut Vec<u8>) -> Result<(), NoMemory>
+        ensures ok { OnOk result
+            (out.new.items ≡ out.old.items ++ flat_map hit_bytes self.now ++ codes "END" ++ line_end) }
+        ensures err { OnErr result (out.new.items ≡ out.old.items) }
+    {
+        out.reserve(self.text.len() + 5)?;
+        out.extend_from_slice(self.text.as_slice()).unwrap();
+        out.extend_from_slice(b"END\r\n").unwrap();
+        Ok(())
     }
 
-    pub(crate) fn text(&self) -> &[u8]
-        ensures { result.now ≡ flat_map hit_bytes self.now }
+    /// The same. An empty output takes the memory of the text, which has its own then, where that isn't more: more answers
+    /// may follow a small one.
+    pub(crate) fn give(&mut self, out: &mut Vec<u8>) -> Result<(), NoMemory>
+        ensures ok { OnOk result
+            (out.new.items ≡ out.old.items ++ flat_map hit_bytes self.old ++ codes "END" ++ line_end) }
+        ensures err { OnErr result (out.new.items ≡ out.old.items) }
     {
-        self.text.as_slice()
-    }
-
-    /// Gives an empty output their text and the line that ends it, and takes its memory for it. NoMemory where memory was
-    /// refused: then the output stays empty.
-    pub(crate) fn give_text(&mut self, out: &mut Vec<u8>) -> Result<(), NoMemory>
-        requires { out.old.items ≡ [] }
-        ensures ok { OnOk result (out.new.items ≡ flat_map hit_bytes self.old ++ codes "END" ++ line_end) }
-        ensures err { OnErr result (out.new.items ≡ []) }
-    {
+        if !out.is_empty() || self.text.capacity() < out.capacity() {
+            return self.show(out);
+        }
         self.text.reserve(5)?;
         self.text.extend_from_slice(b"END\r\n").unwrap();
         mem::swap(&mut self.text, out);
         self.shown = Trace::new();
         Ok(())
     }
+}
 
-    /// The memory of the hits, which are gone.
-    pub fn into_buffer(self) -> SpareBuffer {
-        SpareBuffer::emptied(self.text)
+/// Appends a space and a number in decimal, for which there is room.
+fn push_number(text: &mut Vec<u8>, n: u64)
+    requires { vec_len text.old + 21 ≤ vec_capacity text.old }
+    ensures items { text.new.items ≡ text.old.items ++ codes " " ++ decimal n }
+    ensures len { vec_len text.new ≤ vec_len text.old + 21 }
+    ensures room { vec_capacity text.old ≤ vec_capacity text.new }
+{
+    text.push_reserved(b' ');
+    text.extend_from_slice(Buffer::new().format(n).as_bytes())
+        .unwrap();
+}
+
+/// Appends the text of a hit, for which there is room.
+fn push_hit(text: &mut Vec<u8>, hit: HitRef)
+    requires { vec_len text.old + hit_room (seen_hit hit) ≤ vec_capacity text.old }
+    ensures items { text.new.items ≡ text.old.items ++ hit_bytes (seen_hit hit.entry) }
+    ensures len { vec_len text.new ≤ vec_len text.old + hit_room (seen_hit hit.entry) }
+    ensures room { vec_capacity text.old ≤ vec_capacity text.new }
+{
+    text.extend_from_slice(b"VALUE ").unwrap();
+    text.extend_from_slice(hit.key).unwrap();
+    push_number(text, u64::from(hit.flags));
+    push_number(text, hit.value.len() as u64);
+    if let Some(cas) = hit.cas {
+        push_number(text, cas);
     }
+    text.extend_from_slice(b"\r\n").unwrap();
+    text.extend_from_slice(hit.value).unwrap();
+    text.extend_from_slice(b"\r\n").unwrap();
 }
 
 /// Puts hits one after the other into memory that was reserved for them.
@@ -143,7 +173,7 @@ impl HitWriter {
         ensures { result ≡ record { hits = []; room = 0 } }
     {
         HitWriter {
-            text: buffer.into_bytes(),
+            text: buffer.bytes,
             shown: Trace::new(),
             room: 0,
         }

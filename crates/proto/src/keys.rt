@@ -1,7 +1,6 @@
 //! The keys of a `get`.
 
 ghost use Rattle.std.specs.Prelude.{◌≡◌, ◌≢◌, ◌≤◌, ◌++◌, ◌∷◌, ◌↔◌, [], length, IfOk, IsTrue, MatchOption, OnErr, OnOk};
-ghost use Rattle.proto.specs.Words.{space};
 ghost use Rattle.proto.specs.Words.{is_space, IsWord};
 ghost use Rattle.std.specs.List.{count_by};
 
@@ -19,7 +18,7 @@ pub struct Keys {
     bytes: Vec<u8>,
     /// How many keys there are.
     count: usize,
-    buffer: SpareBuffer,
+    pub(crate) buffer: SpareBuffer,
 }
 
 impl Model for Keys {
@@ -48,14 +47,17 @@ impl Keys {
     pub fn from_words(alloc: Global, words: Words) -> Result<Keys, NoMemory>
         ensures { IfOk result (λ keys. keys ≡ words.entry) }
     {
-        match words.rest() {
-            None => Ok(Keys::new(alloc)),
-            Some(rest) => Ok(Keys {
-                bytes: spaced(alloc, rest)?,
-                count: spaces(rest) + 1,
-                buffer: SpareBuffer::new(alloc),
-            }),
-        }
+        let Some(line) = words.rest() else {
+            return Ok(Keys::new(alloc));
+        };
+        let mut bytes = Vec::with_capacity(alloc, line.len() + 1)?;
+        bytes.push_reserved(b' ');
+        bytes.extend_from_slice(line).unwrap();
+        Ok(Keys {
+            bytes,
+            count: spaces(line) + 1,
+            buffer: SpareBuffer::new(alloc),
+        })
     }
 
     /// Appends a key. NoMemory where memory was refused: then nothing has changed.
@@ -110,30 +112,13 @@ impl Keys {
         *self.bytes.allocator()
     }
 
-    /// Lends the buffer for the hits, in place of one that was lent before.
-    pub fn lend_buffer(&mut self, buffer: SpareBuffer)
-        ensures { self.new ≡ self.old }
-    {
-        self.buffer = buffer;
-    }
-
     /// The buffer that was lent; one without memory is left.
     pub fn take_buffer(&mut self) -> SpareBuffer
         ensures { self.new ≡ self.old }
     {
-        let none = SpareBuffer::new(self.allocator());
+        let none = SpareBuffer::new(*self.bytes.allocator());
         mem::replace(&mut self.buffer, none)
     }
-}
-
-/// The bytes after a space.
-fn spaced(alloc: Global, bytes: &[u8]) -> Result<Vec<u8>, NoMemory>
-    ensures { IfOk result (λ copy. copy.items ≡ space ∷ bytes.now) }
-{
-    let mut copy = Vec::with_capacity(alloc, bytes.len() + 1)?;
-    copy.push_reserved(b' ');
-    copy.extend_from_slice(bytes).unwrap();
-    Ok(copy)
 }
 
 /// How many spaces stand in the bytes.

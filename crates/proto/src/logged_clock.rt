@@ -4,9 +4,8 @@
 ghost use Rattle.std.specs.Prelude.{◌≡◌, ◌++◌, ◌∷◌, [], IfSome};
 ghost use Rattle.std.specs.Time.{system_time_nanos, instant_nanos, FitsClock};
 
-use crate::trace::Trace;
+use crate::trace::{Noted, Trace};
 use std::marker::Model;
-use std::slice;
 use std::time::{self, Instant, SystemTime};
 
 /// What was read at the start: the Unix time and the monotonic clock, None where they couldn't be read. Only `LoggedClock` makes
@@ -22,6 +21,14 @@ pub struct ClockStart {
 pub struct ClockReading {
     start: ClockStart,
     now: Option<Instant>,
+}
+
+impl Noted<Option<Instant>> for Option<Instant> {
+    ghost noted = { λ now. now ∷ [] };
+}
+
+impl Noted<ClockReading> for ClockReading {
+    ghost noted = { λ reading. reading ∷ [] };
 }
 
 /// The system's clock. Its value is its start and the list of its readings; nothing but `read` adds to it.
@@ -64,7 +71,7 @@ impl<R: time::Clock + Drop> LoggedClock<R> {
         ensures fits { IfSome result.now (λ now. FitsClock (instant_nanos now)) }
     {
         let now = Instant::now(&self.rt).ok();
-        self.readings.note(slice::from_ref(&now));
+        self.readings.note_as(&now);
         ClockReading {
             start: self.start,
             now,

@@ -1,18 +1,18 @@
 //! What a line is, found by its first word.
 
 ghost use Rattle.std.specs.Prelude.{◌≡◌, option_map};
-ghost use Rattle.proto.specs.declared.message.Message.TheVariants.{Wrong, Fatal};
-ghost use Rattle.proto.specs.Heads.{line_of, storage_line_of, parsed_line_of};
+ghost use Rattle.proto.specs.declared.message.Message.TheVariants.{Fatal};
+ghost use Rattle.proto.specs.Heads.{storage_line_of, parsed_line_of};
 ghost use Rattle.proto.specs.PlainReader.{storage, meaning, meaning_of};
 
 use crate::command_word::{CommandWord, command_of};
 use crate::dialect::Dialect;
 use crate::limits::MAX_BLOCK;
-use crate::line::{LineView, line_view};
+use crate::line::other_line;
 use crate::message::{FatalKind, WrongKind};
 use crate::message_view::MessageView;
 use crate::storage_line::{StorageLineView, storage_line};
-use crate::words::Words;
+use crate::words::split_word;
 
 /// What a line is: a message, or a storage line whose data block is to come.
 #[derive(Drop)]
@@ -38,25 +38,11 @@ fn parsed_storage_line<'a>(head: Option<StorageLineView<'a>>) -> ParsedLine<'a>
     }
 }
 
-/// What a line with another command word is.
-fn parsed_other_line<'a>(line: Option<LineView<'a>>) -> ParsedLine<'a>
-    ensures { parsed_line_of result ≡ meaning_of (Wrong WrongKind.BadLine) (option_map line_of line.entry) }
-{
-    ParsedLine::Message(match line {
-        Some(LineView::Request(request, noreply)) => MessageView::Request(request, noreply),
-        Some(LineView::Quit) => MessageView::Quit,
-        None => MessageView::Wrong(WrongKind::BadLine),
-    })
-}
-
 /// The message that a line is, or the storage line whose data block is to come.
 pub fn parse_line<'a>(dialect: Dialect, line: &'a [u8]) -> ParsedLine<'a>
     ensures { parsed_line_of result ≡ meaning dialect line.now }
 {
-    let mut words = Words::new(line);
-    let Some(word) = words.next() else {
-        return ParsedLine::Message(MessageView::Wrong(WrongKind::Unknown));
-    };
+    let (word, words) = split_word(line);
     match command_of(word) {
         Some(CommandWord::Storage(word)) => {
             if word.is_known(dialect) {
@@ -65,7 +51,9 @@ pub fn parse_line<'a>(dialect: Dialect, line: &'a [u8]) -> ParsedLine<'a>
                 ParsedLine::Message(MessageView::Wrong(WrongKind::Unknown))
             }
         }
-        Some(CommandWord::Other(word)) => parsed_other_line(line_view(dialect, word, words)),
+        Some(CommandWord::Other(word)) => ParsedLine::Message(other_line(
+            dialect, word, words,
+        ).unwrap_or(MessageView::Wrong(WrongKind::BadLine))),
         None => ParsedLine::Message(MessageView::Wrong(WrongKind::Unknown)),
     }
 }

@@ -3,7 +3,6 @@
 ghost use Rattle.std.specs.Prelude.{◌≡◌, ◌++◌, is_some, option_copied, None, IsOk, IsTrue, OnOk, OnErr};
 ghost use Rattle.std.specs.Option.{option_copied_mut};
 ghost use Rattle.proto.specs.Answers.{answer, is_ask, is_silent};
-ghost use Rattle.proto.specs.AnswerKinds.{kind_of};
 
 use crate::message::{FatalKind, Message, Reply, WrongKind};
 use crate::no_memory::NoMemory;
@@ -19,18 +18,6 @@ pub(crate) enum AnswerKind {
     Wrong(WrongKind),
     Quit,
     Fatal(FatalKind),
-}
-
-fn kind_of(message: &Message) -> AnswerKind
-    ensures { result ≡ kind_of message.now }
-{
-    match message {
-        Message::Ask(_, true) => AnswerKind::QuietAsk,
-        Message::Ask(_, false) => AnswerKind::Ask,
-        Message::Wrong(kind) => AnswerKind::Wrong(*kind),
-        Message::Quit => AnswerKind::Quit,
-        Message::Fatal(kind) => AnswerKind::Fatal(*kind),
-    }
 }
 
 /// The answer to a message, which is still to be given. Clauses see the message; of its bytes nothing is kept but its kind.
@@ -57,10 +44,15 @@ impl PendingAnswer {
     pub fn of(message: &Message) -> Self
         ensures { result ≡ message.now }
     {
-        PendingAnswer {
-            kind: kind_of(message),
-            message: Snapshot::of(message),
-        }
+        let kind = match message {
+            Message::Ask(_, true) => AnswerKind::QuietAsk,
+            Message::Ask(_, false) => AnswerKind::Ask,
+            Message::Wrong(kind) => AnswerKind::Wrong(*kind),
+            Message::Quit => AnswerKind::Quit,
+            Message::Fatal(kind) => AnswerKind::Fatal(*kind),
+        };
+        let message = Snapshot::of(message);
+        PendingAnswer { kind, message }
     }
 
     pub fn is_ask(&self) -> bool

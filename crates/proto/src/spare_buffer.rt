@@ -9,7 +9,7 @@ use std::marker::Model;
 /// is used again where it would be freed by one thread and taken by another.
 #[derive(Drop)]
 pub struct SpareBuffer {
-    bytes: Vec<u8>,
+    pub(crate) bytes: Vec<u8>,
 }
 
 impl Model for SpareBuffer {

@@ -7,13 +7,12 @@ ghost use Rattle.proto.specs.ClockAnswers.{unix_seconds, seconds_between, second
 use crate::logged_clock::{ClockReading, LoggedClock};
 use crate::trace::Trace;
 use std::marker::Model;
-use std::slice;
 use std::time::{self, Instant, SystemTime, UNIX_EPOCH};
 
 /// One answer of a clock. By whom it was given it says for clauses alone: only `SystemClock` makes one with a reading.
 #[derive(Drop)]
 pub struct ClockAnswer {
-    seconds: u64,
+    pub(crate) seconds: u64,
     read: Trace<ClockReading>,
 }
 
@@ -105,7 +104,7 @@ impl<R: time::Clock + Drop> SystemClock<R> {
         let reading = self.log.read();
         let seconds = self.began + seconds_between(reading.start().monotonic(), reading.now());
         let mut read = Trace::new();
-        read.note(slice::from_ref(&reading));
+        read.note_as(&reading);
         ClockAnswer { seconds, read }
     }
 }

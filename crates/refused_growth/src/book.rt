@@ -78,8 +78,7 @@ fn finish(book: &mut Book) -> Option<Course> {
     if !asks_no_more(book) || book.out(1) != OUTPUT {
         return None;
     }
-    book.gave(1, book.out(1).len());
-    match book.finished(1) {
+    match book.gave(1, book.out(1).len()) {
         Some(EndCause::Quit) => Some(Course::Answered),
         _ => None,
     }

@@ -10,7 +10,7 @@ use Rattle.segments.specs.Pools.{PoolState, IsPool, item_in}
 use Rattle.segments.specs.Places.{same_place, IsAppended}
 use Rattle.segments.proofs.MovedPlaces.{same_place_is, same_place_itself}
 use Rattle.segments.specs.Marks.{Marks}
-use Rattle.index.specs.Keys.{key_at}
+use Rattle.segments.specs.Pools.{key_at}
 use Rattle.index.specs.Slots.{used_in}
 use Rattle.index.specs.Table.{Table, Places, IsIndex, IsMap, places, place_at}
 use Rattle.segcache.specs.Shown.{current}

@@ -1,13 +1,12 @@
 -- What an item leaves that is put over the one of its key, of the same size.
-use Rattle.std.proofs.Common.{◌≡◌, ℕ, ◌≤◌, ◌<◌, ◌^◌, Bool, true, false, cond, List, ◌∷◌, [], ◌++◌, Option, Some, None}
+use Rattle.std.proofs.Common.{◌≡◌, ℕ, ◌<◌, ◌^◌, true, false, List, Option, Some, None}
 use Rattle.std.proofs.Common.{refl, sym, ap, subst, ◌∙◌, inl, inr, arith}
-use Rattle.std.specs.Prelude.{bytes_eq, option_map, IsSome, ◌==◌, if◌then◌else◌}
+use Rattle.std.specs.Prelude.{bytes_eq, option_map, IsSome}
 use Rattle.std.specs.FinMap as finite
 use Rattle.std.proofs.lemmas.Bool.{cases_Bool, false≢true}
-use Rattle.std.proofs.lemmas.Option.{none-some}
 use Rattle.std.proofs.lemmas.Slice.Eq.{bytes_eq-Decides}
 use Rattle.proto.specs.Sizes.{item_limit}
-use Rattle.proto.specs.Cache.{Entry, Entries, has_arrived}
+use Rattle.proto.specs.Cache.{Entry, has_arrived}
 use Rattle.proto.specs.Buckets.{bucket_of, time_to_live}
 use Rattle.proto.specs.Stored.{StoredItem}
 use Rattle.proto.proofs.CacheLemmas.{entry_size, is_live, same_entries, get-insert, if_live}
@@ -23,7 +22,7 @@ use Rattle.segments.proofs.MovedPlaces.{same_place_is, same_place_itself}
 use Rattle.index.specs.Table.{Table, Places}
 use Rattle.segcache.specs.Shown.{current, shown_entries, live_entries, entry_at, kept_entry}
 use Rattle.segcache.specs.State.{MapState, IsSegmentedMap}
-use Rattle.segcache.specs.Kept.{IsTied, IsPast}
+use Rattle.segcache.specs.Kept.{IsPast}
 use Rattle.segcache.specs.Keeping.{KeepsStored}
 use Rattle.segcache.specs.Writes.{StandsAt, ChangesInPlace, unread, with_value}
 use Rattle.engine.specs.Written.{IsWritten, IsChanged, MayBeWritten}

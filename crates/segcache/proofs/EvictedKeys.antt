@@ -24,7 +24,7 @@ use Rattle.segments.specs.Places.{same_place, HasFree}
 use Rattle.segments.proofs.Places.{cleared_item, cleared_deadline, cleared_free}
 use Rattle.segments.proofs.MovedPlaces.{same_place_is, same_place_itself}
 use Rattle.segments.proofs.MarkedPlaces.{knows_after}
-use Rattle.index.specs.Keys.{key_at}
+use Rattle.segments.specs.Pools.{key_at}
 use Rattle.segments.specs.Marks.{Marks, is_marked, lives_by}
 use Rattle.index.specs.Table.{Table, Places}
 use Rattle.segcache.specs.Shown.{current, shown_entries, entry_at, kept_entry, dead_entry}

@@ -2,8 +2,7 @@
 use Rattle.std.proofs.Common.{◌≡◌, ℕ, Bool, true, false, List, Option, Some, None, refl, sym, ap, subst, ◌∙◌, inl, inr}
 use Rattle.proto.specs.declared.message.Request.{Request}
 use Rattle.proto.specs.declared.message.Reply.{Reply}
-use Rattle.proto.specs.declared.message.Reply.TheVariants.{Stored, NotStored, Exists, NotFound, Values, Deleted, Number, Flushed, TooLarge, NoMemory}
-use Rattle.proto.specs.declared.message.Reply.TheVariants.{NotNumber, NoCas}
+use Rattle.proto.specs.declared.message.Reply.TheVariants.{Values}
 use Rattle.proto.specs.Cache.{Entry, Cache}
 use Rattle.std.specs.Prelude.{◌&&◌}
 use Rattle.std.specs.FinMap as finite

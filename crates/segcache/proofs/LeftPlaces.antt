@@ -21,7 +21,7 @@ use Rattle.segments.proofs.AgreeingTests.{in_segment}
 use Rattle.segments.proofs.PlanLemmas.{found_from}
 use Rattle.segments.specs.Marks.{Marks, KnowsPool, mark_at, is_marked}
 use Rattle.index.specs.Layouts.{IsLayoutOf}
-use Rattle.index.specs.Keys.{key_at}
+use Rattle.segments.specs.Pools.{key_at}
 use Rattle.index.specs.Table.{Table, Places, IsMap, IsSameSize}
 use Rattle.segcache.specs.Shown.{current, live_entries, shown_entries}
 use Rattle.segcache.specs.Kept.{IsTied}

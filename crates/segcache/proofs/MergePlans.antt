@@ -9,7 +9,7 @@ use Rattle.proto.specs.Cache.{Entries, has_arrived}
 use Rattle.segments.specs.Merges.{IsPlan, with_merge_planned}
 use Rattle.segments.specs.Marks.{Marks, lives_by}
 use Rattle.segments.proofs.MarkedPlaces.{knows_after}
-use Rattle.index.specs.Keys.{key_at}
+use Rattle.segments.specs.Pools.{key_at}
 use Rattle.index.specs.Table.{Table, Places}
 use Rattle.segcache.specs.Shown.{current, shown_entries, live_entries, entry_at}
 use Rattle.segcache.specs.Kept.{IsTied, IsPast}

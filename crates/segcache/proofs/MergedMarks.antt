@@ -20,7 +20,8 @@ use Rattle.segments.specs.Merges.{contains_number}
 use Rattle.segments.proofs.MovedPlaces.{carried, moved_other, live_source, same_place_is, same_place_itself}
 use Rattle.segments.specs.Marks.{Marks, is_marked, is_mark_of, mark_at, lives_by, carried_marks}
 use Rattle.segments.proofs.MarkedPlaces.{carried_at, is_target_of, mark_found, knows_carried, sources_within, targets_within}
-use Rattle.index.specs.Keys.{KeysOf, key_at}
+use Rattle.index.specs.Keys.{KeysOf}
+use Rattle.segments.specs.Pools.{key_at}
 use Rattle.index.specs.Layouts.{IsLayoutOf}
 use Rattle.index.specs.Table.{Table, IsSameSize}
 use Rattle.index.specs.Relocating.{IsRelocated, CanRelocate, HoldsLive, AreInTurn, keys_behind}

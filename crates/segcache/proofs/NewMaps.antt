@@ -11,7 +11,7 @@ use Rattle.segments.specs.Changes.{new_pool}
 use Rattle.segments.specs.Filling.{IsInTimeOrder}
 use Rattle.segments.specs.Marks.{Marks, KnowsPool, no_marks, mark_at}
 use Rattle.segments.proofs.MarkedPlaces.{knows_none, nothing_at}
-use Rattle.index.specs.Keys.{key_at}
+use Rattle.segments.specs.Pools.{key_at}
 use Rattle.index.specs.Layouts.{IsLayoutOf}
 use Rattle.index.specs.Table.{Table, Places, IsMap}
 use Rattle.segcache.specs.Kept.{IsTied, IsPast}

@@ -13,7 +13,7 @@ use Rattle.segments.specs.Items.{Item}
 use Rattle.segments.specs.Pools.{PoolState, IsPool, Standing, item_in, items_of, segment_at, standing}
 use Rattle.segments.proofs.Places.{standing_by, pool_items_few, mark_within}
 use Rattle.segments.proofs.MergeLemmas.{length_standing}
-use Rattle.index.specs.Keys.{key_at}
+use Rattle.segments.specs.Pools.{key_at}
 use Rattle.index.specs.Slots.{used_in}
 use Rattle.index.specs.Table.{Table, IsIndex, HasPlace}
 use Rattle.index.proofs.UsedSlots.{few_used}

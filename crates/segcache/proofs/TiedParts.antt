@@ -18,7 +18,8 @@ use Rattle.segments.proofs.Places.{own_marks, changed_item, given_item, live_giv
 use Rattle.segments.proofs.MovedPlaces.{same_place_is, same_place_itself}
 use Rattle.segments.specs.Marks.{Marks, IsWithin, KnowsPool, is_marked, is_mark_of, with_mark, lives_by}
 use Rattle.segments.proofs.MarkedPlaces.{mark_after, item_within, knows_unmark, knows_longer, knows_appended, knows_changed, knows_given}
-use Rattle.index.specs.Keys.{KeysOf, key_at}
+use Rattle.index.specs.Keys.{KeysOf}
+use Rattle.segments.specs.Pools.{key_at}
 use Rattle.index.specs.Layouts.{IsLayoutOf}
 use Rattle.index.specs.Table.{Table, Places, IsIndex, IsMap, IsSameSize, HasPlace, place_at}
 use Rattle.index.proofs.SlotsAsMap.{stands_from_get, get_from_stands, stands_once, get-insert, get-remove, Stands}

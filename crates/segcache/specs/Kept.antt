@@ -9,7 +9,7 @@ use Rattle.segments.specs.Filling.{IsInTimeOrder}
 use Rattle.segments.specs.Marks.{Marks, KnowsPool, is_marked}
 use Rattle.index.specs.Layouts.{IsLayoutOf}
 use Rattle.index.specs.Table.{Table, IsIndex}
-use Rattle.index.specs.Keys.{key_at}
+use Rattle.segments.specs.Pools.{key_at}
 use Rattle.segcache.specs.Shown.{current}
 
 -- The marks are exactly at the current places, those that the index has, each of which holds an item of its key; and

@@ -7,7 +7,7 @@ use Rattle.segments.specs.declared.place.Place.{Place}
 use Rattle.segments.specs.Items.{Item}
 use Rattle.segments.specs.Pools.{PoolState, item_in, place_deadline}
 use Rattle.index.specs.Table.{Table, Places, places}
-use Rattle.index.specs.Keys.{key_at}
+use Rattle.segments.specs.Pools.{key_at}
 
 -- the entry that an item keeps, with its segment's deadline
 abbrev pub kept_entry : Option ℕ → Item → Entry

@@ -63,27 +63,6 @@ fn entry_at<'a>(pool: &'a Pool, place: Place) -> EntryRef<'a>
     }
 }
 
-impl SegmentMap {
-    /// The place of the key's item; None if it has none that is live.
-    fn find(&self, key: &[u8]) -> Option<Place>
-        ensures found { MatchOption result
-            (map.get (shown_entries self.now.pool self.now.index self.now.moment) key.now ≡ None)
-            (λ place. map.get (shown_entries self.now.pool self.now.index self.now.moment) key.now
-            ≡ Some (entry_at self.now.pool place)) }
-        ensures current { IfSome result
-            (λ place. map.get (current self.now.pool self.now.index) key.now ≡ Some place) }
-        ensures item { IfSome result (λ place. IsSome (item_in self.now.pool place)) }
-        ensures waits { IfSome result
-            (λ place. has_arrived (place_deadline self.now.pool place) self.now.moment ≡ false) }
-    {
-        let place = self.index.look_up(&self.pool, key)?;
-        if has_arrived(self.pool.deadline(place.segment), self.moment) {
-            return None;
-        }
-        Some(place)
-    }
-}
-
 impl LiveMap for SegmentMap {
     ghost use Rattle.std.specs.Prelude.{false};
     ghost use Rattle.segcache.specs.Shown.{shown_entries};
@@ -134,8 +113,12 @@ impl LiveMap for SegmentMap {
     }
 
     fn get<'a>(&'a self, key: &[u8]) -> Option<(EntryRef<'a>, Place)> {
-        let place = self.find(key)?;
-        Some((entry_at(&self.pool, place), place))
+        let place = self.index.look_up(&self.pool, key)?;
+        let entry = entry_at(&self.pool, place);
+        if has_arrived(entry.deadline, self.moment) {
+            return None;
+        }
+        Some((entry, place))
     }
 
     fn entry_at<'a>(&'a self, _key: &[u8], place: Place) -> EntryRef<'a> {
@@ -143,7 +126,7 @@ impl LiveMap for SegmentMap {
     }
 
     fn contains_key(&self, key: &[u8]) -> bool {
-        self.find(key).is_some()
+        self.get(key).is_some()
     }
 
     fn count_read(&mut self, _key: &[u8], place: Place) {

@@ -8,20 +8,20 @@ use Rattle.std.specs.Prelude.{◌==◌, ◌⊎◌, slice_get}
 use Rattle.std.proofs.lemmas.Bool.{cases_Bool, cases_eq, cases_lt, eq-eqb, ne_eqb}
 use Rattle.std.specs.Prelude.{IsSome, is_some}
 use Rattle.std.specs.Bool.{nat_eq}
-use Rattle.std.specs.HashMap.{HashMap, get_by, UpdatesBy, WritesThrough, IsUnique}
+use Rattle.std.specs.HashMap.{HashMap, UpdatesBy, IsUnique}
 use Rattle.std.specs.Cmp.{nat_eq_equiv}
 use Rattle.std.specs.Option.{option_map}
 use Rattle.std.proofs.lemmas.Map.Entries.{hash_map_get_place}
 use Rattle.indexmap.specs.IndexMap.{IndexMap, with_value_at, set_value_at}
 use Rattle.indexmap.proofs.CallerLemmas.{updates-with_value_at}
 use Rattle.std.specs.Map.{lookup}
-use Rattle.std.proofs.lemmas.Map.Steps.{set_value_same}
 use Rattle.proto.specs.declared.message.Request.{Request}
 use Rattle.proto.specs.declared.message.Message.{Message}
 use Rattle.proto.specs.declared.message.Reply.{Reply}
 use Rattle.proto.specs.declared.history.Answered.{Answered}
 use Rattle.proto.specs.declared.no_memory.NoMemory.{NoMemory}
 use Rattle.proto.specs.Reading.{asks}
+use Rattle.proto.specs.Answers.{said}
 use Rattle.session_book.specs.declared.causes.Unsettled.{Unsettled}
 use Rattle.session_book.specs.declared.causes.Received.{Received}
 use Rattle.session_book.specs.declared.causes.Received.TheVariants as receptions
@@ -30,7 +30,7 @@ use Rattle.session_book.specs.Session.{held_fed, TakesPiece, FeedsHeld, IsReady}
 use Rattle.session_book.specs.Session.{ReadsMessages, ReadsAsk, given_request}
 use Rattle.session_book.specs.Book.{BookState, session_of, unsettled_in, OnlyAt, ChangesSession, ChangesOpen, Receives}
 use Rattle.session_book.specs.Book.{FeedsHeldOf, IsBook, GivesNone, NextAsk, given_in}
-use Rattle.session_book.specs.Book.{IsOldest, SettlesReply}
+use Rattle.session_book.specs.Book.{IsOldest, SettlesReply, Starves}
 use Rattle.session_book.proofs.Answering.{asks-left, begins_asked_by}
 use Rattle.proto.proofs.AskLemmas.{asks-append}
 
@@ -260,19 +260,6 @@ pub updated_only : {S : Type 0} (m n : HashMap ℕ SessionState S) (session : �
 updated_only m n session o h q = h.0 q ∙ ap (λ (b : Bool). cond b o (lookup (nat_eq q) m.entries))
     (same_number session q)
 
--- the session that was found was written
-pub written_only : {S : Type 0} (m n : HashMap ℕ SessionState S) (session : ℕ) (s t : SessionState)
-    → WritesThrough nat_eq (nat_eq session) m t n → Some s ≡ get_by (nat_eq session) m
-    → OnlySession m.entries n.entries session (Some t)
-written_only m n session s t w found = updated_only m n session (Some t)
-    (w.3 (subst (λ (o : Option SessionState). IsSome o) found refl))
-
--- what was read and written back changes nothing
-pub written_back : {S : Type 0} (m n : HashMap ℕ SessionState S) (session : ℕ) (s t : SessionState)
-    → WritesThrough nat_eq (nat_eq session) m t n → Some s ≡ get_by (nat_eq session) m → t ≡ s → n.entries ≡ m.entries
-written_back m n session s t w found same =
-    w.0 ∙ set_value_same (nat_eq session) m.entries t (sym found ∙ ap (λ (x : SessionState). Some x) (sym same))
-
 -- a value that is written over itself changes nothing
 set_same : (es : List (ℕ × SessionState)) (i k : ℕ) (s : SessionState) → slice_get es i ≡ Some (k, s) → set_value_at es i s ≡ es
 set_same [] i k s at = refl
@@ -303,15 +290,6 @@ placed m i session k s unique at found =
       back = λ t e. subst (λ (x : SessionState). set_value_at m.entries i x ≡ m.entries) (sym e) (set_same m.entries i k s at);
     })
 
--- where nothing is open at the number, the map is the one without it
-pub closed_only : {S : Type 0} (m n : HashMap ℕ SessionState S) (session : ℕ) → n ≡ m → None ≡ get_by (nat_eq session) m
-    → OnlySession m.entries n.entries session None
-closed_only m n session same none q =
-    elim (cases_eq q session) [
-      | inl at ↦ rw (same, at, eq-eqb session session refl) (sym none)
-      | inr apart ↦ rw (same, ne_eqb q session apart) refl
-    ]
-
 -- the last change counts
 pub only_again : (a b c : List (ℕ × SessionState)) (session : ℕ) (o p : Option SessionState) → OnlySession a b session o
     → OnlySession b c session p → OnlySession a c session p
@@ -321,12 +299,12 @@ only_again a b c session o p h k q =
       | inr apart ↦ k q ∙ rw apart (h q ∙ rw apart refl)
     ]
 
--- a session that stays as it is
-pub nothing_only : (a : List (ℕ × SessionState)) (session : ℕ) (s : SessionState) → lookup (nat_eq session) a ≡ Some s
-    → OnlySession a a session (Some s)
-nothing_only a session s open_now q =
+-- what stands at a number, or that nothing does, stays as it is
+pub nothing_only : (a : List (ℕ × SessionState)) (session : ℕ) (o : Option SessionState) → lookup (nat_eq session) a ≡ o
+    → OnlySession a a session o
+nothing_only a session o there q =
     elim (cases_eq q session) [
-      | inl at ↦ rw (at, eq-eqb session session refl) open_now
+      | inl at ↦ rw (at, eq-eqb session session refl) there
       | inr apart ↦ rw (ne_eqb q session apart) refl
     ]
 
@@ -348,7 +326,7 @@ idle_ask before session s result after none same is open_now cause failed = reco
     most_looks = rw same (omega arith);
     no_look = λ short. ap (λ (b : BookState). b.looks) same;
   };
-  only_at = rw same (nothing_only before.sessions session s open_now);
+  only_at = rw same (nothing_only before.sessions session (Some s) open_now);
   numbers = rw none refl;
   rest = rw (none, same, append-nil, add-zero) refl;
   room = rw (same) (omega arith);
@@ -374,6 +352,20 @@ settles_reply before now after answered s t same is open_now only oldest rest t_
         only_at = subst (λ (x : SessionState). OnlyAt before after answered.session (Some x)) t_is only;
         rest = rest;
       };
+    })
+
+-- the session was closed, since there was no room for what it is to be said
+pub settles_starved : (before now after : BookState) (answered : Answered) (s : SessionState) → before ≡ now
+    → session_of before answered.session ≡ Some s → ¬ (said s.queue (answered.reply ∷ []) ≡ [])
+    → OnlyAt before after answered.session None → IsOldest before answered
+    → after ≡ record before { sessions = after.sessions; unsettled = drop 1 before.unsettled }
+    → Starves now after answered
+settles_starved before now after answered s same open_now something only oldest rest =
+    subst (λ (b : BookState). Starves b after answered) same (record {
+      s = s;
+      was_open = open_now;
+      something = something;
+      settles = record { oldest = oldest; only_at = only; rest = rest };
     })
 
 -- only an open session has changed
@@ -447,6 +439,12 @@ received receptions.Refused before after now same session piece s t u open_now o
   unchanged before after now same rest (back (u_is ∙ takes)),
 )
 received receptions.Unknown before after now same session piece s t u open_now only rest takes u_is back = absurd takes
+
+-- nor does the held piece change it
+pub fed_queue : (r : Result Bool NoMemory) (s t : SessionState) → FeedsHeld s r t → t.queue ≡ s.queue
+fed_queue (Ok true) s t h = ap (λ (x : SessionState). x.queue) h.1 ∙ once_queue (is_some s.ended) s s.held
+fed_queue (Ok false) s t h = ap (λ (x : SessionState). x.queue) h.1
+fed_queue (Err e) s t h = ap (λ (x : SessionState). x.queue) h
 
 -- the held piece of an open session was tried
 pub fed_again : (r : Result Bool NoMemory) (before after now : BookState) → before ≡ now

@@ -3,12 +3,12 @@ use Rattle.std.proofs.Common.{ℕ, ◌≡◌, ◌⊎◌, Bool, true, false, Opti
 use Rattle.std.proofs.Common.{ap, subst, ◌∙◌, cond}
 use Rattle.std.specs.Bool.{nat_eq}
 use Rattle.session_book.specs.Session.{SessionState, IsEmptied}
-use Rattle.session_book.specs.Entries.{state_at}
+use Rattle.std.specs.Map.{lookup}
 
 -- each entry is emptied, or stands among those to come
 abbrev pub EmptiedOrIn : List (ℕ × SessionState) → List (ℕ × SessionState) → Type 0
-EmptiedOrIn later entries = (session : ℕ) (s : SessionState) → state_at entries session ≡ Some s
-    → IsEmptied s ⊎ (state_at later session ≡ Some s)
+EmptiedOrIn later entries = (session : ℕ) (s : SessionState) → lookup (nat_eq session) entries ≡ Some s
+    → IsEmptied s ⊎ (lookup (nat_eq session) later ≡ Some s)
 
 -- what is looked up after an entry is the entry's, or stands after it
 first_or_behind : (b : Bool) (v s : SessionState) (behind : Option SessionState) → cond b (Some v) behind ≡ Some s
@@ -21,15 +21,15 @@ pub emptied_or_later : (later rest : List (ℕ × SessionState)) (k : ℕ) (v : 
     → IsEmptied v → (entries : List (ℕ × SessionState)) → EmptiedOrIn later entries → EmptiedOrIn rest entries
 emptied_or_later later rest k v split emptied entries h session s at =
     ⊎_elim (λ (e : IsEmptied s). inl e)
-    (λ (l : state_at later session ≡ Some s).
-    ⊎_elim (λ (same : v ≡ s). inl (subst IsEmptied same emptied)) (λ (behind : state_at rest session ≡ Some s). inr behind)
-    (first_or_behind (nat_eq session k) v s (state_at rest session) (ap (λ x. state_at x session) (sym split) ∙ l)))
+    (λ (l : lookup (nat_eq session) later ≡ Some s).
+    ⊎_elim (λ (same : v ≡ s). inl (subst IsEmptied same emptied)) (λ (behind : lookup (nat_eq session) rest ≡ Some s). inr behind)
+    (first_or_behind (nat_eq session k) v s (lookup (nat_eq session) rest) (ap (λ x. lookup (nat_eq session) x) (sym split) ∙ l)))
     (h session s at)
 
 -- none is left to come
 pub none_later : (later : List (ℕ × SessionState)) → later ≡ [] → (entries : List (ℕ × SessionState))
-    → EmptiedOrIn later entries → (session : ℕ) (s : SessionState) → state_at entries session ≡ Some s → IsEmptied s
+    → EmptiedOrIn later entries → (session : ℕ) (s : SessionState) → lookup (nat_eq session) entries ≡ Some s → IsEmptied s
 none_later later none entries h session s at =
     ⊎_elim (λ (e : IsEmptied s). e)
-    (λ (l : state_at later session ≡ Some s). let no : None ≡ Some s = ap (λ x. state_at x session) (sym none) ∙ l in absurd (cc))
+    (λ (l : lookup (nat_eq session) later ≡ Some s). let no : None ≡ Some s = ap (λ x. lookup (nat_eq session) x) (sym none) ∙ l in absurd (cc))
     (h session s at)

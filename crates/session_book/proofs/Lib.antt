@@ -4,5 +4,5 @@ pub mod AccountLaws
 pub mod Needing
 pub mod Steps
 pub mod Books
-pub mod Entries
+pub mod Asking
 pub mod Emptied

@@ -1,5 +1,5 @@
 -- A session's reading, message by message.
-use Rattle.std.proofs.Common.{◌≡◌, ℕ, ◌+◌, ◌<◌, ◌≤◌, true, false, List, [], ◌∷◌, ◌++◌}
+use Rattle.std.proofs.Common.{◌≡◌, ℕ, ◌+◌, ◌<◌, ◌≤◌, Bool, true, false, List, [], ◌∷◌, ◌++◌}
 use Rattle.std.proofs.Common.{length, take, drop, Option, Some, None, Ok, Err, is_some, refl, sym}
 use Rattle.std.proofs.Common.{ap, subst, ◌∙◌, arith, inl, inr, append_assoc, length-append, take-append-drop}
 use Rattle.std.proofs.lemmas.List.{append-nil}
@@ -14,10 +14,8 @@ use Rattle.proto.specs.Answers.{said, is_ask}
 use Rattle.proto.proofs.MessageReader.{spelling_nonempty}
 use Rattle.session_book.specs.declared.causes.EndCause.{EndCause}
 use Rattle.session_book.specs.declared.limits.TheConstants.{MAX_WAITING}
-use Rattle.session_book.specs.declared.session.Read.{Read}
 use Rattle.session_book.specs.Session.{SessionState, messages_left, ended_by, need_after, begins_asked, ReadsMessages}
 use Rattle.session_book.specs.Session.{AskAtLast, Stops, no_message, IsReady, ReadsAsk}
-use Rattle.session_book.specs.Session.{ReadsMessage, TakesLocal, TakesAsk, TakesNothing, ReadsOne, read_of}
 use Rattle.proto.specs.declared.no_memory.NoMemory.{NoMemory}
 use Rattle.session_book.proofs.Needing.{unfinished_short}
 use Rattle.session_book.proofs.Answering.{said-append, left-append, left_waits, said_waits}
@@ -25,13 +23,23 @@ use Rattle.session_book.proofs.Reading.{ended_by-append, not_ended_before, none_
 use Rattle.proto.proofs.AskLemmas.{asks-append}
 use Rattle.proto.proofs.ReadingLemmas.{reads_empty, reads_one, reads_on}
 
--- a message that was taken is what was read
-takes_one : (before after : SessionState) (m : Message) → ReadsMessage before m after
-    → ReadsOne before (Ok (read_of m)) after
-takes_one before after (Ask q quiet) h = record { quiet = quiet; takes = h }
-takes_one before after (Wrong kind) h = record { message = Wrong kind; no_ask = refl; takes = h }
-takes_one before after Quit h = record { message = Quit; no_ask = refl; takes = h }
-takes_one before after (Fatal kind) h = record { message = Fatal kind; no_ask = refl; takes = h }
+-- A message is read: its spelling leaves the unread bytes, and it goes after the queue.
+pub record ReadsMessage (before : SessionState) (m : Message) (after : SessionState) : Type 0 where
+  pub piece : List ℕ
+  pub spells : Spells before.dialect piece m
+  pub dialect : after.dialect ≡ before.dialect
+  pub unread : before.unread ≡ piece ++ after.unread
+  pub ended : after.ended ≡ ended_by before.ended (m ∷ [])
+  pub queue : after.queue ≡ messages_left (before.queue ++ m ∷ []) []
+  pub out : after.out ≡ before.out ++ said (before.queue ++ m ∷ []) []
+  pub need : after.need ≡ 1
+  pub held : after.held ≡ before.held
+  pub over : after.is_over ≡ before.is_over
+
+-- the parser finds no message, and the session keeps what it needs
+pub record TakesNothing (before after : SessionState) : Type 0 where
+  pub unfinished : IsUnfinished before.dialect after.unread after.need
+  pub rest : after ≡ record before { need = after.need }
 
 -- each message takes a byte at least
 pub takes_less : (before after : SessionState) (m : Message) → ReadsMessage before m after
@@ -159,27 +167,45 @@ pub record HasReadLocals (before : SessionState) (looks : ℕ) (now : SessionSta
   pub most_looks : looks_now ≤ looks + length messages
   pub nothing : length before.unread < before.need → (now ≡ before) × (looks_now ≡ looks)
 
--- the first n bytes are taken where they spell the message
-taken : (before : SessionState) (b : List ℕ) (n : ℕ) (m seen : Message) (after : SessionState) → b ≡ before.unread
-    → Spells before.dialect (take n b) seen → m ≡ seen → before.ended ≡ None
-    → after.unread ≡ drop n before.unread → after.ended ≡ ended_by None (m ∷ [])
-    → after.queue ≡ messages_left (before.queue ++ m ∷ []) []
-    → after.out ≡ before.out ++ said (before.queue ++ m ∷ []) []
-    → after.need ≡ 1 → after.held ≡ before.held → after.is_over ≡ before.is_over → after.dialect ≡ before.dialect
-    → ReadsMessage before m after
-taken before b n m seen after b_is spelled m_is open_yet unread ended queue out need held over dialect = record {
-  piece = take n b;
-  spells = rw m_is spelled;
-  dialect = dialect;
-  unread = sym (take-append-drop n before.unread) ∙ ap (λ (x : List ℕ). take n x ++ drop n before.unread) (sym b_is)
-      ∙ ap (λ (x : List ℕ). take n b ++ x) (sym unread);
-  ended = ended ∙ ap (λ (e : Option EndCause). ended_by e (m ∷ [])) (sym open_yet);
-  queue = queue;
-  out = out;
-  need = need;
-  held = held;
-  over = over;
-}
+-- the parser found a message, which the first n bytes spell: they are taken
+pub read_found : (now view : SessionState) (b unread out : List ℕ) (n : ℕ) (m seen : Message) (queue : List Message)
+    (ended : Option EndCause) → view ≡ now → now.ended ≡ None → b ≡ view.unread → Spells view.dialect (take n b) seen
+    → m ≡ seen → unread ≡ drop n view.unread → ended ≡ ended_by None (m ∷ [])
+    → queue ≡ messages_left (view.queue ++ m ∷ []) [] → out ≡ view.out ++ said (view.queue ++ m ∷ []) []
+    → ReadsMessage now m (record view { unread = unread; queue = queue; out = out; ended = ended; need = 1 })
+read_found now view b unread out n m seen queue ended same open_yet b_is spelled m_is unread_is ended_is queue_is out_is =
+    let none : view.ended ≡ None = ap (λ (s : SessionState). s.ended) same ∙ open_yet in
+    subst (λ (s : SessionState).
+    ReadsMessage s m (record view { unread = unread; queue = queue; out = out; ended = ended; need = 1 })) same (record {
+      piece = take n b;
+      spells = rw m_is spelled;
+      dialect = refl;
+      unread = sym (take-append-drop n view.unread)
+          ∙ ap (λ (x : List ℕ). take n x ++ drop n view.unread) (sym b_is)
+          ∙ ap (λ (x : List ℕ). take n b ++ x) (sym unread_is);
+      ended = ended_is ∙ ap (λ (e : Option EndCause). ended_by e (m ∷ [])) (sym none);
+      queue = queue_is;
+      out = out_is;
+      need = refl;
+      held = refl;
+      over = refl;
+    })
+
+-- the parser found none, and says what it needs
+pub read_more : (now view : SessionState) (b : List ℕ) (need : ℕ) → view ≡ now → b ≡ view.unread
+    → IsUnfinished view.dialect b need → TakesNothing now (record view { need = need })
+read_more now view b need same b_is unfinished =
+    subst (λ (s : SessionState). TakesNothing s (record view { need = need })) same (record {
+      unfinished = subst (λ (x : List ℕ). IsUnfinished view.dialect x need) b_is unfinished;
+      rest = refl;
+    })
+
+-- a message that isn't a request
+pub not_ask : (m : Message) → ((q : Request) (quiet : Bool) → m ≡ Ask q quiet → ⊥) → is_ask m ≡ false
+not_ask (Ask q quiet) h = absurd (h q quiet refl)
+not_ask (Wrong kind) h = refl
+not_ask Quit h = refl
+not_ask (Fatal kind) h = refl
 
 -- a single message that is no request asks nothing
 none_asked : (m : Message) → is_ask m ≡ false → asks (m ∷ []) ≡ []
@@ -208,13 +234,14 @@ too_much before now looks looks_now h ready over =
 -- a message that is no request was read
 pub reads_local : (before now after : SessionState) (looks looks_now looks_after : ℕ)
     → HasReadLocals before looks now looks_now
-    → IsReady now → looks_after ≤ looks_now + 1 → TakesLocal now after → HasReadLocals before looks after looks_after
-reads_local before now after looks looks_now looks_after h ready one t = record {
-  messages = h.messages ++ t.message ∷ [];
-  reads = reads_more before now after h.messages t.message h.reads ready.not_ended t.takes;
-  no_ask = rw (asks-append, h.no_ask) (none_asked t.message t.no_ask);
+    → IsReady now → looks_after ≤ looks_now + 1 → (m : Message) → is_ask m ≡ false → ReadsMessage now m after
+    → HasReadLocals before looks after looks_after
+reads_local before now after looks looks_now looks_after h ready one m no_ask t = record {
+  messages = h.messages ++ m ∷ [];
+  reads = reads_more before now after h.messages m h.reads ready.not_ended t;
+  no_ask = rw (asks-append, h.no_ask) (none_asked m no_ask);
   waits = λ over. absurd (too_much before now looks looks_now h ready over);
-  most_looks = omega (arith, h.most_looks, length-append h.messages (t.message ∷ []));
+  most_looks = omega (arith, h.most_looks, length-append h.messages (m ∷ []));
   nothing = λ short. absurd (too_short before now looks looks_now h ready short);
 }
 
@@ -230,17 +257,17 @@ starts_locals s looks asked = record {
 }
 
 -- a request was read
-pub reads_ask : (before now after : SessionState) (looks looks_now looks_after : ℕ) (q : Request)
-    → HasReadLocals before looks now looks_now → IsReady now → looks_after ≤ looks_now + 1 → TakesAsk now q after
-    → ReadsAsk before looks (Ok (Some q)) after looks_after
-reads_ask before now after looks looks_now looks_after q h ready one t = record {
-  messages = h.messages ++ Ask q t.quiet ∷ [];
+pub reads_ask : (before now after : SessionState) (looks looks_now looks_after : ℕ) (q : Request) (quiet : Bool)
+    → HasReadLocals before looks now looks_now → IsReady now → looks_after ≤ looks_now + 1
+    → ReadsMessage now (Ask q quiet) after → ReadsAsk before looks (Ok (Some q)) after looks_after
+reads_ask before now after looks looks_now looks_after q quiet h ready one t = record {
+  messages = h.messages ++ Ask q quiet ∷ [];
   reading = record {
-    reads = reads_more before now after h.messages (Ask q t.quiet) h.reads ready.not_ended t.takes;
-    ask_at_last = asks_at_last h.messages (Ask q t.quiet) h.no_ask;
+    reads = reads_more before now after h.messages (Ask q quiet) h.reads ready.not_ended t;
+    ask_at_last = asks_at_last h.messages (Ask q quiet) h.no_ask;
     requests_are = rw (asks-append, h.no_ask) refl;
     waits = λ over. absurd (too_much before now looks looks_now h ready over);
-    most_looks = omega (arith, h.most_looks, length-append h.messages (Ask q t.quiet ∷ []));
+    most_looks = omega (arith, h.most_looks, length-append h.messages (Ask q quiet ∷ []));
     no_look = λ short. absurd (too_short before now looks looks_now h ready short);
   };
   none = λ e. absurd cc;
@@ -304,18 +331,3 @@ reads_refused before now after looks looks_now looks_after no_memory h ready one
   none = λ e. absurd cc;
   refused = λ f e. rw same ready;
 }
-
--- the parser found a message, as the session's parts say
-pub read_found : (now view : SessionState) (b : List ℕ) (n : ℕ) (m seen : Message) (r : Read) (after : SessionState)
-    → view ≡ now
-    → r ≡ read_of m → b ≡ view.unread → Spells view.dialect (take n b) seen
-    → m ≡ seen → now.ended ≡ None → after.unread ≡ drop n view.unread → after.ended ≡ ended_by None (m ∷ [])
-    → after.queue ≡ messages_left (view.queue ++ m ∷ []) []
-    → after.out ≡ view.out ++ said (view.queue ++ m ∷ []) [] → after.need ≡ 1 → after.held ≡ view.held
-    → after.is_over ≡ view.is_over → after.dialect ≡ view.dialect → ReadsOne now (Ok r) after
-read_found now view b n m seen r after same r_is b_is spelled m_is open_yet unread ended queue out need held over dialect =
-    let takes : ReadsOne view (Ok (read_of m)) after = takes_one view after m
-    (taken view b n m seen after b_is spelled m_is
-    (ap (λ (s : SessionState). s.ended) same ∙ open_yet) unread ended queue out need held over dialect) in
-    subst (λ (s : SessionState). ReadsOne s (Ok r) after) same
-    (subst (λ (x : Read). ReadsOne view (Ok x) after) (sym r_is) takes)

@@ -8,7 +8,7 @@ use Rattle.proto.specs.declared.message.Reply.{Reply}
 use Rattle.proto.specs.declared.message.Message.{Message}
 use Rattle.proto.specs.declared.message.Message.TheVariants.{Ask, Wrong, Quit, Fatal}
 use Rattle.proto.specs.declared.no_memory.NoMemory.{NoMemory}
-use Rattle.proto.specs.Grammar.{Spells, SpellsNone}
+use Rattle.proto.specs.Grammar.{SpellsNone}
 use Rattle.proto.specs.Reading.{Reads, asks}
 use Rattle.proto.specs.Needs.{IsUnfinished}
 use Rattle.proto.specs.Answers.{said, is_ask}
@@ -16,8 +16,6 @@ use Rattle.session_book.specs.declared.causes.EndCause.{EndCause}
 use Rattle.session_book.specs.declared.causes.EndCause.TheVariants as causes
 use Rattle.session_book.specs.declared.causes.Received.{Received}
 use Rattle.session_book.specs.declared.causes.Received.TheVariants as received
-use Rattle.session_book.specs.declared.session.Read.{Read}
-use Rattle.session_book.specs.declared.session.Read.TheVariants as reads
 use Rattle.session_book.specs.declared.limits.TheConstants.{MAX_UNREAD, MAX_WAITING}
 
 -- An open session: the dialect of its lines; its unread bytes; the messages read, from its oldest unsettled request on; its output that
@@ -192,46 +190,3 @@ pub record ReadsAsk (before : SessionState) (looks : ℕ) (result : Result (Opti
   pub reading : ReadsUpTo before looks messages (given_request result) after looks_after
   pub none : result ≡ Ok None → Stops after
   pub refused : (e : NoMemory) → result ≡ Err e → IsReady after
-
--- A message is read: its spelling leaves the unread bytes, and it goes after the queue.
-pub record ReadsMessage (before : SessionState) (m : Message) (after : SessionState) : Type 0 where
-  pub piece : List ℕ
-  pub spells : Spells before.dialect piece m
-  pub dialect : after.dialect ≡ before.dialect
-  pub unread : before.unread ≡ piece ++ after.unread
-  pub ended : after.ended ≡ ended_by before.ended (m ∷ [])
-  pub queue : after.queue ≡ messages_left (before.queue ++ m ∷ []) []
-  pub out : after.out ≡ before.out ++ said (before.queue ++ m ∷ []) []
-  pub need : after.need ≡ 1
-  pub held : after.held ≡ before.held
-  pub over : after.is_over ≡ before.is_over
-
--- a message that is no request is read
-pub record TakesLocal (before after : SessionState) : Type 0 where
-  pub message : Message
-  pub no_ask : is_ask message ≡ false
-  pub takes : ReadsMessage before message after
-
--- a request is read
-pub record TakesAsk (before : SessionState) (q : Request) (after : SessionState) : Type 0 where
-  pub quiet : Bool
-  pub takes : ReadsMessage before (Ask q quiet) after
-
--- the parser finds no message, and the session keeps what it needs
-pub record TakesNothing (before after : SessionState) : Type 0 where
-  pub unfinished : IsUnfinished before.dialect after.unread after.need
-  pub rest : after ≡ record before { need = after.need }
-
--- what it comes to that a message is found
-abbrev pub read_of : Message → Read
-read_of (Ask q quiet) = reads.Ask q
-read_of (Wrong kind) = reads.Local
-read_of Quit = reads.Local
-read_of (Fatal kind) = reads.Local
-
--- what one call of the parser comes to; out of memory, nothing changes
-abbrev pub ReadsOne : SessionState → Result Read NoMemory → SessionState → Type 0
-ReadsOne before (Ok reads.Nothing) after = TakesNothing before after
-ReadsOne before (Ok reads.Local) after = TakesLocal before after
-ReadsOne before (Ok (reads.Ask q)) after = TakesAsk before q after
-ReadsOne before (Err e) after = after ≡ before

@@ -1,21 +1,19 @@
 //! The sessions of one worker: reading what they were fed, and answering in the order of their messages.
 
-ghost use Rattle.std.specs.Prelude.{ℕ, ◌≡◌, ◌⊎◌, ◌+◌, ◌≤◌, ◌<◌, ◌↔◌, [], length, is_some, option_map, slice_get, IfSome};
-ghost use Rattle.std.specs.Prelude.{OnOk, OnErr};
-ghost use Rattle.session_book.specs.Session.{SessionState, IsEmptied, new_session, gave, finished_by, once_over, HasReadAll};
-ghost use Rattle.std.specs.Bool.{OnTrue, OnFalse};
-ghost use Rattle.std.specs.Option.{option_and_then, option_copied};
-ghost use Rattle.std.specs.VecDeque.{deque_len, deque_capacity};
+ghost use Rattle.std.specs.Prelude.{ℕ, ◌≡◌, ◌⊎◌, ◌+◌, ◌≤◌, ◌<◌, ◌↔◌, [], length, is_some, option_map, slice_get};
+ghost use Rattle.std.specs.Prelude.{IfSome, IsSome, OnOk, OnErr};
+ghost use Rattle.session_book.specs.Session.{SessionState, IsEmptied, new_session, gave, finished_by, once_over};
+ghost use Rattle.session_book.specs.Session.{HasReadAll};
+ghost use Rattle.std.specs.Bool.{OnTrue, OnFalse, nat_eq};
+ghost use Rattle.std.specs.Option.{option_and_then};
 ghost use Rattle.proto.specs.declared.limits.TheConstants.{WINDOW};
-ghost use Rattle.proto.specs.declared.message.Request.{Request};
-ghost use Rattle.proto.specs.Reading.{asks};
 ghost use Rattle.indexmap.specs.IndexMap.{index_map_len};
-ghost use Rattle.session_book.specs.Entries.{state_at, AsksEntry, SettlesEntry};
+ghost use Rattle.std.specs.Map.{lookup};
 
 use crate::causes::{EndCause, OpenFault, Received, Settled, Unsettled};
-use crate::limits::{MAX_POSTS, MAX_SESSIONS};
+use crate::limits::{MAX_KEYS, MAX_OUTPUT, MAX_POSTS, MAX_SESSIONS};
 use crate::ready_queues::Task;
-use crate::session::Session;
+use crate::session::{Offer, Session};
 use crate::upkeep::Upkeep;
 use bytes::Bytes;
 use indexmap::IndexMap;
@@ -23,15 +21,6 @@ use proto::{Answered, Dialect, NoMemory, Request, WINDOW};
 use std::alloc::Global;
 use std::collections::VecDeque;
 use std::marker::Model;
-
-/// What is to be done with a session's output now.
-#[derive(Clone, Copy)]
-pub struct Offer<'a> {
-    /// The output, empty where it is none or where more is about to stand after it.
-    pub out: &'a [u8],
-    /// Why it has ended, once all before that was answered and given.
-    pub finished: Option<EndCause>,
-}
 
 /// The sessions of a worker. Contracts see it as a `BookState`.
 ///
@@ -128,7 +117,7 @@ impl Book {
         if session <= self.greatest || self.opened >= MAX_SESSIONS {
             return Err(OpenFault::Known);
         }
-        if self.upkeep.ready.reserve(self.sessions.len() + 1).is_err() {
+        if self.upkeep.reserve(self.sessions.len() + 1).is_err() {
             return Err(OpenFault::NoMemory);
         }
         match self
@@ -148,7 +137,7 @@ impl Book {
     pub fn receive(&mut self, session: u64, piece: Bytes) -> Received
         ensures { Receives self.old session piece result self.new }
     {
-        let Some(place) = find(&self.sessions, session, &mut self.upkeep.ready.place) else {
+        let Some(place) = find(&self.sessions, session, &mut self.upkeep.place) else {
             return Received::Unknown;
         };
         let (_, open) = self.sessions.pair_mut(place);
@@ -159,9 +148,10 @@ impl Book {
     pub fn feed_held(&mut self, session: u64) -> Result<bool, NoMemory>
         ensures { FeedsHeldOf self.old session result self.new }
     {
-        let Some(open) = self.sessions.get_mut(&session) else {
+        let Some(place) = find(&self.sessions, session, &mut self.upkeep.place) else {
             return Ok(false);
         };
+        let (_, open) = self.sessions.pair_mut(place);
         open.feed_held(session, &mut self.upkeep)
     }
 
@@ -184,8 +174,11 @@ impl Book {
         if self.is_full() || self.posted >= MAX_POSTS {
             return Ok(None);
         }
-        let read = ask_session(
-            &mut self.sessions,
+        let Some(place) = find(&self.sessions, session, &mut self.upkeep.place) else {
+            return Ok(None);
+        };
+        let (_, open) = self.sessions.pair_mut(place);
+        let read = open.next_ask(
             session,
             &mut self.unsettled,
             &mut self.looks,
@@ -194,7 +187,7 @@ impl Book {
         let Some(mut request) = read? else {
             return Ok(None);
         };
-        self.upkeep.spares.lend_hits(&mut request);
+        self.upkeep.asked(&mut request);
         self.posted += 1;
         let number = self.posted;
         self.unsettled.push_back(Unsettled { number, session })?;
@@ -206,19 +199,30 @@ impl Book {
     pub fn settle(&mut self, answered: Answered) -> Settled
         ensures { Settles self.old answered result self.new }
     {
+        let mut answered = answered;
+        let session = answered.session;
         let asked = Unsettled {
             number: answered.number,
-            session: answered.session,
+            session,
         };
         if self.unsettled.front() != Some(&asked) {
             return Settled::Stranger;
         }
         self.unsettled.pop_front();
-        self.upkeep.load.settled(&answered.request);
-        let mut answered = answered;
-        let settled = settle_session(&mut self.sessions, &mut answered, &mut self.upkeep);
-        self.upkeep.spares.keep_hits(answered.reply);
-        settled
+        let Some(place) = find(&self.sessions, session, &mut self.upkeep.place) else {
+            self.upkeep.settled(answered);
+            return Settled::Dropped;
+        };
+        let (_, open) = self.sessions.pair_mut(place);
+        let kept = open.settle(session, &mut answered.reply, &mut self.upkeep);
+        self.upkeep.settled(answered);
+        match kept {
+            Ok(()) => Settled::Kept,
+            Err(NoMemory) => {
+                self.sessions.swap_remove(&session);
+                Settled::Starved
+            }
+        }
     }
 
     pub fn is_open(&self, session: u64) -> bool
@@ -243,15 +247,15 @@ impl Book {
         ensures finished { result.finished ≡ option_and_then finished_by (session_of self.now session) }
         ensures read { HasReadAll (session_of self.now session) result.finished }
     {
-        let Some(open) = found_at(&self.sessions, session, self.upkeep.ready.place) else {
-            return Offer {
-                out: &[],
-                finished: None,
-            };
-        };
+        let mut place = self.upkeep.place;
+        if let Some(place) = find(&self.sessions, session, &mut place) {
+            if let Some((_, open)) = self.sessions.get_index(place) {
+                return open.offer(&self.upkeep);
+            }
+        }
         Offer {
-            out: open.offer(&self.upkeep),
-            finished: open.finished(),
+            out: &[],
+            finished: None,
         }
     }
 
@@ -276,17 +280,9 @@ impl Book {
         ensures finished { result ≡ option_and_then finished_by (session_of self.new session) }
         ensures read { HasReadAll (session_of self.new session) result }
     {
-        let place = find(&self.sessions, session, &mut self.upkeep.ready.place)?;
+        let place = find(&self.sessions, session, &mut self.upkeep.place)?;
         let (_, open) = self.sessions.pair_mut(place);
-        open.gave(session, n, &mut self.upkeep);
-        open.finished()
-    }
-
-    /// Why the session has ended, once all before that was answered and given. It serves tests alone: an offer and `gave` tell a worker.
-    pub fn finished(&self, session: u64) -> Option<EndCause>
-        ensures { result ≡ option_and_then finished_by (session_of self.now session) }
-    {
-        self.sessions.get(&session)?.finished()
+        open.gave(session, n, &mut self.upkeep)
     }
 
     /// Drops a session with its input and output. The answers to its unsettled requests are dropped when they come.
@@ -294,7 +290,7 @@ impl Book {
         ensures { ChangesSession self.old self.new session None }
     {
         if let Some(open) = self.sessions.swap_remove(&session) {
-            self.upkeep.load.output_changed(open.out().len(), 0);
+            self.upkeep.waiting = self.upkeep.waiting.saturating_sub(open.out().len());
         }
     }
 
@@ -315,7 +311,8 @@ impl Book {
     pub fn ask_later(&mut self, session: u64)
         ensures { self.new ≡ self.old }
     {
-        if let Some(open) = self.sessions.get_mut(&session) {
+        if let Some(place) = find(&self.sessions, session, &mut self.upkeep.place) {
+            let (_, open) = self.sessions.pair_mut(place);
             open.ask_later(session, &mut self.upkeep);
         }
     }
@@ -329,24 +326,31 @@ impl Book {
     pub fn next_ready(&mut self, task: Task) -> Option<u64>
         ensures { self.new ≡ self.old }
     {
-        self.upkeep.ready.next(task)
+        let queue = &mut self.upkeep.queues[task as usize];
+        let (session, place) = queue.sessions.pop_front()?;
+        queue.left = queue.left.saturating_add(1);
+        self.upkeep.place = place;
+        Some(session)
     }
 
     /// How many sessions are to be taken up for the task.
     pub fn ready(&self, task: Task) -> usize {
-        self.upkeep.ready.count(task)
+        self.upkeep.queues[task as usize].sessions.len()
     }
 
     /// No session has anything to do.
     pub fn is_idle(&self) -> bool {
-        self.upkeep.ready.are_empty()
+        self.upkeep
+            .queues
+            .iter()
+            .all(|queue| queue.sessions.is_empty())
     }
 
     /// Whether more than 767 keys stand in unsettled requests, or more than 67,108,864 bytes of output wait, over all
     /// sessions. Its owner then asks for one request at a time: so the hits of the unsettled ones take 134,217,728 bytes at
     /// most, and beyond them and the 67,108,864 the outputs grow by one answer at a time.
     pub fn is_crowded(&self) -> bool {
-        self.upkeep.load.is_above_limits()
+        self.upkeep.keys > MAX_KEYS || self.upkeep.waiting > MAX_OUTPUT
     }
 
     /// How often the parser was called, for tests alone. The count stays at the greatest number.
@@ -359,12 +363,9 @@ impl Book {
 
 /// The place of a session in the table. One that doesn't stand at `place` is looked up, and `place` is its place then: so one
 /// call after another finds the session where the last one did.
-pub(crate) fn find(
-    sessions: &IndexMap<u64, Session>,
-    session: u64,
-    place: &mut usize,
-) -> Option<usize>
-    ensures none { result ≡ None → state_at sessions.now.entries session ≡ None }
+fn find(sessions: &IndexMap<u64, Session>, session: u64, place: &mut usize) -> Option<usize>
+    ensures none { result ≡ None → lookup (nat_eq session) sessions.now.entries ≡ None }
+    ensures some { IsSome result → IsSome (lookup (nat_eq session) sessions.now.entries) }
     ensures at { IfSome result (λ i. option_map (λ e. e.0) (slice_get sessions.now.entries i) ≡ Some session) }
     ensures within { IfSome result (λ i. i < index_map_len sessions.now) }
 {
@@ -376,67 +377,4 @@ pub(crate) fn find(
     let (found, _, _) = sessions.get_full(&session)?;
     *place = found;
     Some(found)
-}
-
-/// The session, which is looked up where it doesn't stand at `place`.
-pub(crate) fn found_at(
-    sessions: &IndexMap<u64, Session>,
-    session: u64,
-    place: usize,
-) -> Option<&Session>
-    ensures { option_copied result ≡ state_at sessions.now.entries session }
-{
-    if let Some((number, open)) = sessions.get_index(place) {
-        if *number == session {
-            return Some(open);
-        }
-    }
-    sessions.get(&session)
-}
-
-/// Reads a session up to its next request, for which there is room among the unsettled ones then.
-fn ask_session(
-    sessions: &mut IndexMap<u64, Session>,
-    session: u64,
-    unsettled: &mut VecDeque<Unsettled>,
-    looks: &mut u64,
-    upkeep: &mut Upkeep,
-) -> Result<Option<Request>, NoMemory>
-    ensures closed { state_at sessions.old.entries session ≡ None
-        → (result ≡ Ok None) × (sessions.new.entries ≡ sessions.old.entries) × (looks.new ≡ looks.old) }
-    ensures open { (s : SessionState) → state_at sessions.old.entries session ≡ Some s
-        → AsksEntry sessions.old.entries sessions.new.entries session s looks.old result looks.new }
-    ensures kept { unsettled.new.items ≡ unsettled.old.items }
-    ensures room { (request : Request) → result ≡ Ok (Some request)
-        → deque_len unsettled.new < deque_capacity unsettled.new }
-{
-    let Some(place) = find(sessions, session, &mut upkeep.ready.place) else {
-        return Ok(None);
-    };
-    let (_, open) = sessions.pair_mut(place);
-    open.next_ask(session, unsettled, looks, upkeep)
-}
-
-/// Gives the first unsettled request of a session its reply. Where there is no memory for it the session is closed.
-fn settle_session(
-    sessions: &mut IndexMap<u64, Session>,
-    answered: &mut Answered,
-    upkeep: &mut Upkeep,
-) -> Settled
-    requires { (s : SessionState) → state_at sessions.old.entries answered.old.session ≡ Some s
-        → 0 < length (asks s.queue) }
-    ensures { SettlesEntry sessions.old.entries answered.old result sessions.new.entries }
-{
-    let session = answered.session;
-    let Some(place) = find(sessions, session, &mut upkeep.ready.place) else {
-        return Settled::Dropped;
-    };
-    let (_, open) = sessions.pair_mut(place);
-    match open.settle(session, &mut answered.reply, upkeep) {
-        Ok(()) => Settled::Kept,
-        Err(NoMemory) => {
-            sessions.swap_remove(&session);
-            Settled::Starved
-        }
-    }
 }

@@ -5,13 +5,16 @@ ghost use Rattle.std.specs.Prelude.{is_some, IsOk, IsTrue};
 ghost use Rattle.std.specs.Option.{option_copied_mut};
 ghost use Rattle.proto.specs.Answers.{answer, is_ask, is_silent};
 
-use proto::{NoMemory, PendingAnswer, Reply, SpareBuffer};
+use crate::spare_buffers::{SpareBuffers, Use};
+use crate::upkeep::Upkeep;
+use proto::{NoMemory, PendingAnswer, Reply};
 use std::alloc::Global;
 use std::marker::Model;
 use std::mem;
 
 /// A queue of bytes that lends them as one slice. The bytes in front that have gone out are kept until they are
-/// at least half of all, so each byte is moved at most once for each byte that goes out.
+/// at least half of all, so each byte is moved at most once for each byte that goes out. Its first bytes borrow the memory of
+/// a spare buffer, and its last ones give it back.
 #[derive(Drop)]
 pub struct Buffer {
     bytes: Vec<u8>,
@@ -50,66 +53,53 @@ impl Buffer {
         &self.bytes.as_slice()[self.start..]
     }
 
-    /// Puts bytes after the others.
-    pub fn append(&mut self, piece: &[u8]) -> Result<(), NoMemory>
+    /// Puts input after the others.
+    pub fn append(&mut self, piece: &[u8], spares: &mut SpareBuffers) -> Result<(), NoMemory>
         ensures ok { OnOk result (self.new ≡ self.old ++ piece.now) }
         ensures err { OnErr result (self.new ≡ self.old) }
     {
+        spares.lend(Use::Input, &mut self.bytes);
         self.bytes.extend_from_slice(piece)?;
         Ok(())
     }
 
-    /// Puts an answer after the others.
+    /// Puts an answer after the others, and counts its bytes as output that waits.
     pub fn show(
         &mut self,
         pending: &PendingAnswer,
         reply: Option<&mut Reply>,
+        upkeep: &mut Upkeep,
     ) -> Result<(), NoMemory>
         requires { is_some reply ≡ is_ask pending.now }
         ensures ok { OnOk result (self.new ≡ self.old ++ answer pending.now (option_copied_mut reply.entry)) }
         ensures err { OnErr result (self.new ≡ self.old) }
         ensures silent { IsTrue (is_silent pending.now) → IsOk result }
     {
-        pending.show(reply, &mut self.bytes)
+        upkeep.spares.lend(Use::Output, &mut self.bytes);
+        let before = self.bytes.len();
+        pending.show(reply, &mut self.bytes)?;
+        let shown = self.bytes.len().saturating_sub(before);
+        upkeep.waiting = upkeep.waiting.saturating_add(shown);
+        Ok(())
     }
 
-    /// Takes bytes away in front.
-    pub fn discard(&mut self, n: usize)
+    /// Takes bytes away in front, and answers how many are left. The memory of a buffer that is empty then is kept for another one
+    /// of this use.
+    pub fn discard(&mut self, n: usize, usage: Use, spares: &mut SpareBuffers) -> usize
         requires { n ≤ length self.old }
-        ensures { self.new ≡ drop n self.old }
+        ensures bytes { self.new ≡ drop n self.old }
+        ensures left { result ≡ length self.new }
     {
         self.start += n;
-        if self.start == self.bytes.len() {
-            self.bytes.clear();
+        let left = self.bytes.len() - self.start;
+        if left == 0 {
+            let none = Vec::new(*self.bytes.allocator());
+            spares.keep(usage, mem::replace(&mut self.bytes, none));
             self.start = 0;
-        } else if self.start >= self.bytes.len() - self.start {
+        } else if self.start >= left {
             self.bytes.drain(..self.start);
             self.start = 0;
         }
-    }
-
-    pub fn has_memory(&self) -> bool {
-        self.bytes.capacity() > 0
-    }
-
-    /// An empty buffer has the memory of the spare one from now on, in place of its own.
-    pub fn lend_buffer(&mut self, spare: SpareBuffer)
-        ensures { self.new ≡ self.old }
-    {
-        if self.bytes.is_empty() {
-            self.bytes = spare.into_bytes();
-            self.start = 0;
-        }
-    }
-
-    /// The memory of an empty buffer, which has none from now on.
-    pub fn take_buffer(&mut self, alloc: Global) -> Option<SpareBuffer>
-        ensures { self.new ≡ self.old }
-    {
-        if !self.bytes.is_empty() || !self.has_memory() {
-            return None;
-        }
-        self.start = 0;
-        Some(SpareBuffer::emptied(mem::replace(&mut self.bytes, Vec::new(alloc))))
+        left
     }
 }

@@ -12,14 +12,6 @@ pub enum OpenFault {
     NoMemory,
 }
 
-/// Why a piece of input isn't fed.
-#[derive(Clone, Copy)]
-pub enum FeedFault {
-    /// It can be fed once more of the input was read.
-    Full,
-    NoMemory,
-}
-
 /// What became of a piece of input that came.
 #[derive(Clone, Copy, Debug, PartialEq, Eq)]
 pub enum Received {

@@ -7,7 +7,6 @@ mod buffer;
 mod causes;
 pub mod laws;
 mod limits;
-mod load;
 mod ready_queues;
 mod session;
 mod spare_buffers;

@@ -1,18 +1,19 @@
 //! One session: reading its messages and answering them in their order.
 
-ghost use Rattle.std.specs.Prelude.{◌≡◌, ◌≤◌, ◌<◌, ◌+◌, ◌↔◌, [], length, not, ◌==◌, drop, is_some, OnOk, OnErr, ◌∷◌};
-ghost use Rattle.std.specs.Prelude.{◌++◌, true, None, Some, Ok, Err, IsOk, ◌⊎◌};
+ghost use Rattle.std.specs.Prelude.{◌≡◌, ◌≤◌, ◌<◌, ◌↔◌, ◌⊎◌, ◌∷◌, ◌++◌, [], length, true, false, None, Some, Ok};
+ghost use Rattle.std.specs.Prelude.{IsOk, OnOk, OnErr};
 ghost use Rattle.std.specs.VecDeque.{deque_len, deque_capacity};
 ghost use Rattle.proto.specs.declared.message.Request.{Request};
 ghost use Rattle.std.specs.Bool.{OnTrue, OnFalse};
 ghost use Rattle.proto.specs.Answers.{said};
-ghost use Rattle.session_book.specs.Session.{begins_asked, messages_left, ended_by, read_of};
+ghost use Rattle.session_book.specs.Session.{begins_asked, messages_left, ended_by};
 ghost use Rattle.proto.specs.Reading.{asks};
 
 use crate::buffer::Buffer;
-use crate::causes::{EndCause, FeedFault, Received, Unsettled};
+use crate::causes::{EndCause, Received, Unsettled};
 use crate::limits::{MAX_UNREAD, MAX_WAITING};
 use crate::ready_queues::{Task, Tickets};
+use crate::spare_buffers::Use;
 use crate::upkeep::Upkeep;
 use bytes::Bytes;
 use proto::{
@@ -30,6 +31,15 @@ const WORTH_GIVING: usize = 16_384;
 /// What may then be left to read, 196,608 bytes, is above the longest spelling: a session that is read no further, since
 /// no whole message has come, has the room.
 const WORTH_FEEDING: usize = 65_536;
+
+/// What is to be done with a session's output now.
+#[derive(Clone, Copy)]
+pub struct Offer<'a> {
+    /// The output, empty where it is none or where more is about to stand after it.
+    pub out: &'a [u8],
+    /// Why it has ended, once all before that was answered and given.
+    pub finished: Option<EndCause>,
+}
 
 /// The state of a session from its first input on, with its tickets of the book's ready queues. Contracts see it as
 /// a `SessionState`, without the tickets.
@@ -73,17 +83,10 @@ impl Model for Session {
         × IsSearched a.input a.searched };
 }
 
-/// What one call of the parser came to.
-#[derive(Drop)]
-pub enum Read {
-    Nothing,
-    Local,
-    Ask(Request),
-}
-
 impl Session {
-    ghost use Rattle.session_book.specs.Session.{new_session, once_fed, IsInputFull, TakesPiece, FeedsHeld};
-    ghost use Rattle.session_book.specs.Session.{with_reply, finished_by, ending_of, once_over, HasReadAll, IsReady, IsEmptied, Stops, ReadsOne, ReadsAsk};
+    ghost use Rattle.session_book.specs.Session.{new_session, IsInputFull, once_fed, TakesPiece, FeedsHeld, ReadsAsk};
+    ghost use Rattle.session_book.specs.Session.{with_reply, gave, finished_by, once_over, HasReadAll, IsReady};
+    ghost use Rattle.session_book.specs.Session.{IsEmptied, Stops};
 
     pub fn new(alloc: Global, dialect: Dialect) -> Self
         ensures { result ≡ new_session dialect }
@@ -103,154 +106,6 @@ impl Session {
         }
     }
 
-    /// Puts a piece of input after the unread bytes. A session that has read Quit or a fatal message drops it.
-    fn feed(&mut self, piece: &[u8]) -> Result<(), FeedFault>
-        ensures full { (result ≡ Err FeedFault.Full) ↔ IsInputFull self.old piece.now }
-        ensures ok { OnOk result (self.new ≡ once_fed self.old piece.now) }
-        ensures err { OnErr result (self.new ≡ self.old) }
-    {
-        if self.ended.is_some() {
-            return Ok(());
-        }
-        if piece.len() > MAX_UNREAD || self.input.len() > MAX_UNREAD - piece.len() {
-            return Err(FeedFault::Full);
-        }
-        match self.input.append(piece) {
-            Ok(()) => Ok(()),
-            Err(NoMemory) => Err(FeedFault::NoMemory),
-        }
-    }
-
-    /// Feeds the held piece, if it fits by now.
-    fn take_held(&mut self) -> Result<bool, NoMemory>
-        ensures { FeedsHeld self.old result self.new }
-    {
-        let Some(piece) = self.held.take() else {
-            return Ok(false);
-        };
-        let fault = match self.feed(&piece) {
-            Ok(()) => return Ok(true),
-            Err(fault) => fault,
-        };
-        self.held = Some(piece);
-        match fault {
-            FeedFault::NoMemory => Err(NoMemory),
-            FeedFault::Full => Ok(false),
-        }
-    }
-
-    pub fn held(&self) -> &[u8]
-        ensures { result.now ≡ self.now.held }
-    {
-        match &self.held {
-            Some(piece) => piece,
-            None => &[],
-        }
-    }
-
-    /// Reads messages up to the next request, and counts the calls of the parser.
-    fn read_ask(&mut self, looks: &mut u64) -> Result<Option<Request>, NoMemory>
-        ensures { ReadsAsk self.old looks.old result self.new looks.new }
-    {
-        let alloc = self.alloc;
-        while self.is_ready() {
-            *looks = looks.saturating_add(1);
-            match self.read(alloc)? {
-                Read::Nothing => return Ok(None),
-                Read::Local => {}
-                Read::Ask(request) => return Ok(Some(request)),
-            }
-        }
-        Ok(None)
-    }
-
-    /// Whether the parser is to be called.
-    fn is_ready(&self) -> bool
-        ensures ready { OnTrue result (IsReady self.now) }
-        ensures stops { OnFalse result (Stops self.now) }
-    {
-        if self.ended.is_some() || self.output.len() > MAX_WAITING {
-            return false;
-        }
-        self.need <= self.input.len()
-    }
-
-    /// Whether nothing is left to be read and to be given.
-    pub fn is_emptied(&self) -> bool
-        ensures { OnTrue result (IsEmptied self.now) }
-    {
-        self.out().is_empty()
-            && self.held().is_empty()
-            && self.finished().is_none()
-            && !self.is_ready()
-    }
-
-    /// Calls the parser once. The bytes are read in place, and a request is copied out of them once. A line that isn't
-    /// whole yet is searched for its end from where the last call stopped.
-    fn read(&mut self, alloc: Global) -> Result<Read, NoMemory>
-        requires { IsReady self.old }
-        ensures { ReadsOne self.old result self.new }
-    {
-        match next_view_behind(self.dialect, self.input.as_slice(), &mut self.searched) {
-            NextView::More(need) => {
-                self.need = need;
-                Ok(Read::Nothing)
-            }
-            NextView::Found(view, length) => {
-                let message = to_message(alloc, view)?;
-                put_behind(&mut self.queue, &mut self.output, &message)?;
-                self.input.discard(length);
-                self.searched = 0;
-                self.need = 1;
-                self.ended = cause_of(&message);
-                Ok(read_of(message))
-            }
-        }
-    }
-
-    pub fn out(&self) -> &[u8]
-        ensures { result.now ≡ self.now.out }
-    {
-        self.output.as_slice()
-    }
-
-    /// What ends the session.
-    fn ending(&self) -> Option<EndCause>
-        ensures is { result ≡ ending_of self.now }
-        ensures read { HasReadAll (Some self.now) result }
-    {
-        if self.ended.is_some() {
-            return self.ended;
-        }
-        if self.is_over && self.held().is_empty() && self.input.len() < self.need {
-            return Some(EndCause::EndOfInput);
-        }
-        None
-    }
-
-    pub fn finished(&self) -> Option<EndCause>
-        ensures finished { result ≡ finished_by self.now }
-        ensures read { HasReadAll (Some self.now) result }
-    {
-        if self.queue.is_empty() && self.output.len() == 0 {
-            self.ending()
-        } else {
-            None
-        }
-    }
-
-    /// No more input comes.
-    pub fn end_input(&mut self)
-        ensures { self.new ≡ once_over self.old }
-    {
-        self.is_over = true;
-    }
-}
-
-/// What a book does with a session, with the upkeep that belongs to it. No clause speaks of the upkeep.
-impl Session {
-    ghost use Rattle.session_book.specs.Session.{TakesPiece, FeedsHeld, ReadsAsk, with_reply, gave};
-
     /// Feeds a piece that came, or holds it until it fits.
     pub fn receive(&mut self, session: u64, piece: Bytes, upkeep: &mut Upkeep) -> Received
         ensures { TakesPiece self.old piece result self.new }
@@ -258,17 +113,16 @@ impl Session {
         if self.held.is_some() {
             return Received::Refused;
         }
-        upkeep.spares.lend_input(&mut self.input);
-        match self.feed(&piece) {
-            Ok(()) => {
-                upkeep.ready.add(Task::Ask, session, &mut self.tickets);
+        match self.feed(&piece, upkeep) {
+            Ok(true) => {
+                upkeep.add(Task::Ask, session, &mut self.tickets.ask);
                 Received::Fed
             }
-            Err(FeedFault::Full) => {
+            Ok(false) => {
                 self.held = Some(piece);
                 Received::Held
             }
-            Err(FeedFault::NoMemory) => Received::Refused,
+            Err(NoMemory) => Received::Refused,
         }
     }
 
@@ -276,15 +130,36 @@ impl Session {
     pub fn feed_held(&mut self, session: u64, upkeep: &mut Upkeep) -> Result<bool, NoMemory>
         ensures { FeedsHeld self.old result self.new }
     {
-        let fed = self.take_held();
+        let Some(piece) = self.held.take() else {
+            return Ok(false);
+        };
+        let fed = self.feed(&piece, upkeep);
         if matches!(fed, Ok(true)) {
-            self.ask_later(session, upkeep);
+            upkeep.add(Task::Ask, session, &mut self.tickets.ask);
+        } else {
+            self.held = Some(piece);
         }
         fed
     }
 
+    /// Puts a piece of input after the unread bytes, if it fits. A session that has read Quit or a fatal message drops it.
+    fn feed(&mut self, piece: &[u8], upkeep: &mut Upkeep) -> Result<bool, NoMemory>
+        ensures full { (result ≡ Ok false) ↔ IsInputFull self.old piece.now }
+        ensures fed { result ≡ Ok true → self.new ≡ once_fed self.old piece.now }
+        ensures not_fed { (result ≡ Ok true → ⊥) → self.new ≡ self.old }
+    {
+        if self.ended.is_some() {
+            return Ok(true);
+        }
+        if piece.len() > MAX_UNREAD || self.input.len() > MAX_UNREAD - piece.len() {
+            return Ok(false);
+        }
+        self.input.append(piece, &mut upkeep.spares)?;
+        Ok(true)
+    }
+
     /// Reads messages up to the next request, for which there is room among the unsettled ones then, and counts the calls
-    /// of the parser.
+    /// of the parser. Afterwards there may be room for the held piece, and the session may have output, or have finished.
     pub fn next_ask(
         &mut self,
         session: u64,
@@ -297,19 +172,66 @@ impl Session {
         ensures room { (request : Request) → result ≡ Ok (Some request)
             → deque_len unsettled.new < deque_capacity unsettled.new }
     {
-        if !self.is_ready() {
-            self.was_asked(session, upkeep);
-            return Ok(None);
+        let read = self.read_ask(unsettled, looks, upkeep);
+        if self.held.is_some() && self.has_room() {
+            upkeep.add(Task::Feed, session, &mut self.tickets.feed);
         }
-        let before = self.output.len();
-        unsettled.reserve(1)?;
-        let read = self.read_ask(looks);
-        if let Ok(Some(request)) = &read {
-            upkeep.load.asked(request);
+        if self.output.len() > 0 || self.ended.is_some() || self.is_over {
+            upkeep.add(Task::Give, session, &mut self.tickets.give);
         }
-        upkeep.load.output_changed(before, self.output.len());
-        self.was_asked(session, upkeep);
+        upkeep.reads_on = self.is_ready();
         read
+    }
+
+    /// Reads messages up to the next request. The bytes are read in place, and a request is copied out of them once. A line
+    /// that isn't whole yet is searched for its end from where the last call of the parser stopped.
+    fn read_ask(
+        &mut self,
+        unsettled: &mut VecDeque<Unsettled>,
+        looks: &mut u64,
+        upkeep: &mut Upkeep,
+    ) -> Result<Option<Request>, NoMemory>
+        ensures reads { ReadsAsk self.old looks.old result self.new looks.new }
+        ensures kept { unsettled.new.items ≡ unsettled.old.items }
+        ensures room { (request : Request) → result ≡ Ok (Some request)
+            → deque_len unsettled.new < deque_capacity unsettled.new }
+    {
+        let alloc = self.alloc;
+        while self.is_ready() {
+            unsettled.reserve(1)?;
+            *looks = looks.saturating_add(1);
+            match next_view_behind(self.dialect, self.input.as_slice(), &mut self.searched) {
+                NextView::More(need) => {
+                    self.need = need;
+                    return Ok(None);
+                }
+                NextView::Found(view, length) => {
+                    let message = to_message(alloc, view)?;
+                    put_behind(&mut self.queue, &mut self.output, &message, upkeep)?;
+                    self.input.discard(length, Use::Input, &mut upkeep.spares);
+                    self.searched = 0;
+                    self.need = 1;
+                    self.ended = cause_of(&message);
+                    if let Message::Ask(request, _) = message {
+                        return Ok(Some(request));
+                    }
+                }
+            }
+        }
+        Ok(None)
+    }
+
+    /// Whether the parser is to be called.
+    fn is_ready(&self) -> bool
+        ensures ready { OnTrue result (IsReady self.now) }
+        ensures stops { OnFalse result (Stops self.now) }
+    {
+        self.need <= self.input.len() && self.ended.is_none() && self.output.len() <= MAX_WAITING
+    }
+
+    /// Whether it is worth feeding. A session that has ended drops what it is fed.
+    fn has_room(&self) -> bool {
+        self.ended.is_some() || self.input.len() <= MAX_UNREAD - WORTH_FEEDING
     }
 
     /// Gives the first request of the queue its reply. Where there is no memory for the bytes the session is of no further
@@ -324,78 +246,116 @@ impl Session {
         ensures ok { OnOk result (self.new ≡ with_reply self.old reply.old) }
         ensures silent { said self.old.queue (reply.old ∷ []) ≡ [] → IsOk result }
     {
-        let before = self.output.len();
-        upkeep.spares.lend_output(&mut self.output);
-        match answer_first(&mut self.queue, reply, &mut self.output) {
-            Ok(()) => {
-                upkeep.load.output_changed(before, self.output.len());
-                upkeep.ready.add(Task::Give, session, &mut self.tickets);
-                Ok(())
-            }
-            Err(e) => {
+        let answered = answer_first(&mut self.queue, reply, &mut self.output, upkeep);
+        match answered {
+            Ok(()) => upkeep.add(Task::Give, session, &mut self.tickets.give),
+            Err(NoMemory) => {
                 self.queue.clear();
-                upkeep.load.output_changed(before, 0);
-                Err(e)
+                upkeep.waiting = upkeep.waiting.saturating_sub(self.output.len());
             }
+        }
+        answered
+    }
+
+    /// The output that is to be given now, and whether the session has finished. Little output waits for the answers that are
+    /// outstanding, and for the input that is left to be read.
+    pub fn offer(&self, upkeep: &Upkeep) -> Offer<'_>
+        ensures out { (result.out.now ≡ []) ⊎ (result.out.now ≡ self.now.out) }
+        ensures finished { result.finished ≡ finished_by self.now }
+        ensures read { HasReadAll (Some self.now) result.finished }
+    {
+        let out = self.output.as_slice();
+        if out.is_empty() {
+            return Offer {
+                out,
+                finished: self.finished(),
+            };
+        }
+        let waits = !self.queue.is_empty() || upkeep.has(self.tickets.ask);
+        Offer {
+            out: if waits && out.len() < WORTH_GIVING {
+                &[]
+            } else {
+                out
+            },
+            finished: None,
         }
     }
 
-    /// `n` bytes of the output were given. A session that had too much output is asked again.
-    pub fn gave(&mut self, session: u64, n: usize, upkeep: &mut Upkeep)
+    /// `n` bytes of the output were given. It answers whether the session has finished by now. A session that had too much
+    /// output is asked again.
+    pub fn gave(&mut self, session: u64, n: usize, upkeep: &mut Upkeep) -> Option<EndCause>
         requires { n ≤ length self.old.out }
-        ensures { self.new ≡ gave self.old n }
+        ensures gave { self.new ≡ gave self.old n }
+        ensures finished { result ≡ finished_by self.new }
+        ensures read { HasReadAll (Some self.new) result }
     {
-        self.output.discard(n);
-        upkeep.load.output_changed(n, 0);
-        upkeep.spares.keep_output(&mut self.output);
-        let left = self.output.len();
+        let left = self.output.discard(n, Use::Output, &mut upkeep.spares);
+        upkeep.waiting = upkeep.waiting.saturating_sub(n);
         if left.saturating_add(n) > MAX_WAITING {
-            upkeep.ready.add(Task::Ask, session, &mut self.tickets);
+            upkeep.add(Task::Ask, session, &mut self.tickets.ask);
         }
         if n == 0 {
-            upkeep
-                .ready
-                .add(Task::RetryWrite, session, &mut self.tickets);
+            upkeep.add(Task::RetryWrite, session, &mut self.tickets.give);
         } else if left > 0 {
-            upkeep.ready.add(Task::Give, session, &mut self.tickets);
+            upkeep.add(Task::Give, session, &mut self.tickets.give);
         }
+        self.finished()
     }
 
-    /// The output, where it is to be given now: little output waits for the answers that are outstanding, and for the input
-    /// that is left to be read.
-    pub fn offer(&self, upkeep: &Upkeep) -> &[u8]
-        ensures { (result.now ≡ []) ⊎ (result.now ≡ self.now.out) }
+    /// Why the session has ended, once all before that was answered and given.
+    pub fn finished(&self) -> Option<EndCause>
+        ensures finished { result ≡ finished_by self.now }
+        ensures read { HasReadAll (Some self.now) result }
     {
-        let waits = !self.queue.is_empty() || upkeep.ready.has(Task::Ask, &self.tickets);
-        if waits && self.output.len() < WORTH_GIVING {
-            return &[];
+        if !self.queue.is_empty() || self.output.len() > 0 {
+            return None;
         }
-        self.output.as_slice()
+        if self.ended.is_some() {
+            return self.ended;
+        }
+        if self.is_over && self.held().is_empty() && self.input.len() < self.need {
+            return Some(EndCause::EndOfInput);
+        }
+        None
+    }
+
+    /// No more input comes.
+    pub fn end_input(&mut self)
+        ensures { self.new ≡ once_over self.old }
+    {
+        self.is_over = true;
     }
 
     pub fn ask_later(&mut self, session: u64, upkeep: &mut Upkeep)
         ensures { self.new ≡ self.old }
     {
-        upkeep.ready.add(Task::Ask, session, &mut self.tickets);
+        upkeep.add(Task::Ask, session, &mut self.tickets.ask);
     }
 
-    /// The session was asked: there may be room for its held piece, and it may have output, or have finished; and it may be read further.
-    fn was_asked(&mut self, session: u64, upkeep: &mut Upkeep)
-        ensures { self.new ≡ self.old }
+    pub fn held(&self) -> &[u8]
+        ensures { result.now ≡ self.now.held }
     {
-        upkeep.spares.keep_input(&mut self.input);
-        if self.held.is_some() && self.has_room() {
-            upkeep.ready.add(Task::Feed, session, &mut self.tickets);
+        match &self.held {
+            Some(piece) => piece,
+            None => &[],
         }
-        if self.output.len() > 0 || self.ended.is_some() || self.is_over {
-            upkeep.ready.add(Task::Give, session, &mut self.tickets);
-        }
-        upkeep.reads_on = self.is_ready();
     }
 
-    /// Whether it is worth feeding. A session that has ended drops what it is fed.
-    fn has_room(&self) -> bool {
-        self.ended.is_some() || self.input.len() <= MAX_UNREAD - WORTH_FEEDING
+    pub fn out(&self) -> &[u8]
+        ensures { result.now ≡ self.now.out }
+    {
+        self.output.as_slice()
+    }
+
+    /// Whether nothing is left to be read and to be given.
+    pub fn is_emptied(&self) -> bool
+        ensures { OnTrue result (IsEmptied self.now) }
+    {
+        self.out().is_empty()
+            && self.held().is_empty()
+            && self.finished().is_none()
+            && !self.is_ready()
     }
 }
 
@@ -410,21 +370,12 @@ fn cause_of(message: &Message) -> Option<EndCause>
     }
 }
 
-/// What it comes to that the parser found a message.
-fn read_of(message: Message) -> Read
-    ensures { result ≡ read_of message }
-{
-    match message {
-        Message::Ask(request, _) => Read::Ask(request),
-        Message::Wrong(_) | Message::Quit | Message::Fatal(_) => Read::Local,
-    }
-}
-
 /// Puts a message after the queue, or answers it at once where nothing is before it.
 fn put_behind(
     queue: &mut VecDeque<PendingAnswer>,
     out: &mut Buffer,
     message: &Message,
+    upkeep: &mut Upkeep,
 ) -> Result<(), NoMemory>
     requires { begins_asked queue.old.items ≡ true }
     ensures queue { OnOk result (queue.new.items ≡ messages_left (queue.old.items ++ message.now ∷ []) []) }
@@ -434,7 +385,7 @@ fn put_behind(
 {
     let pending = PendingAnswer::of(message);
     if queue.is_empty() && !pending.is_ask() {
-        return out.show(&pending, None);
+        return out.show(&pending, None, upkeep);
     }
     queue.push_back(pending)?;
     Ok(())
@@ -445,6 +396,7 @@ fn answer_first(
     queue: &mut VecDeque<PendingAnswer>,
     reply: &mut Reply,
     out: &mut Buffer,
+    upkeep: &mut Upkeep,
 ) -> Result<(), NoMemory>
     requires first { 0 < length queue.old.items }
     requires asked { begins_asked queue.old.items ≡ true }
@@ -453,22 +405,13 @@ fn answer_first(
     ensures silent { said queue.old.items (reply.old ∷ []) ≡ [] → IsOk result }
 {
     if let Some(pending) = queue.pop_front() {
-        out.show(&pending, Some(reply))?;
+        out.show(&pending, Some(reply), upkeep)?;
     }
-    answer_locals(queue, out)
-}
-
-/// Answers the messages before the first request of the queue.
-fn answer_locals(queue: &mut VecDeque<PendingAnswer>, out: &mut Buffer) -> Result<(), NoMemory>
-    ensures queue { OnOk result (queue.new.items ≡ messages_left queue.old.items []) }
-    ensures out { OnOk result (out.new ≡ out.old ++ said queue.old.items []) }
-    ensures silent { said queue.old.items [] ≡ [] → IsOk result }
-{
     while let Some(pending) = queue.front() {
         if pending.is_ask() {
             break;
         }
-        out.show(pending, None)?;
+        out.show(pending, None, upkeep)?;
         queue.pop_front();
     }
     Ok(())

@@ -6,15 +6,16 @@ use exchange::{StorageBatch, StorageSignals};
 /// The most messages for which storage reads ahead at once: their slots and items come from memory at the same time.
 const MESSAGES_AHEAD: u64 = 8;
 
-/// For how many of the next messages that was done.
+/// For how many of the next messages that was done, where hints are left at all.
 #[derive(Drop)]
 pub struct ReadAhead {
+    has_hints: bool,
     left: u64,
 }
 
 impl ReadAhead {
-    pub fn new() -> ReadAhead {
-        ReadAhead { left: 0 }
+    pub fn new(has_hints: bool) -> ReadAhead {
+        ReadAhead { has_hints, left: 0 }
     }
 
     /// A message was taken. Where it isn't one of those, storage reads ahead for it and for those seen after it.
@@ -26,7 +27,7 @@ impl ReadAhead {
     ) {
         if self.left > 0 {
             self.left -= 1;
-        } else if signals.has_hints() {
+        } else if self.has_hints {
             self.left = read_ahead(store, end, signals);
         }
     }

@@ -9,7 +9,6 @@ ghost use Rattle.storage_thread.specs.Serving.{AsksClock, IsReadSince, IsTimed, 
 ghost use Rattle.storage_thread.specs.Serving.{GetsNone, GetsMessage, AnswersOpenRequest};
 ghost use Rattle.storage_thread.specs.Keeping.{LeadsKeeping, MayForgetNothing};
 
-use crate::answered_worker::AnsweredWorker;
 use crate::reading_ahead::ReadAhead;
 use engine::{Clock, MAX_MOMENT, StorageEngine};
 use exchange::{Answered, IdleTurns, Posted, StorageBatch, StorageEnd, StorageSignals, Taken};
@@ -43,14 +42,15 @@ pub fn next_moment<C: Clock>(clock: &mut AskedClock<C>, last: u64) -> u64
     now.max(last)
 }
 
-// Executes the open request, and answers it. Its worker is told at the next flush, or before.
+// Executes the open request, and answers it. Its worker is told at the next flush, or before. It gives the worker that was told
+// of its answers now, if one was.
 fn execute<S: StorageEngine, C: Clock>(
     store: &mut S,
     clock: &mut AskedClock<C>,
     end: &mut StorageBatch,
     worker: usize,
     posted: Posted,
-)
+) -> Option<usize>
     requires answers { clock.old.answers ≡ answers_by [] end.old.end.history }
     requires read { IsReadSince end.old.end.terms.system_clock (C.start clock.old.clock) end.old.end.history }
     requires reaches { Reaches end.old.end.terms.geometry end.old.end.history (S.cache store.old) (S.moment store.old) }
@@ -67,7 +67,7 @@ fn execute<S: StorageEngine, C: Clock>(
     ensures moment { AsksClock C.told C.start clock.old (S.moment store.old) clock.new (S.moment store.new) }
 {
     let moment = next_moment(clock, store.last_moment());
-    let told = clock.answers();
+    let given = clock.answers();
     let Posted {
         session,
         number,
@@ -80,42 +80,28 @@ fn execute<S: StorageEngine, C: Clock>(
         number,
         request,
         moment,
-        clock: told,
+        clock: given,
         reply,
     };
-    end.answer_later(answered);
+    end.answer_later(answered)
 }
 
-// Tells the workers of all answers, and unparks the one that was answered last.
-fn tell(end: &mut StorageBatch, answered: &mut AnsweredWorker, signals: &StorageSignals)
+// Tells the workers of all answers, and unparks the one whose answers they are.
+fn tell(end: &mut StorageBatch, signals: &StorageSignals)
     ensures end { end.new.end ≡ end.old.end }
     ensures told { end.new.told ≡ end.old.end.history }
 {
-    end.flush_answers();
-    answered.unpark(signals);
-}
-
-// The same, where the last answer was an eighth.
-fn flush_every_eighth(
-    end: &mut StorageBatch,
-    executed: u64,
-    answered: &mut AnsweredWorker,
-    signals: &StorageSignals,
-)
-    ensures { end.new.end ≡ end.old.end }
-{
-    if executed % ANSWERS_A_FLUSH == 0 {
-        tell(end, answered, signals);
+    if let Some(worker) = end.flush_answers() {
+        signals.unpark(worker);
     }
 }
 
-// The next message among those that the last look at the lanes named. Where none is left, the workers are told of all
-// answers, and then the lanes are looked at.
+// The next message among those that the last look at the lanes named; the workers are told of each eighth answer. Where none
+// is left, they are told of all answers, and then the lanes are looked at.
 fn take_next<C: Clock>(
     end: &mut StorageBatch,
     clock: &AskedClock<C>,
     executed: u64,
-    answered: &mut AnsweredWorker,
     signals: &StorageSignals,
 ) -> Option<Taken>
     requires shut { end.old.end.open_request ≡ None }
@@ -123,12 +109,14 @@ fn take_next<C: Clock>(
     ensures taken { MatchOption result (GetsNone end.old.end end.new.end) (GetsMessage end.old.end end.new.end) }
     ensures told { IfNone result (end.new.told ≡ end.new.end.history) }
 {
-    flush_every_eighth(end, executed, answered, signals);
-    if let Some(taken) = end.next_seen(clock) {
-        return Some(taken);
+    let Some(taken) = end.next_seen(clock) else {
+        tell(end, signals);
+        return end.next(clock);
+    };
+    if executed % ANSWERS_A_FLUSH == 0 {
+        tell(end, signals);
     }
-    tell(end, answered, signals);
-    end.next(clock)
+    Some(taken)
 }
 
 // An idle turn, in which the thread may park. No worker waits for an answer that was given.
@@ -179,22 +167,23 @@ pub fn run_storage<R: Wait + time::Clock, S: StorageEngine + Drop, C: Clock>(
     let mut executed = 0u64;
     let mut left = end.workers();
     let mut idle = IdleTurns::new(IDLE_TURNS, signals.spin());
-    let mut ahead = ReadAhead::new();
-    let mut answered = AnsweredWorker::none();
+    let mut ahead = ReadAhead::new(signals.has_hints());
     for _ in rt.forever() {
         if left == 0 {
-            tell(&mut end, &mut answered, signals);
+            tell(&mut end, signals);
             return StorageReport {
                 clock: clock.into_clock(),
                 storage_end: end.into_end(),
                 executed,
             };
         }
-        match take_next(&mut end, &clock, executed, &mut answered, signals) {
+        match take_next(&mut end, &clock, executed, signals) {
             Some(Taken::Asked { worker, posted }) => {
                 ahead.note_taken(&store, &end, signals);
-                execute(&mut store, &mut clock, &mut end, worker, posted);
-                answered.note(worker, signals);
+                let told = execute(&mut store, &mut clock, &mut end, worker, posted);
+                if let Some(told) = told {
+                    signals.unpark(told);
+                }
                 executed = executed.saturating_add(1);
                 idle.reset(signals.parking());
             }

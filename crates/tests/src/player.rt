@@ -78,7 +78,7 @@ impl Player {
     }
 
     pub fn finished(&self, session: u64) -> Option<EndCause> {
-        self.book.finished(session)
+        self.book.offer(session).finished
     }
 
     pub fn close(&mut self, session: u64) {

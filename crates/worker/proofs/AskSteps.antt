@@ -46,11 +46,6 @@ goes_on_trans told a b c h k = record {
 
 -- ---- the session reads on
 
--- where the new requests are just that of one post, they add this one request after any others
-one_request : (qs : List Request) (p : Posted) → qs ≡ p.request ∷ [] → (xs : List Request)
-    → xs ++ qs ≡ xs ++ p.request ∷ []
-one_request qs p e xs = ap (λ (y : List Request). xs ++ y) e
-
 -- the requests of the messages read are those that were posted or are held
 pub told_read : (v v' : RunView) (unopened : ℕ) (ended : Bool) (t : ℕ) (s read : SessionState) (ms : List Message)
     → IsTraceKnown v unopened ended

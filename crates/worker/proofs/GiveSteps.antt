@@ -12,6 +12,7 @@ use Rattle.proto.specs.History.{worker_share, session_share, asked_posted, asked
 use Rattle.proto.specs.Reading.{asks}
 use Rattle.proto.specs.Answers.{said}
 use Rattle.proto.proofs.AskLemmas.{asks-append}
+use Rattle.proto.proofs.HistoryLemmas.{all_read}
 use Rattle.proto.proofs.Options.{some_is}
 use Rattle.exchange.specs.Beginnings.{StartsWith}
 use Rattle.exchange.specs.Ends.{WorkerView}
@@ -74,7 +75,8 @@ may_be_given v end request t s h open_is posted back told =
     let now : StartsWith (said ms (had_by v.back t)) (given t v.events ++ s.out) =
     ([], sym served.has_said.whole ∙ sym_nil (given t v.events ++ s.out)) in
     record {
-      legal = told.legal;
+      legal = told.legal.legal;
+      read = all_read end.terms hist told.legal;
       said_there = λ messages rest reads.
           let m = first_of_reading v.dialect (fed t v.events) begun.0 rest ms messages begun.1 reads in
           let asks_on : StartsWith (asks messages) (asks ms) = (asks m.0, ap asks m.1 ∙ asks-append ms m.0) in

@@ -35,11 +35,6 @@ pub two_calls : (f g : PortTrace → PortTrace) (o m o' : Option PortTrace) → 
 two_calls f g None m o' e h = h ∙ ap (option_map g) e
 two_calls f g (Some trace) m o' e h = h ∙ ap (option_map g) e
 
--- a trace of which nothing is known is the trace of a port that tells nothing
-pub tells_none : (o : Option PortTrace) → ((trace : PortTrace) → o ≡ Some trace → ⊥) → o ≡ None
-tells_none None h = refl
-tells_none (Some trace) h = absurd (h trace refl)
-
 -- ---- which sessions an entry ends
 
 -- an entry about another session doesn't end this one

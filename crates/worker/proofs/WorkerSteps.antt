@@ -39,9 +39,9 @@ pub record WorkerGoesOn {P : Type 0} (told : P → Option PortTrace) (old new : 
   pub serving : IsWorkerServing told new
 
 -- so it continues, where its port leads on
-pub continues : {P : Type 0} (told : P → Option PortTrace) (leads_to : P → P → Type 0) (old now new : WorkerState P)
+pub continues : {P : Type 0} {told : P → Option PortTrace} {leads_to : P → P → Type 0} {old now new : WorkerState P}
     → old ≡ now → leads_to old.port new.port → WorkerGoesOn told old new → Continues told leads_to now new
-continues told leads_to old now new same leads h =
+continues {told = told} {leads_to = leads_to} {new = new} same leads h =
     subst (λ (w : WorkerState _). Continues told leads_to w new) same (record {
       tells = h.tells;
       leads = leads;
@@ -50,10 +50,10 @@ continues told leads_to old now new same leads h =
     })
 
 -- what goes on from a to b, and from b to c, goes on from a to c
-pub continues_trans : {P : Type 0} (told : P → Option PortTrace) (leads_to : P → P → Type 0) (a b c : WorkerState P)
+pub continues_trans : {P : Type 0} {told : P → Option PortTrace} {leads_to : P → P → Type 0} {a b c : WorkerState P}
     → ((p q r : P) → leads_to p q → leads_to q r → leads_to p r)
     → Continues told leads_to a b → Continues told leads_to b c → Continues told leads_to a c
-continues_trans told leads_to a b c leads_on h k = record {
+continues_trans {a = a} {b = b} {c = c} leads_on h k = record {
   tells = k.tells ∙ h.tells;
   leads = leads_on a.port b.port c.port h.leads k.leads;
   same_end = record {

@@ -9,7 +9,7 @@ use Rattle.proto.specs.declared.message.Message.{Message}
 use Rattle.proto.specs.declared.message.Message.TheVariants.{Quit, Fatal}
 use Rattle.proto.specs.declared.history.Posted.{Posted}
 use Rattle.proto.specs.declared.history.Answered.{Answered}
-use Rattle.proto.specs.History.{worker_share, session_share, asked_posted, asked, had}
+use Rattle.proto.specs.History.{worker_share, session_share, asked_posted}
 use Rattle.proto.specs.Reading.{Reads, ends_session, asks}
 use Rattle.proto.specs.Answers.{said}
 use Rattle.exchange.specs.Ends.{WorkerView}
@@ -40,8 +40,9 @@ IsCauseOf events s messages causes.Fatal =
 pub record IsSessionAnswered (events : List PortRecord) (history : List Answered) (worker s : ℕ) (cause : EndCause)
     (messages : List Message) : Type 0 where
   pub answers : BeginsAnswers history worker s (given s events) messages
-  pub complete : cause ≢ causes.Gone → cause ≢ causes.NoMemory → (asked (session_share history worker s) ≡ asks messages)
-      × (given s events ≡ said messages (had (session_share history worker s)))
+  pub complete : cause ≢ causes.Gone → cause ≢ causes.NoMemory
+      → (map (λ e. e.request) (session_share history worker s) ≡ asks messages)
+      × (given s events ≡ said messages (map (λ e. e.reply) (session_share history worker s)))
   pub caused : IsCauseOf events s messages cause
 
 -- The report lists sessions that were opened, once each, by rising numbers. An opened session that it doesn't list was shut, and

@@ -73,23 +73,7 @@ fn ask_session<P: Port, G: Gate>(
     }
 }
 
-/// Asks the next session that has input, unless no request can be asked now.
-fn ask_next<P: Port, G: Gate>(worker: &mut Worker<P>, gate: &G, storage: &StorageSignals) -> bool
-    ensures { Continues P.told P.leads_to worker.old worker.new }
-{
-    if worker.is_busy() {
-        return false;
-    }
-    match worker.state.book.next_ready(Task::Ask) {
-        Some(session) => {
-            ask_session(worker, session, gate, storage);
-            true
-        }
-        None => false,
-    }
-}
-
-/// Asks the sessions in turn while the window has room. False where none was asked.
+/// Asks the sessions in turn, as long as requests can be asked. False where none was asked.
 fn ask_sessions<P: Port, G: Gate>(
     worker: &mut Worker<P>,
     gate: &G,
@@ -99,28 +83,16 @@ fn ask_sessions<P: Port, G: Gate>(
 {
     let mut moved = false;
     for _ in 0..worker.state.book.ready(Task::Ask) {
-        if !ask_next(worker, gate, storage) {
+        if worker.is_busy() {
             break;
         }
+        let Some(session) = worker.state.book.next_ready(Task::Ask) else {
+            break;
+        };
+        ask_session(worker, session, gate, storage);
         moved = true;
     }
     moved
-}
-
-/// Posts the held request, then what has come and what fits by now, and tells storage of all of it.
-fn post_requests<P: Port, G: Gate>(
-    worker: &mut Worker<P>,
-    gate: &G,
-    storage: &StorageSignals,
-) -> bool
-    ensures { Continues P.told P.leads_to worker.old worker.new }
-{
-    let held = worker.post(gate, storage);
-    let came = take_events(worker, gate, storage);
-    let fed = feed_pieces(worker);
-    let asked = ask_sessions(worker, gate, storage);
-    worker.flush(storage);
-    held || came || fed || asked
 }
 
 /// Takes and settles all answers that are there.
@@ -148,16 +120,20 @@ fn give_output<P: Port>(worker: &mut Worker<P>, task: Task, most: usize) -> bool
     moved
 }
 
-/// One turn. False where there was nothing to do. Storage knows of all that was posted before the answers are looked for, so
-/// nothing is kept back while the worker waits.
+/// One turn. False where there was nothing to do. It posts the held request, then what has come and what fits by now. Storage
+/// knows of all of it before the answers are looked for, so nothing is kept back while the worker waits.
 fn take_turn<P: Port, G: Gate>(worker: &mut Worker<P>, gate: &G, storage: &StorageSignals) -> bool
     ensures { Continues P.told P.leads_to worker.old worker.new }
 {
-    let posted = post_requests(worker, gate, storage);
+    let held = worker.post(gate, storage);
+    let came = take_events(worker, gate, storage);
+    let fed = feed_pieces(worker);
+    let asked = ask_sessions(worker, gate, storage);
+    worker.flush(storage);
     let settled = settle_answers(worker, gate);
     let given = give_output(worker, Task::Give, usize::MAX);
     let given_slowly = give_output(worker, Task::RetryWrite, SLOW_A_TURN);
-    posted || settled || given || given_slowly
+    held || came || fed || asked || settled || given || given_slowly
 }
 
 /// Whether all is done: the port has ended, nothing is held or outstanding, and no open session has input or output left. One
@@ -167,7 +143,11 @@ fn has_drained<P: Port>(worker: &mut Worker<P>) -> bool
     ensures drained { result ≡ true → IsDrained worker.new }
 {
     let state = &mut worker.state;
-    if !state.ended || state.request.is_some() || state.outstanding() > 0 || !state.book.is_idle() {
+    if !state.ended
+        || state.request.is_some()
+        || state.batch.outstanding() > 0
+        || !state.book.is_idle()
+    {
         return false;
     }
     match state.book.find_unemptied() {

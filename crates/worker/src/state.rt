@@ -1,11 +1,10 @@
 //! What a worker holds while it runs, and the parts of its steps.
 
-ghost use Rattle.std.specs.Prelude.{◌≡◌, ◌≤◌, ◌+◌, ◌⊎◌, Some, None, IsSome, [], length, true};
-ghost use Rattle.proto.specs.declared.limits.TheConstants.{WINDOW};
+ghost use Rattle.std.specs.Prelude.{◌≡◌, ◌⊎◌, Some, None, IsSome, [], true};
 ghost use Rattle.session_book.specs.Book.{session_of};
 ghost use Rattle.worker.specs.EndCauses.{piece_of};
 ghost use Rattle.worker_port.specs.Ports.{PortTrace, is_open};
-ghost use Rattle.worker.specs.Workers.{end_of, Closes, Shuts, Admits, Refuses, SameRest, HandlesData};
+ghost use Rattle.worker.specs.Workers.{Closes, Shuts, Admits, Refuses, SameRest, HandlesData};
 
 use crate::session_list::SessionList;
 use bytes::Bytes;
@@ -31,14 +30,6 @@ pub(crate) struct WorkerState<P> {
 }
 
 impl<P: Port> WorkerState<P> {
-    /// How many requests were posted and not taken back.
-    pub(crate) fn outstanding(&self) -> u64
-        ensures value { result + length (end_of self.now).back ≡ length (end_of self.now).sent }
-        ensures range { result ≤ WINDOW }
-    {
-        self.batch.outstanding()
-    }
-
     /// Takes a session out of the book, and writes why it ended.
     pub(crate) fn close(&mut self, session: u64, cause: EndCause)
         ensures port { self.new.port ≡ self.old.port }
@@ -59,19 +50,7 @@ impl<P: Port> WorkerState<P> {
         self.close(session, cause);
     }
 
-    /// Shuts a session that was just opened, as there is no room for it.
-    fn refuse(&mut self, newcomer: u64)
-        requires { (trace : PortTrace) → P.told self.old.port ≡ Some trace
-            → is_open newcomer trace.events ≡ true }
-        ensures leads { P.leads_to self.old.port self.new.port }
-        ensures rest { SameRest self.old self.new }
-        ensures refuses { Refuses P.told self.old self.new newcomer }
-    {
-        self.port.shut(newcomer);
-        self.unopened = self.unopened.saturating_add(1);
-    }
-
-    /// Opens a session in the book, and writes its entry in the report.
+    /// Opens a session in the book, and writes its entry in the report; or shuts it, as there is no room for it.
     pub(crate) fn admit(&mut self, session: u64)
         requires { (trace : PortTrace) → P.told self.old.port ≡ Some trace
             → is_open session trace.events ≡ true }
@@ -80,7 +59,8 @@ impl<P: Port> WorkerState<P> {
         ensures admits { Admits P.told self.old self.new session ⊎ Refuses P.told self.old self.new session }
     {
         if self.book.open(session).is_err() {
-            self.refuse(session);
+            self.port.shut(session);
+            self.unopened = self.unopened.saturating_add(1);
             return;
         }
         self.sessions.open(session);

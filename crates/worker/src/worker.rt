@@ -64,21 +64,17 @@ impl<P: Port> Worker<P> {
         }
     }
 
-    /// Whether the port may wait: nothing is outstanding or held back, and no session has anything to do.
-    fn may_wait(&self) -> bool {
-        self.state.request.is_none()
-            && self.state.batch.outstanding() == 0
-            && self.state.book.is_idle()
-    }
-
-    /// One event of the port, unless it has ended. False where there was none.
+    /// One event of the port, unless it has ended. The port may wait where nothing is outstanding or held back, and no session
+    /// has anything to do. False where there was no event.
     pub(crate) fn take_event(&mut self) -> bool
         ensures { Continues P.told P.leads_to self.old self.new }
     {
         if self.state.ended {
             return false;
         }
-        let may_wait = self.may_wait();
+        let may_wait = self.state.request.is_none()
+            && self.state.batch.outstanding() == 0
+            && self.state.book.is_idle();
         match self.state.port.next(may_wait) {
             PortEvent::Opened(session) => self.state.admit(session),
             PortEvent::Data(session, bytes) => self.state.receive(session, bytes),
@@ -93,10 +89,13 @@ impl<P: Port> Worker<P> {
         true
     }
 
-    /// Feeds the session's held piece, if it fits by now.
-    pub(crate) fn feed_again(&mut self, session: u64) -> bool
+    /// Feeds the next held piece that may fit by now, if it does.
+    pub(crate) fn feed_next(&mut self) -> bool
         ensures { Continues P.told P.leads_to self.old self.new }
     {
+        let Some(session) = self.state.book.next_ready(Task::Feed) else {
+            return false;
+        };
         match self.state.book.feed_held(session) {
             Ok(true) => {
                 self.state.port.resume(session);
@@ -117,12 +116,11 @@ impl<P: Port> Worker<P> {
     {
         match self.state.book.next_ask(session) {
             Ok(Some((request, number))) => {
-                let posted = Posted {
+                self.state.request = Some(Posted {
                     session,
                     number,
                     request,
-                };
-                sending::hold(&mut self.state.request, posted);
+                });
                 false
             }
             Ok(None) => true,
@@ -169,25 +167,40 @@ impl<P: Port> Worker<P> {
         true
     }
 
-    /// Posts the held request, if the gate lets it and there is room. The next flush tells storage of it.
+    /// Posts the held request, if the gate lets it and there is room. The next flush tells storage of it. A hint of the key is
+    /// left for it.
     pub(crate) fn post<G: Gate>(&mut self, gate: &G, storage: &StorageSignals) -> bool
         ensures goes_on { Continues P.told P.leads_to self.old self.new }
         ensures posted { result ≡ true → self.new.request ≡ None }
     {
-        let Some(posted) = &self.state.request else {
+        let worker = self.state.batch.worker();
+        let Some(posted) = self.state.request.take() else {
             return false;
         };
-        if !gate.may_post(self.state.batch.worker(), posted.number) {
+        if !gate.may_post(worker, posted.number) {
+            self.state.request = Some(posted);
             return false;
         }
-        sending::post_held(&mut self.state.batch, &mut self.state.request, storage)
+        if let Some(key) = posted.request.first_key() {
+            storage.leave_hint(worker, posted.number - 1, key);
+        }
+        match self.state.batch.put(posted) {
+            Ok(()) => true,
+            Err(posted) => {
+                self.state.request = Some(posted);
+                false
+            }
+        }
     }
 
-    /// Tells storage of all that was posted.
+    /// Tells storage of all that was posted, and unparks it.
     pub(crate) fn flush(&mut self, storage: &StorageSignals)
         ensures { Continues P.told P.leads_to self.old self.new }
     {
-        sending::flush(&mut self.state.batch, storage);
+        if self.state.batch.waiting() > 0 {
+            self.state.batch.flush();
+            storage.parking().unpark();
+        }
     }
 
     /// Takes the next answer and settles it. False where there is none.
@@ -229,30 +242,13 @@ impl<P: Port> Worker<P> {
         }
     }
 
-    /// Feeds the next held piece that may fit by now.
-    pub(crate) fn feed_next(&mut self) -> bool
-        ensures { Continues P.told P.leads_to self.old self.new }
-    {
-        match self.state.book.next_ready(Task::Feed) {
-            Some(session) => self.feed_again(session),
-            None => false,
-        }
-    }
-
     /// Offers the output of the next session that is to be taken up for the task, and shuts it where it has finished.
     pub(crate) fn give_next(&mut self, task: Task) -> bool
         ensures { Continues P.told P.leads_to self.old self.new }
     {
-        match self.state.book.next_ready(task) {
-            Some(session) => self.give(session),
-            None => false,
-        }
-    }
-
-    /// Offers the session's output, and shuts it where it has finished.
-    fn give(&mut self, session: u64) -> bool
-        ensures { Continues P.told P.leads_to self.old self.new }
-    {
+        let Some(session) = self.state.book.next_ready(task) else {
+            return false;
+        };
         let (moved, finished) = self.offer(session);
         let finished = self.finish(session, finished);
         moved || finished

@@ -1,11 +1,13 @@
 -- What may be offered to a session, at any moment of a run.
-use Rattle.std.specs.Prelude.{◌≡◌, ℕ, true, false, List, ◌++◌}
+use Rattle.std.specs.Prelude.{◌≡◌, ℕ, true, false, List, ◌++◌, map, All}
 use Rattle.proto.specs.declared.dialect.Dialect.{Dialect}
 use Rattle.proto.specs.declared.message.Message.{Message}
 use Rattle.proto.specs.declared.history.Answered.{Answered}
 use Rattle.proto.specs.declared.terms.Terms.{Terms}
+use Rattle.proto.specs.declared.logged_clock.ClockStart.{ClockStart}
+use Rattle.proto.specs.ClockAnswers.{IsRead}
 use Rattle.proto.specs.Sizes.{Sizes}
-use Rattle.proto.specs.History.{LegalBy, session_share, asked, had}
+use Rattle.proto.specs.History.{Legal, session_share}
 use Rattle.proto.specs.Reading.{Reads, asks}
 use Rattle.proto.specs.Answers.{said}
 use Rattle.exchange.specs.Beginnings.{StartsWith}
@@ -22,13 +24,15 @@ by_any_clock sizes = record { geometry = sizes; system_clock = false }
 
 -- the session's requests in the history are the first of the messages', and the bytes begin what is said to these there
 pub record BeginsAnswers (history : List Answered) (worker s : ℕ) (bytes : List ℕ) (messages : List Message) : Type 0 where
-  pub first : StartsWith (asks messages) (asked (session_share history worker s))
-  pub begins : StartsWith (said messages (had (session_share history worker s))) bytes
+  pub first : StartsWith (asks messages) (map (λ e. e.request) (session_share history worker s))
+  pub begins : StartsWith (said messages (map (λ e. e.reply) (session_share history worker s))) bytes
 
--- by this history these bytes may go after those that the session took, whatever messages those spell that came of it
+-- By this history these bytes may go after those that the session took, whatever messages those spell that came of it. The history
+-- is legal. Where the terms say so, the clock's answers in it are readings of the system's clock since one start.
 pub record MayBeSent (terms : Terms) (d : Dialect) (worker : ℕ) (history : List Answered) (s : ℕ) (came took bytes : List ℕ)
     : Type 0 where
-  pub legal : LegalBy terms history
+  pub legal : Legal terms.geometry history
+  pub read : terms.system_clock ≡ true → (start : ClockStart) × All (λ e. All (IsRead start) e.clock) history
   pub said_there : (messages : List Message) (rest : List ℕ) → Reads d came messages rest
       → BeginsAnswers history worker s (took ++ bytes) messages
 

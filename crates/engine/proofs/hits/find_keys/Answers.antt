@@ -37,13 +37,13 @@ loop-key-preserved-in-Continue-branch-3 g c =
     hits_there c.args.with_cas entries c.loop-key.words rest key e c.in-Some.ensures there in
     let more : c.in_ok-room.room ≡ c.loop-key.room + hit_room hit =
     (rw c.in_ok-room.ensures.ok_part at c.room_with.ensures)
-    ∙ ap (λ h. c.loop-key.room + hit_room h) c.hit_of.ensures.hit in
+    ∙ ap (λ h. c.loop-key.room + hit_room h) c.hit_with-hit.ensures.hit in
     let sum = sum_by-cons hit_room hit (hits_of c.args.with_cas entries rest) in
     let shown : shown_size (hits_of c.args.with_cas entries c.loop-key.words)
     ≡ length (hit_bytes hit) + shown_size (hits_of c.args.with_cas entries rest) =
     ap shown_size hits ∙ length-append (hit_bytes hit) (flat_map hit_bytes (hits_of c.args.with_cas entries rest)) in
     let fits : length (hit_bytes hit) ≤ hit_room hit =
-    subst (λ (h : Hit). length (hit_bytes h) ≤ hit_room h) c.hit_of.ensures.hit c.hit_of.ensures.room in
+    subst (λ (h : Hit). length (hit_bytes h) ≤ hit_room h) c.hit_with-hit.ensures.hit c.hit_with-hit.ensures.room in
     record {
       are_found = subst (AreFound m c.args.map.now) (sym pushed)
           (found_more m c.args.map.now c.loop-key.found.items f e inv.are_found at_key stands);

@@ -1,6 +1,5 @@
-use Rattle.std.proofs.Common.{◌≡◌, ℕ, ◌<◌, ◌^◌, Option, Some, sym, subst, ◌∙◌, arith}
+use Rattle.std.proofs.Common.{◌≡◌, ℕ, ◌<◌, ◌^◌, Some, sym, subst, ◌∙◌, arith}
 use Rattle.std.proofs.lemmas.Option.{none-some}
-use Rattle.proto.specs.SeenHits.{seen_hit}
 use Rattle.engine.proofs.HitLemmas.{hit_within}
 use Rattle.engine.proofs.hits.hit_with.Goals.{then-with_cas, else-with_cas}
 use Rattle.engine.proofs.hits.hit_with.Goals as goal

@@ -13,16 +13,16 @@ use Rattle.engine.proofs.HitLemmas.{hit_of, found_there, hits_more, room_less, r
 use Rattle.engine.proofs.CountLemmas.{counts_hit}
 use Rattle.engine.proofs.hits.hits_found.Goals as goal
 
-pub entry_at-requires-clause-stands : goal.entry_at-requires-clause-stands
-entry_at-requires-clause-stands g c =
+pub entry_at-entry-requires-clause-stands : goal.entry_at-entry-requires-clause-stands
+entry_at-entry-requires-clause-stands g c =
     let i = c.loop-i.i in
     let first = c.index-found-i.result in
     subst (λ f. g.M.LiveMap.stands c.loop-i.map (get_or c.args.found.now i first).key.now f.place)
     (get_or_default c.args.found.now i first c.index-found-i-in-loop-i.result c.loop-i-test.true)
     (c.loop-i.invariant.are_found i first c.loop-i-test.true).stands
 
-pub entry_at-requires-clause-there : goal.entry_at-requires-clause-there
-entry_at-requires-clause-there g c =
+pub entry_at-entry-requires-clause-there : goal.entry_at-entry-requires-clause-there
+entry_at-entry-requires-clause-there g c =
     (c.loop-i.invariant.are_found c.loop-i.i c.index-found-i.result c.loop-i-test.true).there
 
 pub push-requires : goal.push-requires
@@ -31,13 +31,13 @@ push-requires g c =
     let found = c.args.found.now in
     let i = c.loop-i.i in
     let f = get_or found i c.index-found-i.result in
-    let e = entry_of c.entry_at.result in
+    let e = entry_of c.entry_at-entry.result in
     let there : Some e ≡ map.get entries f.key.now =
-    c.entry_at.ensures ∙ ap (λ (es : Entries). map.get es f.key.now) c.loop-i.invariant.entries in
+    c.entry_at-entry.ensures ∙ ap (λ (es : Entries). map.get es f.key.now) c.loop-i.invariant.entries in
     let hits = found_there c.args.with_cas entries found i c.index-found-i.result e c.loop-i-test.true there in
     let rest = hits_of c.args.with_cas entries (keys_found (drop (i + 1) found)) in
     let room = c.loop-i.invariant.room ∙ ap (sum_by hit_room) hits in
-    subst (λ (h : Hit). hit_room h ≤ c.loop-i.hits.room) (sym c.hit_of.ensures.hit)
+    subst (λ (h : Hit). hit_room h ≤ c.loop-i.hits.room) (sym c.hit_with.ensures.hit)
     (room_first c.loop-i.hits.room (hit_of c.args.with_cas f.key.now e) rest room)
 
 pub count_read-requires : goal.count_read-requires
@@ -56,10 +56,10 @@ loop-i-preserved g c =
     let found = c.args.found.now in
     let i = c.loop-i.i in
     let f = get_or found i c.index-found-i.result in
-    let e = entry_of c.entry_at.result in
+    let e = entry_of c.entry_at-entry.result in
     let hit : Hit = hit_of c.args.with_cas f.key.now e in
     let there : Some e ≡ map.get entries f.key.now =
-    c.entry_at.ensures ∙ ap (λ (es : Entries). map.get es f.key.now) inv.entries in
+    c.entry_at-entry.ensures ∙ ap (λ (es : Entries). map.get es f.key.now) inv.entries in
     let hits = found_there c.args.with_cas entries found i c.index-found-i.result e c.loop-i-test.true there in
     let rest = hits_of c.args.with_cas entries (keys_found (drop (i + 1) found)) in
     let all = hits_of c.args.with_cas entries (keys_found found) in
@@ -73,7 +73,7 @@ loop-i-preserved g c =
     ∙ ap (λ (h : Hit). let w : Writing = record {
       hits = c.loop-i.hits.hits ++ h ∷ [];
       room = c.loop-i.hits.room - hit_room h;
-    } in w) c.hit_of.ensures.hit in
+    } in w) c.hit_with.ensures.hit in
     let counted = counts_hit m.reads c.args.map.now c.loop-i.hits.hits c.loop-i.map hit c.count_read.new.self
     inv.counted c.count_read.ensures.counted in
     record {

@@ -11,7 +11,7 @@ use Rattle.exchange.proofs.steps.put_answer.Goals as goal
 pub load-requires : goal.load-requires
 load-requires c = let h = c.requires.held in let d : StorageState = storage_state_in c.args.seat.now.me.0 in
     let a = c.args.answered in
-    let me = exchanged _ _ _ _ _ None (Some (Answer a)) c.put_in_answer.ensures.put h.0 refl in (
+    let me = exchanged _ _ _ _ _ None (Some (Answer a)) c.exchange.ensures.3 h.0 c.slot_at-slot.ensures in (
       search rules,
       search rules,
       answers_as _ _ _ _ d a.worker (posted_of a) a _ (me
@@ -22,4 +22,4 @@ load-requires c = let h = c.requires.held in let d : StorageState = storage_stat
 pub returns-clause-answered : goal.returns-clause-answered
 returns-clause-answered c = let h = c.requires.held in let d : StorageState = storage_state_in c.args.seat.now.me.0 in
     let a = c.args.answered in
-    c.load.ensures.2 d a _ (exchanged _ _ _ _ _ None (Some (Answer a)) c.put_in_answer.ensures.put h.0 refl)
+    c.load.ensures.2 d a _ (exchanged _ _ _ _ _ None (Some (Answer a)) c.exchange.ensures.3 h.0 c.slot_at-slot.ensures)

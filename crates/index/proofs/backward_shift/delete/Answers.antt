@@ -4,7 +4,8 @@ use Rattle.std.proofs.Common.{get_or-set_other, length-set}
 use Rattle.std.proofs.lemmas.List.{set-set}
 use Rattle.index.specs.declared.slot.Slot.{Slot}
 use Rattle.index.specs.Layouts.{SlotArray}
-use Rattle.index.specs.Keys.{key_at, KeysOf, home_of, hash_of}
+use Rattle.index.specs.Keys.{KeysOf, home_of, hash_of}
+use Rattle.segments.specs.Pools.{key_at}
 use Rattle.index.specs.Slots.{is_used, slot_at, place_of, distance, behind, empty_slot}
 use Rattle.index.specs.Table.{hashing, Hashing}
 use Rattle.index.proofs.ShiftedSlots.{IsShifting, IsNearlyFound, nearly, begins, shifting_shortens, stayed, moved, finished, homes_in_row, emptied_others}

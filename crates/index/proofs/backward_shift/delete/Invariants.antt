@@ -1,6 +1,6 @@
 use Rattle.std.proofs.Common.{◌≡◌, ℕ, ◌-◌, List, length, Some, true}
 use Rattle.std.specs.Prelude.{slice_set}
-use Rattle.index.specs.Keys.{key_at}
+use Rattle.segments.specs.Pools.{key_at}
 use Rattle.index.specs.Slots.{is_used, slot_at, place_of, distance, empty_slot}
 use Rattle.index.specs.Table.{hashing}
 use Rattle.index.proofs.ShiftedSlots.{IsShifting}

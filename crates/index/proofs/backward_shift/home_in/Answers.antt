@@ -1,7 +1,8 @@
 use Rattle.std.proofs.Common.{◌≡◌, ℕ, ◌+◌, ◌*◌, ◌%◌, ◌^◌, ◌≤◌, length, sym, ap, ◌∙◌, arith}
 use Rattle.index.specs.declared.slot.Slot.{Slot}
 use Rattle.index.specs.declared.layout.Layout.{Layout}
-use Rattle.index.specs.Keys.{key_at, KeysOf, hash_of}
+use Rattle.index.specs.Keys.{KeysOf, hash_of}
+use Rattle.segments.specs.Pools.{key_at}
 use Rattle.index.specs.Layouts.{home_bits, low_in}
 use Rattle.index.specs.Table.{hashing, Hashing}
 use Rattle.std.proofs.lemmas.Nat.{one_shl}

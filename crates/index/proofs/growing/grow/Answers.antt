@@ -1,6 +1,7 @@
 use Rattle.std.proofs.Common.{◌≡◌, ◌⊎◌, ◌+◌, ◌-◌, ◌<◌, false, List, length, inl, inr, sym, ap, ◌∙◌, arith}
 use Rattle.index.specs.declared.slot.Slot.{Slot}
-use Rattle.index.specs.Keys.{key_at, KeysOf}
+use Rattle.index.specs.Keys.{KeysOf}
+use Rattle.segments.specs.Pools.{key_at}
 use Rattle.index.specs.Layouts.{SlotArray}
 use Rattle.index.specs.Reinserting.{AreNear}
 use Rattle.index.specs.Slots.{used_in, is_used, slot_at}

@@ -1,5 +1,5 @@
 use Rattle.std.proofs.Common.{◌≡◌, ◌⊎◌, ◌+◌, ◌*◌, ◌≤◌, length}
-use Rattle.index.specs.Keys.{key_at}
+use Rattle.segments.specs.Pools.{key_at}
 use Rattle.index.specs.Slots.{used_in}
 use Rattle.index.specs.Table.{hashing, AreIndexed, places_in}
 use Rattle.index.proofs.growing.grow_for.Given as goal

@@ -2,7 +2,8 @@ use Rattle.std.proofs.Common.{◌≡◌, ℕ, ◌+◌, ◌*◌, ◌<◌, true, f
 use Rattle.std.specs.Prelude.{slice_set}
 use Rattle.index.specs.declared.slot.Slot.{Slot}
 use Rattle.index.specs.Layouts.{SlotArray}
-use Rattle.index.specs.Keys.{key_at, KeysOf}
+use Rattle.index.specs.Keys.{KeysOf}
+use Rattle.segments.specs.Pools.{key_at}
 use Rattle.index.specs.Slots.{is_used, slot_at, distance, behind, empty_slot, used_in, AreUsedUpTo}
 use Rattle.index.specs.Reinserting.{IsFirstStop}
 use Rattle.index.specs.Table.{hashing, Hashing}

@@ -1,5 +1,5 @@
 use Rattle.std.proofs.Common.{◌≡◌, ◌+◌, ◌*◌, ◌<◌, length}
-use Rattle.index.specs.Keys.{key_at}
+use Rattle.segments.specs.Pools.{key_at}
 use Rattle.index.specs.Slots.{used_in, distance}
 use Rattle.index.specs.Reinserting.{AreNear, IsStretch}
 use Rattle.index.specs.Table.{hashing, places_in}

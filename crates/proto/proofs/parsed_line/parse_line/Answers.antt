@@ -1,35 +1,42 @@
-use Rattle.std.proofs.Common.{sym, ap, ◌∙◌}
+use Rattle.std.proofs.Common.{◌≡◌, Option, Some, None, inl, refl, sym, ap, ◌∙◌}
+use Rattle.std.specs.Prelude.{option_map, unwrap_or}
 use Rattle.proto.specs.declared.message.Message.TheVariants.{Wrong, Fatal}
 use Rattle.proto.specs.declared.message.WrongKind.TheVariants as wrong
 use Rattle.proto.specs.declared.message.FatalKind.TheVariants as fatal
+use Rattle.proto.specs.declared.message_view.MessageView.{MessageView}
+use Rattle.proto.specs.declared.message_view.MessageView.TheVariants as messages
+use Rattle.proto.specs.Heads.{message_of, line_of}
 use Rattle.proto.specs.PlainReader.{meaning_of}
-use Rattle.proto.proofs.FirstWord.{some_of}
 use Rattle.proto.proofs.ViewLemmas.{storage_line, unknown_verb, other_line, unknown_line}
 use Rattle.proto.proofs.parsed_line.parse_line.Goals as goal
-
-pub returns-in_default : goal.returns-in_default
-returns-in_default c = absurd (some_of c.args.line.now (sym c.new-words.ensures ∙ c.in_default.ensures.0))
 
 pub returns-then-is_known : goal.returns-then-is_known
 returns-then-is_known c =
     c.parsed_storage_line.ensures ∙ ap (meaning_of (Fatal fatal.BadLine)) c.storage_line.ensures
-    ∙ storage_line c.args.dialect c.args.line.now c.in-Some.word.now c.next.new.self c.in-Some-Storage.word
-    (sym c.new-words.ensures ∙ c.in-Some.ensures) (rw c.in-Some-Storage.field-0-is at c.in-Some-Storage.ensures)
+    ∙ storage_line c.args.dialect c.args.line.now c.split_word-words.result.0.now c.split_word-words.result.1 c.in-Some-Storage.word
+    c.split_word-words.ensures (rw c.in-Some-Storage.field-0-is at c.in-Some-Storage.ensures)
     (sym c.is_known.ensures ∙ c.if-is_known.true)
 
 pub returns-else-is_known : goal.returns-else-is_known
 returns-else-is_known c =
-    unknown_verb c.args.dialect c.args.line.now c.in-Some.word.now c.next.new.self c.in-Some-Storage.word
-    (sym c.new-words.ensures ∙ c.in-Some.ensures) (rw c.in-Some-Storage.field-0-is at c.in-Some-Storage.ensures)
+    unknown_verb c.args.dialect c.args.line.now c.split_word-words.result.0.now c.split_word-words.result.1 c.in-Some-Storage.word
+    c.split_word-words.ensures (rw c.in-Some-Storage.field-0-is at c.in-Some-Storage.ensures)
     (sym c.is_known.ensures ∙ c.if-is_known.false)
+
+-- what is read of another line, or that it is faulty
+other_of : (r : Option MessageView)
+    → ◌≡◌ {A = _} (inl (message_of (unwrap_or r (messages.Wrong wrong.BadLine)))) (meaning_of (Wrong wrong.BadLine) (option_map line_of r))
+other_of None = refl
+other_of (Some m) = refl
 
 pub returns-in-Some-Other : goal.returns-in-Some-Other
 returns-in-Some-Other c =
-    c.parsed_other_line.ensures ∙ ap (meaning_of (Wrong wrong.BadLine)) c.line_view.ensures
-    ∙ other_line c.args.dialect c.args.line.now c.in-Some.word.now c.next.new.self c.in-Some-Other.word
-    (sym c.new-words.ensures ∙ c.in-Some.ensures) (rw c.in-Some-Other.field-0-is at c.in-Some-Other.ensures)
+    ap (λ m. inl (message_of m)) c.unwrap_or.ensures ∙ other_of c.other_line.result
+    ∙ ap (meaning_of (Wrong wrong.BadLine)) c.other_line.ensures
+    ∙ other_line c.args.dialect c.args.line.now c.split_word-words.result.0.now c.split_word-words.result.1 c.in-Some-Other.word
+    c.split_word-words.ensures (rw c.in-Some-Other.field-0-is at c.in-Some-Other.ensures)
 
 pub returns-in-None : goal.returns-in-None
 returns-in-None c =
-    unknown_line c.args.dialect c.args.line.now c.in-Some.word.now c.next.new.self
-    (sym c.new-words.ensures ∙ c.in-Some.ensures) c.in-None.ensures
+    unknown_line c.args.dialect c.args.line.now c.split_word-words.result.0.now c.split_word-words.result.1
+    c.split_word-words.ensures c.in-None.ensures

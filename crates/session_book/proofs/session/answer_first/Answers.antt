@@ -1,15 +1,25 @@
-use Rattle.std.proofs.Common.{arith}
-use Rattle.session_book.proofs.Answering.{first_ask, silent_rest}
+use Rattle.std.proofs.Common.{◌++◌, ◌∷◌, [], List, ℕ, sym, ap, ◌∙◌, append_assoc, arith}
+use Rattle.proto.specs.declared.message.Message.{Message}
+use Rattle.proto.specs.Answers.{said}
+use Rattle.session_book.specs.Session.{messages_left}
+use Rattle.session_book.proofs.Answering.{first_ask, silent_rest, left_reply, said_reply}
 use Rattle.session_book.proofs.session.answer_first.Goals as goal
 use Rattle.session_book.proofs.session.answer_first.Goals.{in-Some+in_ok-show, in_default}
 
-pub returns-clause-silent : goal.returns-clause-silent
-returns-clause-silent c = λ none. elim c.match-pop_front.branch [
+pub loop-pending-init : goal.loop-pending-init
+loop-pending-init c = elim c.match-pop_front.branch [
   | in-Some+in_ok-show w ↦
-      (let is = w.in-Some.ensures.items in
-      c.answer_locals.ensures.silent (silent_rest c.args.queue.now.items w.in-Some.pending c.pop_front.new.self.items
-      c.args.reply.now is (first_ask c.args.queue.now.items w.in-Some.pending c.pop_front.new.self.items is c.requires.asked)
-      none))
+      (let m = w.in-Some.pending in let ms = c.pop_front.new.self.items in let r = c.args.reply.now in
+      let is = w.in-Some.ensures.items in
+      let ask = first_ask c.args.queue.now.items m ms is c.requires.asked in
+      record {
+        queue = sym (ap (λ (q : List Message). messages_left q (r ∷ [])) is ∙ left_reply m ms r ask);
+        out = ap (λ (x : List ℕ). x ++ said ms []) (w.out-is ∙ w.in_ok-show.ensures.ok)
+            ∙ append_assoc c.args.out.now _ (said ms [])
+            ∙ ap (λ (x : List ℕ). c.args.out.now ++ x)
+            (sym (ap (λ (q : List Message). said q (r ∷ [])) is ∙ said_reply m ms r ask));
+        silent = λ none. silent_rest c.args.queue.now.items m ms r is ask none;
+      })
   | in_default w ↦
       absurd (let l = w.in_default.ensures.len in let v = w.in_default.ensures.variant in let f = c.requires.first in
       grind (arith, l, v, f))

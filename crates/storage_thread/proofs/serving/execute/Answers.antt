@@ -22,11 +22,11 @@ answer_later-requires-clause-legal g c = let p = c.args.posted in
       number = p.number;
       request = c.handle-reply.new.request;
       moment = c.next_moment-moment.result;
-      clock = c.answers-told.result;
+      clock = c.answers-given.result;
       reply = c.handle-reply.result;
     } in
     let by : e.clock ≡ answers_by [] c.args.end.now.end.history ++ c.next_moment-moment.ensures.moment.0 ∷ [] =
-    c.answers-told.ensures ∙ c.next_moment-moment.ensures.moment.2
+    c.answers-given.ensures ∙ c.next_moment-moment.ensures.moment.2
     ∙ ap (λ (l : List GivenAnswer). l ++ c.next_moment-moment.ensures.moment.0 ∷ []) c.requires.answers in
     let legal = legal_of _ _ _ _
     (reaches_more c.args.end.now.end.terms.geometry c.args.end.now.end.history (g.S.StorageEngine.cache c.args.store.now)
@@ -34,7 +34,7 @@ answer_later-requires-clause-legal g c = let p = c.args.posted in
     (subst (λ (z : Sizes × Request). Step z.0 (g.S.StorageEngine.cache c.args.store.now) e.moment z.1 e.reply
     (g.S.StorageEngine.cache c.handle-reply.new.self))
     (λ i. (c.requires.sizes i, sym c.handle-reply.ensures.request i)) c.handle-reply.ensures.step)
-    (search rules) c.next_moment-moment.ensures.moment.0 (c.answers-told.ensures ∙ c.next_moment-moment.ensures.moment.2
+    (search rules) c.next_moment-moment.ensures.moment.0 (c.answers-given.ensures ∙ c.next_moment-moment.ensures.moment.2
     ∙ ap (λ (l : List GivenAnswer). l ++ c.next_moment-moment.ensures.moment.0 ∷ []) c.requires.answers) (search rules) c.requires.next) in record {
       legal = legal;
       read = λ is. let f = read_more _ _ _ c.args.end.now.end.history e c.next_moment-moment.ensures.moment.0 by c.requires.read
@@ -49,7 +49,7 @@ returns-clause-reaches g c = let p = c.args.posted in
       number = p.number;
       request = c.handle-reply.new.request;
       moment = c.next_moment-moment.result;
-      clock = c.answers-told.result;
+      clock = c.answers-given.result;
       reply = c.handle-reply.result;
     } in
     let more = reaches_more c.args.end.now.end.terms.geometry c.args.end.now.end.history
@@ -58,7 +58,7 @@ returns-clause-reaches g c = let p = c.args.posted in
     (subst (λ (z : Sizes × Request). Step z.0 (g.S.StorageEngine.cache c.args.store.now) e.moment z.1 e.reply
     (g.S.StorageEngine.cache c.handle-reply.new.self))
     (λ i. (c.requires.sizes i, sym c.handle-reply.ensures.request i)) c.handle-reply.ensures.step)
-    (search rules) c.next_moment-moment.ensures.moment.0 (c.answers-told.ensures ∙ c.next_moment-moment.ensures.moment.2
+    (search rules) c.next_moment-moment.ensures.moment.0 (c.answers-given.ensures ∙ c.next_moment-moment.ensures.moment.2
     ∙ ap (λ (l : List GivenAnswer). l ++ c.next_moment-moment.ensures.moment.0 ∷ []) c.requires.answers) (search rules) c.requires.next in
     subst (λ (z : StorageView × ℕ). Reaches z.0.terms.geometry z.0.history
     (g.S.StorageEngine.cache c.handle-reply.new.self) z.1)
@@ -72,7 +72,7 @@ returns-clause-kept g c l = let p = c.args.posted in let m = g.S.StorageEngine i
       number = p.number;
       request = c.handle-reply.new.request;
       moment = c.next_moment-moment.result;
-      clock = c.answers-told.result;
+      clock = c.answers-given.result;
       reply = c.handle-reply.result;
     } in
     let old = m.cache c.args.store.now in let after = m.cache c.handle-reply.new.self in
@@ -95,11 +95,11 @@ returns-clause-read g c = let p = c.args.posted in
       number = p.number;
       request = c.handle-reply.new.request;
       moment = c.next_moment-moment.result;
-      clock = c.answers-told.result;
+      clock = c.answers-given.result;
       reply = c.handle-reply.result;
     } in
     let by : e.clock ≡ answers_by [] c.args.end.now.end.history ++ c.next_moment-moment.ensures.moment.0 ∷ [] =
-    c.answers-told.ensures ∙ c.next_moment-moment.ensures.moment.2
+    c.answers-given.ensures ∙ c.next_moment-moment.ensures.moment.2
     ∙ ap (λ (l : List GivenAnswer). l ++ c.next_moment-moment.ensures.moment.0 ∷ []) c.requires.answers in
     subst (λ (z : StorageView). IsReadSince z.terms.system_clock (g.C.Clock.start c.next_moment-moment.new.clock.clock) z.history)
     (sym c.answer_later.ensures.answered)

@@ -3,6 +3,8 @@ use Rattle.proto.specs.declared.history.Posted.{Posted}
 use Rattle.exchange.specs.Ends.{StorageView}
 use Rattle.proto.specs.declared.terms.Terms.{Terms}
 use Rattle.proto.specs.ClockAnswers.{GivenAnswer}
+use Rattle.proto.specs.History.{Legal}
+use Rattle.engine.proofs.ReachingLemmas.{legal_of}
 use Rattle.storage_thread.specs.Serving.{IsReadSince, SaidBye, GetsNone, IsStorageServing}
 use Rattle.storage_thread.specs.Keeping.{LeadsKeeping, MayForgetNothing}
 use Rattle.storage_thread.proofs.Kept.{leads_first, none_forgotten}
@@ -35,33 +37,33 @@ loop-init g c = let unused = c.requires.unused in
 pub loop-preserved-in-Some-Asked : goal.loop-preserved-in-Some-Asked
 loop-preserved-in-Some-Asked g c = let i = c.loop.invariant in
     let f = rw c.in-Some-Asked.field-0-is at c.in-Some-Asked.ensures.taken in let now : StorageView = c.loop.end.end in
-    let mid : StorageView = c.take_next.new.end.end in let new : StorageView = c.execute.new.end.end in
+    let mid : StorageView = c.take_next.new.end.end in let new : StorageView = c.execute-told.new.end.end in
     let w : ℕ = c.in-Some-Asked.worker in let p : Posted = c.in-Some-Asked.posted in
-    let m : ℕ = g.S.StorageEngine.moment c.execute.new.store in let a = c.execute.ensures.answered in
-    let told : List GivenAnswer = c.execute.new.clock.answers in
+    let m : ℕ = g.S.StorageEngine.moment c.execute-told.new.store in let a = c.execute-told.ensures.answered in
+    let told : List GivenAnswer = c.execute-told.new.clock.answers in
     let long = longer now mid w p f new m told a in let added = c.saturating_add-executed.ensures in let so_far = i.7 in
     let all = i.4 in
     let byes = same_byes now mid w p f new m told a in let workers = same_workers now mid w p f new m told a in (
       tt,
       tt,
       serving_asked now mid w p f new m told a c.args.storage_end (g.S.StorageEngine.cache c.loop.store)
-          (g.S.StorageEngine.cache c.execute.new.store)
-          (g.S.StorageEngine.moment c.loop.store) i.2 c.execute.ensures.reaches,
-      c.execute.ensures.sizes ∙ (i.3 ∙ same_sizes now mid w p f new m told a),
+          (g.S.StorageEngine.cache c.execute-told.new.store)
+          (g.S.StorageEngine.moment c.loop.store) i.2 c.execute-told.ensures.reaches,
+      c.execute-told.ensures.sizes ∙ (i.3 ∙ same_sizes now mid w p f new m told a),
       omega (arith, all, byes, workers),
-      g.met.C.Clock.leads_transitive c.args.clock c.loop.clock.clock c.execute.new.clock.clock i.5 c.execute.ensures.leads,
-      timed_asked now mid w p f new m told a g.C.Clock.told g.C.Clock.start (g.C.Clock.told c.args.clock) c.loop.clock c.execute.new.clock
-          (g.S.StorageEngine.moment c.loop.store) i.9 refl i.6 c.execute.ensures.moment,
+      g.met.C.Clock.leads_transitive c.args.clock c.loop.clock.clock c.execute-told.new.clock.clock i.5 c.execute-told.ensures.leads,
+      timed_asked now mid w p f new m told a g.C.Clock.told g.C.Clock.start (g.C.Clock.told c.args.clock) c.loop.clock c.execute-told.new.clock
+          (g.S.StorageEngine.moment c.loop.store) i.9 refl i.6 c.execute-told.ensures.moment,
       omega (arith, added, so_far, long),
-      λ start. c.execute.ensures.kept
+      λ start. c.execute-told.ensures.kept
           (subst (λ (z : StorageView). LeadsKeeping z.terms.geometry z.history (g.S.StorageEngine.cache c.loop.store)
           (g.S.StorageEngine.keeps c.loop.store)) (sym f.after) (i.8 start)),
       answers_asked now mid w p f new m told a,
-      c.execute.ensures.read,
+      c.execute-told.ensures.read,
     )
 
-pub execute-requires-clause-read : goal.execute-requires-clause-read
-execute-requires-clause-read g c = let f = rw c.in-Some-Asked.field-0-is at c.in-Some-Asked.ensures.taken in
+pub execute-told-requires-clause-read : goal.execute-told-requires-clause-read
+execute-told-requires-clause-read g c = let f = rw c.in-Some-Asked.field-0-is at c.in-Some-Asked.ensures.taken in
     asked_read c.loop.end.end c.take_next.new.end.end c.in-Some-Asked.worker c.in-Some-Asked.posted f _ c.loop.invariant.10
 
 pub loop-preserved : goal.loop-preserved
@@ -102,6 +104,12 @@ pub returns-then-left-eq0-clause-bye : goal.returns-then-left-eq0-clause-bye
 returns-then-left-eq0-clause-bye g c = let i = c.loop.invariant in let all = i.4 in
     let same = c.into_end.ensures ∙ c.tell.ensures.end in
     subst SaidBye (sym same) (all_said _ _ _ _ i.2 (search rules))
+
+pub returns-then-left-eq0-clause-legal : goal.returns-then-left-eq0-clause-legal
+returns-then-left-eq0-clause-legal g c = let i = c.loop.invariant in
+    let same = c.into_end.ensures ∙ c.tell.ensures.end in
+    subst (λ (z : StorageView). Legal c.args.storage_end.terms.geometry z.history) (sym same)
+    (subst (λ (j : Terms). Legal j.geometry c.loop.end.end.history) i.2.same.2 (legal_of _ _ _ _ i.2.reaches))
 
 pub returns-then-left-eq0-clause-inside : goal.returns-then-left-eq0-clause-inside
 returns-then-left-eq0-clause-inside g c = let i = c.loop.invariant in

@@ -1,10 +1,15 @@
-use Rattle.std.proofs.Common.{subst}
-use Rattle.exchange.specs.Ends.{StorageView}
+use Rattle.std.proofs.Common.{◌≡◌, sym, ap, ◌∙◌, subst}
+use Rattle.exchange.specs.Ends.{StorageView, StorageBatchView}
 use Rattle.storage_thread.specs.Serving.{GetsMessage}
 use Rattle.storage_thread.proofs.Looks.{seen_got}
+use Rattle.storage_thread.proofs.serving.take_next.Goals.{then-executed-eq0, else-executed-eq0}
 use Rattle.storage_thread.proofs.serving.take_next.Goals as goal
 
-pub returns-in-Some-clause-taken : goal.returns-in-Some-clause-taken
-returns-in-Some-clause-taken g c = subst (λ (z : StorageView). GetsMessage z c.next_seen.new.self.end c.in-Some.taken)
-    c.flush_every_eighth.ensures
+pub returns-clause-taken : goal.returns-clause-taken
+returns-clause-taken g c =
+    let same : c.if-executed-eq0.end.end ≡ c.next_seen.new.self.end = elim c.if-executed-eq0.branch [
+      | then-executed-eq0 w ↦ ap (λ (v : StorageBatchView). v.end) w.end-is ∙ w.tell-then-executed-eq0.ensures.end
+      | else-executed-eq0 w ↦ ap (λ (v : StorageBatchView). v.end) w.end-is
+    ] in
+    subst (λ (v : StorageView). GetsMessage c.args.end.now.end v c.in-Some.taken) (sym same)
     (seen_got _ _ _ c.in-Some.ensures.next)

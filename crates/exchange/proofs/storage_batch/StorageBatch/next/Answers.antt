@@ -1,43 +1,45 @@
-use Rattle.std.proofs.Common.{arith, ◌+◌, ◌∙◌}
-use Rattle.exchange.proofs.Looks.{found_above, found_below, vain_above, vain_below, all_looked, each_once}
+use Rattle.std.proofs.Common.{arith, ◌≡◌, ℕ, suc, ◌+◌, ◌∙◌, inl, inr}
+use Rattle.exchange.proofs.Looks.{IsTurn, found_in_turn, vain_in_turn, all_looked, each_once}
+use Rattle.exchange.proofs.storage_batch.StorageBatch.next.Goals.{then-turn-workers, else-turn-workers}
 use Rattle.exchange.proofs.storage_batch.StorageBatch.next.Goals as goal
 
-pub loop-lane-preserved : goal.loop-lane-preserved
-loop-lane-preserved g c = let inv = c.loop-lane.invariant in let l = c.in_default.ensures.looks in
-    let small = c.loop-lane-test.true in let e = inv.looks.1 in record {
+pub loop-turn-preserved : goal.loop-turn-preserved
+loop-turn-preserved g c = let inv = c.loop-turn.invariant in let k : ℕ = inv.looks.0 in
+    let turn : ℕ = c.loop-turn.turn in let workers : ℕ = c.self.inside.workers in
+    let is : IsTurn workers turn c.if-turn-workers.lane = elim c.if-turn-workers.branch [
+      | then-turn-workers w ↦ inl (w.if-turn-workers.true, w.lane-is)
+      | else-turn-workers w ↦ let high = w.if-turn-workers.false in let lane = w.lane-is in
+          inr (omega (arith, high), omega (arith, high, lane))
+    ] in
+    let at : c.self.inside.last + 1 + k ≡ turn = inv.looks.1 in let l = c.in_default.ensures.looks in record {
       same = inv.same;
       told = c.in_default.ensures.told ∙ inv.told;
       shut = inv.shut;
       looks = (
-        inv.looks.0 + 1,
+        suc k,
         omega arith,
-        omega arith,
-        vain_above _ _ _ _ _ _ inv.same.0 inv.same.1 inv.looks.0 l.0 e l.1.0 l.1.1 inv.looks.3,
+        vain_in_turn _ _ _ _ k inv.same inv.looks.2 _ turn _ at c.loop-turn-test.true is l.0 l.1.0 l.1.1,
       );
     }
 
-pub loop-lane-2-preserved : goal.loop-lane-2-preserved
-loop-lane-2-preserved g c = let inv = c.loop-lane-2.invariant in let l = c.in_default-look.ensures.looks in
-    let small = c.loop-lane-2-test.true in record {
-      same = inv.same;
-      told = c.in_default-look.ensures.told ∙ inv.told;
-      shut = inv.shut;
-      looks = (omega arith, vain_below _ _ _ _ _ _ inv.same.0 inv.same.1 l.0 l.1.0 l.1.1 inv.looks.1);
-    }
-
 pub returns-in-Some-clause-next : goal.returns-in-Some-clause-next
-returns-in-Some-clause-next g c = let inv = c.loop-lane.invariant in
-    found_above _ _ _ _ _ c.loop-lane.lane inv.same.0 inv.same.1 inv.looks.0 _ inv.looks.1 c.loop-lane-test.true
-    inv.looks.3 c.in-Some.ensures.looks
+returns-in-Some-clause-next g c = let inv = c.loop-turn.invariant in
+    let is : IsTurn c.self.inside.workers c.loop-turn.turn c.if-turn-workers.lane = elim c.if-turn-workers.branch [
+      | then-turn-workers w ↦ inl (w.if-turn-workers.true, w.lane-is)
+      | else-turn-workers w ↦ let high = w.if-turn-workers.false in let lane = w.lane-is in
+          inr (omega (arith, high), omega (arith, high, lane))
+    ] in
+    found_in_turn _ _ _ _ inv.looks.0 inv.same inv.looks.2 _ c.loop-turn.turn _ inv.looks.1 c.loop-turn-test.true is
+    c.in-Some.taken c.in-Some.ensures.looks
 
-pub returns-in-Some-look-clause-next : goal.returns-in-Some-look-clause-next
-returns-in-Some-look-clause-next g c = let inv = c.loop-lane-2.invariant in
-    found_below _ _ _ _ _ c.loop-lane-2.lane inv.same.0 inv.same.1 _ c.loop-lane-2-test.true inv.same.2 inv.looks.1
-    c.in-Some-look.ensures.looks
+pub returns-clause-next : goal.returns-clause-next
+returns-clause-next g c = let inv = c.loop-turn.invariant in let at = inv.looks.1 in
+    let over = c.loop-turn-test.false in
+    all_looked c.args.self.now.end c.loop-turn.self.end _ _ inv.looks.0 inv.same inv.looks.2 (omega (arith, at, over))
 
 pub returns-clause-every_lane : goal.returns-clause-every_lane
-returns-clause-every_lane g c = let inv = c.loop-lane-2.invariant in
-    λ w l. each_once c.args.self.now.end c.loop-lane-2.self.end w (let a = inv.same.0 in
+returns-clause-every_lane g c = let inv = c.loop-turn.invariant in let at = inv.looks.1 in
+    let over = c.loop-turn-test.false in
+    λ w l. each_once c.args.self.now.end c.loop-turn.self.end w (let a = inv.same.0 in
     let b = inv.same.1 in let d = inv.same.2 in omega arith) l
-    (all_looked _ _ c.loop-lane-2.self.end _ _ c.loop-lane-2.lane inv.same.0 inv.same.1 inv.looks.0
-    (let h = c.loop-lane-2-test.false in omega arith) inv.looks.1)
+    (all_looked c.args.self.now.end c.loop-turn.self.end _ _ inv.looks.0 inv.same inv.looks.2 (omega (arith, at, over)))

@@ -4,7 +4,8 @@ use Rattle.std.proofs.Math.ListN.{drop_of_length-le}
 use Rattle.std.proofs.Math.Seq.{drop-cons}
 use Rattle.segments.specs.declared.place.Move.{Move}
 use Rattle.segments.specs.Shown.{item_of}
-use Rattle.index.specs.Keys.{key_at, KeysOf}
+use Rattle.index.specs.Keys.{KeysOf}
+use Rattle.segments.specs.Pools.{key_at}
 use Rattle.index.specs.Relocating.{forget_lost}
 use Rattle.index.proofs.PoolKeys.{item_key}
 use Rattle.index.proofs.RelocatedTables.{IsLosing, loses, passes, relocated_itself}

@@ -1,5 +1,5 @@
 use Rattle.std.proofs.Common.{drop}
-use Rattle.index.specs.Keys.{key_at}
+use Rattle.segments.specs.Pools.{key_at}
 use Rattle.index.specs.Table.{Table, IsIndex, IsSameSize}
 use Rattle.index.specs.Relocating.{IsRelocated, forget_lost}
 use Rattle.index.proofs.index.Index.drop_lost.Given as goal

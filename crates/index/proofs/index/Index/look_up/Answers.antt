@@ -1,5 +1,6 @@
 use Rattle.std.proofs.Common.{◌≡◌, sym, ap, ◌∙◌, length, Some, refl, ◌<◌}
-use Rattle.index.specs.Keys.{key_at, KeysOf, home_of, hash_of}
+use Rattle.index.specs.Keys.{KeysOf, home_of, hash_of}
+use Rattle.segments.specs.Pools.{key_at}
 use Rattle.index.specs.Layouts.{tag_of}
 use Rattle.index.specs.Slots.{place_of, slot_at}
 use Rattle.index.specs.Table.{AreIndexed, hashing, Hashing}
@@ -35,30 +36,20 @@ returns-in-Ok-clause-place c =
     let key = c.args.key.now in
     let keys : KeysOf = key_at c.args.pool.now in
     let h : Hashing = hashing (length slots) c.self.inside.slots.layout c.self.inside.hasher in
-    let found : IsOfKey keys slots c.tag_of-tag.result key c.in-Ok.at = c.in-Ok.ensures in
+    let at = c.in-Ok.field-0-0 in
+    let found : IsOfKey keys slots c.tag_of-tag.result key at = c.in-Ok.ensures.0 in
     let index : AreIndexed h keys slots = rw (← c.self.view_is) at c.requires in
-    let read : c.get.result ≡ slot_at slots c.in-Ok.at = c.get.ensures in
-    let place_is : c.place.result ≡ place_of (slot_at slots c.in-Ok.at) = c.place.ensures ∙ ap place_of read in
-    let st : Stands keys slots key (place_of (slot_at slots c.in-Ok.at)) =
-    record { at = c.in-Ok.at; in_range = found.in_range; used = found.used; place_is = refl; key_is = found.key_is } in
-    ap Some place_is
-    ∙ rw (← c.self.view_is) (sym (get_from_stands keys slots key (place_of (slot_at slots c.in-Ok.at)) st
+    let st : Stands keys slots key (place_of (slot_at slots at)) =
+    record { at = at; in_range = found.in_range; used = found.used; place_is = refl; key_is = found.key_is } in
+    ap Some c.in-Ok.ensures.1
+    ∙ rw (← c.self.view_is) (sym (get_from_stands keys slots key (place_of (slot_at slots at)) st
     (λ r. stands_once h keys slots index key _ r st)))
 
 pub returns-in-Ok-clause-key : goal.returns-in-Ok-clause-key
-returns-in-Ok-clause-key c =
-    let slots = c.self.inside.slots.slots in
-    let found : IsOfKey (key_at c.args.pool.now) slots c.tag_of-tag.result c.args.key.now c.in-Ok.at =
-    c.in-Ok.ensures in
-    let read : c.get.result ≡ slot_at slots c.in-Ok.at = c.get.ensures in
-    ap (key_at c.args.pool.now) (c.place.ensures ∙ ap place_of read) ∙ found.key_is
+returns-in-Ok-clause-key c = ap (key_at c.args.pool.now) c.in-Ok.ensures.1 ∙ c.in-Ok.ensures.0.key_is
 
 pub returns-in-Ok-clause-item : goal.returns-in-Ok-clause-item
 returns-in-Ok-clause-item c =
-    let slots = c.self.inside.slots.slots in
-    let found : IsOfKey (key_at c.args.pool.now) slots c.tag_of-tag.result c.args.key.now c.in-Ok.at =
-    c.in-Ok.ensures in
-    let read : c.get.result ≡ slot_at slots c.in-Ok.at = c.get.ensures in
-    let is : key_at c.args.pool.now c.place.result ≡ Some c.args.key.now =
-    ap (key_at c.args.pool.now) (c.place.ensures ∙ ap place_of read) ∙ found.key_is in
-    some_key c.args.pool.now c.place.result (rw is refl)
+    let is : key_at c.args.pool.now c.in-Ok.place ≡ Some c.args.key.now =
+    ap (key_at c.args.pool.now) c.in-Ok.ensures.1 ∙ c.in-Ok.ensures.0.key_is in
+    some_key c.args.pool.now c.in-Ok.place (rw is refl)

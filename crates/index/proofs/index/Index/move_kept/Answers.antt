@@ -6,7 +6,8 @@ use Rattle.std.proofs.lemmas.List.Elements.{All-head}
 use Rattle.segments.specs.declared.place.Move.{Move}
 use Rattle.segments.specs.Shown.{item_of}
 use Rattle.segments.specs.Places.{moved_by}
-use Rattle.index.specs.Keys.{key_at, KeysOf}
+use Rattle.index.specs.Keys.{KeysOf}
+use Rattle.segments.specs.Pools.{key_at}
 use Rattle.index.specs.Relocating.{IsRelocated, CanRelocate, keys_behind}
 use Rattle.index.proofs.PoolKeys.{item_key}
 use Rattle.index.proofs.RelocatedTables.{relocated_itself}

@@ -1,5 +1,5 @@
 use Rattle.std.proofs.Common.{drop}
-use Rattle.index.specs.Keys.{key_at}
+use Rattle.segments.specs.Pools.{key_at}
 use Rattle.index.specs.Relocating.{keys_behind}
 use Rattle.index.proofs.KeptMoves.{IsRelocating}
 use Rattle.index.proofs.index.Index.move_kept.Given as goal

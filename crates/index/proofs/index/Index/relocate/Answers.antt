@@ -1,7 +1,8 @@
 use Rattle.std.proofs.Common.{sym, subst, List}
 use Rattle.segments.specs.declared.place.Move.{Move}
 use Rattle.segments.specs.Places.{moved_by}
-use Rattle.index.specs.Keys.{key_at, KeysOf}
+use Rattle.index.specs.Keys.{KeysOf}
+use Rattle.segments.specs.Pools.{key_at}
 use Rattle.index.specs.Relocating.{IsRelocated, CanRelocate, forget_lost, keys_behind}
 use Rattle.index.proofs.RelocatedTables.{composed}
 use Rattle.index.proofs.LostAndKeptMoves.{can_still, lost_out, lost_and_moved}

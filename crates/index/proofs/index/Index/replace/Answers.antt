@@ -51,7 +51,7 @@ returns-clause-map c =
     let tag_is : c.tag_of-tag.result ≡ h.tag key =
     c.tag_of-tag.ensures.value ∙ ap (tag_of c.layout.result) c.hash_of-hash.ensures
     ∙ ap (λ y. tag_of y (hash_of hasher key)) c.layout.ensures.value in
-    let slot_is : c.new.result ≡ slot_with (h.tag key) target = c.new.ensures ∙ ap (λ t. slot_with t target) tag_is in
+    let slot_is : slot_with c.tag_of-tag.result target ≡ slot_with (h.tag key) target = ap (λ t. slot_with t target) tag_is in
     let can = can_replace h before after slots at key source target index slot
     (some_tag c.self.inside.slots.layout (hash_of hasher key)) key_is
     (λ i r u other. agree (place_of (slot_at slots i)) record { at = i; in_range = r; used = u; place_is = refl }
@@ -75,4 +75,4 @@ set-requires-clause-slot c =
     let small = c.hash_of-hash.type_inv in
     let kept = rw c.layout.ensures.value at c.layout.ensures.layout in
     let inside : IsInLayout l c.args.target = rw view at c.requires.target in
-    rw (c.new.ensures, tag_is) (can_hold l hash c.args.target kept (rw c.hash_of-hash.ensures at small) inside)
+    rw (tag_is) (can_hold l hash c.args.target kept (rw c.hash_of-hash.ensures at small) inside)

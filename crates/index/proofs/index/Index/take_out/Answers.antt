@@ -1,7 +1,8 @@
 use Rattle.std.proofs.Common.{◌≡◌, ap, ◌∙◌, length, Some, ◌<◌}
 use Rattle.std.specs.Prelude.{IfSome}
 use Rattle.std.specs.FinMap as map
-use Rattle.index.specs.Keys.{key_at, home_of, KeysOf}
+use Rattle.index.specs.Keys.{home_of, KeysOf}
+use Rattle.segments.specs.Pools.{key_at}
 use Rattle.index.specs.Slots.{slot_at, place_of}
 use Rattle.index.specs.Table.{AreIndexed, hashing, Hashing, places_in}
 use Rattle.index.specs.Searches.{NoneOfPlace, IsOfPlace}

@@ -1,7 +1,7 @@
 use Rattle.std.proofs.Common.{◌≡◌, ◌≤◌, ◌*◌, ap, arith}
 use Rattle.segments.specs.Pools.{PoolState}
 use Rattle.segments.specs.Changes.{new_pool}
-use Rattle.index.specs.Keys.{key_at}
+use Rattle.segments.specs.Pools.{key_at}
 use Rattle.index.specs.Sizing.{most_items}
 use Rattle.index_tests.proofs.shelf.Shelf.new.Goals as goal
 

@@ -1,7 +1,8 @@
 use Rattle.std.proofs.Common.{◌≡◌, ◌+◌, ◌≤◌, sym, ap, subst, arith}
 use Rattle.segments.specs.Pools.{PoolState}
 use Rattle.segments.proofs.Places.{appended}
-use Rattle.index.specs.Keys.{key_at, KeysOf, IsKeyAdded}
+use Rattle.index.specs.Keys.{KeysOf, IsKeyAdded}
+use Rattle.segments.specs.Pools.{key_at}
 use Rattle.index.specs.Sizing.{most_items}
 use Rattle.index.specs.Slots.{used_in}
 use Rattle.index.specs.Table.{Table, IsIndex, IsMap, places}

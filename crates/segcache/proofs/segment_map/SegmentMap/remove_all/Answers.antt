@@ -1,6 +1,6 @@
 use Rattle.std.proofs.Common.{◌≡◌, ◌<◌, sym, ap, subst, ◌∙◌, inl, inr, arith, refl}
 use Rattle.std.proofs.lemmas.Bool.{cases_eq, eq-eqb, ne_eqb}
-use Rattle.index.specs.Keys.{key_at}
+use Rattle.segments.specs.Pools.{key_at}
 use Rattle.segments.specs.Pools.{PoolState}
 use Rattle.segments.specs.Marks.{KnowsPool, mark_at}
 use Rattle.segments.proofs.MarkedPlaces.{knows_without, mark_without}

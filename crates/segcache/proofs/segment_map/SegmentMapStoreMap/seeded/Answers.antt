@@ -3,7 +3,7 @@ use Rattle.proto.specs.Sizes.{Sizes}
 use Rattle.segments.specs.Changes.{new_pool}
 use Rattle.segments.specs.Pools.{PoolState}
 use Rattle.segments.specs.Marks.{no_marks}
-use Rattle.index.specs.Keys.{key_at}
+use Rattle.segments.specs.Pools.{key_at}
 use Rattle.index.specs.Table.{Places}
 use Rattle.segcache.specs.Shown.{live_entries}
 use Rattle.segcache.specs.State.{MapState}

@@ -1,11 +1,11 @@
-use Rattle.std.proofs.Common.{◌≡◌, ◌/◌, List, Option, None, refl, ap, sym, ◌∙◌, subst}
+use Rattle.std.proofs.Common.{◌/◌, List, Option, None, refl, ap, sym, ◌∙◌, subst}
 use Rattle.std.proofs.lemmas.List.{length-set}
 use Rattle.std.proofs.lemmas.List.Elements.{All-set}
 use Rattle.std.proofs.lemmas.Option.{none-some}
 use Rattle.segments.specs.Items.{Item, IsStorable}
 use Rattle.segments.specs.Shown.{item_of}
 use Rattle.segments.specs.Pools.{PoolState, Used}
-use Rattle.segments.specs.Inside.{IsSegment, HasMergeRoom}
+use Rattle.segments.specs.Inside.{IsSegment}
 use Rattle.segments.specs.Changes.{with_item_at, change_in}
 use Rattle.segments.specs.declared.segment.Segment.{Segment}
 use Rattle.segments.proofs.ItemChanges.{keeps_over}

@@ -1,10 +1,17 @@
-use Rattle.std.proofs.Common.{refl}
-use Rattle.session_book.proofs.Books.{written_back, unchanged}
+use Rattle.std.proofs.Common.{refl, ap}
+use Rattle.session_book.specs.Session.{SessionState}
+use Rattle.session_book.proofs.Books.{placed, unchanged, stays_unsettled, same_queue}
 use Rattle.session_book.proofs.book.Book.ask_later.Goals as goal
+
+pub invariant_of-self : goal.invariant_of-self
+invariant_of-self c =
+    let e = c.pair_mut-open.ensures in let s = c.pair_mut-open.result.1.now in let t = c.ask_later.new.self in
+    let p = placed c.self.inside.sessions c.in-Some.place c.args.session _ s e.unique e.value c.in-Some.ensures.at in
+    stays_unsettled _ _ c.args.session s t c.self.invariant p.there (p.only t) refl refl
+    (same_queue s t (ap (λ (x : SessionState). x.queue) c.ask_later.ensures))
 
 pub returns-in-Some : goal.returns-in-Some
 returns-in-Some c =
-    let t = c.ask_later.new.self in
-    unchanged _ _ c.args.self.now c.self.view_is refl
-    (written_back c.self.inside.sessions (c.get_mut.follows.lender t) c.args.session c.in-Some.open.now t
-    (c.get_mut.follows.holds t) c.in-Some.ensures.value c.ask_later.ensures)
+    let e = c.pair_mut-open.ensures in let s = c.pair_mut-open.result.1.now in let t = c.ask_later.new.self in
+    let p = placed c.self.inside.sessions c.in-Some.place c.args.session _ s e.unique e.value c.in-Some.ensures.at in
+    unchanged _ _ c.args.self.now c.self.view_is refl (p.back t c.ask_later.ensures)

@@ -1,9 +1,12 @@
-use Rattle.std.proofs.Common.{length}
+use Rattle.std.proofs.Common.{◌≡◌, length}
 use Rattle.session_book.proofs.Steps.{HasReadLocals}
 use Rattle.session_book.proofs.session.Session.read_ask.Given as goal
 
 abbrev pub invariant-loop-alloc : goal.invariant-loop-alloc
-invariant-loop-alloc l = HasReadLocals l.fn.self l.fn.looks l.self l.looks
+invariant-loop-alloc l = record {
+  locals : HasReadLocals l.fn.self l.fn.looks l.self l.looks;
+  kept : l.unsettled.items ≡ l.fn.unsettled.items;
+}
 
 abbrev pub decreases-loop-alloc : goal.decreases-loop-alloc
 decreases-loop-alloc l = length l.self.unread

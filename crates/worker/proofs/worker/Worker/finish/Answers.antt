@@ -14,8 +14,7 @@ invariant_of-self g c = (finish_goes_on g.P.Port.told c.self.inside.state c.shut
 
 pub returns-in-Some : goal.returns-in-Some
 returns-in-Some g c =
-    continues g.P.Port.told g.P.Port.leads_to c.self.inside.state c.args.self.now _ c.self.view_is
-    c.shut.ensures.leads
+    continues c.self.view_is c.shut.ensures.leads
     (finish_goes_on g.P.Port.told c.self.inside.state c.shut.new.self c.args.session c.in-Some.cause
     c.shut.ensures.shuts c.self.invariant (rw c.self.view_is (sym c.requires.finished ∙ c.in-Some.is))
     (rw c.self.view_is (rw c.in-Some.is at c.requires.read)))

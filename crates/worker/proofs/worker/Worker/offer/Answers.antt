@@ -9,12 +9,14 @@ use Rattle.worker.specs.EndCauses.{piece_of}
 use Rattle.worker.specs.Workers.{run_view}
 use Rattle.worker.proofs.TraceLaws.{paused_kept}
 use Rattle.worker.proofs.PieceLaws.{pieces_kept, gave_piece}
-use Rattle.worker.proofs.WorkerSteps.{continues, open_at}
+use Rattle.worker.proofs.WorkerSteps.{WorkerGoesOn, continues, open_at}
 use Rattle.worker.proofs.OutputSteps.{accepted, told_gave, gives_by, lost_goes_on, within_goes_on, offered_is}
 use Rattle.worker_port.specs.Giving.{MayBeSent, MayBeGiven}
 use Rattle.worker.specs.Workers.{end_of}
 use Rattle.worker.proofs.GiveSteps.{may_be_given}
+use Rattle.worker.proofs.worker.Worker.offer.Given.{Over}
 use Rattle.worker.proofs.worker.Worker.offer.Goals as goal
+use Rattle.worker.proofs.worker.Worker.offer.Goals.{After-gave, After-close}
 
 pub give-requires : goal.give-requires
 give-requires g c =
@@ -35,8 +37,11 @@ give-requires g c =
           });
     }
 
-pub invariant_of-self : goal.invariant_of-self
-invariant_of-self g c = let w = c.self.inside.state in let t = c.args.session in (let out = c.offer-offer.result.out.now in
+-- some bytes were accepted, or none
+gave_some : (g : Over) (c : After-gave g) → WorkerGoesOn g.P.Port.told c.self.inside.state
+    (record c.self.inside.state { port = c.give.new.self; book = c.gave.new.self })
+gave_some g c =
+    let w = c.self.inside.state in let t = c.args.session in let out = c.offer-offer.result.out.now in
     let n = c.in-Ok.accepted in
     let new = record w { port = c.give.new.self; book = c.gave.new.self } in
     let f = then_gave t out (Ok n) c.of-history.result in let k = c.gave.ensures.gave in
@@ -56,49 +61,29 @@ invariant_of-self g c = let w = c.self.inside.state in let t = c.args.session in
           (λ i q. pieces q i),
       paused_kept trace (f trace) (piece_of w.book) (piece_of new.book) pieces
           (λ q. refl) was_so.1,
-    ))).serving
+    ))
+
+-- its peer has gone
+lost : (g : Over) (c : After-close g) → WorkerGoesOn g.P.Port.told c.self.inside.state c.close.new.self
+lost g c =
+    let w = c.self.inside.state in
+    let s = offered_is (session_of w.book c.args.session)
+    c.offer-offer.result.out.now c.offer-offer.ensures.out (sym c.is_empty.ensures ∙ c.if-is_empty.false) in
+    lost_goes_on g.P.Port.told w c.close.new.self c.give.new.self c.args.session s.0
+    c.offer-offer.result.out.now c.in-Err.field-0 c.of-history.result c.of-history.ensures s.1 c.in-Err.ensures.told
+    c.self.invariant c.close.ensures.port c.close.ensures.closes
+
+pub invariant_of-self : goal.invariant_of-self
+invariant_of-self g c = (gave_some g (goal.at.invariant_of-self g c).After-gave).serving
 
 pub returns-in-Ok-clause-goes_on : goal.returns-in-Ok-clause-goes_on
-returns-in-Ok-clause-goes_on g c = let w = c.self.inside.state in let t = c.args.session in
-    continues g.P.Port.told g.P.Port.leads_to c.self.inside.state c.args.self.now _ c.self.view_is
-    c.in-Ok.ensures.leads
-    (let out = c.offer-offer.result.out.now in
-    let n = c.in-Ok.accepted in
-    let new = record w { port = c.give.new.self; book = c.gave.new.self } in
-    let f = then_gave t out (Ok n) c.of-history.result in let k = c.gave.ensures.gave in
-    let s = offered_is (session_of w.book t) out c.offer-offer.ensures.out
-    (sym c.is_empty.ensures ∙ c.if-is_empty.false) in
-    let pieces = pieces_kept w.book c.gave.new.self t
-    (option_map (λ (x : SessionState). gave x n) (session_of w.book t)) k.only_at
-    (gave_piece (session_of w.book t) n) in
-    within_goes_on g.P.Port.told w new f
-    (record { end = refl; request = refl; sessions = refl; unopened = refl; strangers = refl; ended = refl })
-    (gives_by w t out (Ok n) c.of-history.result c.of-history.ensures) c.in-Ok.ensures.told
-    (ap (λ (b : BookState). b.posted) k.rest) (ap (λ (b : BookState). b.unsettled) k.rest)
-    (ap (λ (b : BookState). b.dialect) k.rest) c.self.invariant
-    (λ trace was_so. (
-      told_gave (run_view trace w) (run_view (f trace) new) w.unopened w.ended t n s.0 was_so.0 s.1 refl
-          (ap (λ (b : List ℕ). trace.events ++ accepted t n b) s.2) refl refl refl k.only_at
-          (λ i q. pieces q i),
-      paused_kept trace (f trace) (piece_of w.book) (piece_of new.book) pieces
-          (λ q. refl) was_so.1,
-    )))
+returns-in-Ok-clause-goes_on g c =
+    continues c.self.view_is c.in-Ok.ensures.leads (gave_some g (goal.at.returns-in-Ok-clause-goes_on g c).After-gave)
 
 pub invariant_of-self-in-Err : goal.invariant_of-self-in-Err
-invariant_of-self-in-Err g c = let w = c.self.inside.state in (let s = offered_is (session_of w.book c.args.session)
-    c.offer-offer.result.out.now c.offer-offer.ensures.out (sym c.is_empty.ensures ∙ c.if-is_empty.false) in
-    lost_goes_on g.P.Port.told w c.close.new.self c.give.new.self c.args.session s.0
-    c.offer-offer.result.out.now c.in-Err.field-0 c.of-history.result c.of-history.ensures s.1 c.in-Err.ensures.told
-    c.self.invariant
-    c.close.ensures.port c.close.ensures.closes).serving
+invariant_of-self-in-Err g c = (lost g (goal.at.invariant_of-self-in-Err g c).After-close).serving
 
 pub returns-in-Err-clause-goes_on : goal.returns-in-Err-clause-goes_on
-returns-in-Err-clause-goes_on g c = let w = c.self.inside.state in
-    continues g.P.Port.told g.P.Port.leads_to c.self.inside.state c.args.self.now _ c.self.view_is
-    (g.met.P.Port.leads_transitive _ _ _ c.in-Err.ensures.leads c.close.ensures.leads)
-    (let s = offered_is (session_of w.book c.args.session)
-    c.offer-offer.result.out.now c.offer-offer.ensures.out (sym c.is_empty.ensures ∙ c.if-is_empty.false) in
-    lost_goes_on g.P.Port.told w c.close.new.self c.give.new.self c.args.session s.0
-    c.offer-offer.result.out.now c.in-Err.field-0 c.of-history.result c.of-history.ensures s.1 c.in-Err.ensures.told
-    c.self.invariant
-    c.close.ensures.port c.close.ensures.closes)
+returns-in-Err-clause-goes_on g c =
+    continues c.self.view_is (g.met.P.Port.leads_transitive _ _ _ c.in-Err.ensures.leads c.close.ensures.leads)
+    (lost g (goal.at.returns-in-Err-clause-goes_on g c).After-close)

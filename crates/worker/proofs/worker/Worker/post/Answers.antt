@@ -1,4 +1,4 @@
-use Rattle.std.proofs.Common.{◌≡◌, Bool, true, false, refl, sym, subst, Option, None}
+use Rattle.std.proofs.Common.{◌≡◌, ◌++◌, [], ◌∷◌, refl, sym, ap, append_assoc, subst, ◌∙◌, Option, Some, None}
 use Rattle.proto.specs.declared.history.Posted.{Posted}
 use Rattle.exchange.specs.Ends.{WorkerBatchView}
 use Rattle.worker_port.specs.Ports.{PortTrace}
@@ -9,25 +9,52 @@ use Rattle.worker.proofs.AskSteps.{posted_goes_on}
 use Rattle.worker.proofs.SettleSteps.{flushed_goes_on}
 use Rattle.worker.proofs.worker.Worker.post.Goals as goal
 
--- the held request is sent, or stays held
-held_goes_on : {P : Type 0} (told : P → Option PortTrace) (old : WorkerState P) (batch : WorkerBatchView)
-    (request : Option Posted) (result : Bool)
-    → (result ≡ true
-    → (request ≡ None) × (once_flushed batch ≡ record (end_of old) { sent = posted_by (end_of old) old.request }))
-    → (result ≡ false → (request ≡ old.request) × (once_flushed batch ≡ end_of old))
-    → IsWorkerServing told old → WorkerGoesOn told old (record old { batch = batch; request = request })
-held_goes_on told old batch request true posted stays h =
-    posted_goes_on told old batch request (posted refl).0 (posted refl).1 h
-held_goes_on told old batch request false posted stays h =
-    subst (λ (r : Option Posted). WorkerGoesOn told old (record old { batch = batch; request = r })) (sym (stays refl).0)
-    (flushed_goes_on told old batch (stays refl).1 h)
+-- the held request was put, and counts as sent
+put_goes_on : {P : Type 0} (told : P → Option PortTrace) (old : WorkerState P) (batch : WorkerBatchView)
+    (request : Option Posted) (p : Posted) → Some p ≡ old.request → request ≡ None
+    → batch ≡ record old.batch { put = old.batch.put ++ p ∷ [] } → IsWorkerServing told old
+    → WorkerGoesOn told old (record old { batch = batch; request = request })
+put_goes_on told old batch request p was none put h =
+    posted_goes_on told old batch request none
+    (ap once_flushed put ∙ (λ i. record (end_of old) {
+      sent = (sym (append_assoc old.batch.end.sent old.batch.put (p ∷ [])) ∙ ap (posted_by (end_of old)) was) i;
+    })) h
 
-pub invariant_of-self : goal.invariant_of-self
-invariant_of-self g c = (held_goes_on g.P.Port.told c.self.inside.state c.post_held.new.batch c.post_held.new.held
-    c.post_held.result c.post_held.ensures.posted c.post_held.ensures.stays c.self.invariant).serving
+-- it stays held
+stays_goes_on : {P : Type 0} (told : P → Option PortTrace) (old : WorkerState P) (batch : WorkerBatchView)
+    (request : Option Posted) → request ≡ old.request → batch ≡ old.batch → IsWorkerServing told old
+    → WorkerGoesOn told old (record old { batch = batch; request = request })
+stays_goes_on told old batch request stays same h =
+    subst (λ (r : Option Posted). WorkerGoesOn told old (record old { batch = batch; request = r })) (sym stays)
+    (flushed_goes_on told old batch (ap once_flushed same) h)
 
-pub returns-clause-goes_on : goal.returns-clause-goes_on
-returns-clause-goes_on g c = continues g.P.Port.told g.P.Port.leads_to c.self.inside.state c.args.self.now _
-    c.self.view_is (g.met.P.Port.leads_reflexive _)
-    (held_goes_on g.P.Port.told c.self.inside.state c.post_held.new.batch c.post_held.new.held
-    c.post_held.result c.post_held.ensures.posted c.post_held.ensures.stays c.self.invariant)
+pub invariant_of-self-then-not-may_post : goal.invariant_of-self-then-not-may_post
+invariant_of-self-then-not-may_post g c = let w = c.self.inside.state in
+    (stays_goes_on g.P.Port.told w w.batch (Some c.in-Some.posted) c.in-Some.ensures.value refl c.self.invariant).serving
+
+pub returns-then-not-may_post-clause-goes_on : goal.returns-then-not-may_post-clause-goes_on
+returns-then-not-may_post-clause-goes_on g c = let w = c.self.inside.state in
+    continues c.self.view_is (g.met.P.Port.leads_reflexive _)
+    (stays_goes_on g.P.Port.told w w.batch (Some c.in-Some.posted) c.in-Some.ensures.value refl c.self.invariant)
+
+pub invariant_of-self-in-Ok : goal.invariant_of-self-in-Ok
+invariant_of-self-in-Ok g c =
+    (put_goes_on g.P.Port.told c.self.inside.state c.put.new.self c.take.new.self c.in-Some.posted c.in-Some.ensures.value
+    c.in-Some.ensures.after c.in-Ok.ensures.1 c.self.invariant).serving
+
+pub returns-in-Ok-clause-goes_on : goal.returns-in-Ok-clause-goes_on
+returns-in-Ok-clause-goes_on g c = let w = c.self.inside.state in
+    continues c.self.view_is (g.met.P.Port.leads_reflexive _)
+    (put_goes_on g.P.Port.told w c.put.new.self c.take.new.self c.in-Some.posted c.in-Some.ensures.value
+    c.in-Some.ensures.after c.in-Ok.ensures.1 c.self.invariant)
+
+pub invariant_of-self-in-Err : goal.invariant_of-self-in-Err
+invariant_of-self-in-Err g c =
+    (stays_goes_on g.P.Port.told c.self.inside.state c.put.new.self (Some c.in-Err.posted)
+    (ap Some c.in-Err.ensures.1 ∙ c.in-Some.ensures.value) c.in-Err.ensures.2 c.self.invariant).serving
+
+pub returns-in-Err-clause-goes_on : goal.returns-in-Err-clause-goes_on
+returns-in-Err-clause-goes_on g c = let w = c.self.inside.state in
+    continues c.self.view_is (g.met.P.Port.leads_reflexive _)
+    (stays_goes_on g.P.Port.told w c.put.new.self (Some c.in-Err.posted)
+    (ap Some c.in-Err.ensures.1 ∙ c.in-Some.ensures.value) c.in-Err.ensures.2 c.self.invariant)

@@ -12,8 +12,7 @@ invariant_of-self-in-Kept g c = let w = c.self.inside.state in let a = c.in-Some
 
 pub returns-in-Kept : goal.returns-in-Kept
 returns-in-Kept g c = let w = c.self.inside.state in let a = c.in-Some.answered in
-    continues g.P.Port.told g.P.Port.leads_to c.self.inside.state c.args.self.now _ c.self.view_is
-    (g.met.P.Port.leads_reflexive _)
+    continues c.self.view_is (g.met.P.Port.leads_reflexive _)
     (kept_goes_on g.P.Port.told w (record w { batch = c.take_answer.new.batch; book = c.settle.new.self }) a
     (record { port = refl; request = refl; sessions = refl; unopened = refl; strangers = refl; ended = refl })
     c.in-Some.ensures c.self.invariant c.in-Kept.ensures)
@@ -26,8 +25,7 @@ invariant_of-self-in-Dropped g c = let w = c.self.inside.state in let a = c.in-S
 
 pub returns-in-Dropped : goal.returns-in-Dropped
 returns-in-Dropped g c = let w = c.self.inside.state in let a = c.in-Some.answered in
-    continues g.P.Port.told g.P.Port.leads_to c.self.inside.state c.args.self.now _ c.self.view_is
-    (g.met.P.Port.leads_reflexive _)
+    continues c.self.view_is (g.met.P.Port.leads_reflexive _)
     (dropped_goes_on g.P.Port.told w (record w { batch = c.take_answer.new.batch; book = c.settle.new.self }) a
     (record { port = refl; request = refl; sessions = refl; unopened = refl; strangers = refl; ended = refl })
     c.in-Some.ensures c.self.invariant c.in-Dropped.ensures.0 c.in-Dropped.ensures.1)
@@ -41,8 +39,7 @@ invariant_of-self-in-Starved g c = let w = c.self.inside.state in let a = c.in-S
 
 pub returns-in-Starved : goal.returns-in-Starved
 returns-in-Starved g c = let w = c.self.inside.state in let a = c.in-Some.answered in
-    continues g.P.Port.told g.P.Port.leads_to c.self.inside.state c.args.self.now _ c.self.view_is
-    c.shut.ensures.leads
+    continues c.self.view_is c.shut.ensures.leads
     (starved_goes_on g.P.Port.told w (record w { batch = c.take_answer.new.batch; book = c.settle.new.self })
     c.shut.new.self a c.in-Starved.ensures.s
     (record { port = refl; request = refl; sessions = refl; unopened = refl; strangers = refl; ended = refl })
@@ -68,6 +65,5 @@ invariant_of-self g c = (none_taken_goes_on g.P.Port.told c.self.inside.state c.
 
 pub returns-in_default : goal.returns-in_default
 returns-in_default g c =
-    continues g.P.Port.told g.P.Port.leads_to c.self.inside.state c.args.self.now _ c.self.view_is
-    (g.met.P.Port.leads_reflexive _)
+    continues c.self.view_is (g.met.P.Port.leads_reflexive _)
     (none_taken_goes_on g.P.Port.told c.self.inside.state c.take_answer.new.batch c.in_default.ensures c.self.invariant)

@@ -27,8 +27,7 @@ invariant_of-self g c = (opened_goes_on g.P.Port.told c.self.inside.state c.admi
 
 pub returns-in-Opened : goal.returns-in-Opened
 returns-in-Opened g c =
-    continues g.P.Port.told g.P.Port.leads_to c.self.inside.state c.args.self.now c.admit.new.self c.self.view_is
-    (g.met.P.Port.leads_transitive _ _ _ c.in-Opened.ensures.leads c.admit.ensures.leads)
+    continues c.self.view_is (g.met.P.Port.leads_transitive _ _ _ c.in-Opened.ensures.leads c.admit.ensures.leads)
     (opened_goes_on g.P.Port.told c.self.inside.state c.admit.new.self c.next.new.self c.in-Opened.session
     (record { told_is = c.in-Opened.ensures.told; may = c.in-Opened.ensures.may }) c.admit.ensures.rest c.self.invariant
     c.admit.ensures.admits)
@@ -40,8 +39,7 @@ invariant_of-self-in-Data g c = (received_goes_on g.P.Port.told c.self.inside.st
 
 pub returns-in-Data : goal.returns-in-Data
 returns-in-Data g c =
-    continues g.P.Port.told g.P.Port.leads_to c.self.inside.state c.args.self.now c.receive.new.self c.self.view_is
-    (g.met.P.Port.leads_transitive _ _ _ c.in-Data.ensures.leads c.receive.ensures.leads)
+    continues c.self.view_is (g.met.P.Port.leads_transitive _ _ _ c.in-Data.ensures.leads c.receive.ensures.leads)
     (received_goes_on g.P.Port.told c.self.inside.state c.receive.new.self c.next.new.self c.in-Data.session
     c.in-Data.bytes (record { told_is = c.in-Data.ensures.told; opened = λ trace e. (c.in-Data.ensures.may trace e).0.0 })
     c.self.invariant c.receive.ensures.receives)
@@ -61,8 +59,7 @@ invariant_of-self-in-Gone g c = (lose_goes_on g.P.Port.told c.self.inside.state 
 
 pub returns-in-Gone : goal.returns-in-Gone
 returns-in-Gone g c =
-    continues g.P.Port.told g.P.Port.leads_to c.self.inside.state c.args.self.now c.lose.new.self c.self.view_is
-    (g.met.P.Port.leads_transitive _ _ _ c.in-Gone.ensures.leads c.lose.ensures.leads)
+    continues c.self.view_is (g.met.P.Port.leads_transitive _ _ _ c.in-Gone.ensures.leads c.lose.ensures.leads)
     (lose_goes_on g.P.Port.told c.self.inside.state c.lose.new.self c.next.new.self c.in-Gone.session
     (session_of c.self.inside.state.book c.in-Gone.session) refl
     (record { told_is = c.in-Gone.ensures.told; opened = λ trace e. (c.in-Gone.ensures.may trace e).0 }) c.self.invariant
@@ -73,8 +70,7 @@ invariant_of-self-in-Idle g c = (idle_goes_on g.P.Port.told c.self.inside.state 
 
 pub returns-in-Idle : goal.returns-in-Idle
 returns-in-Idle g c =
-    continues g.P.Port.told g.P.Port.leads_to c.self.inside.state c.args.self.now _ c.self.view_is
-    c.in-Idle.ensures.leads
+    continues c.self.view_is c.in-Idle.ensures.leads
     (idle_goes_on g.P.Port.told c.self.inside.state c.next.new.self c.in-Idle.ensures.told c.self.invariant)
 
 pub invariant_of-self-in-Ended : goal.invariant_of-self-in-Ended
@@ -82,6 +78,5 @@ invariant_of-self-in-Ended g c = (ended_goes_on g.P.Port.told c.self.inside.stat
 
 pub returns-in-Ended : goal.returns-in-Ended
 returns-in-Ended g c =
-    continues g.P.Port.told g.P.Port.leads_to c.self.inside.state c.args.self.now _ c.self.view_is
-    c.in-Ended.ensures.leads
+    continues c.self.view_is c.in-Ended.ensures.leads
     (ended_goes_on g.P.Port.told c.self.inside.state c.next.new.self c.in-Ended.ensures.told c.self.invariant)

@@ -1,0 +1,42 @@
+//! Times that have passed.
+
+use std::time::{Clock, Duration, Instant};
+
+/// The least time between two turns of something.
+#[derive(Clone, Copy)]
+pub(crate) struct Interval {
+    least: Duration,
+    // The last turn; none if there was none.
+    last: Option<Instant>,
+}
+
+impl Interval {
+    pub(crate) fn of_millis(millis: u64) -> Interval {
+        Interval {
+            least: Duration::from_millis(millis),
+            last: None,
+        }
+    }
+
+    // Whether a turn is due. It is taken to be made. None is due while the clock can't be read.
+    pub(crate) fn take<R: Clock>(&mut self, rt: &R) -> bool {
+        let Ok(now) = Instant::now(rt) else {
+            return false;
+        };
+        if let Some(last) = self.last {
+            if now.duration_since(last) < self.least {
+                return false;
+            }
+        }
+        self.last = Some(now);
+        true
+    }
+}
+
+/// Whether so many milliseconds have passed since then. They have if the clock can't be read.
+pub(crate) fn have_passed<R: Clock>(rt: &R, since: Instant, millis: u64) -> bool {
+    match since.elapsed(rt) {
+        Ok(passed) => passed >= Duration::from_millis(millis),
+        Err(_) => true,
+    }
+}

@@ -1,0 +1,92 @@
+//! When a port polls its sockets, and how long each poll waits.
+
+use std::time::{Clock, Duration, Instant};
+
+/// While the worker may not wait, the sockets are polled only at each fourth call in a row that finds nothing, so that a lone
+/// request may be answered before the first of these polls.
+const CALLS_EACH_POLL: u32 = 4;
+
+/// This many such calls in a row are taken not to end: the worker has output for peers that take none. From then on each poll
+/// waits a little.
+const STALLED_CALLS: u32 = 8192;
+
+/// How long a poll waits, in milliseconds: a new stream wakes it.
+const WAIT_MILLIS: u64 = 100;
+
+/// How long it waits while sessions that were shut are read.
+const DRAINING_WAIT_MILLIS: u64 = 5;
+
+/// How long it waits for peers that take no output.
+const STALLED_WAIT_MILLIS: u64 = 1;
+
+/// The calls in a row that found no event, and the time after the last event for which polls don't wait.
+#[derive(Clone, Copy)]
+pub(crate) struct Polls {
+    idle_calls: u32,
+    spin: Option<Duration>,
+    // The first poll since the last event that would wait; none if there was none.
+    since: Option<Instant>,
+}
+
+impl Polls {
+    // Each poll waits, if the worker may.
+    pub(crate) fn new() -> Polls {
+        Polls {
+            idle_calls: 0,
+            spin: None,
+            since: None,
+        }
+    }
+
+    // Polls don't wait until this many microseconds after an event.
+    pub(crate) fn set_spin(&mut self, micros: u32) {
+        self.spin = if micros == 0 {
+            None
+        } else {
+            Some(Duration::from_micros(micros as u64))
+        };
+    }
+
+    // Something came or went: idle calls are counted from here.
+    pub(crate) fn restart(&mut self) {
+        self.idle_calls = 0;
+        self.since = None;
+    }
+
+    // How long the poll of this call waits, which knows of no event; none if there is to be no poll.
+    pub(crate) fn next<R: Clock>(
+        &mut self,
+        rt: &R,
+        may_wait: bool,
+        is_draining: bool,
+    ) -> Option<Duration> {
+        let calls = self.idle_calls;
+        self.idle_calls = calls.saturating_add(1);
+        let millis = if may_wait && self.spins(rt) {
+            0
+        } else if may_wait && is_draining {
+            DRAINING_WAIT_MILLIS
+        } else if may_wait {
+            WAIT_MILLIS
+        } else if calls % CALLS_EACH_POLL < CALLS_EACH_POLL - 1 {
+            return None;
+        } else if calls < STALLED_CALLS {
+            0
+        } else {
+            STALLED_WAIT_MILLIS
+        };
+        Some(Duration::from_millis(millis))
+    }
+
+    // Whether a poll is too early to wait. The clock is read only here, so that a busy port never reads it.
+    fn spins<R: Clock>(&mut self, rt: &R) -> bool {
+        let Some(spin) = self.spin else {
+            return false;
+        };
+        let Ok(now) = Instant::now(rt) else {
+            return false;
+        };
+        let since = *self.since.get_or_insert(now);
+        now.duration_since(since) < spin
+    }
+}

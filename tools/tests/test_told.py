@@ -110,6 +110,8 @@ def test_a_stopped_process_takes_connections_and_does_not_answer(serve):
     """So whether it serves is asked by `get health`, with a time limit."""
     server = serve()
     server.process.send_signal(signal.SIGSTOP)
+    # (it returns once all threads have stopped, which takes a moment)
+    os.waitid(os.P_PID, server.process.pid, os.WSTOPPED)
     with server.connect(0.3) as stream:
         stream.sendall(b"get health\r\n")
         with pytest.raises(TimeoutError):

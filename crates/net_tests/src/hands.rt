@@ -168,14 +168,15 @@ where
     first
 }
 
-/// How many sessions a port opens before nothing comes for a while.
+/// So many calls that don't wait poll often enough to bring all that has come, and too seldom to be taken not to end.
+const POLLING_CALLS: usize = 4096;
+
+/// How many sessions a port opens of the streams that have come.
 fn opened_now<R: Wait + Clock + Drop>(port: &mut MioPort<R>) -> u64 {
     let mut opened: u64 = 0;
-    for _ in 0..CALLS {
-        match port.next(false) {
-            PortEvent::Opened(_) => opened = opened.saturating_add(1),
-            PortEvent::Idle => return opened,
-            _ => {}
+    for _ in 0..POLLING_CALLS {
+        if let PortEvent::Opened(_) = port.next(false) {
+            opened = opened.saturating_add(1);
         }
     }
     opened

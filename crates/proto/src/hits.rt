@@ -1,4 +1,4 @@
-//! The hits of an answer as they are shown, in one piece of memory.
+//! The hits of an answer as they are shown, in one piece of memory, and that memory.
 
 ghost use Rattle.std.specs.Prelude.{◌≡◌, ◌≤◌, ◌<◌, ◌+◌, ◌-◌, ◌++◌, ◌∷◌, ◌↔◌, [], codes, IfOk, IfSome, IsTrue, OnErr, OnOk};
 ghost use Rattle.std.specs.Prelude.{decimal, flat_map, length, vec_len, vec_capacity};
@@ -8,7 +8,6 @@ ghost use Rattle.proto.specs.SeenHits.{seen_hit};
 
 use crate::byte_string::ByteString;
 use crate::no_memory::NoMemory;
-use crate::spare_buffer::SpareBuffer;
 use crate::trace::{Noted, Trace};
 use itoa::Buffer;
 use std::alloc::Global;
@@ -128,23 +127,49 @@ fn push_number(text: &mut Vec<u8>, n: u64)
         .unwrap();
 }
 
-/// Appends the text of a hit, for which there is room.
-fn push_hit(text: &mut Vec<u8>, hit: HitRef)
-    requires { vec_len text.old + hit_room (seen_hit hit) ≤ vec_capacity text.old }
-    ensures items { text.new.items ≡ text.old.items ++ hit_bytes (seen_hit hit.entry) }
-    ensures len { vec_len text.new ≤ vec_len text.old + hit_room (seen_hit hit.entry) }
-    ensures room { vec_capacity text.old ≤ vec_capacity text.new }
-{
-    text.extend_from_slice(b"VALUE ").unwrap();
-    text.extend_from_slice(hit.key).unwrap();
-    push_number(text, u64::from(hit.flags));
-    push_number(text, hit.value.len() as u64);
-    if let Some(cas) = hit.cas {
-        push_number(text, cas);
+/// An empty buffer, which may have memory. It travels with the keys of a `get`, and comes back with the hits: so memory
+/// is used again where it would be freed by one thread and taken by another.
+#[derive(Drop)]
+pub struct SpareBuffer {
+    pub(crate) bytes: Vec<u8>,
+}
+
+impl Model for SpareBuffer {
+    ghost use Rattle.std.specs.Prelude.{◌≡◌, ℕ, [], vec_capacity};
+
+    ghost Value = { ℕ };
+
+    ghost view = { λ a. vec_capacity a.bytes };
+
+    ghost invariant = { λ a. a.bytes.items ≡ [] };
+}
+
+impl SpareBuffer {
+    /// A buffer without memory.
+    pub fn new(alloc: Global) -> SpareBuffer
+        ensures { result ≡ 0 }
+    {
+        SpareBuffer {
+            bytes: Vec::new(alloc),
+        }
     }
-    text.extend_from_slice(b"\r\n").unwrap();
-    text.extend_from_slice(hit.value).unwrap();
-    text.extend_from_slice(b"\r\n").unwrap();
+
+    /// The memory of these bytes, which are gone.
+    pub fn emptied(bytes: Vec<u8>) -> SpareBuffer
+        ensures { result ≡ vec_capacity bytes }
+    {
+        let mut bytes = bytes;
+        bytes.clear();
+        SpareBuffer { bytes }
+    }
+
+    /// Its memory, without a byte in it.
+    pub fn into_bytes(self) -> Vec<u8>
+        ensures items { result.items ≡ [] }
+        ensures capacity { vec_capacity result ≡ self }
+    {
+        self.bytes
+    }
 }
 
 /// Puts hits one after the other into memory that was reserved for them.
@@ -197,7 +222,16 @@ impl HitWriter {
           room = self.old.room - hit_room (seen_hit hit.entry);
         } }
     {
-        push_hit(&mut self.text, hit);
+        self.text.extend_from_slice(b"VALUE ").unwrap();
+        self.text.extend_from_slice(hit.key).unwrap();
+        push_number(&mut self.text, u64::from(hit.flags));
+        push_number(&mut self.text, hit.value.len() as u64);
+        if let Some(cas) = hit.cas {
+            push_number(&mut self.text, cas);
+        }
+        self.text.extend_from_slice(b"\r\n").unwrap();
+        self.text.extend_from_slice(hit.value).unwrap();
+        self.text.extend_from_slice(b"\r\n").unwrap();
         self.shown.note_as(&hit);
         self.room -= HIT_ROOM + hit.key.len() + hit.value.len();
     }

@@ -4,8 +4,8 @@ ghost use Rattle.std.specs.Prelude.{◌≡◌, ◌≢◌, ◌≤◌, ◌++◌, �
 ghost use Rattle.proto.specs.Words.{is_space, IsWord};
 ghost use Rattle.std.specs.List.{count_by};
 
+use crate::hits::SpareBuffer;
 use crate::no_memory::NoMemory;
-use crate::spare_buffer::SpareBuffer;
 use crate::words::Words;
 use std::alloc::Global;
 use std::marker::Model;

@@ -16,14 +16,9 @@ mod limits;
 mod line;
 mod logged_clock;
 mod message;
-mod message_view;
 mod next;
 mod no_memory;
-mod parse;
-mod parsed_line;
 mod pending_answer;
-mod showing;
-mod spare_buffer;
 mod storage_line;
 mod system_clock;
 mod terms;
@@ -39,23 +34,19 @@ pub use geometry::{
     item_size,
 };
 pub use history::{Answered, Posted};
-pub use hits::{Hit, HitRef, HitWriter, Hits};
+pub use hits::{Hit, HitRef, HitWriter, Hits, SpareBuffer};
 pub use keys::Keys;
 pub use limits::{
     MAX_ANSWER, MAX_BLOCK, MAX_KEY, MAX_LENIENT_LINE, MAX_LINE, MAX_POSTS, MAX_SESSIONS,
     MAX_WORKERS, MIN_ITEM_SIZE, WINDOW,
 };
 pub use message::{FatalKind, Message, Next, Put, Reply, Request, WrongKind};
-pub use message_view::{MessageView, RequestView};
 pub use next::{next_message, next_message_in, to_message};
 pub use no_memory::NoMemory;
-pub use parse::number;
-pub use pending_answer::{PendingAnswer, show};
-pub use showing::show_reply;
-pub use spare_buffer::SpareBuffer;
+pub use pending_answer::{PendingAnswer, show, show_reply};
 pub use storage_line::{StorageLineView, StoreMode};
 pub use system_clock::{ClockAnswer, SystemClock};
 pub use terms::Terms;
 pub use trace::{Noted, Trace};
-pub use view::{NextView, next_view, next_view_behind, next_view_in};
-pub use words::Words;
+pub use view::{MessageView, NextView, RequestView, next_view, next_view_behind, next_view_in};
+pub use words::{Words, number};

@@ -1,12 +1,11 @@
 //! The line of a storage command, and how it is read.
 
 ghost use Rattle.std.specs.Prelude.{◌≡◌, option_map};
-ghost use Rattle.proto.specs.PlainReader.{storage, quiet_in, plain_tail, storage_in};
+ghost use Rattle.proto.specs.PlainReader.{storage, quiet_in, storage_in};
 ghost use Rattle.proto.specs.Heads.{storage_line_of, tail_of};
 
 use crate::command_word::StorageWord;
-use crate::parse::MAX_TEN_DIGITS;
-use crate::words::Words;
+use crate::words::{MAX_TEN_DIGITS, Words};
 
 /// How a storage command stores; `Cas` has the cas number that the entry is to have. `append` and `prepend` are refused.
 #[derive(Clone, Copy)]
@@ -37,38 +36,24 @@ pub(crate) fn noreply(words: Words) -> Option<bool>
 {
     match words.rest() {
         None => Some(false),
-        Some(rest) => {
-            if rest == b"noreply".as_slice() {
-                Some(true)
-            } else {
-                None
-            }
-        }
+        Some(rest) if rest == b"noreply".as_slice() => Some(true),
+        Some(_) => None,
     }
-}
-
-/// Whether `noreply` follows, beside a mode.
-fn with_noreply(mode: StoreMode, words: Words) -> Option<(StoreMode, bool)>
-    ensures { result ≡ plain_tail mode words.entry }
-{
-    let noreply = noreply(words)?;
-    Some((mode, noreply))
 }
 
 /// Reads the words after the size of a storage line.
 fn tail(word: StorageWord, mut words: Words) -> Option<(StoreMode, bool)>
     ensures { result ≡ tail_of word words.entry }
 {
-    match word {
-        StorageWord::Set => with_noreply(StoreMode::Set, words),
-        StorageWord::Add => with_noreply(StoreMode::Add, words),
-        StorageWord::Replace => with_noreply(StoreMode::Replace, words),
-        StorageWord::Append | StorageWord::Prepend => with_noreply(StoreMode::Refused, words),
-        StorageWord::Cas => {
-            let unique = words.next_number(u64::MAX)?;
-            with_noreply(StoreMode::Cas(unique), words)
-        }
-    }
+    let mode = match word {
+        StorageWord::Set => StoreMode::Set,
+        StorageWord::Add => StoreMode::Add,
+        StorageWord::Replace => StoreMode::Replace,
+        StorageWord::Append | StorageWord::Prepend => StoreMode::Refused,
+        StorageWord::Cas => StoreMode::Cas(words.next_number(u64::MAX)?),
+    };
+    let noreply = noreply(words)?;
+    Some((mode, noreply))
 }
 
 /// Reads the words after the command word of a storage line.

@@ -28,10 +28,7 @@ fn read(alloc: Global, text: &str) -> Result<Request, Fail> {
 }
 
 fn capacity_of(buffer: Option<SpareBuffer>) -> Option<usize> {
-    match buffer {
-        Some(buffer) => Some(buffer.capacity()),
-        None => None,
-    }
+    Some(buffer?.into_bytes().capacity())
 }
 
 /// The capacity of the buffer that the request hands back, and of the one that comes back with the reply.

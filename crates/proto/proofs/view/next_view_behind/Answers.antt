@@ -3,7 +3,7 @@ use Rattle.std.specs.Prelude.{min}
 use Rattle.std.proofs.lemmas.List.{take_min, take_all}
 use Rattle.proto.specs.declared.dialect.Dialect.{Dialect}
 use Rattle.proto.specs.declared.message.FatalKind.TheVariants as fatal
-use Rattle.proto.specs.declared.message_view.MessageView.TheVariants as messages
+use Rattle.proto.specs.declared.view.MessageView.TheVariants as messages
 use Rattle.proto.specs.declared.view.NextView.TheVariants as finds
 use Rattle.proto.specs.Lines.{has_line_end, longest_line}
 use Rattle.proto.proofs.LineSearch.{searched_front}

@@ -5,8 +5,8 @@ use Rattle.std.specs.Char.{is_ascii_digit}
 use Rattle.std.specs.List.{take_while}
 use Rattle.proto.proofs.FirstWord.{read_plain, digits_front, decimal_plain}
 use Rattle.proto.proofs.Numbers.{number_in_none}
-use Rattle.proto.proofs.parse.plain_number.Goals as goal
-use Rattle.proto.proofs.parse.plain_number.Goals.{else-n-most-via-then-n-most+else-is_plain, else-n-most-via-else-n-most}
+use Rattle.proto.proofs.words.plain_number.Goals as goal
+use Rattle.proto.proofs.words.plain_number.Goals.{else-n-most-via-then-n-most+else-is_plain, else-n-most-via-else-n-most}
 
 pub returns-in_err-n-clause-number : goal.returns-in_err-n-clause-number
 returns-in_err-n-clause-number c =

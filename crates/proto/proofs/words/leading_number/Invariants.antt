@@ -2,7 +2,7 @@ use Rattle.std.proofs.Common.{◌≡◌, ◌+◌, length}
 use Rattle.std.specs.Char.{is_ascii_digit}
 use Rattle.std.specs.List.{prefix_len, take_while}
 use Rattle.std.specs.Str.Parse.{digits_value, digits_value_after}
-use Rattle.proto.proofs.parse.leading_number.Given as goal
+use Rattle.proto.proofs.words.leading_number.Given as goal
 
 -- the digits so far are counted and write n
 abbrev pub invariant-loop-byte : goal.invariant-loop-byte

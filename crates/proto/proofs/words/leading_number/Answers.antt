@@ -3,7 +3,7 @@ use Rattle.std.specs.Char.{is_ascii_digit}
 use Rattle.std.specs.List.{prefix_len, take_while}
 use Rattle.std.specs.Str.Parse.{digits_value, digits_value_after}
 use Rattle.proto.proofs.FirstWord.{digit_step, digit_overflows, digit_counts}
-use Rattle.proto.proofs.parse.leading_number.Goals as goal
+use Rattle.proto.proofs.words.leading_number.Goals as goal
 
 pub returns-in_err-checked_mul : goal.returns-in_err-checked_mul
 returns-in_err-checked_mul c =

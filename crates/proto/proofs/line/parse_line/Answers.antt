@@ -3,25 +3,20 @@ use Rattle.std.specs.Prelude.{option_map, unwrap_or}
 use Rattle.proto.specs.declared.message.Message.TheVariants.{Wrong, Fatal}
 use Rattle.proto.specs.declared.message.WrongKind.TheVariants as wrong
 use Rattle.proto.specs.declared.message.FatalKind.TheVariants as fatal
-use Rattle.proto.specs.declared.message_view.MessageView.{MessageView}
-use Rattle.proto.specs.declared.message_view.MessageView.TheVariants as messages
+use Rattle.proto.specs.declared.view.MessageView.{MessageView}
+use Rattle.proto.specs.declared.view.MessageView.TheVariants as messages
 use Rattle.proto.specs.Heads.{message_of, line_of}
 use Rattle.proto.specs.PlainReader.{meaning_of}
 use Rattle.proto.proofs.ViewLemmas.{storage_line, unknown_verb, other_line, unknown_line}
-use Rattle.proto.proofs.parsed_line.parse_line.Goals as goal
+use Rattle.proto.proofs.line.parse_line.Goals as goal
+use Rattle.proto.proofs.line.parse_line.Goals.{in_default-via-in-Some-Storage+else-is_known, in_default-via-in_default}
 
-pub returns-then-is_known : goal.returns-then-is_known
-returns-then-is_known c =
+pub returns-in-Some-Storage : goal.returns-in-Some-Storage
+returns-in-Some-Storage c =
     c.parsed_storage_line.ensures ∙ ap (meaning_of (Fatal fatal.BadLine)) c.storage_line.ensures
     ∙ storage_line c.args.dialect c.args.line.now c.split_word-words.result.0.now c.split_word-words.result.1 c.in-Some-Storage.word
     c.split_word-words.ensures (rw c.in-Some-Storage.field-0-is at c.in-Some-Storage.ensures)
     (sym c.is_known.ensures ∙ c.if-is_known.true)
-
-pub returns-else-is_known : goal.returns-else-is_known
-returns-else-is_known c =
-    unknown_verb c.args.dialect c.args.line.now c.split_word-words.result.0.now c.split_word-words.result.1 c.in-Some-Storage.word
-    c.split_word-words.ensures (rw c.in-Some-Storage.field-0-is at c.in-Some-Storage.ensures)
-    (sym c.is_known.ensures ∙ c.if-is_known.false)
 
 -- what is read of another line, or that it is faulty
 other_of : (r : Option MessageView)
@@ -36,7 +31,14 @@ returns-in-Some-Other c =
     ∙ other_line c.args.dialect c.args.line.now c.split_word-words.result.0.now c.split_word-words.result.1 c.in-Some-Other.word
     c.split_word-words.ensures (rw c.in-Some-Other.field-0-is at c.in-Some-Other.ensures)
 
-pub returns-in-None : goal.returns-in-None
-returns-in-None c =
-    unknown_line c.args.dialect c.args.line.now c.split_word-words.result.0.now c.split_word-words.result.1
-    c.split_word-words.ensures c.in-None.ensures
+pub returns-in_default : goal.returns-in_default
+returns-in_default c =
+    elim c.in_default.branch [
+      | in_default-via-in-Some-Storage+else-is_known w ↦
+          unknown_verb c.args.dialect c.args.line.now c.split_word-words.result.0.now c.split_word-words.result.1 w.in-Some-Storage.word
+          c.split_word-words.ensures (rw w.in-Some-Storage.field-0-is at w.in-Some-Storage.ensures)
+          (sym w.is_known.ensures ∙ w.if-is_known.false)
+      | in_default-via-in_default w ↦
+          unknown_line c.args.dialect c.args.line.now c.split_word-words.result.0.now c.split_word-words.result.1
+          c.split_word-words.ensures (rw w.in_default.is at c.command_of.ensures)
+    ]

@@ -1,5 +1,5 @@
-//! The bytes that answer a message, whether its reply is there already or is still to come. The room of all of them is reserved
-//! before the first one is written.
+//! The bytes that answer a message, whether its reply is there already or is still to come. The room of a whole answer is
+//! reserved before its first byte is written.
 
 ghost use Rattle.std.specs.Prelude.{◌≡◌, ◌++◌, is_some, option_copied, None, IsOk, IsTrue, OnOk, OnErr};
 ghost use Rattle.std.specs.Option.{option_copied_mut};

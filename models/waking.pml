@@ -46,17 +46,17 @@ bool is_registered[WORKERS], has_closed[WORKERS];
 byte clients_left = WORKERS;
 byte input[WORKERS], given[WORKERS];               /* requests in a stream, and answers that its peer was given */
 
-inline announce(word) { word.is_parked = true }    /* exchange/parking_word.rt: announce */
+inline announce(word) { word.is_parked = true }    /* exchange/signals.rt: announce */
 
-inline cancel(word) { word.is_parked = false }     /* exchange/parking_word.rt: cancel */
+inline cancel(word) { word.is_parked = false }     /* exchange/signals.rt: cancel */
 
-inline park(word) {                                /* exchange/parking_word.rt: park */
+inline park(word) {                                /* exchange/signals.rt: park */
   atomic { if :: word.is_parked -> word.sleeps = true :: else fi };
   !word.sleeps;
   cancel(word)
 }
 
-inline unpark(word) {                              /* exchange/parking_word.rt: unpark */
+inline unpark(word) {                              /* exchange/signals.rt: unpark */
 #ifndef NO_UNPARK
   if
   :: word.is_parked ->

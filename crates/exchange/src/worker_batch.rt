@@ -2,8 +2,7 @@
 
 use crate::messages::LaneMessage;
 use crate::rule::{Begins, LaneSeat, LaneTable, Posts, PutsRequest};
-use crate::slots::slot_at;
-use crate::steps::{LANE, put_bye, take_answer, take_seen_answer};
+use crate::steps::{LANE, put_bye, slot_at, take_answer, take_seen_answer};
 use crate::worker::WorkerEnd;
 use proto::{Answered, MAX_POSTS, Posted, WINDOW};
 use std::alloc::Global;

@@ -61,7 +61,7 @@ impl StorageBatch {
     ghost use Rattle.exchange.specs.declared.views.LaneView.TheVariants.{Storage};
     ghost use Rattle.exchange.specs.Beginnings.{posted_of};
     ghost use Rattle.exchange.specs.Ends.{IsCount, new_storage_view, LooksAt, FindsNone, FindsOne, LookedOnce};
-    ghost use Rattle.exchange.specs.Ends.{SeesNext, with_answer, AreCompared};
+    ghost use Rattle.exchange.specs.Ends.{SeesNext, with_answer, IsUntold, AreCompared};
     ghost use Rattle.exchange.specs.Seats.{IsTableSized, made_storage_state};
 
     pub(crate) fn over(
@@ -111,7 +111,8 @@ impl StorageBatch {
         requires open_request { self.old.end.open_request ≡ Some (answered.worker, posted_of answered) }
         requires legal { LegalBy self.old.end.terms (self.old.end.history ++ answered ∷ []) }
         ensures answered { self.new.end ≡ with_answer self.old.end answered }
-        ensures told { (self.new.told ≡ self.old.told) ⊎ (self.new.told ≡ self.old.end.history) }
+        ensures told { MatchOption result (self.new.told ≡ self.old.told) (λ worker. IsUntold self.old worker
+            × (worker ≢ answered.worker) × (self.new.told ≡ self.old.end.history)) }
     {
         let told = if self.waiting_lane == answered.worker {
             None
@@ -145,7 +146,8 @@ impl StorageBatch {
     /// Tells the workers of all answers, in one step. It gives the worker whose answers they are, if there are any. Waits for
     /// nobody and takes no memory.
     pub fn flush_answers(&mut self) -> Option<usize>
-        ensures { self.new ≡ record self.old { told = self.old.end.history } }
+        ensures told { self.new ≡ record self.old { told = self.old.end.history } }
+        ensures whose { MatchOption result (self.old.told ≡ self.old.end.history) (IsUntold self.old) }
     {
         if !self.waiting {
             return None;

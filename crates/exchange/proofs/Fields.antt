@@ -18,9 +18,9 @@ use mathlib.Core.Option.{some}
 use lib.ListN.{get_elem?, length-map}
 use Rattle.std.proofs.lemmas.List.{length-take, append-nil}
 use Rattle.proto.specs.declared.history.Answered.{Answered}
-use Rattle.exchange.specs.declared.views.WorkerState.{WorkerState}
-use Rattle.exchange.specs.declared.views.StorageState.{StorageState}
-use Rattle.exchange.specs.declared.views.LaneView.TheVariants.{Worker, Storage}
+use Rattle.exchange.specs.declared.rule.WorkerState.{WorkerState}
+use Rattle.exchange.specs.declared.rule.StorageState.{StorageState}
+use Rattle.exchange.specs.declared.rule.LaneView.TheVariants.{Worker, Storage}
 use Rattle.exchange.specs.Beginnings.{StartsWith, posted_of}
 use Rattle.proto.proofs.HistoryLemmas.{legal_none}
 use Rattle.proto.specs.History.{worker_share}

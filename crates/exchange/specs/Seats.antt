@@ -16,10 +16,10 @@ use Rattle.proto.specs.History.{worker_share, asked_posted, LegalBy}
 use Rattle.exchange.specs.Beginnings.{StartsWith}
 use Rattle.exchange.specs.declared.messages.LaneMessage.{LaneMessage}
 use Rattle.exchange.specs.declared.messages.LaneMessage.TheVariants.{Ask, Bye, Answer}
-use Rattle.exchange.specs.declared.views.WorkerState.{WorkerState}
-use Rattle.exchange.specs.declared.views.StorageState.{StorageState}
-use Rattle.exchange.specs.declared.views.LaneView.{LaneView}
-use Rattle.exchange.specs.declared.views.LaneView.TheVariants.{Nobody, Worker, Storage, Comparing}
+use Rattle.exchange.specs.declared.rule.WorkerState.{WorkerState}
+use Rattle.exchange.specs.declared.rule.StorageState.{StorageState}
+use Rattle.exchange.specs.declared.rule.LaneView.{LaneView}
+use Rattle.exchange.specs.declared.rule.LaneView.TheVariants.{Nobody, Worker, Storage, Comparing}
 use Rattle.exchange.specs.Lanes.{SeatState, known_by, slots_of, lane_slot, first_worker_state, first_storage_state}
 use Rattle.exchange.specs.Steps.{placed_count, learnt_of, settled_count, Learnt, looked_at, with_message_held, IsSent}
 use Rattle.exchange.specs.Ends.{WorkerView, WorkerBatchView, StorageView, StorageBatchView, max_posts, LastLook}

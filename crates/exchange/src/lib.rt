@@ -10,7 +10,6 @@ mod signals;
 mod steps;
 mod storage;
 mod storage_batch;
-mod views;
 mod worker;
 mod worker_batch;
 

@@ -4,7 +4,7 @@ ghost use Rattle.atomic_table.specs.Table.{rest};
 ghost use Rattle.proto.specs.declared.history.Answered.{Answered};
 ghost use Rattle.exchange.specs.declared.messages.LaneMessage.{LaneMessage};
 ghost use Rattle.exchange.specs.declared.messages.LaneMessage.TheVariants.{Ask, Bye, Answer};
-ghost use Rattle.exchange.specs.declared.views.LaneView.TheVariants.{Worker, Storage};
+ghost use Rattle.exchange.specs.declared.rule.LaneView.TheVariants.{Worker, Storage};
 ghost use Rattle.exchange.specs.Beginnings.{posted_of};
 ghost use mathlib.Core.Option.{some};
 ghost use lib.ListN.{get_elem?};
@@ -66,16 +66,11 @@ pub(crate) fn put_bye(lane_table: &LaneTable, seat: &mut LaneSeat, worker: usize
     ensures table { SameSeat seat.old seat.new }
     ensures sent { seat.new.me ≡ (Worker (with_bye (worker_at seat.old.me)), []) }
 {
-    lane_table.shared.load::<Begins>(seat, LANE * worker);
+    let lanes = &lane_table.shared;
+    lanes.load::<Begins>(seat, LANE * worker);
     let slot = slot_at(worker, number);
-    drop(
-        lane_table
-            .shared
-            .exchange(seat, slot, Some(LaneMessage::Bye)),
-    );
-    lane_table
-        .shared
-        .store::<PostsBye>(seat, LANE * worker, number + 1);
+    drop(lanes.exchange(seat, slot, Some(LaneMessage::Bye)));
+    lanes.store::<PostsBye>(seat, LANE * worker, number + 1);
 }
 
 /// Loads done, and takes the next answer out of its slot, if there is one. The number is the word.

@@ -1,13 +1,9 @@
 //! The storage thread's end of all lanes.
 
 use crate::messages::Taken;
-use crate::rule::{LaneSeat, LaneTable};
 use crate::storage_batch::StorageBatch;
-use crate::worker::WorkerEnd;
 use proto::{Answered, AskedClock, Clock};
-use std::alloc::Global;
 use std::marker::Model;
-use std::sync::Arc;
 
 /// What storage takes requests from, and answers them. One thread at a time uses it.
 ///
@@ -30,34 +26,11 @@ impl Model for StorageEnd {
 }
 
 impl StorageEnd {
-    ghost use Rattle.std.specs.Prelude.{◌≡◌, ℕ, ◌+◌, ◌-◌, ◌*◌, ◌<◌, ◌≤◌, ◌++◌, ◌∷◌, [], length, None, Some, is_some};
-    ghost use Rattle.std.specs.Prelude.{MatchOption, IsOk};
+    ghost use Rattle.std.specs.Prelude.{◌≡◌, ℕ, ◌<◌, ◌++◌, ◌∷◌, [], None, Some, is_some, MatchOption, IsOk};
     ghost use Rattle.std.specs.Option.{IfNone};
-    ghost use Rattle.std.specs.Arc.{arc_value};
-    ghost use Rattle.proto.specs.declared.terms.Terms.{Terms};
     ghost use Rattle.proto.specs.History.{answers_by, LegalBy};
-    ghost use Rattle.exchange.specs.declared.views.LaneView.TheVariants.{Storage};
     ghost use Rattle.exchange.specs.Beginnings.{posted_of};
-    ghost use Rattle.exchange.specs.Ends.{IsCount, new_storage_view, LooksAt, FindsNone, FindsOne, LookedOnce};
-    ghost use Rattle.exchange.specs.Ends.{with_answer, AreCompared};
-    ghost use Rattle.exchange.specs.Seats.{IsTableSized, made_storage_state};
-
-    pub(crate) fn over(
-        lane_table: Arc<LaneTable, Global>,
-        seat: LaneSeat,
-        workers: usize,
-    ) -> StorageEnd
-        requires table { (seat.table_id ≡ (arc_value lane_table).shared.table_id)
-            × IsTableSized seat.table_id workers × ((arc_value lane_table).shared.key.workers ≡ workers)
-            × (0 < workers) × (workers ≤ 8) }
-        requires fresh { (g : Terms) × (seat.me ≡ (Storage (made_storage_state g workers), [])) }
-        ensures { (g : Terms) → seat.me ≡ (Storage (made_storage_state g workers), [])
-            → result ≡ new_storage_view seat.table_id g workers }
-    {
-        StorageEnd {
-            batch: StorageBatch::over(lane_table, seat, workers),
-        }
-    }
+    ghost use Rattle.exchange.specs.Ends.{IsCount, FindsNone, FindsOne, LookedOnce, with_answer};
 
     pub(crate) fn of(batch: StorageBatch) -> StorageEnd
         requires { batch.told ≡ batch.end.history }
@@ -110,16 +83,5 @@ impl StorageEnd {
         ensures every_lane { IfNone result ((w : ℕ) → w < self.old.workers → LookedOnce self.old self.new w) }
     {
         self.batch.next(clock)
-    }
-
-    /// Brings a worker's end of this exchange and storage's together, and tells how many requests the
-    /// worker sent and how many answers it took back.
-    pub(crate) fn join_worker(&mut self, end: WorkerEnd) -> (u64, u64)
-        requires { end.exchange ≡ self.old.exchange }
-        ensures same { self.new ≡ self.old }
-        ensures compared { AreCompared self.old end }
-        ensures counts { (result.0 ≡ length end.sent) × (result.1 ≡ length end.back) }
-    {
-        self.batch.join_worker(end)
     }
 }

@@ -58,7 +58,7 @@ impl StorageBatch {
     ghost use Rattle.std.specs.Arc.{arc_value};
     ghost use Rattle.proto.specs.declared.terms.Terms.{Terms};
     ghost use Rattle.proto.specs.History.{answers_by, LegalBy, worker_share};
-    ghost use Rattle.exchange.specs.declared.views.LaneView.TheVariants.{Storage};
+    ghost use Rattle.exchange.specs.declared.rule.LaneView.TheVariants.{Storage};
     ghost use Rattle.exchange.specs.Beginnings.{posted_of};
     ghost use Rattle.exchange.specs.Ends.{IsCount, new_storage_view, LooksAt, FindsNone, FindsOne, LookedOnce};
     ghost use Rattle.exchange.specs.Ends.{SeesNext, with_answer, IsUntold, AreCompared};
@@ -263,7 +263,7 @@ impl StorageBatch {
         ensures compared { AreCompared self.old.end end }
         ensures counts { (result.0 ≡ length end.sent) × (result.1 ≡ length end.back) }
     {
-        let (seat, sent, back) = end.into_seat();
+        let (seat, sent, back) = end.batched().into_seat();
         let lane_table = &self.lane_table;
         lane_table
             .shared

@@ -1,12 +1,9 @@
 //! The worker's end of its lane.
 
-use crate::rule::{LaneSeat, LaneTable};
 use crate::worker_batch::WorkerBatch;
 use proto::{Answered, Posted};
-use std::alloc::Global;
 use std::marker::Model;
 use std::snapshot::Snapshot;
-use std::sync::Arc;
 
 /// What a worker posts its requests with, and takes the answers back. One thread at a time uses it.
 ///
@@ -30,35 +27,13 @@ impl Model for WorkerEnd {
 }
 
 impl WorkerEnd {
-    ghost use Rattle.std.specs.Prelude.{◌≡◌, ℕ, ◌+◌, ◌*◌, ◌^◌, ◌<◌, ◌≤◌, ◌++◌, ◌∷◌, [], length, true, false};
-    ghost use Rattle.std.specs.Prelude.{MatchResult, IfSome};
-    ghost use Rattle.std.specs.Arc.{arc_value};
-    ghost use Rattle.proto.specs.declared.terms.Terms.{Terms};
+    ghost use Rattle.std.specs.Prelude.{◌≡◌, ◌+◌, ◌<◌, ◌≤◌, ◌++◌, ◌∷◌, [], length, true, false, MatchResult, IfSome};
     ghost use Rattle.proto.specs.declared.limits.TheConstants.{WINDOW};
     ghost use mathlib.Core.Option.{some};
     ghost use lib.ListN.{get_elem?};
     ghost use Rattle.proto.specs.History.{worker_share};
-    ghost use Rattle.exchange.specs.declared.views.LaneView.TheVariants.{Worker};
-    ghost use Rattle.exchange.specs.declared.views.WorkerState.{WorkerState};
     ghost use Rattle.exchange.specs.Beginnings.{StartsWith, posted_of};
-    ghost use Rattle.exchange.specs.Lanes.{first_worker_state};
-    ghost use Rattle.exchange.specs.Ends.{new_worker_view, max_posts, CanPost, TakesAnswer};
-    ghost use Rattle.exchange.specs.Seats.{IsLane, worker_view};
-
-    pub(crate) fn over(
-        lane_table: Arc<LaneTable, Global>,
-        seat: LaneSeat,
-        worker: usize,
-    ) -> WorkerEnd
-        requires table { (seat.table_id ≡ (arc_value lane_table).shared.table_id) × IsLane seat.table_id worker }
-        requires fresh { (g : Terms) × (seat.me ≡ (Worker (first_worker_state g worker), [])) }
-        ensures { (g : Terms) → seat.me ≡ (Worker (first_worker_state g worker), [])
-            → result ≡ new_worker_view seat.table_id g worker }
-    {
-        WorkerEnd {
-            batch: WorkerBatch::over(lane_table, seat, worker),
-        }
-    }
+    ghost use Rattle.exchange.specs.Ends.{max_posts, CanPost, TakesAnswer};
 
     pub(crate) fn of(batch: WorkerBatch) -> WorkerEnd
         requires { batch.put ≡ [] }
@@ -72,16 +47,6 @@ impl WorkerEnd {
         ensures { result ≡ record { end = self; put = [] } }
     {
         self.batch
-    }
-
-    /// The seat, and the numbers of requests and of answers.
-    pub(crate) fn into_seat(self) -> (LaneSeat, u64, u64)
-        ensures seated { (c : WorkerState) × (result.0.me ≡ (Worker c, []))
-            × (self ≡ worker_view result.0.table_id c) }
-        ensures lane { IsLane result.0.table_id self.worker }
-        ensures counts { (result.1 ≡ length self.sent) × (result.2 ≡ length self.back) }
-    {
-        self.batch.into_seat()
     }
 
     /// The worker's number, from 0 on.

@@ -48,8 +48,8 @@ impl WorkerBatch {
     ghost use mathlib.Core.Option.{some};
     ghost use lib.ListN.{get_elem?};
     ghost use Rattle.proto.specs.History.{worker_share};
-    ghost use Rattle.exchange.specs.declared.views.LaneView.TheVariants.{Worker};
-    ghost use Rattle.exchange.specs.declared.views.WorkerState.{WorkerState};
+    ghost use Rattle.exchange.specs.declared.rule.LaneView.TheVariants.{Worker};
+    ghost use Rattle.exchange.specs.declared.rule.WorkerState.{WorkerState};
     ghost use Rattle.exchange.specs.Beginnings.{StartsWith, posted_of};
     ghost use Rattle.exchange.specs.Lanes.{first_worker_state};
     ghost use Rattle.exchange.specs.Ends.{new_worker_view, max_posts, CanPut, with_put_sent, TakesAnswer, TakesSeen};

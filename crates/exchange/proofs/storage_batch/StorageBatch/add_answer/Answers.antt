@@ -2,8 +2,8 @@ use Rattle.std.proofs.Common.{rules, ℕ, ◌+◌, ◌^◌, ◌<◌, [], ◌∷�
 use Rattle.std.specs.Prelude.{slice_index}
 use Rattle.proto.specs.declared.history.Posted.{Posted}
 use Rattle.exchange.specs.declared.messages.LaneMessage.TheVariants.{Ask}
-use Rattle.exchange.specs.declared.views.StorageState.{StorageState}
-use Rattle.exchange.specs.declared.views.LaneView.TheVariants.{Storage}
+use Rattle.exchange.specs.declared.rule.StorageState.{StorageState}
+use Rattle.exchange.specs.declared.rule.LaneView.TheVariants.{Storage}
 use Rattle.exchange.specs.Beginnings.{posted_of}
 use Rattle.exchange.specs.Ends.{StorageBatchView}
 use Rattle.exchange.specs.Lanes.{SeatState, lane_slot}

@@ -1,6 +1,6 @@
 use Rattle.std.proofs.Common.{rules, ℕ, sym, ap, ◌∙◌}
-use Rattle.exchange.specs.declared.views.StorageState.{StorageState}
-use Rattle.exchange.specs.declared.views.LaneView.TheVariants.{Storage}
+use Rattle.exchange.specs.declared.rule.StorageState.{StorageState}
+use Rattle.exchange.specs.declared.rule.LaneView.TheVariants.{Storage}
 use Rattle.exchange.specs.Ends.{StorageBatchView}
 use Rattle.exchange.specs.Lanes.{SeatState}
 use Rattle.exchange.specs.Seats.{storage_state_in, carried_by}

@@ -1,7 +1,7 @@
 use Rattle.std.proofs.Common.{rules, arith, ◌≡◌, ◌≢◌, ℕ, suc, ◌+◌, ◌-◌, ◌<◌, ◌≤◌, ◌++◌, ◌∷◌, [], length, Bool, refl, sym, ap, ◌∙◌, subst}
 use Rattle.proto.specs.declared.limits.TheConstants.{WINDOW}
 use Rattle.exchange.specs.declared.messages.LaneMessage.TheVariants.{Ask}
-use Rattle.exchange.specs.declared.views.WorkerState.{WorkerState}
+use Rattle.exchange.specs.declared.rule.WorkerState.{WorkerState}
 use Rattle.exchange.specs.Lanes.{SeatState}
 use Rattle.exchange.specs.Ends.{WorkerBatchView}
 use Rattle.exchange.specs.Steps.{holding_slot, placed_count}

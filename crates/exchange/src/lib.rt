@@ -9,16 +9,12 @@ mod rule;
 mod signals;
 mod steps;
 mod storage;
-mod storage_batch;
 mod worker;
-mod worker_batch;
 
 pub use idle_turns::IdleTurns;
 pub use messages::Taken;
 pub use opening::{Gathered, MakeFault, gather, make};
 pub use proto::{Answered, MAX_POSTS, Posted, WINDOW};
 pub use signals::{ParkingWord, StorageSignals};
-pub use storage::StorageEnd;
-pub use storage_batch::StorageBatch;
-pub use worker::{SentList, WorkerEnd};
-pub use worker_batch::WorkerBatch;
+pub use storage::{StorageBatch, StorageEnd};
+pub use worker::{SentList, WorkerBatch, WorkerEnd};

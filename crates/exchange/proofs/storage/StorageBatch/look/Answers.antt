@@ -5,7 +5,7 @@ use Rattle.exchange.specs.Ends.{StorageBatchView}
 use Rattle.exchange.specs.Lanes.{SeatState}
 use Rattle.exchange.specs.Seats.{storage_state_in, carried_by}
 use Rattle.exchange.proofs.Fields.{idle_is}
-use Rattle.exchange.proofs.storage_batch.StorageBatch.look.Goals as goal
+use Rattle.exchange.proofs.storage.StorageBatch.look.Goals as goal
 
 pub take_message-posted-requires-clause-idle : goal.take_message-posted-requires-clause-idle
 take_message-posted-requires-clause-idle c = let d : StorageState = storage_state_in c.self.inside.seat.me.0 in

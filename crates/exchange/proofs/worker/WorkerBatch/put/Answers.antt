@@ -9,7 +9,7 @@ use Rattle.exchange.specs.Seats.{WorkerAgrees, worker_state_in, worker_batch_vie
 use Rattle.exchange.proofs.WorkerSteps.{begins_post}
 use Rattle.exchange.proofs.Known.{stands_put, puts_as}
 use Rattle.exchange.proofs.Fields.{put_more}
-use Rattle.exchange.proofs.worker_batch.WorkerBatch.put.Goals as goal
+use Rattle.exchange.proofs.worker.WorkerBatch.put.Goals as goal
 
 pub load-requires : goal.load-requires
 load-requires c = let r = c.self.invariant.2 in let d : WorkerState = worker_state_in c.self.inside.seat.me.0 in

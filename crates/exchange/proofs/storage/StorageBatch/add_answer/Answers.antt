@@ -9,7 +9,7 @@ use Rattle.exchange.specs.Ends.{StorageBatchView}
 use Rattle.exchange.specs.Lanes.{SeatState, lane_slot}
 use Rattle.exchange.specs.Seats.{storage_state_in, carried_by}
 use Rattle.exchange.proofs.Fields.{held_is}
-use Rattle.exchange.proofs.storage_batch.StorageBatch.add_answer.Goals as goal
+use Rattle.exchange.proofs.storage.StorageBatch.add_answer.Goals as goal
 
 pub put_answer-requires-clause-held : goal.put_answer-requires-clause-held
 put_answer-requires-clause-held c = let d : StorageState = storage_state_in c.self.inside.seat.me.0 in

@@ -7,8 +7,8 @@ use Rattle.exchange.specs.Beginnings.{StartsWith, posted_of}
 use Rattle.exchange.specs.Ends.{WorkerBatchView, TakesAnswer}
 use Rattle.exchange.specs.Seats.{worker_state_in, worker_view}
 use Rattle.exchange.proofs.Fields.{Least, taken_more, takes_outside, taken_own, taken_next, taken_back}
-use Rattle.exchange.proofs.worker_batch.WorkerBatch.take.Goals.{then-done-self, else-done-self}
-use Rattle.exchange.proofs.worker_batch.WorkerBatch.take.Goals as goal
+use Rattle.exchange.proofs.worker.WorkerBatch.take.Goals.{then-done-self, else-done-self}
+use Rattle.exchange.proofs.worker.WorkerBatch.take.Goals as goal
 
 pub invariant_of-self : goal.invariant_of-self
 invariant_of-self c = let inv = c.self.invariant in

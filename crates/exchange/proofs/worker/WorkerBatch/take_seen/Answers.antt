@@ -4,7 +4,7 @@ use lib.ListN.{get_elem?}
 use Rattle.exchange.specs.Beginnings.{posted_of}
 use Rattle.exchange.specs.Ends.{WorkerBatchView}
 use Rattle.exchange.proofs.Fields.{taken_seen, was_told, seen_own, seen_next}
-use Rattle.exchange.proofs.worker_batch.WorkerBatch.take_seen.Goals as goal
+use Rattle.exchange.proofs.worker.WorkerBatch.take_seen.Goals as goal
 
 pub invariant_of-self : goal.invariant_of-self
 invariant_of-self c = let inv = c.self.invariant in let did = c.take_seen_answer-answer.ensures in

@@ -5,7 +5,7 @@ use Rattle.exchange.specs.Ends.{StorageBatchView}
 use Rattle.exchange.specs.Lanes.{SeatState}
 use Rattle.exchange.specs.Seats.{storage_state_in, carried_by}
 use Rattle.exchange.proofs.Fields.{idle_is, named_look}
-use Rattle.exchange.proofs.storage_batch.StorageBatch.next_seen.Goals as goal
+use Rattle.exchange.proofs.storage.StorageBatch.next_seen.Goals as goal
 
 pub take_seen_message-requires-clause-seen : goal.take_seen_message-requires-clause-seen
 take_seen_message-requires-clause-seen g c = let d : StorageState = storage_state_in c.self.inside.seat.me.0 in

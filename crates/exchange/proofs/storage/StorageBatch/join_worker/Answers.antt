@@ -9,7 +9,7 @@ use Rattle.exchange.specs.Seats.{storage_state_in, StorageAgrees, IsWaiting, IsN
 use Rattle.exchange.specs.Ends.{WorkerView, WorkerBatchView, StorageBatchView, AreCompared}
 use Rattle.exchange.proofs.StorageSteps.{joins, compares}
 use Rattle.exchange.proofs.Comparisons.{compared_outside}
-use Rattle.exchange.proofs.storage_batch.StorageBatch.join_worker.Goals as goal
+use Rattle.exchange.proofs.storage.StorageBatch.join_worker.Goals as goal
 
 pub join_seat-requires : goal.join_seat-requires
 join_seat-requires c = let d : StorageState = storage_state_in c.self.inside.seat.me.0 in

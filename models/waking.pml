@@ -35,8 +35,8 @@
 typedef ParkingWord { bool is_parked, sleeps };
 
 ParkingWord storage_word, worker_words[WORKERS];   /* exchange/signals.rt: parking, worker_parking */
-byte posted[WORKERS];                              /* exchange/worker_batch.rt: flush */
-byte done[WORKERS];                                /* exchange/storage_batch.rt: flush_answers */
+byte posted[WORKERS];                              /* exchange/worker.rt: flush */
+byte done[WORKERS];                                /* exchange/storage.rt: flush_answers */
 byte bye[WORKERS];                                 /* the number of the worker's bye, once it stands in its slot */
 byte streams[WORKERS];                             /* net/hand.rt: Hand */
 bool has_ended[WORKERS];                           /* net/hand.rt: Hand */
@@ -46,17 +46,17 @@ bool is_registered[WORKERS], has_closed[WORKERS];
 byte clients_left = WORKERS;
 byte input[WORKERS], given[WORKERS];               /* requests in a stream, and answers that its peer was given */
 
-inline announce(word) { word.is_parked = true }    /* exchange/parking_word.rt: announce */
+inline announce(word) { word.is_parked = true }    /* exchange/signals.rt: announce */
 
-inline cancel(word) { word.is_parked = false }     /* exchange/parking_word.rt: cancel */
+inline cancel(word) { word.is_parked = false }     /* exchange/signals.rt: cancel */
 
-inline park(word) {                                /* exchange/parking_word.rt: park */
+inline park(word) {                                /* exchange/signals.rt: park */
   atomic { if :: word.is_parked -> word.sleeps = true :: else fi };
   !word.sleeps;
   cancel(word)
 }
 
-inline unpark(word) {                              /* exchange/parking_word.rt: unpark */
+inline unpark(word) {                              /* exchange/signals.rt: unpark */
 #ifndef NO_UNPARK
   if
   :: word.is_parked ->
@@ -86,7 +86,7 @@ inline turn(word) {                                /* exchange/idle_turns.rt: tu
 
 /* The storage thread. */
 
-inline flush_answers() {                           /* exchange/storage_batch.rt: flush_answers */
+inline flush_answers() {                           /* exchange/storage.rt: flush_answers */
   if
   :: waiting -> d_step {
        done[waiting_lane] = counts[waiting_lane];
@@ -124,7 +124,7 @@ inline flush_eighth() {                            /* storage_thread/serving.rt:
 #endif
 }
 
-inline look() {                                    /* exchange/storage_batch.rt: look */
+inline look() {                                    /* exchange/storage.rt: look */
   d_step {
     lane = (last + 1 + looks) % WORKERS; looks++;
     looked_lane = lane; named = posted[lane]; found = (named > counts[lane]); is_bye = (counts[lane] + 1 == bye[lane])
@@ -133,14 +133,14 @@ inline look() {                                    /* exchange/storage_batch.rt:
 
 inline take_next() {                               /* storage_thread/serving.rt: take_next */
   if
-  :: named > counts[looked_lane] ->                /* exchange/storage_batch.rt: next_seen */
+  :: named > counts[looked_lane] ->                /* exchange/storage.rt: next_seen */
      d_step { lane = looked_lane; found = true; is_bye = (counts[lane] + 1 == bye[lane]) };
      flush_eighth()
   :: else ->
 #ifndef TELLS_EIGHTHS_ALONE
      tell();
 #endif
-     do                                            /* exchange/storage_batch.rt: next */
+     do                                            /* exchange/storage.rt: next */
      :: looks < WORKERS && !found -> look()
      :: else -> looks = 0; break
      od
@@ -149,11 +149,11 @@ inline take_next() {                               /* storage_thread/serving.rt:
 
 inline execute() {                                 /* storage_thread/serving.rt: execute */
   assert(untold < EIGHTH);
-  if                                               /* exchange/storage_batch.rt: answer_later */
+  if                                               /* exchange/storage.rt: answer_later */
   :: waiting && waiting_lane != lane -> flush_answers()
   :: else
   fi;
-  d_step {                                         /* exchange/storage_batch.rt: add_answer */
+  d_step {                                         /* exchange/storage.rt: add_answer */
     counts[lane]++; waiting = true; waiting_lane = lane; untold++;
     executed = (executed + 1) % EIGHTH
   };
@@ -268,7 +268,7 @@ inline next_event() {                              /* worker_port/port.rt: Port 
 #endif
 
 inline ask_sessions() {                            /* worker/run.rt: ask_sessions */
-  d_step {                                         /* exchange/worker_batch.rt: put */
+  d_step {                                         /* exchange/worker.rt: put */
     asked = WINDOW - (sent + put - back);
     asked = (unasked < asked -> unasked : asked);
     put = put + asked; unasked = unasked - asked; asked = 0
@@ -305,7 +305,7 @@ inline flush() {                                   /* worker/worker.rt: flush */
 #ifdef WAKE_BEFORE_STORE
      unpark(storage_word);
 #endif
-     d_step { sent = sent + put; put = 0; posted[me] = sent };   /* exchange/worker_batch.rt: flush */
+     d_step { sent = sent + put; put = 0; posted[me] = sent };   /* exchange/worker.rt: flush */
 #ifndef WAKE_BEFORE_STORE
      unpark(storage_word)
 #endif
@@ -316,7 +316,7 @@ inline flush() {                                   /* worker/worker.rt: flush */
 inline settle_answers() {                          /* worker/run.rt: settle_answers */
   do
   :: sent == back -> break
-  :: sent > back ->                                /* exchange/worker_batch.rt: take, take_seen */
+  :: sent > back ->                                /* exchange/worker.rt: take, take_seen */
      d_step {
        known = done[me]; unoffered = unoffered + known - back;
        moved = (moved || known > back); known_all = (known == back); back = known; known = 0

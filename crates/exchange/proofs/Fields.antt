@@ -18,9 +18,9 @@ use mathlib.Core.Option.{some}
 use lib.ListN.{get_elem?, length-map}
 use Rattle.std.proofs.lemmas.List.{length-take, append-nil}
 use Rattle.proto.specs.declared.history.Answered.{Answered}
-use Rattle.exchange.specs.declared.views.WorkerState.{WorkerState}
-use Rattle.exchange.specs.declared.views.StorageState.{StorageState}
-use Rattle.exchange.specs.declared.views.LaneView.TheVariants.{Worker, Storage}
+use Rattle.exchange.specs.declared.rule.WorkerState.{WorkerState}
+use Rattle.exchange.specs.declared.rule.StorageState.{StorageState}
+use Rattle.exchange.specs.declared.rule.LaneView.TheVariants.{Worker, Storage}
 use Rattle.exchange.specs.Beginnings.{StartsWith, posted_of}
 use Rattle.proto.proofs.HistoryLemmas.{legal_none}
 use Rattle.proto.specs.History.{worker_share}
@@ -41,7 +41,7 @@ use Rattle.exchange.specs.Ends.{LastLook}
 use Rattle.exchange.proofs.Lists.{at_below, at_end, starts_more, starts_below, take_whole, take_front}
 use Rattle.atomic_table.specs.Seated.{TableId}
 use Rattle.proto.specs.declared.terms.Terms.{Terms}
-use Rattle.proto.proofs.CountLemmas.{share_other}
+use Rattle.proto.proofs.CountLemmas.{either_way, share_mine, share_other}
 
 -- the answers that a worker is told of are no more than its requests
 pub few_answers : (c : WorkerState) (d : ℕ) (g : List Answered) → Learnt c d g
@@ -458,14 +458,34 @@ agrees_told me me' workers last counts open_now r is = let d : StorageState = st
 
 -- once all is told of nothing waits
 pub told_waits : (d : StorageState) (lane workers : ℕ) → lane < workers → IsWaiting (all_told d) false lane workers
-told_waits d lane workers inside = record { none_waits = λ _. refl; others = λ j _. refl; inside = inside }
+told_waits d lane workers inside = record {
+  none_waits = λ _. refl;
+  some_waits = λ y. absurd (true≢false (sym y));
+  others = λ j _. refl;
+  inside = inside;
+}
+
+-- no worker was told of more answers than there are
+few_told : (d : StorageState) (waiting : Bool) (lane workers : ℕ) → IsWaiting d waiting lane workers → (w : ℕ)
+    → length (worker_share d.told w) ≤ length (worker_share d.history w)
+few_told d false lane workers was w =
+    let e = ap (λ (h : List Answered). length (worker_share h w)) (was.none_waits refl) in omega (arith, e)
+few_told d true lane workers was w = either_way w lane
+    (λ same. let few = subst (λ (l : ℕ). length (worker_share d.told l) < length (worker_share d.history l)) (sym same)
+    (was.some_waits refl) in omega (arith, few))
+    (λ other. let e = ap length (was.others w other) in omega (arith, e))
 
 -- with one more answer to the lane
-pub waits_more : (d : StorageState) (a : Answered) (workers : ℕ) → a.worker < workers
+pub waits_more : (d : StorageState) (a : Answered) (waiting : Bool) (lane workers : ℕ)
+    → IsWaiting d waiting lane workers → a.worker < workers
     → ((j : ℕ) → j ≢ a.worker → worker_share d.history j ≡ worker_share d.told j)
     → IsWaiting (with_held_answered d a) true a.worker workers
-waits_more d a workers inside others = record {
+waits_more d a waiting lane workers was inside others = record {
   none_waits = λ y. absurd (true≢false y);
+  some_waits = λ _. let few = few_told d waiting lane workers was a.worker in
+      let long = ap length (share_mine d.history a a.worker refl)
+      ∙ length-append (worker_share d.history a.worker) (a ∷ []) in
+      omega (arith, few, long);
   others = λ j other. share_other d.history a j (λ e. other (sym e))
       ∙ others j other;
   inside = inside;

@@ -12,10 +12,10 @@ use Rattle.proto.specs.declared.history.Answered.{Answered}
 use Rattle.exchange.specs.declared.messages.LaneMessage.{LaneMessage}
 use Rattle.exchange.specs.declared.messages.LaneMessage.TheVariants.{Ask, Bye, Answer}
 use Rattle.exchange.specs.declared.messages.LaneKey.{LaneKey}
-use Rattle.exchange.specs.declared.views.WorkerState.{WorkerState}
-use Rattle.exchange.specs.declared.views.StorageState.{StorageState}
-use Rattle.exchange.specs.declared.views.LaneView.{LaneView}
-use Rattle.exchange.specs.declared.views.LaneView.TheVariants.{Worker, Storage}
+use Rattle.exchange.specs.declared.rule.WorkerState.{WorkerState}
+use Rattle.exchange.specs.declared.rule.StorageState.{StorageState}
+use Rattle.exchange.specs.declared.rule.LaneView.{LaneView}
+use Rattle.exchange.specs.declared.rule.LaneView.TheVariants.{Worker, Storage}
 use Rattle.exchange.specs.Beginnings.{posted_of}
 use Rattle.proto.specs.History.{LegalBy, worker_share}
 use Rattle.exchange.specs.Lanes.{SeatState, lane_slot, LanesHold}

@@ -13,7 +13,7 @@ use Rattle.proto.specs.declared.history.Posted.{Posted}
 use Rattle.proto.specs.declared.history.Answered.{Answered}
 use Rattle.exchange.specs.declared.messages.LaneMessage.{LaneMessage}
 use Rattle.exchange.specs.declared.messages.LaneMessage.TheVariants.{Ask, Bye, Answer}
-use Rattle.exchange.specs.declared.views.WorkerState.{WorkerState}
+use Rattle.exchange.specs.declared.rule.WorkerState.{WorkerState}
 use Rattle.exchange.specs.Beginnings.{StartsWith, posted_of}
 use Rattle.proto.specs.History.{asked_posted}
 use Rattle.exchange.specs.Lanes.{bye_at_end, messages, count_of, At, LaneOk}

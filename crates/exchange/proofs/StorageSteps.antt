@@ -18,10 +18,10 @@ use Rattle.proto.specs.declared.history.Answered.{Answered}
 use Rattle.exchange.specs.declared.messages.LaneMessage.{LaneMessage}
 use Rattle.exchange.specs.declared.messages.LaneMessage.TheVariants.{Ask, Bye, Answer}
 use Rattle.exchange.specs.declared.messages.LaneKey.{LaneKey}
-use Rattle.exchange.specs.declared.views.WorkerState.{WorkerState}
-use Rattle.exchange.specs.declared.views.StorageState.{StorageState}
-use Rattle.exchange.specs.declared.views.LaneView.{LaneView}
-use Rattle.exchange.specs.declared.views.LaneView.TheVariants.{Nobody, Worker, Storage, Comparing}
+use Rattle.exchange.specs.declared.rule.WorkerState.{WorkerState}
+use Rattle.exchange.specs.declared.rule.StorageState.{StorageState}
+use Rattle.exchange.specs.declared.rule.LaneView.{LaneView}
+use Rattle.exchange.specs.declared.rule.LaneView.TheVariants.{Nobody, Worker, Storage, Comparing}
 use Rattle.exchange.specs.Beginnings.{StartsWith, posted_of}
 use Rattle.proto.proofs.HistoryLemmas.{legal_none}
 use Rattle.proto.specs.History.{worker_share, LegalBy}

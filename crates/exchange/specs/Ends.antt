@@ -1,5 +1,5 @@
 -- What contracts see of the ends of an exchange, and what a call of each end tells.
-use Rattle.std.specs.Prelude.{◌≡◌, ◌⊎◌, ℕ, ◌+◌, ◌-◌, ◌<◌, ◌≤◌, ◌^◌, List, [], ◌∷◌, ◌++◌, length, map, take, All, Option, Some, None, MatchOption, Bool}
+use Rattle.std.specs.Prelude.{◌≡◌, ◌≢◌, ◌⊎◌, ℕ, ◌+◌, ◌-◌, ◌<◌, ◌≤◌, ◌^◌, List, [], ◌∷◌, ◌++◌, length, map, take, All, Option, Some, None, MatchOption, Bool}
 use Rattle.std.specs.Prelude.{true, false, ◌==◌, if◌then◌else◌}
 use Rattle.std.specs.List.{filter, range_with_len}
 use mathlib.Core.Option.{some}
@@ -248,6 +248,11 @@ SeesNext old result new = MatchOption result
 -- what an answer to the open request changes
 abbrev pub with_answer : StorageView → Answered → StorageView
 with_answer view answered = record view { history = view.history ++ answered ∷ []; open_request = None }
+
+-- this worker, and no other, has answers that it wasn't told of
+abbrev pub IsUntold : StorageBatchView → ℕ → Type 0
+IsUntold view worker = (length (worker_share view.told worker) < length (worker_share view.end.history worker))
+    × ((other : ℕ) → other ≢ worker → worker_share view.end.history other ≡ worker_share view.told other)
 
 -- Gathering
 

@@ -16,10 +16,10 @@ use Rattle.proto.specs.History.{worker_share, asked_posted, LegalBy}
 use Rattle.exchange.specs.Beginnings.{StartsWith}
 use Rattle.exchange.specs.declared.messages.LaneMessage.{LaneMessage}
 use Rattle.exchange.specs.declared.messages.LaneMessage.TheVariants.{Ask, Bye, Answer}
-use Rattle.exchange.specs.declared.views.WorkerState.{WorkerState}
-use Rattle.exchange.specs.declared.views.StorageState.{StorageState}
-use Rattle.exchange.specs.declared.views.LaneView.{LaneView}
-use Rattle.exchange.specs.declared.views.LaneView.TheVariants.{Nobody, Worker, Storage, Comparing}
+use Rattle.exchange.specs.declared.rule.WorkerState.{WorkerState}
+use Rattle.exchange.specs.declared.rule.StorageState.{StorageState}
+use Rattle.exchange.specs.declared.rule.LaneView.{LaneView}
+use Rattle.exchange.specs.declared.rule.LaneView.TheVariants.{Nobody, Worker, Storage, Comparing}
 use Rattle.exchange.specs.Lanes.{SeatState, known_by, slots_of, lane_slot, first_worker_state, first_storage_state}
 use Rattle.exchange.specs.Steps.{placed_count, learnt_of, settled_count, Learnt, looked_at, with_message_held, IsSent}
 use Rattle.exchange.specs.Ends.{WorkerView, WorkerBatchView, StorageView, StorageBatchView, max_posts, LastLook}
@@ -224,9 +224,11 @@ HoldsTaken me lane count message = (me ≡ (Storage (storage_at me), (lane_slot 
     × (settled_count (storage_at me) lane ≡ count)
     × ((storage_at me).holding ≡ Some (lane, message)) × (count + 1 < 2 ^ 64)
 
--- The answers that weren't told of are all of this lane, and there are none where nothing waits
+-- The answers that weren't told of are all of this lane, and there are some exactly where one waits
 pub record IsWaiting (storage : StorageState) (waiting : Bool) (lane workers : ℕ) : Type 0 where
   pub none_waits : waiting ≡ false → storage.told ≡ storage.history
+  pub some_waits : waiting ≡ true
+      → length (worker_share storage.told lane) < length (worker_share storage.history lane)
   pub others : (other : ℕ) → other ≢ lane → worker_share storage.history other ≡ worker_share storage.told other
   pub inside : lane < workers
 

@@ -2,29 +2,19 @@
 //! storage reads ahead.
 #![tactic(auto)]
 
-mod gathering;
 mod idle_turns;
 mod messages;
 mod opening;
-mod parking_word;
 mod rule;
 mod signals;
-mod slots;
 mod steps;
 mod storage;
-mod storage_batch;
-mod views;
 mod worker;
-mod worker_batch;
 
-pub use gathering::{Gathered, gather};
 pub use idle_turns::IdleTurns;
 pub use messages::Taken;
-pub use opening::{MakeFault, make};
-pub use parking_word::ParkingWord;
+pub use opening::{Gathered, MakeFault, gather, make};
 pub use proto::{Answered, MAX_POSTS, Posted, WINDOW};
-pub use signals::StorageSignals;
-pub use storage::StorageEnd;
-pub use storage_batch::StorageBatch;
-pub use worker::{SentList, WorkerEnd};
-pub use worker_batch::WorkerBatch;
+pub use signals::{ParkingWord, StorageSignals};
+pub use storage::{StorageBatch, StorageEnd};
+pub use worker::{SentList, WorkerBatch, WorkerEnd};

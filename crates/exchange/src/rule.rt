@@ -1,13 +1,58 @@
-//! The rule of the table, and what each step tells.
+//! The table: what its seats know, its rule, and what each step tells. No value of what a seat knows is made.
 ghost use Rattle.exchange.specs.Steps.{tells_begin, request_put, tells_post, seen_taken, bye_posted, done_loaded};
 ghost use Rattle.exchange.specs.Steps.{slot_returned};
 ghost use Rattle.exchange.specs.Steps.{posted_loaded, tells_answer, told_done, seen_opened, settle_bye, with_one_more};
 ghost use Rattle.exchange.specs.Steps.{new_worker, comparing, tells_comparison};
 
 use crate::messages::{LaneKey, LaneMessage};
-use crate::views::LaneView;
 use atomic_table::{Join, Play, Seat, Split, Table, TableRule};
+use proto::{Answered, Posted, Terms};
 use std::alloc::Global;
+use std::collections::LinkedList;
+
+/// What a worker knows.
+pub struct WorkerState {
+    pub worker: u64,
+    pub terms: Terms,
+    pub sent: LinkedList<Posted>,
+    /// The requests that stand in their slots and weren't sent yet.
+    pub put: LinkedList<Posted>,
+    pub said_bye: bool,
+    pub back: LinkedList<Answered>,
+    /// The history that it was told of last.
+    pub seen: LinkedList<Answered>,
+    /// The done words that it loaded.
+    pub loads: LinkedList<u64>,
+    /// 0, or 1 more than the number of the message whose slot it holds.
+    pub slot_held: u64,
+}
+
+/// What the storage thread knows.
+pub struct StorageState {
+    pub terms: Terms,
+    /// How many workers it has made.
+    pub made: u64,
+    /// The requests that it took, each with its worker.
+    pub taken: LinkedList<(u64, Posted)>,
+    /// The requests that it answered.
+    pub history: LinkedList<Answered>,
+    /// The first of them: those that the workers can know of by the done words.
+    pub told: LinkedList<Answered>,
+    /// The workers whose Bye was taken.
+    pub byes: LinkedList<u64>,
+    /// The lane and the message that it holds.
+    pub holding: Option<(u64, LaneMessage)>,
+    /// The lanes that it looked at, each with the posted word.
+    pub looks: LinkedList<(u64, u64)>,
+}
+
+/// What a seat knows.
+pub enum LaneView {
+    Nobody,
+    Worker(WorkerState),
+    Storage(StorageState),
+    Comparing(StorageState, WorkerState),
+}
 
 pub struct Lanes;
 
@@ -112,7 +157,7 @@ impl Split<LaneView> for MakesWorker {
 pub struct JoinsWorker;
 
 impl Join<LaneView> for JoinsWorker {
-    ghost use Rattle.exchange.specs.declared.views.LaneView.TheVariants.{Nobody};
+    ghost use Rattle.exchange.specs.declared.rule.LaneView.TheVariants.{Nobody};
 
     ghost both = { comparing };
 

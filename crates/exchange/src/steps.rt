@@ -1,7 +1,10 @@
-//! The steps on the words of a lane.
-ghost use Rattle.std.specs.Prelude.{◌≡◌, ℕ, suc, ◌+◌, ◌*◌, ◌^◌, ◌<◌, ◌≤◌, [], ◌∷◌, ◌++◌, length, None, false};
-ghost use Rattle.exchange.specs.declared.messages.LaneMessage.TheVariants.{Ask, Bye};
-ghost use Rattle.exchange.specs.declared.views.LaneView.TheVariants.{Worker, Storage};
+//! The steps on the words and slots of a lane.
+ghost use Rattle.std.specs.Prelude.{◌≡◌, ℕ, suc, ◌+◌, ◌*◌, ◌^◌, ◌<◌, ◌≤◌, [], ◌∷◌, ◌++◌, length, Some, None, false};
+ghost use Rattle.atomic_table.specs.Table.{rest};
+ghost use Rattle.proto.specs.declared.history.Answered.{Answered};
+ghost use Rattle.exchange.specs.declared.messages.LaneMessage.{LaneMessage};
+ghost use Rattle.exchange.specs.declared.messages.LaneMessage.TheVariants.{Ask, Bye, Answer};
+ghost use Rattle.exchange.specs.declared.rule.LaneView.TheVariants.{Worker, Storage};
 ghost use Rattle.exchange.specs.Beginnings.{posted_of};
 ghost use mathlib.Core.Option.{some};
 ghost use lib.ListN.{get_elem?};
@@ -10,15 +13,14 @@ ghost use Rattle.exchange.specs.Lanes.{lane_slot};
 ghost use Rattle.exchange.specs.Steps.{put_on, holding_slot, took_seen, with_bye, with_held_answered};
 ghost use Rattle.exchange.specs.Steps.{bye_settled, with_message_held, settled_count, IsSent};
 ghost use Rattle.exchange.specs.Seats.{worker_at, storage_at, IsLane, SameSeat, MayPost, MayTake, HasSeen};
-ghost use Rattle.exchange.specs.Seats.{MayLook, HasSeenMessage, StateTakes, Looks, HoldsTaken};
+ghost use Rattle.exchange.specs.Seats.{MayLook, HasSeenMessage, StateTakes, Looks, HoldsTaken, HoldsSlot, exchanged_to};
 
 use crate::messages::LaneMessage;
 use crate::rule::{
     Answers, Begins, LaneSeat, LaneTable, LoadsDone, LoadsPosted, OpensSeen, PostsBye, ReturnsSlot,
     SettlesBye, TakesSeen,
 };
-use crate::slots::{slot_at, take_out_answer};
-use proto::{Answered, Posted};
+use proto::{Answered, WINDOW};
 
 /// A lane has two words that its two threads store, posted first and then done. Each is followed by enough unused words of
 /// eight bytes that no two share a line of a processor's cache.
@@ -26,6 +28,34 @@ pub(crate) const DONE: usize = 8;
 
 /// The words of a lane.
 pub(crate) const LANE: usize = 2 * DONE;
+
+/// The slot of the message with this number. A lane has as many as requests may be on their way.
+pub(crate) fn slot_at(worker: usize, number: u64) -> usize
+    requires { worker < 8 }
+    ensures { result ≡ lane_slot worker number }
+{
+    WINDOW as usize * worker + (number % WINDOW) as usize
+}
+
+/// A worker takes an answer out of its slot. Its seat holds the slot, so no other thread reads or writes it.
+fn take_out_answer(
+    lane_table: &LaneTable,
+    seat: &mut LaneSeat,
+    worker: usize,
+    number: u64,
+) -> Answered
+    requires table { (seat.old.table_id ≡ lane_table.now.shared.table_id) × (worker < 8) }
+    requires full { (a : Answered) × HoldsSlot seat.old.me (lane_slot worker number) (Some (Answer a)) }
+    ensures table { SameSeat seat.old seat.new }
+    ensures taken { HoldsSlot seat.old.me (lane_slot worker number) (Some (Answer result)) }
+    ensures empty { seat.new.me ≡ exchanged_to seat.old.me (lane_slot worker number) None }
+{
+    let slot = slot_at(worker, number);
+    match lane_table.shared.exchange(seat, slot, None) {
+        Some(LaneMessage::Answer(answered)) => answered,
+        _ => unreachable!(),
+    }
+}
 
 /// Puts the Bye into its slot, and stores posted.
 pub(crate) fn put_bye(lane_table: &LaneTable, seat: &mut LaneSeat, worker: usize, number: u64)
@@ -36,16 +66,11 @@ pub(crate) fn put_bye(lane_table: &LaneTable, seat: &mut LaneSeat, worker: usize
     ensures table { SameSeat seat.old seat.new }
     ensures sent { seat.new.me ≡ (Worker (with_bye (worker_at seat.old.me)), []) }
 {
-    lane_table.shared.load::<Begins>(seat, LANE * worker);
+    let lanes = &lane_table.shared;
+    lanes.load::<Begins>(seat, LANE * worker);
     let slot = slot_at(worker, number);
-    drop(
-        lane_table
-            .shared
-            .exchange(seat, slot, Some(LaneMessage::Bye)),
-    );
-    lane_table
-        .shared
-        .store::<PostsBye>(seat, LANE * worker, number + 1);
+    drop(lanes.exchange(seat, slot, Some(LaneMessage::Bye)));
+    lanes.store::<PostsBye>(seat, LANE * worker, number + 1);
 }
 
 /// Loads done, and takes the next answer out of its slot, if there is one. The number is the word.

@@ -1,13 +1,282 @@
-//! The storage thread's end of all lanes.
+//! The storage thread's end of all lanes, by which the workers are told of several answers at once, or of each.
 
-use crate::messages::Taken;
-use crate::rule::{LaneSeat, LaneTable};
-use crate::storage_batch::StorageBatch;
+use crate::messages::{LaneMessage, Taken};
+use crate::rule::{Compares, JoinsWorker, LaneSeat, LaneTable, TellsDone};
+use crate::steps::{DONE, LANE, put_answer, settle_bye, take_message, take_seen_message};
 use crate::worker::WorkerEnd;
-use proto::{Answered, AskedClock, Clock};
+use proto::{Answered, AskedClock, Clock, MAX_WORKERS};
 use std::alloc::Global;
 use std::marker::Model;
 use std::sync::Arc;
+
+/// What storage takes requests from, answers them, and tells the workers of all that it answered. One thread at a
+/// time uses it.
+#[derive(Drop)]
+pub struct StorageBatch {
+    lane_table: Arc<LaneTable, Global>,
+    seat: LaneSeat,
+    workers: usize,
+    /// The lane that the last message was taken from.
+    last: usize,
+    /// How many messages of each lane were settled.
+    counts: [u64; MAX_WORKERS],
+    open_now: bool,
+    /// Whether there are answers that weren't told of.
+    waiting: bool,
+    /// The lane that all of them are of.
+    waiting_lane: usize,
+    /// The lane that was looked at last, and the posted word that was found there.
+    looked_lane: usize,
+    named: u64,
+}
+
+impl Model for StorageBatch {
+    ghost use Rattle.std.specs.Prelude.{◌≡◌, ℕ, ◌+◌, ◌*◌, ◌<◌, ◌≤◌};
+    ghost use Rattle.std.specs.Arc.{arc_value};
+    ghost use Rattle.exchange.specs.Ends.{StorageBatchView};
+    ghost use Rattle.exchange.specs.Seats.{StorageAgrees, IsWaiting, IsNamed, IsTableSized, storage_batch_view};
+    ghost use Rattle.exchange.specs.Seats.{storage_at};
+
+    ghost Value = { StorageBatchView };
+
+    ghost view = { λ inside. storage_batch_view inside.seat.table_id inside.workers inside.last
+        (storage_at inside.seat.me) };
+
+    ghost invariant = { λ inside. (inside.seat.table_id ≡ (arc_value inside.lane_table).shared.table_id)
+        × IsTableSized inside.seat.table_id inside.workers
+        × ((arc_value inside.lane_table).shared.key.workers ≡ inside.workers)
+        × StorageAgrees inside.seat.me inside.workers inside.last inside.counts inside.open_now
+        × IsWaiting (storage_at inside.seat.me) inside.waiting inside.waiting_lane inside.workers
+        × IsNamed (storage_at inside.seat.me) inside.looked_lane inside.named inside.workers };
+}
+
+impl StorageBatch {
+    ghost use Rattle.std.specs.Prelude.{◌≡◌, ◌≢◌, ◌⊎◌, ℕ, ◌+◌, ◌-◌, ◌*◌, ◌<◌, ◌≤◌, ◌++◌, ◌∷◌, [], length, None, Some};
+    ghost use Rattle.std.specs.Prelude.{is_some, MatchOption, IsOk};
+    ghost use Rattle.std.specs.Option.{IfNone};
+    ghost use Rattle.std.specs.Arc.{arc_value};
+    ghost use Rattle.proto.specs.declared.terms.Terms.{Terms};
+    ghost use Rattle.proto.specs.History.{answers_by, LegalBy, worker_share};
+    ghost use Rattle.exchange.specs.declared.rule.LaneView.TheVariants.{Storage};
+    ghost use Rattle.exchange.specs.Beginnings.{posted_of};
+    ghost use Rattle.exchange.specs.Ends.{IsCount, new_storage_view, LooksAt, FindsNone, FindsOne, LookedOnce};
+    ghost use Rattle.exchange.specs.Ends.{SeesNext, with_answer, IsUntold, AreCompared};
+    ghost use Rattle.exchange.specs.Seats.{IsTableSized, made_storage_state};
+
+    pub(crate) fn over(
+        lane_table: Arc<LaneTable, Global>,
+        seat: LaneSeat,
+        workers: usize,
+    ) -> StorageBatch
+        requires table { (seat.table_id ≡ (arc_value lane_table).shared.table_id)
+            × IsTableSized seat.table_id workers × ((arc_value lane_table).shared.key.workers ≡ workers)
+            × (0 < workers) × (workers ≤ 8) }
+        requires fresh { (terms : Terms) × (seat.me ≡ (Storage (made_storage_state terms workers), [])) }
+        ensures { (terms : Terms) → seat.me ≡ (Storage (made_storage_state terms workers), [])
+            → result ≡ record { end = new_storage_view seat.table_id terms workers; told = [] } }
+    {
+        StorageBatch {
+            lane_table,
+            seat,
+            workers,
+            last: workers - 1,
+            counts: [0; MAX_WORKERS],
+            open_now: false,
+            waiting: false,
+            waiting_lane: 0,
+            looked_lane: 0,
+            named: 0,
+        }
+    }
+
+    /// The number of workers that the exchange was made for.
+    pub fn workers(&self) -> usize
+        ensures value { result ≡ self.now.end.workers }
+        ensures range { IsCount result }
+    {
+        self.workers
+    }
+
+    /// Whether a request was taken that isn't answered yet.
+    pub(crate) fn is_open(&self) -> bool
+        ensures { result ≡ is_some self.now.end.open_request }
+    {
+        self.open_now
+    }
+
+    /// Answers the open request. Its worker isn't told of it before the next `flush_answers`, or the next answer to
+    /// another worker. It gives the worker that was told of its answers now, if one was. Waits for nobody and takes no memory.
+    pub fn answer_later(&mut self, answered: Answered) -> Option<usize>
+        requires open_request { self.old.end.open_request ≡ Some (answered.worker, posted_of answered) }
+        requires legal { LegalBy self.old.end.terms (self.old.end.history ++ answered ∷ []) }
+        ensures answered { self.new.end ≡ with_answer self.old.end answered }
+        ensures told { MatchOption result (self.new.told ≡ self.old.told) (λ worker. IsUntold self.old worker
+            × (worker ≢ answered.worker) × (self.new.told ≡ self.old.end.history)) }
+    {
+        let told = if self.waiting_lane == answered.worker {
+            None
+        } else {
+            self.flush_answers()
+        };
+        self.add_answer(answered);
+        told
+    }
+
+    /// Answers the open request, where the answers that wait are of its lane.
+    fn add_answer(&mut self, answered: Answered)
+        requires open_request { self.old.end.open_request ≡ Some (answered.worker, posted_of answered) }
+        requires legal { LegalBy self.old.end.terms (self.old.end.history ++ answered ∷ []) }
+        requires others { (j : ℕ) → j ≢ answered.worker
+            → worker_share self.old.end.history j ≡ worker_share self.old.told j }
+        ensures answered { self.new.end ≡ with_answer self.old.end answered }
+        ensures told { self.new.told ≡ self.old.told }
+    {
+        // This read is for the proof: with it is known that there are 8 workers at most, and so that the lane is an index.
+        let _workers = self.workers;
+        let lane = answered.worker;
+        let count = self.counts[lane];
+        put_answer(&self.lane_table, &mut self.seat, count, answered);
+        self.counts[lane] = count + 1;
+        self.open_now = false;
+        self.waiting = true;
+        self.waiting_lane = lane;
+    }
+
+    /// Tells the workers of all answers, in one step. It gives the worker whose answers they are, if there are any. Waits for
+    /// nobody and takes no memory.
+    pub fn flush_answers(&mut self) -> Option<usize>
+        ensures told { self.new ≡ record self.old { told = self.old.end.history } }
+        ensures whose { MatchOption result (self.old.told ≡ self.old.end.history) (IsUntold self.old) }
+    {
+        if !self.waiting {
+            return None;
+        }
+        let lane = self.waiting_lane;
+        let count = self.counts[lane];
+        self.lane_table
+            .shared
+            .store::<TellsDone>(&mut self.seat, LANE * lane + DONE, count);
+        self.waiting = false;
+        Some(lane)
+    }
+
+    /// Looks at one lane, and takes its next message out, if there is one.
+    fn look(&mut self, lane: usize) -> Option<Taken>
+        requires { (self.old.end.open_request ≡ None) × (lane < self.old.end.workers) }
+        ensures looks { LooksAt self.old.end lane result self.new.end }
+        ensures told { self.new.told ≡ self.old.told }
+    {
+        // This read is for the proof: with it is known that there are 8 workers at most, and so that the lane is an index.
+        let _workers = self.workers;
+        let count = self.counts[lane];
+        let (posted, taken) = take_message(&self.lane_table, &mut self.seat, lane, count);
+        self.looked_lane = lane;
+        self.named = posted;
+        match taken {
+            None => None,
+            Some(LaneMessage::Ask(posted)) => {
+                self.last = lane;
+                self.open_now = true;
+                Some(Taken::Asked {
+                    worker: lane,
+                    posted,
+                })
+            }
+            Some(LaneMessage::Bye) => {
+                settle_bye(&self.lane_table, &mut self.seat, lane, count);
+                self.last = lane;
+                self.counts[lane] = count + 1;
+                Some(Taken::Bye { worker: lane })
+            }
+            Some(LaneMessage::Answer(_)) => unreachable!(),
+        }
+    }
+
+    /// The next message of some lane. The lanes are looked at in turn, beginning after the one that
+    /// was taken from last. The clock has given one answer for each request that was answered, and no other: so the answer for
+    /// the request taken here is given after it was taken. Waits for nobody and takes no memory.
+    pub fn next<C: Clock>(&mut self, _clock: &AskedClock<C>) -> Option<Taken>
+        requires shut { self.old.end.open_request ≡ None }
+        requires fresh { _clock.now.answers ≡ answers_by [] self.old.end.history }
+        ensures next { MatchOption result (FindsNone self.old.end self.new.end) (FindsOne self.old.end self.new.end) }
+        ensures every_lane { IfNone result ((w : ℕ) → w < self.old.end.workers
+            → LookedOnce self.old.end self.new.end w) }
+        ensures told { self.new.told ≡ self.old.told }
+    {
+        let workers = self.workers;
+        let last = self.last;
+        for turn in last + 1..last + 1 + workers {
+            let lane = if turn < workers { turn } else { turn - workers };
+            if let Some(taken) = self.look(lane) {
+                return Some(taken);
+            }
+        }
+        None
+    }
+
+    /// The next message among those that the last look of `next` named, at the lane of that look. It doesn't look for
+    /// further ones. The clock is as for `next`. Waits for nobody and takes no memory.
+    pub fn next_seen<C: Clock>(&mut self, _clock: &AskedClock<C>) -> Option<Taken>
+        requires shut { self.old.end.open_request ≡ None }
+        requires fresh { _clock.now.answers ≡ answers_by [] self.old.end.history }
+        ensures next { SeesNext self.old.end result self.new.end }
+        ensures told { self.new.told ≡ self.old.told }
+    {
+        let lane = self.looked_lane;
+        let count = self.counts[lane];
+        if self.named <= count {
+            return None;
+        }
+        match take_seen_message(&self.lane_table, &mut self.seat, lane, count) {
+            LaneMessage::Ask(posted) => {
+                self.last = lane;
+                self.open_now = true;
+                Some(Taken::Asked {
+                    worker: lane,
+                    posted,
+                })
+            }
+            LaneMessage::Bye => {
+                settle_bye(&self.lane_table, &mut self.seat, lane, count);
+                self.last = lane;
+                self.counts[lane] = count + 1;
+                Some(Taken::Bye { worker: lane })
+            }
+            LaneMessage::Answer(_) => unreachable!(),
+        }
+    }
+
+    /// The lane that was looked at last, the number of its next message that isn't settled, counted from 0, and how many
+    /// messages that look named from there on. They serve to read ahead: no clause speaks of them.
+    pub fn seen(&self) -> (usize, u64, u64) {
+        let lane = self.looked_lane;
+        let count = self.counts[lane];
+        (lane, count, self.named.saturating_sub(count))
+    }
+
+    /// Brings a worker's end of this exchange and storage's together, and tells how many requests the
+    /// worker sent and how many answers it took back.
+    pub(crate) fn join_worker(&mut self, end: WorkerEnd) -> (u64, u64)
+        requires { end.exchange ≡ self.old.end.exchange }
+        ensures same { self.new ≡ self.old }
+        ensures compared { AreCompared self.old.end end }
+        ensures counts { (result.0 ≡ length end.sent) × (result.1 ≡ length end.back) }
+    {
+        let (seat, sent, back) = end.batched().into_seat();
+        let lanes = &self.lane_table.shared;
+        lanes.join_seat::<JoinsWorker>(&mut self.seat, seat);
+        lanes.load::<Compares>(&mut self.seat, 0);
+        (sent, back)
+    }
+
+    /// The end, where all answers were flushed.
+    pub fn into_end(self) -> StorageEnd
+        requires { self.told ≡ self.end.history }
+        ensures { result ≡ self.end }
+    {
+        StorageEnd { batch: self }
+    }
+}
 
 /// What storage takes requests from, and answers them. One thread at a time uses it.
 ///
@@ -30,41 +299,11 @@ impl Model for StorageEnd {
 }
 
 impl StorageEnd {
-    ghost use Rattle.std.specs.Prelude.{◌≡◌, ℕ, ◌+◌, ◌-◌, ◌*◌, ◌<◌, ◌≤◌, ◌++◌, ◌∷◌, [], length, None, Some, is_some};
-    ghost use Rattle.std.specs.Prelude.{MatchOption, IsOk};
+    ghost use Rattle.std.specs.Prelude.{◌≡◌, ℕ, ◌<◌, ◌++◌, ◌∷◌, [], None, Some, is_some, MatchOption, IsOk};
     ghost use Rattle.std.specs.Option.{IfNone};
-    ghost use Rattle.std.specs.Arc.{arc_value};
-    ghost use Rattle.proto.specs.declared.terms.Terms.{Terms};
     ghost use Rattle.proto.specs.History.{answers_by, LegalBy};
-    ghost use Rattle.exchange.specs.declared.views.LaneView.TheVariants.{Storage};
     ghost use Rattle.exchange.specs.Beginnings.{posted_of};
-    ghost use Rattle.exchange.specs.Ends.{IsCount, new_storage_view, LooksAt, FindsNone, FindsOne, LookedOnce};
-    ghost use Rattle.exchange.specs.Ends.{with_answer, AreCompared};
-    ghost use Rattle.exchange.specs.Seats.{IsTableSized, made_storage_state};
-
-    pub(crate) fn over(
-        lane_table: Arc<LaneTable, Global>,
-        seat: LaneSeat,
-        workers: usize,
-    ) -> StorageEnd
-        requires table { (seat.table_id ≡ (arc_value lane_table).shared.table_id)
-            × IsTableSized seat.table_id workers × ((arc_value lane_table).shared.key.workers ≡ workers)
-            × (0 < workers) × (workers ≤ 8) }
-        requires fresh { (g : Terms) × (seat.me ≡ (Storage (made_storage_state g workers), [])) }
-        ensures { (g : Terms) → seat.me ≡ (Storage (made_storage_state g workers), [])
-            → result ≡ new_storage_view seat.table_id g workers }
-    {
-        StorageEnd {
-            batch: StorageBatch::over(lane_table, seat, workers),
-        }
-    }
-
-    pub(crate) fn of(batch: StorageBatch) -> StorageEnd
-        requires { batch.told ≡ batch.end.history }
-        ensures { result ≡ batch.end }
-    {
-        StorageEnd { batch }
-    }
+    ghost use Rattle.exchange.specs.Ends.{IsCount, FindsNone, FindsOne, LookedOnce, with_answer};
 
     /// The same end, for a storage thread that tells the workers of several answers at once.
     pub fn batched(self) -> StorageBatch
@@ -110,16 +349,5 @@ impl StorageEnd {
         ensures every_lane { IfNone result ((w : ℕ) → w < self.old.workers → LookedOnce self.old self.new w) }
     {
         self.batch.next(clock)
-    }
-
-    /// Brings a worker's end of this exchange and storage's together, and tells how many requests the
-    /// worker sent and how many answers it took back.
-    pub(crate) fn join_worker(&mut self, end: WorkerEnd) -> (u64, u64)
-        requires { end.exchange ≡ self.old.exchange }
-        ensures same { self.new ≡ self.old }
-        ensures compared { AreCompared self.old end }
-        ensures counts { (result.0 ≡ length end.sent) × (result.1 ≡ length end.back) }
-    {
-        self.batch.join_worker(end)
     }
 }

@@ -1,12 +1,238 @@
-//! The worker's end of its lane.
+//! The worker's end of its lane, by which storage is told of several requests at once, or of each.
 
-use crate::rule::{LaneSeat, LaneTable};
-use crate::worker_batch::WorkerBatch;
-use proto::{Answered, Posted};
+use crate::messages::LaneMessage;
+use crate::rule::{Begins, LaneSeat, LaneTable, Posts, PutsRequest};
+use crate::steps::{LANE, put_bye, slot_at, take_answer, take_seen_answer};
+use proto::{Answered, MAX_POSTS, Posted, WINDOW};
 use std::alloc::Global;
 use std::marker::Model;
 use std::snapshot::Snapshot;
 use std::sync::Arc;
+
+/// What a worker puts its requests with, sends all that it put, and takes the answers back. One thread at a time
+/// uses it.
+#[derive(Drop)]
+pub struct WorkerBatch {
+    lane_table: Arc<LaneTable, Global>,
+    seat: LaneSeat,
+    worker: usize,
+    sent: u64,
+    /// How many requests stand in their slots and weren't sent.
+    put: u64,
+    back: u64,
+    /// How many answers were done at the last load of done.
+    known: u64,
+    said_bye: bool,
+}
+
+impl Model for WorkerBatch {
+    ghost use Rattle.std.specs.Prelude.{◌≡◌, ℕ, ◌+◌, ◌*◌, ◌<◌, ◌≤◌};
+    ghost use Rattle.std.specs.Arc.{arc_value};
+    ghost use Rattle.exchange.specs.Ends.{WorkerBatchView};
+    ghost use Rattle.exchange.specs.Seats.{WorkerAgrees, IsLane, worker_batch_view, worker_at};
+
+    ghost Value = { WorkerBatchView };
+
+    ghost view = { λ inside. worker_batch_view inside.seat.table_id (worker_at inside.seat.me) };
+
+    ghost invariant = { λ inside. (inside.seat.table_id ≡ (arc_value inside.lane_table).shared.table_id)
+        × IsLane inside.seat.table_id inside.worker
+        × WorkerAgrees inside.seat.me inside.worker inside.sent inside.put inside.back inside.known inside.said_bye };
+}
+
+impl WorkerBatch {
+    ghost use Rattle.std.specs.Prelude.{◌≡◌, ℕ, ◌+◌, ◌*◌, ◌^◌, ◌<◌, ◌≤◌, ◌++◌, ◌∷◌, [], length, true, false};
+    ghost use Rattle.std.specs.Prelude.{MatchResult, IfSome};
+    ghost use Rattle.std.specs.Arc.{arc_value};
+    ghost use Rattle.proto.specs.declared.terms.Terms.{Terms};
+    ghost use mathlib.Core.Option.{some};
+    ghost use lib.ListN.{get_elem?};
+    ghost use Rattle.proto.specs.History.{worker_share};
+    ghost use Rattle.exchange.specs.declared.rule.LaneView.TheVariants.{Worker};
+    ghost use Rattle.exchange.specs.declared.rule.WorkerState.{WorkerState};
+    ghost use Rattle.exchange.specs.Beginnings.{StartsWith, posted_of};
+    ghost use Rattle.exchange.specs.Lanes.{first_worker_state};
+    ghost use Rattle.exchange.specs.Ends.{new_worker_view, max_posts, CanPut, with_put_sent, TakesAnswer, TakesSeen};
+    ghost use Rattle.exchange.specs.Seats.{IsLane, worker_view};
+
+    pub(crate) fn over(
+        lane_table: Arc<LaneTable, Global>,
+        seat: LaneSeat,
+        worker: usize,
+    ) -> WorkerBatch
+        requires table { (seat.table_id ≡ (arc_value lane_table).shared.table_id) × IsLane seat.table_id worker }
+        requires fresh { (terms : Terms) × (seat.me ≡ (Worker (first_worker_state terms worker), [])) }
+        ensures { (terms : Terms) → seat.me ≡ (Worker (first_worker_state terms worker), [])
+            → result ≡ record { end = new_worker_view seat.table_id terms worker; put = [] } }
+    {
+        WorkerBatch {
+            lane_table,
+            seat,
+            worker,
+            sent: 0,
+            put: 0,
+            back: 0,
+            known: 0,
+            said_bye: false,
+        }
+    }
+
+    /// The seat, and the numbers of requests and of answers.
+    pub(crate) fn into_seat(self) -> (LaneSeat, u64, u64)
+        ensures seated { (c : WorkerState) × (result.0.me ≡ (Worker c, []))
+            × (self.end ≡ worker_view result.0.table_id c) }
+        ensures lane { IsLane result.0.table_id self.end.worker }
+        ensures counts { (result.1 ≡ length self.end.sent) × (result.2 ≡ length self.end.back) }
+    {
+        let WorkerBatch {
+            lane_table: _,
+            seat,
+            worker: _,
+            sent,
+            put: _,
+            back,
+            known: _,
+            said_bye: _,
+        } = self;
+        (seat, sent, back)
+    }
+
+    /// The worker's number, from 0 on.
+    pub fn worker(&self) -> usize
+        ensures value { result ≡ self.now.end.worker }
+        ensures range { result < 8 }
+    {
+        self.worker
+    }
+
+    pub fn said_bye(&self) -> bool
+        ensures { result ≡ self.now.end.said_bye }
+    {
+        self.said_bye
+    }
+
+    /// How many requests were sent. Those that were put and not flushed aren't counted.
+    pub fn sent(&self) -> u64
+        ensures value { result ≡ length self.now.end.sent }
+        ensures range { result ≤ max_posts }
+    {
+        self.sent
+    }
+
+    /// How many requests were put and not flushed.
+    pub fn waiting(&self) -> u64
+        ensures value { result ≡ length self.now.put }
+        ensures range { result ≤ WINDOW }
+    {
+        self.put
+    }
+
+    /// How many requests were sent or put, and not taken back.
+    pub fn outstanding(&self) -> u64
+        ensures value { result + length self.now.end.back ≡ length self.now.end.sent + length self.now.put }
+        ensures range { result ≤ WINDOW }
+    {
+        self.sent + self.put - self.back
+    }
+
+    /// Puts a request into its slot, or hands it back unchanged. Storage isn't told of it before the next `flush`.
+    /// Waits for nobody and takes no memory.
+    pub fn put(&mut self, posted: Posted) -> Result<(), Posted>
+        requires { posted.number ≡ length self.old.end.sent + length self.old.put + 1 }
+        ensures { MatchResult result
+            (λ _. CanPut self.old × (self.new ≡ record self.old { put = self.old.put ++ posted ∷ [] }))
+            (λ p. (¬ (CanPut self.old)) × (p ≡ posted) × (self.new ≡ self.old)) }
+    {
+        let number = self.sent + self.put;
+        if number - self.back == WINDOW || self.said_bye || number == MAX_POSTS {
+            return Err(posted);
+        }
+        let posted_word = LANE * self.worker;
+        let slot = slot_at(self.worker, number);
+        let request = LaneMessage::Ask(posted);
+        let lanes = &self.lane_table.shared;
+        // These load the worker's own word, which no other thread writes. The slot was empty, so what comes out is None.
+        lanes.load::<Begins>(&mut self.seat, posted_word);
+        drop(lanes.exchange(&mut self.seat, slot, Some(request)));
+        lanes.load::<PutsRequest>(&mut self.seat, posted_word);
+        self.put += 1;
+        Ok(())
+    }
+
+    /// Sends all requests that were put, in their order, in one step. Waits for nobody and takes no memory.
+    pub fn flush(&mut self)
+        ensures { self.new ≡ with_put_sent self.old }
+    {
+        if self.put > 0 {
+            let number = self.sent + self.put;
+            self.lane_table
+                .shared
+                .store::<Posts>(&mut self.seat, LANE * self.worker, number);
+            self.sent = number;
+            self.put = 0;
+        }
+    }
+
+    /// The next answer of this worker, in the order of its requests. Waits for nobody and takes no
+    /// memory.
+    pub fn take(&mut self) -> Option<Answered>
+        ensures taken { TakesAnswer self.old.end result self.new.end }
+        ensures put { self.new.put ≡ self.old.put }
+        ensures own { IfSome result (λ a. (a.worker ≡ self.old.end.worker)
+            × (get_elem? self.old.end.sent (length self.old.end.back) ≡ some (posted_of a))) }
+        ensures in_order { IfSome result (λ a. a.number ≡ length self.old.end.back + 1) }
+        ensures back { StartsWith (worker_share self.new.end.seen self.old.end.worker) self.new.end.back }
+    {
+        let (done, answer) = take_answer(
+            &self.lane_table,
+            &mut self.seat,
+            self.worker,
+            self.sent,
+            self.back,
+        );
+        self.known = if done < self.sent { done } else { self.sent };
+        if answer.is_some() {
+            self.back += 1;
+        }
+        answer
+    }
+
+    /// The next answer of this worker among those that were done at its last `take`. It doesn't look for further
+    /// ones. Waits for nobody and takes no memory.
+    pub fn take_seen(&mut self) -> Option<Answered>
+        ensures taken { TakesSeen self.old.end result self.new.end }
+        ensures put { self.new.put ≡ self.old.put }
+        ensures own { IfSome result (λ a. (a.worker ≡ self.old.end.worker)
+            × (get_elem? self.old.end.sent (length self.old.end.back) ≡ some (posted_of a))) }
+        ensures in_order { IfSome result (λ a. a.number ≡ length self.old.end.back + 1) }
+    {
+        if self.known <= self.back {
+            return None;
+        }
+        let answer = take_seen_answer(&self.lane_table, &mut self.seat, self.worker, self.back);
+        self.back += 1;
+        Some(answer)
+    }
+
+    /// Says that no request comes any more. Waits for nobody and takes no memory.
+    pub fn bye(&mut self)
+        requires all_back { (self.old.end.said_bye ≡ false)
+            × (length self.old.end.back ≡ length self.old.end.sent) }
+        requires flushed { self.old.put ≡ [] }
+        ensures { self.new ≡ record self.old { end = record self.old.end { said_bye = true } } }
+    {
+        put_bye(&self.lane_table, &mut self.seat, self.worker, self.sent);
+        self.said_bye = true;
+    }
+
+    /// The end, where all was flushed.
+    pub fn into_end(self) -> WorkerEnd
+        requires { self.put ≡ [] }
+        ensures { result ≡ self.end }
+    {
+        WorkerEnd { batch: self }
+    }
+}
 
 /// What a worker posts its requests with, and takes the answers back. One thread at a time uses it.
 ///
@@ -30,58 +256,19 @@ impl Model for WorkerEnd {
 }
 
 impl WorkerEnd {
-    ghost use Rattle.std.specs.Prelude.{◌≡◌, ℕ, ◌+◌, ◌*◌, ◌^◌, ◌<◌, ◌≤◌, ◌++◌, ◌∷◌, [], length, true, false};
-    ghost use Rattle.std.specs.Prelude.{MatchResult, IfSome};
-    ghost use Rattle.std.specs.Arc.{arc_value};
-    ghost use Rattle.proto.specs.declared.terms.Terms.{Terms};
+    ghost use Rattle.std.specs.Prelude.{◌≡◌, ◌+◌, ◌<◌, ◌≤◌, ◌++◌, ◌∷◌, [], length, true, false, MatchResult, IfSome};
     ghost use Rattle.proto.specs.declared.limits.TheConstants.{WINDOW};
     ghost use mathlib.Core.Option.{some};
     ghost use lib.ListN.{get_elem?};
     ghost use Rattle.proto.specs.History.{worker_share};
-    ghost use Rattle.exchange.specs.declared.views.LaneView.TheVariants.{Worker};
-    ghost use Rattle.exchange.specs.declared.views.WorkerState.{WorkerState};
     ghost use Rattle.exchange.specs.Beginnings.{StartsWith, posted_of};
-    ghost use Rattle.exchange.specs.Lanes.{first_worker_state};
-    ghost use Rattle.exchange.specs.Ends.{new_worker_view, max_posts, CanPost, TakesAnswer};
-    ghost use Rattle.exchange.specs.Seats.{IsLane, worker_view};
-
-    pub(crate) fn over(
-        lane_table: Arc<LaneTable, Global>,
-        seat: LaneSeat,
-        worker: usize,
-    ) -> WorkerEnd
-        requires table { (seat.table_id ≡ (arc_value lane_table).shared.table_id) × IsLane seat.table_id worker }
-        requires fresh { (g : Terms) × (seat.me ≡ (Worker (first_worker_state g worker), [])) }
-        ensures { (g : Terms) → seat.me ≡ (Worker (first_worker_state g worker), [])
-            → result ≡ new_worker_view seat.table_id g worker }
-    {
-        WorkerEnd {
-            batch: WorkerBatch::over(lane_table, seat, worker),
-        }
-    }
-
-    pub(crate) fn of(batch: WorkerBatch) -> WorkerEnd
-        requires { batch.put ≡ [] }
-        ensures { result ≡ batch.end }
-    {
-        WorkerEnd { batch }
-    }
+    ghost use Rattle.exchange.specs.Ends.{max_posts, CanPost, TakesAnswer};
 
     /// The same end, for a worker that tells storage of several requests at once.
     pub fn batched(self) -> WorkerBatch
         ensures { result ≡ record { end = self; put = [] } }
     {
         self.batch
-    }
-
-    /// The seat, and the numbers of requests and of answers.
-    pub(crate) fn into_seat(self) -> (LaneSeat, u64, u64)
-        ensures seated { (c : WorkerState) × (result.0.me ≡ (Worker c, []))
-            × (self ≡ worker_view result.0.table_id c) }
-        ensures lane { IsLane result.0.table_id self.worker }
-        ensures counts { (result.1 ≡ length self.sent) × (result.2 ≡ length self.back) }
-    {
-        self.batch.into_seat()
     }
 
     /// The worker's number, from 0 on.

@@ -7,7 +7,7 @@ use Rattle.proto.specs.declared.history.Answered.{Answered}
 use Rattle.proto.specs.Sizes.{Sizes}
 use Rattle.proto.specs.History.{Legal, worker_share, asked_posted}
 use Rattle.proto.specs.Reading.{Reads}
-use Rattle.exchange.specs.declared.gathering.Gathered.{Gathered}
+use Rattle.exchange.specs.declared.opening.Gathered.{Gathered}
 use Rattle.exchange.specs.Beginnings.{StartsWith}
 use Rattle.storage_thread.specs.Keeping.{MayForgetNothing}
 use Rattle.storage_thread.specs.Serving.{IsTimed}

@@ -2,7 +2,6 @@
 //! them.
 #![tactic(auto)]
 
-mod reading_ahead;
 mod serving;
 mod unix_clock;
 

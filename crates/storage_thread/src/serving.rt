@@ -9,7 +9,6 @@ ghost use Rattle.storage_thread.specs.Serving.{AsksClock, IsReadSince, IsTimed, 
 ghost use Rattle.storage_thread.specs.Serving.{GetsNone, GetsMessage, AnswersOpenRequest};
 ghost use Rattle.storage_thread.specs.Keeping.{LeadsKeeping, MayForgetNothing};
 
-use crate::reading_ahead::ReadAhead;
 use engine::{Clock, MAX_MOMENT, StorageEngine};
 use exchange::{Answered, IdleTurns, Posted, StorageBatch, StorageEnd, StorageSignals, Taken};
 use proto::AskedClock;
@@ -22,6 +21,9 @@ const ANSWERS_A_FLUSH: u64 = 8;
 /// The idle turns in a row in which it spins before it parks, where the signals say no time: two microseconds.
 const IDLE_TURNS: u32 = 10;
 
+/// The most messages for which storage reads ahead at once: their slots and items come from memory at the same time.
+const MESSAGES_AHEAD: u64 = 8;
+
 /// What the storage thread leaves.
 #[derive(Drop)]
 pub struct StorageReport<C: Clock> {
@@ -29,6 +31,46 @@ pub struct StorageReport<C: Clock> {
     pub storage_end: StorageEnd,
     /// How many requests were executed. It stays at the greatest number of its type.
     pub executed: u64,
+}
+
+/// For how many of the next messages that was done, where hints are left at all.
+#[derive(Drop)]
+struct ReadAhead {
+    has_hints: bool,
+    left: u64,
+}
+
+impl ReadAhead {
+    fn new(has_hints: bool) -> ReadAhead {
+        ReadAhead { has_hints, left: 0 }
+    }
+
+    /// A message was taken. Where it isn't one of those, storage reads ahead for it and for those seen after it.
+    fn note_taken<S: StorageEngine>(
+        &mut self,
+        store: &S,
+        end: &StorageBatch,
+        signals: &StorageSignals,
+    ) {
+        if self.left > 0 {
+            self.left -= 1;
+        } else if self.has_hints {
+            self.left = read_ahead(store, end, signals);
+        }
+    }
+}
+
+// Reads ahead for the messages seen, and says how many of them there are after the first one.
+fn read_ahead<S: StorageEngine>(store: &S, end: &StorageBatch, signals: &StorageSignals) -> u64 {
+    let (lane, first, seen) = end.seen();
+    let count = seen.min(MESSAGES_AHEAD);
+    if count < 2 {
+        return 0;
+    }
+    for place in 0..count {
+        store.prefetch(signals.hint(lane, first.wrapping_add(place)));
+    }
+    count - 1
 }
 
 /// Asks the clock once for the moment of the next request: its answer, but none after the greatest moment or before the last

@@ -1,7 +1,7 @@
 use Rattle.std.proofs.Common.{rules, ◌∷◌, [], refl, sym, ◌∙◌, None, Some}
 use Rattle.exchange.specs.declared.messages.LaneMessage.TheVariants.{Answer}
-use Rattle.exchange.specs.declared.views.StorageState.{StorageState}
-use Rattle.exchange.specs.declared.views.LaneView.TheVariants.{Storage}
+use Rattle.exchange.specs.declared.rule.StorageState.{StorageState}
+use Rattle.exchange.specs.declared.rule.LaneView.TheVariants.{Storage}
 use Rattle.exchange.specs.Beginnings.{posted_of}
 use Rattle.exchange.specs.Lanes.{lane_slot}
 use Rattle.exchange.specs.Seats.{storage_state_in}

@@ -1,6 +1,6 @@
 use Rattle.std.proofs.Common.{rules, arith, ◌≡◌, ℕ, suc, ◌*◌, refl, sym, ap}
 use Rattle.exchange.specs.declared.messages.LaneMessage.TheVariants.{Bye}
-use Rattle.exchange.specs.declared.views.WorkerState.{WorkerState}
+use Rattle.exchange.specs.declared.rule.WorkerState.{WorkerState}
 use Rattle.exchange.specs.Lanes.{SeatState}
 use Rattle.exchange.specs.Steps.{holding_slot, placed_count}
 use Rattle.exchange.specs.Seats.{worker_state_in}

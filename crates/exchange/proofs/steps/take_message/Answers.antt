@@ -1,5 +1,5 @@
 use Rattle.std.proofs.Common.{rules, arith, ◌≡◌, ℕ, refl, sym, ap, ◌∙◌, Some}
-use Rattle.exchange.specs.declared.views.StorageState.{StorageState}
+use Rattle.exchange.specs.declared.rule.StorageState.{StorageState}
 use Rattle.exchange.specs.Lanes.{SeatState, lane_slot}
 use Rattle.exchange.specs.Seats.{storage_state_in}
 use Rattle.exchange.specs.Steps.{settled_count}

@@ -5,8 +5,8 @@ use Rattle.proto.specs.declared.limits.TheConstants.{WINDOW}
 use Rattle.proto.specs.declared.history.Answered.{Answered}
 use Rattle.proto.specs.History.{worker_share}
 use Rattle.exchange.specs.declared.messages.LaneMessage.TheVariants.{Answer}
-use Rattle.exchange.specs.declared.views.WorkerState.{WorkerState}
-use Rattle.exchange.specs.declared.views.LaneView.TheVariants.{Worker}
+use Rattle.exchange.specs.declared.rule.WorkerState.{WorkerState}
+use Rattle.exchange.specs.declared.rule.LaneView.TheVariants.{Worker}
 use Rattle.exchange.specs.Lanes.{SeatState, lane_slot}
 use Rattle.exchange.specs.Seats.{worker_state_in}
 use Rattle.exchange.specs.Steps.{holding_slot, took_seen}

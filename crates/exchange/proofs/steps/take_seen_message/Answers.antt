@@ -1,5 +1,5 @@
 use Rattle.std.proofs.Common.{rules, ℕ, sym, ap, ◌∙◌, Some, refl}
-use Rattle.exchange.specs.declared.views.StorageState.{StorageState}
+use Rattle.exchange.specs.declared.rule.StorageState.{StorageState}
 use Rattle.exchange.specs.Lanes.{SeatState, lane_slot}
 use Rattle.exchange.specs.Seats.{storage_state_in}
 use Rattle.exchange.proofs.StorageSteps.{opens_seen}

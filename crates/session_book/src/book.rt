@@ -134,9 +134,9 @@ impl Book {
             return Err(OpenFault::NoMemory);
         }
         let new = Session::new(self.alloc, self.dialect);
-        if self.sessions.insert(session, new).is_err() {
+        let Ok(_) = self.sessions.insert(session, new) else {
             return Err(OpenFault::NoMemory);
-        }
+        };
         self.greatest = session;
         self.opened += 1;
         Ok(())

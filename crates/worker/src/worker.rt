@@ -38,7 +38,7 @@ pub(crate) struct WorkerState<P> {
 
 impl<P: Port> WorkerState<P> {
     /// Takes a session out of the book, and writes why it ended.
-    pub(crate) fn close(&mut self, session: u64, cause: EndCause)
+    fn close(&mut self, session: u64, cause: EndCause)
         ensures port { self.new.port ≡ self.old.port }
         ensures leads { P.leads_to self.old.port self.new.port }
         ensures closes { Closes self.old self.new session cause }
@@ -47,7 +47,7 @@ impl<P: Port> WorkerState<P> {
         self.sessions.close(session, cause);
     }
 
-    pub(crate) fn shut(&mut self, session: u64, cause: EndCause)
+    fn shut(&mut self, session: u64, cause: EndCause)
         requires { (trace : PortTrace) → P.told self.old.port ≡ Some trace
             → is_open session trace.events ≡ true }
         ensures shuts { Shuts P.told self.old self.new session cause }
@@ -58,7 +58,7 @@ impl<P: Port> WorkerState<P> {
     }
 
     /// Opens a session in the book, and writes its entry in the report; or shuts it, as there is no room for it.
-    pub(crate) fn admit(&mut self, session: u64)
+    fn admit(&mut self, session: u64)
         requires { (trace : PortTrace) → P.told self.old.port ≡ Some trace
             → is_open session trace.events ≡ true }
         ensures leads { P.leads_to self.old.port self.new.port }
@@ -75,7 +75,7 @@ impl<P: Port> WorkerState<P> {
 
     /// Feeds a piece of input that came, or holds it until it fits, and then pauses its session. Input of a session that
     /// isn't open is dropped. At a port that tells, a session of which bytes are held is paused and has no data.
-    pub(crate) fn receive(&mut self, session: u64, bytes: Bytes)
+    fn receive(&mut self, session: u64, bytes: Bytes)
         requires open { (trace : PortTrace) → P.told self.old.port ≡ Some trace
             → is_open session trace.events ≡ true }
         requires resumed { (trace : PortTrace) → P.told self.old.port ≡ Some trace
@@ -92,7 +92,7 @@ impl<P: Port> WorkerState<P> {
     }
 
     /// The session's peer has gone. A session that isn't open keeps the cause that it has.
-    pub(crate) fn lose(&mut self, session: u64)
+    fn lose(&mut self, session: u64)
         ensures port { self.new.port ≡ self.old.port }
         ensures leads { P.leads_to self.old.port self.new.port }
         ensures loses { IsSome (session_of self.old.book session) → Closes self.old self.new session EndCause.Gone }
@@ -195,7 +195,7 @@ impl<P: Port> Worker<P> {
     }
 
     /// Reads up to the session's next request, which is held until it is posted. True where none is left for now.
-    pub(crate) fn ask(&mut self, session: u64) -> bool
+    fn ask(&mut self, session: u64) -> bool
         requires { self.old.request ≡ None }
         ensures { Continues P.told P.leads_to self.old self.new }
     {
@@ -308,7 +308,7 @@ impl<P: Port> Worker<P> {
 
     /// Offers the session's output in one call, where it is worth it. It answers whether that changed anything, and whether
     /// the session has finished.
-    pub(crate) fn offer(&mut self, session: u64) -> (bool, Option<EndCause>)
+    fn offer(&mut self, session: u64) -> (bool, Option<EndCause>)
         ensures goes_on { Continues P.told P.leads_to self.old self.new }
         ensures finished { result.1 ≡ option_and_then finished_by (session_of self.new.book session) }
         ensures read { HasReadAll (session_of self.new.book session) result.1 }
@@ -340,7 +340,7 @@ impl<P: Port> Worker<P> {
     }
 
     /// Shuts a session that has ended itself, or whose input has, once all was answered and given.
-    pub(crate) fn finish(&mut self, session: u64, finished: Option<EndCause>) -> bool
+    fn finish(&mut self, session: u64, finished: Option<EndCause>) -> bool
         requires finished { finished ≡ option_and_then finished_by (session_of self.old.book session) }
         requires read { HasReadAll (session_of self.old.book session) finished }
         ensures { Continues P.told P.leads_to self.old self.new }

@@ -14,7 +14,7 @@ use Rattle.exchange.specs.Ends.{WorkerView, StorageView, AreMade, AreTogether, A
 use Rattle.exchange.proofs.Lists.{at_below, at_some, starts_trans}
 use Rattle.storage_thread.specs.declared.serving.StorageReport.{StorageReport}
 use Rattle.worker_port.specs.Ports.{PortTrace}
-use Rattle.worker.specs.declared.report.WorkerReport.{WorkerReport}
+use Rattle.worker.specs.declared.run.WorkerReport.{WorkerReport}
 use Rattle.worker.specs.Reports.{IsSessionAnswered}
 use Rattle.group.specs.declared.report.GroupReport.{GroupReport}
 use Rattle.group.specs.Threads.{AreJoined, AreEach, HasSentNothing, ArePortsOf, IsPortAt, IsLeftByStorage, KeepsWorker, KeepsStorage}

@@ -10,7 +10,7 @@ use Rattle.storage_thread.specs.Serving.{IsSameExchange}
 use Rattle.storage_thread.specs.declared.serving.StorageReport.{StorageReport}
 use Rattle.worker_port.specs.Ports.{PortTrace}
 use Rattle.worker_port.specs.Giving.{IsTraceOf}
-use Rattle.worker.specs.declared.report.WorkerReport.{WorkerReport}
+use Rattle.worker.specs.declared.run.WorkerReport.{WorkerReport}
 use Rattle.worker.specs.Reports.{IsReported, IsOver}
 use Rattle.group.specs.declared.start.Finished.{Finished}
 use Rattle.group.specs.declared.report.GroupWorker.{GroupWorker}

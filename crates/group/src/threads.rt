@@ -1,7 +1,7 @@
 //! The threads of a group: each waits for the start, and promises what it leaves.
 ghost use Rattle.std.specs.Prelude.{◌≡◌, ℕ, Some, IsSome, ◌<◌, ◌≤◌, [], true, None, All, IfOk, IfErr, map, length, vec_len, vec_capacity};
 ghost use Rattle.proto.specs.Cache.{empty_cache};
-ghost use Rattle.worker.specs.declared.report.WorkerReport.{WorkerReport};
+ghost use Rattle.worker.specs.declared.run.WorkerReport.{WorkerReport};
 ghost use Rattle.storage_thread.specs.Serving.{IsUnused};
 ghost use Rattle.exchange.specs.Ends.{WorkerView};
 ghost use Rattle.group.specs.declared.fault.GroupFault.TheVariants.{NoThread};

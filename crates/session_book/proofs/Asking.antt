@@ -6,7 +6,7 @@ use Rattle.proto.specs.declared.message.Request.{Request}
 use Rattle.proto.specs.declared.no_memory.NoMemory.{NoMemory}
 use Rattle.session_book.specs.declared.causes.Unsettled.{Unsettled}
 use Rattle.proto.specs.declared.limits.TheConstants.{WINDOW}
-use Rattle.session_book.specs.declared.limits.TheConstants.{MAX_POSTS}
+use Rattle.proto.specs.declared.limits.TheConstants.{MAX_POSTS}
 use Rattle.session_book.specs.Session.{SessionState, ReadsUpTo, ReadsAsk, given_request}
 use Rattle.session_book.specs.Book.{BookState, session_of, OnlyAt, NextAsk, given_in, stops}
 
@@ -24,6 +24,11 @@ same_session before after now session r s t x same h at =
     let found : Some s ≡ Some x = sym h.was_open ∙ ap (λ (b : BookState). session_of b session) same ∙ at in
     let s_is : s ≡ x = cc in
     subst (λ (y : SessionState). Asked before after session r t y) s_is h
+
+-- a session that is what another one is was read as that one
+pub reads_to : (s t u : SessionState) (looks looks_after : ℕ) (r : Result (Option Request) NoMemory) → u ≡ t
+    → ReadsAsk s looks r t looks_after → ReadsAsk s looks r u looks_after
+reads_to s t u looks looks_after r same h = subst (λ (x : SessionState). ReadsAsk s looks r x looks_after) (sym same) h
 
 -- an open session gives no request
 pub asks_none : (before after now : BookState) (session : ℕ) (s t x : SessionState) (r : Result (Option Request) NoMemory)

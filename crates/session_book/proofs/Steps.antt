@@ -13,7 +13,7 @@ use Rattle.proto.specs.Reading.{asks}
 use Rattle.proto.specs.Answers.{said, is_ask}
 use Rattle.proto.proofs.MessageReader.{spelling_nonempty}
 use Rattle.session_book.specs.declared.causes.EndCause.{EndCause}
-use Rattle.session_book.specs.declared.limits.TheConstants.{MAX_WAITING}
+use Rattle.session_book.specs.declared.session.TheConstants.{MAX_WAITING}
 use Rattle.session_book.specs.Session.{SessionState, messages_left, ended_by, need_after, begins_asked, ReadsMessages}
 use Rattle.session_book.specs.Session.{AskAtLast, Stops, no_message, IsReady, ReadsAsk}
 use Rattle.proto.specs.declared.no_memory.NoMemory.{NoMemory}

@@ -17,7 +17,7 @@ use Rattle.session_book.specs.declared.causes.Received.TheVariants as received
 use Rattle.session_book.specs.declared.causes.Settled.{Settled}
 use Rattle.session_book.specs.declared.causes.Settled.TheVariants as outcomes
 use Rattle.proto.specs.declared.limits.TheConstants.{WINDOW}
-use Rattle.session_book.specs.declared.limits.TheConstants.{MAX_SESSIONS, MAX_POSTS}
+use Rattle.proto.specs.declared.limits.TheConstants.{MAX_SESSIONS, MAX_POSTS}
 use Rattle.session_book.specs.Session.{SessionState, begins_asked, TakesPiece, IsInputFull, held_fed, ReadsUpTo, IsReady, Stops, with_reply}
 
 -- A worker's book: the worker's number; the dialect of its sessions' lines; the open sessions by their numbers; how many requests got a number;

@@ -16,7 +16,7 @@ use Rattle.session_book.specs.declared.causes.EndCause.{EndCause}
 use Rattle.session_book.specs.declared.causes.EndCause.TheVariants as causes
 use Rattle.session_book.specs.declared.causes.Received.{Received}
 use Rattle.session_book.specs.declared.causes.Received.TheVariants as received
-use Rattle.session_book.specs.declared.limits.TheConstants.{MAX_UNREAD, MAX_WAITING}
+use Rattle.session_book.specs.declared.session.TheConstants.{MAX_UNREAD, MAX_WAITING}
 
 -- An open session: the dialect of its lines; its unread bytes; the messages read, from its oldest unsettled request on; its output that
 -- wasn't given yet; whether it has read Quit or a fatal message; how many unread bytes there have to be

@@ -11,16 +11,29 @@ ghost use Rattle.indexmap.specs.IndexMap.{index_map_len};
 ghost use Rattle.std.specs.Map.{lookup};
 
 use crate::causes::{EndCause, OpenFault, Received, Settled, Unsettled};
-use crate::limits::{MAX_KEYS, MAX_OUTPUT, MAX_POSTS, MAX_SESSIONS};
-use crate::ready_queues::Task;
 use crate::session::{Offer, Session};
-use crate::upkeep::Upkeep;
+use crate::upkeep::{Task, Upkeep};
 use bytes::Bytes;
 use indexmap::IndexMap;
-use proto::{Answered, Dialect, NoMemory, Request, WINDOW};
+use proto::{Answered, Dialect, MAX_ANSWER, MAX_POSTS, MAX_SESSIONS, NoMemory, Request, WINDOW};
 use std::alloc::Global;
 use std::collections::VecDeque;
 use std::marker::Model;
+
+/// The most bytes that the hits of a worker's unsettled requests take, before they are put into outputs: 128 MiB.
+pub const MAX_HITS: usize = 134_217_728;
+
+/// The most bytes that are reserved for one hit: an item takes 131,072 at most, of which 24 are neither key nor value, and
+/// 80 go to the words and numbers beside them.
+pub const MAX_HIT: usize = 131_128;
+
+/// Keys of unsettled requests, over all sessions, above which one request at a time goes on. Up to then each key has a hit at
+/// most, and the last request one answer, so that their hits take no more than `MAX_HITS`.
+pub const MAX_KEYS: usize = (MAX_HITS - MAX_ANSWER) / MAX_HIT;
+
+/// Bytes of waiting output, over all sessions, above which one request at a time goes on. What is on its way then is put
+/// after them, and then one answer at a time, of a session whose own output isn't above `MAX_WAITING`.
+pub const MAX_OUTPUT: usize = 67_108_864;
 
 /// The sessions of a worker. Contracts see it as a `BookState`.
 ///
@@ -120,13 +133,10 @@ impl Book {
         if self.upkeep.reserve(self.sessions.len() + 1).is_err() {
             return Err(OpenFault::NoMemory);
         }
-        match self
-            .sessions
-            .insert(session, Session::new(self.alloc, self.dialect))
-        {
-            Ok(_) => {}
-            Err(_) => return Err(OpenFault::NoMemory),
-        }
+        let new = Session::new(self.alloc, self.dialect);
+        let Ok(_) = self.sessions.insert(session, new) else {
+            return Err(OpenFault::NoMemory);
+        };
         self.greatest = session;
         self.opened += 1;
         Ok(())
@@ -178,12 +188,8 @@ impl Book {
             return Ok(None);
         };
         let (_, open) = self.sessions.pair_mut(place);
-        let read = open.next_ask(
-            session,
-            &mut self.unsettled,
-            &mut self.looks,
-            &mut self.upkeep,
-        );
+        let read = open.next_ask(&mut self.unsettled, &mut self.looks, &mut self.upkeep);
+        open.join_queues(session, &mut self.upkeep);
         let Some(mut request) = read? else {
             return Ok(None);
         };

@@ -2,10 +2,10 @@
 
 ghost use Rattle.std.specs.Prelude.{◌≡◌, ◌≤◌, ◌+◌, ◌*◌, length};
 ghost use Rattle.proto.specs.declared.hits.Hit.{Hit};
-ghost use Rattle.proto.specs.declared.limits.TheConstants.{WINDOW, MAX_ANSWER};
+ghost use Rattle.proto.specs.declared.limits.TheConstants.{WINDOW, MAX_ANSWER, MAX_SESSIONS, MAX_POSTS};
 ghost use Rattle.proto.specs.Hits.{hit_room};
-ghost use Rattle.session_book.specs.declared.limits.TheConstants.{MAX_UNREAD, MAX_WAITING, MAX_KEYS, MAX_HIT, MAX_OUTPUT};
-ghost use Rattle.session_book.specs.declared.limits.TheConstants.{MAX_SESSIONS, MAX_POSTS};
+ghost use Rattle.session_book.specs.declared.session.TheConstants.{MAX_UNREAD, MAX_WAITING};
+ghost use Rattle.session_book.specs.declared.book.TheConstants.{MAX_KEYS, MAX_HIT, MAX_OUTPUT};
 ghost use Rattle.session_book.specs.Accounts.{StartsAccounts, FeedKeeps, ReadKeeps, SettleKeeps, GiveKeeps, ReadBegins};
 ghost use Rattle.session_book.specs.Accounts.{ReadIsWhole, SaidBegins, SaidIsWhole};
 

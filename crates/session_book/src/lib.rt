@@ -6,13 +6,9 @@ mod book;
 mod buffer;
 mod causes;
 pub mod laws;
-mod limits;
-mod ready_queues;
 mod session;
-mod spare_buffers;
 mod upkeep;
 
 pub use book::Book;
 pub use causes::{EndCause, OpenFault, Received, Settled};
-pub use limits::MAX_POSTS;
-pub use ready_queues::Task;
+pub use upkeep::Task;

@@ -9,12 +9,9 @@ ghost use Rattle.proto.specs.Answers.{said};
 ghost use Rattle.session_book.specs.Session.{begins_asked, messages_left, ended_by};
 ghost use Rattle.proto.specs.Reading.{asks};
 
-use crate::buffer::Buffer;
+use crate::buffer::{Buffer, Use};
 use crate::causes::{EndCause, Received, Unsettled};
-use crate::limits::{MAX_UNREAD, MAX_WAITING};
-use crate::ready_queues::{Task, Tickets};
-use crate::spare_buffers::Use;
-use crate::upkeep::Upkeep;
+use crate::upkeep::{Task, Tickets, Upkeep};
 use bytes::Bytes;
 use proto::{
     Dialect, Message, NextView, NoMemory, PendingAnswer, Reply, Request, next_view_behind,
@@ -23,6 +20,13 @@ use proto::{
 use std::alloc::Global;
 use std::collections::VecDeque;
 use std::marker::Model;
+
+/// Unread bytes of a session. It is above the longest spelling, a line of 32,768 bytes and a data block of
+/// 131,072 with its end, so a session whose input is full always has a message to read.
+pub const MAX_UNREAD: usize = 262_144;
+
+/// Bytes of waiting output above which a session isn't read.
+pub const MAX_WAITING: usize = 1_048_576;
 
 /// The bytes of output that are given though more will stand after them.
 const WORTH_GIVING: usize = 16_384;
@@ -113,11 +117,8 @@ impl Session {
         if self.held.is_some() {
             return Received::Refused;
         }
-        match self.feed(&piece, upkeep) {
-            Ok(true) => {
-                upkeep.add(Task::Ask, session, &mut self.tickets.ask);
-                Received::Fed
-            }
+        match self.feed(session, &piece, upkeep) {
+            Ok(true) => Received::Fed,
             Ok(false) => {
                 self.held = Some(piece);
                 Received::Held
@@ -133,59 +134,34 @@ impl Session {
         let Some(piece) = self.held.take() else {
             return Ok(false);
         };
-        let fed = self.feed(&piece, upkeep);
-        if matches!(fed, Ok(true)) {
-            upkeep.add(Task::Ask, session, &mut self.tickets.ask);
-        } else {
+        let fed = self.feed(session, &piece, upkeep);
+        if !matches!(fed, Ok(true)) {
             self.held = Some(piece);
         }
         fed
     }
 
-    /// Puts a piece of input after the unread bytes, if it fits. A session that has read Quit or a fatal message drops it.
-    fn feed(&mut self, piece: &[u8], upkeep: &mut Upkeep) -> Result<bool, NoMemory>
+    /// Puts a piece of input after the unread bytes, if it fits, to be asked from. A session that has read Quit or a fatal
+    /// message drops it.
+    fn feed(&mut self, session: u64, piece: &[u8], upkeep: &mut Upkeep) -> Result<bool, NoMemory>
         ensures full { (result ≡ Ok false) ↔ IsInputFull self.old piece.now }
         ensures fed { result ≡ Ok true → self.new ≡ once_fed self.old piece.now }
         ensures not_fed { (result ≡ Ok true → ⊥) → self.new ≡ self.old }
     {
-        if self.ended.is_some() {
-            return Ok(true);
+        if self.ended.is_none() {
+            if piece.len() > MAX_UNREAD || self.input.len() > MAX_UNREAD - piece.len() {
+                return Ok(false);
+            }
+            self.input.append(piece, &mut upkeep.spares)?;
         }
-        if piece.len() > MAX_UNREAD || self.input.len() > MAX_UNREAD - piece.len() {
-            return Ok(false);
-        }
-        self.input.append(piece, &mut upkeep.spares)?;
+        upkeep.add(Task::Ask, session, &mut self.tickets.ask);
         Ok(true)
     }
 
     /// Reads messages up to the next request, for which there is room among the unsettled ones then, and counts the calls
-    /// of the parser. Afterwards there may be room for the held piece, and the session may have output, or have finished.
+    /// of the parser. The bytes are read in place, and a request is copied out of them once. A line that isn't whole yet is
+    /// searched for its end from where the last call of the parser stopped.
     pub fn next_ask(
-        &mut self,
-        session: u64,
-        unsettled: &mut VecDeque<Unsettled>,
-        looks: &mut u64,
-        upkeep: &mut Upkeep,
-    ) -> Result<Option<Request>, NoMemory>
-        ensures reads { ReadsAsk self.old looks.old result self.new looks.new }
-        ensures kept { unsettled.new.items ≡ unsettled.old.items }
-        ensures room { (request : Request) → result ≡ Ok (Some request)
-            → deque_len unsettled.new < deque_capacity unsettled.new }
-    {
-        let read = self.read_ask(unsettled, looks, upkeep);
-        if self.held.is_some() && self.has_room() {
-            upkeep.add(Task::Feed, session, &mut self.tickets.feed);
-        }
-        if self.output.len() > 0 || self.ended.is_some() || self.is_over {
-            upkeep.add(Task::Give, session, &mut self.tickets.give);
-        }
-        upkeep.reads_on = self.is_ready();
-        read
-    }
-
-    /// Reads messages up to the next request. The bytes are read in place, and a request is copied out of them once. A line
-    /// that isn't whole yet is searched for its end from where the last call of the parser stopped.
-    fn read_ask(
         &mut self,
         unsettled: &mut VecDeque<Unsettled>,
         looks: &mut u64,
@@ -219,6 +195,20 @@ impl Session {
             }
         }
         Ok(None)
+    }
+
+    /// Joins the queues of what there may be to do once it was asked: there may be room for the held piece, and it may have
+    /// output, or have finished.
+    pub fn join_queues(&mut self, session: u64, upkeep: &mut Upkeep)
+        ensures { self.new ≡ self.old }
+    {
+        if self.held.is_some() && self.has_room() {
+            upkeep.add(Task::Feed, session, &mut self.tickets.feed);
+        }
+        if self.output.len() > 0 || self.ended.is_some() || self.is_over {
+            upkeep.add(Task::Give, session, &mut self.tickets.give);
+        }
+        upkeep.reads_on = self.is_ready();
     }
 
     /// Whether the parser is to be called.

@@ -1,11 +1,78 @@
-//! What a book keeps of its sessions beside their states.
+//! What a book keeps of its sessions beside their states: which have something to do, as a held piece to feed, input to ask
+//! from or output to give.
 
 ghost use Rattle.std.specs.Prelude.{◌≡◌};
 
-use crate::ready_queues::{ReadyQueue, TASKS, Task, Ticket};
-use crate::spare_buffers::{SpareBuffers, Use};
+use crate::buffer::{SpareBuffers, Use};
 use proto::{Answered, Request, SpareBuffer};
 use std::alloc::{AllocError, Global};
+use std::collections::VecDeque;
+
+/// What sessions are taken up for. Each has a queue of its own.
+#[derive(Clone, Copy)]
+pub enum Task {
+    /// Their held piece may fit.
+    Feed,
+    /// They have input.
+    Ask,
+    /// They may have output, or have finished.
+    Give,
+    /// They have output, of which their client accepted nothing when it was last offered some.
+    RetryWrite,
+}
+
+/// How many tasks there are.
+const TASKS: usize = 4;
+
+/// A queue of sessions by their numbers, with the places where they stood in the table. A session that joins it draws a
+/// ticket, which counts those that ever joined, and is in the queue while its ticket is above the number of those that have
+/// left: who leaves isn't looked up. The number of a closed session is passed over.
+#[derive(Drop)]
+pub(crate) struct ReadyQueue {
+    pub(crate) sessions: VecDeque<(u64, usize)>,
+    pub(crate) left: u64,
+}
+
+impl ReadyQueue {
+    fn new(alloc: Global) -> ReadyQueue {
+        ReadyQueue {
+            sessions: VecDeque::new(alloc),
+            left: 0,
+        }
+    }
+}
+
+/// The number that a session drew last of a queue, and whose it is.
+#[derive(Clone, Copy)]
+pub(crate) struct Ticket {
+    task: Task,
+    number: u64,
+}
+
+impl Ticket {
+    fn none(task: Task) -> Ticket {
+        Ticket { task, number: 0 }
+    }
+}
+
+/// The tickets of a session. To be given output it stands in one of two queues, since that of the clients that accepted nothing
+/// is gone through slowly, and has one ticket for both.
+#[derive(Clone, Copy)]
+pub(crate) struct Tickets {
+    pub(crate) feed: Ticket,
+    pub(crate) ask: Ticket,
+    pub(crate) give: Ticket,
+}
+
+impl Tickets {
+    pub(crate) fn none() -> Tickets {
+        Tickets {
+            feed: Ticket::none(Task::Feed),
+            ask: Ticket::none(Task::Ask),
+            give: Ticket::none(Task::Give),
+        }
+    }
+}
 
 /// Which sessions have something to do, how much is unfinished in all of them, and the memory of buffers that are empty. No
 /// clause speaks of it.
@@ -41,10 +108,17 @@ impl Upkeep {
         }
     }
 
-    /// Reserves the memory of the queues that this number of sessions needs.
-    pub(crate) fn reserve(&mut self, sessions: usize) -> Result<(), AllocError> {
+    /// Reserves memory for this number of additional sessions in each queue, twice as much as needed where there is too little.
+    pub(crate) fn reserve(&mut self, additional: usize) -> Result<(), AllocError> {
         for queue in &mut self.queues {
-            queue.reserve(sessions)?;
+            if queue
+                .sessions
+                .capacity()
+                .saturating_sub(queue.sessions.len())
+                < additional
+            {
+                queue.sessions.reserve(additional.saturating_mul(2))?;
+            }
         }
         Ok(())
     }
@@ -57,7 +131,7 @@ impl Upkeep {
     /// Puts a session into the queue of the task, unless it stands in that of its ticket. The ticket's number is 0, which is
     /// none, where there is no memory.
     pub(crate) fn add(&mut self, task: Task, session: u64, ticket: &mut Ticket) {
-        if ticket.number > self.queues[ticket.task as usize].left {
+        if self.has(*ticket) {
             return;
         }
         let queue = &mut self.queues[task as usize];

@@ -16,7 +16,7 @@ use Rattle.session_book.specs.declared.causes.Unsettled.{Unsettled}
 use Rattle.session_book.specs.Session.{SessionState, ReadsMessages}
 use Rattle.session_book.specs.Book.{BookState, session_of, NextAsk, held_of, given_in, unsettled_of as unsettled_at}
 use Rattle.worker_port.specs.Ports.{PortTrace}
-use Rattle.worker.specs.declared.state.WorkerState.{WorkerState}
+use Rattle.worker.specs.declared.worker.WorkerState.{WorkerState}
 use Rattle.worker.specs.Sessions.{RunView, facts, asked_by, AreFactsConsistent}
 use Rattle.worker_port.specs.PortFacts.{port_facts}
 use Rattle.worker.specs.EndCauses.{piece_of}

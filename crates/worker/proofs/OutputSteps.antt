@@ -15,7 +15,7 @@ use Rattle.proto.proofs.Options.{some_is}
 use Rattle.session_book.specs.Book.{BookState, session_of, out_of, held_of, OnlyAt, ChangesOpen}
 use Rattle.worker_port.specs.declared.events.PortRecord.{PortRecord}
 use Rattle.worker_port.specs.declared.events.PortRecord.TheVariants as was
-use Rattle.worker.specs.declared.state.WorkerState.{WorkerState}
+use Rattle.worker.specs.declared.worker.WorkerState.{WorkerState}
 use Rattle.worker_port.specs.Ports.{PortTrace, then_gave, with_pause, is_open, is_in, opened_count}
 use Rattle.worker.specs.Sessions.{RunView, facts, AreFactsConsistent, IsSessionServed}
 use Rattle.worker_port.specs.PortFacts.{port_facts}

@@ -15,7 +15,7 @@ use Rattle.session_book.specs.Session.{SessionState, new_session, once_fed, once
 use Rattle.session_book.specs.Book.{BookState, session_of, held_of, ChangesSession}
 use Rattle.worker_port.specs.declared.events.PortRecord.{PortRecord}
 use Rattle.worker_port.specs.declared.events.PortRecord.TheVariants as was
-use Rattle.worker.specs.declared.state.WorkerState.{WorkerState}
+use Rattle.worker.specs.declared.worker.WorkerState.{WorkerState}
 use Rattle.worker_port.specs.Ports.{PortTrace, then_told, with_pause, is_open, is_in}
 use Rattle.worker.specs.Sessions.{RunView, facts, cause_of, AreFactsConsistent}
 use Rattle.worker_port.specs.PortFacts.{PortFacts, port_facts}

@@ -11,7 +11,7 @@ use Rattle.session_book.specs.Session.{SessionState, once_fed, once_over, holdin
 use Rattle.session_book.specs.Book.{BookState, session_of}
 use Rattle.worker_port.specs.declared.events.PortRecord.{PortRecord}
 use Rattle.worker_port.specs.declared.events.PortRecord.TheVariants as was
-use Rattle.worker.specs.declared.state.WorkerState.{WorkerState}
+use Rattle.worker.specs.declared.worker.WorkerState.{WorkerState}
 use Rattle.worker_port.specs.Ports.{PortTrace, then_told, is_open, is_in, opened_count}
 use Rattle.worker.specs.Sessions.{SessionFacts, RunView, facts, asked_by, had_by, cause_of, AreFactsConsistent, IsSessionServed}
 use Rattle.worker_port.specs.PortFacts.{PortFacts, port_facts}

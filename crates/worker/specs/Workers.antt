@@ -17,7 +17,7 @@ use Rattle.session_book.specs.Session.{SessionState, IsEmptied, new_session, onc
 use Rattle.session_book.specs.Book.{BookState, session_of, ChangesSession, OnlyAt}
 use Rattle.worker_port.specs.declared.events.PortRecord.{PortRecord}
 use Rattle.worker_port.specs.declared.events.PortRecord.TheVariants as was
-use Rattle.worker.specs.declared.state.WorkerState.{WorkerState}
+use Rattle.worker.specs.declared.worker.WorkerState.{WorkerState}
 use Rattle.worker_port.specs.Ports.{PortTrace, then_told, with_pause, is_in, is_open, opened_count}
 use Rattle.worker_port.specs.Giving.{IsTraceOf}
 use Rattle.worker.specs.Sessions.{RunView, facts, AreFactsConsistent}

@@ -1,4 +1,6 @@
-//! What may hold a worker's requests back.
+//! What may hold a worker's requests back, and what never does.
+
+ghost use Rattle.std.specs.Prelude.{◌≡◌, true};
 
 /// May hold a request back, and learns of each answer.
 pub trait Gate {
@@ -7,4 +9,18 @@ pub trait Gate {
 
     /// Told once for each answer that was taken.
     fn answered(&self, worker: usize, number: u64);
+}
+
+/// Lets every request pass.
+#[derive(Clone, Copy)]
+pub struct OpenGate;
+
+impl Gate for OpenGate {
+    fn may_post(&self, _worker: usize, _number: u64) -> bool
+        ensures { result ≡ true }
+    {
+        true
+    }
+
+    fn answered(&self, _worker: usize, _number: u64) {}
 }

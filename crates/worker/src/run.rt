@@ -1,18 +1,16 @@
 //! The loop of a worker.
 
-ghost use Rattle.std.specs.Prelude.{◌≡◌, ◌<◌, [], true, false, None, is_some};
-ghost use Rattle.worker.specs.Workers.{end_of, Continues, IsDrained};
+ghost use Rattle.std.specs.Prelude.{◌≡◌, ◌<◌, [], length, true, false, None, is_some};
+ghost use Rattle.worker.specs.Workers.{end_of, once_flushed, Continues, IsDrained};
 ghost use Rattle.worker_port.specs.Ports.{PortTrace};
 ghost use Rattle.worker_port.specs.Giving.{IsTraceOf};
 ghost use Rattle.worker.specs.Reports.{IsReported, IsOver};
 
 use crate::gate::Gate;
 use crate::pauses::Pauses;
-use crate::report::WorkerReport;
-use crate::sending;
-use crate::state::WorkerState;
-use crate::worker::Worker;
-use exchange::{StorageSignals, WorkerEnd};
+use crate::session_list::SessionList;
+use crate::worker::{Worker, WorkerState};
+use exchange::{StorageSignals, WorkerBatch, WorkerEnd};
 use proto::{Dialect, WINDOW};
 use session_book::Task;
 use std::alloc::Global;
@@ -25,6 +23,19 @@ const EVENTS_A_TURN: usize = 32;
 
 /// The most sessions whose peer accepted nothing that are offered their output again in a turn.
 const SLOW_A_TURN: usize = 2;
+
+/// What a worker leaves.
+#[derive(Drop)]
+pub struct WorkerReport<P> {
+    pub port: P,
+    pub worker_end: WorkerEnd,
+    /// The sessions that were opened, by rising numbers, and why each ended.
+    pub sessions: SessionList,
+    /// Sessions that were shut at once, as they found no room. It stays at the greatest number.
+    pub unopened: u64,
+    /// Answers that no session waited for. It stays at the greatest number.
+    pub strangers: u64,
+}
 
 /// Takes what has come, in a few events, and asks at once what they bring: what a session has sent is asked before it is
 /// taken that its peer has gone. They end where a session can't be asked further.
@@ -228,9 +239,21 @@ fn leave<P: Port>(worker: Worker<P>, storage: &StorageSignals) -> WorkerReport<P
     drop(request);
     WorkerReport {
         port,
-        worker_end: sending::say_bye(batch, storage),
+        worker_end: say_bye(batch, storage),
         sessions,
         unopened,
         strangers,
     }
+}
+
+/// The end once it has said bye: all that was put has been flushed, as it came back. Storage is unparked for it.
+fn say_bye(batch: WorkerBatch, storage: &StorageSignals) -> WorkerEnd
+    requires running { (once_flushed batch).said_bye ≡ false }
+    requires quiet { length (once_flushed batch).back ≡ length (once_flushed batch).sent }
+    ensures { result ≡ record (once_flushed batch) { said_bye = true } }
+{
+    let mut worker_end = batch.into_end();
+    worker_end.bye();
+    storage.parking().unpark();
+    worker_end
 }

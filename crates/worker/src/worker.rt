@@ -1,23 +1,108 @@
 //! A worker that serves its port, by the steps that it takes.
 
-ghost use Rattle.std.specs.Prelude.{◌≡◌, true, false, Some, None, []};
+ghost use Rattle.std.specs.Prelude.{◌≡◌, ◌⊎◌, Some, None, IsSome, [], true, false, MatchOption};
+ghost use Rattle.std.specs.Option.{option_and_then};
 ghost use Rattle.session_book.specs.Session.{finished_by, HasReadAll};
 ghost use Rattle.session_book.specs.Book.{session_of};
-ghost use Rattle.worker_port.specs.Ports.{PortTrace};
+ghost use Rattle.worker_port.specs.Ports.{PortTrace, is_open};
 ghost use Rattle.worker_port.specs.Giving.{IsTraceOf};
-ghost use Rattle.worker.specs.Workers.{end_of, Continues};
-ghost use Rattle.std.specs.Option.{option_and_then};
+ghost use Rattle.worker.specs.EndCauses.{piece_of};
+ghost use Rattle.worker.specs.Workers.{end_of, once_flushed, Continues, TakesNone, TakesBack};
+ghost use Rattle.worker.specs.Workers.{Closes, Shuts, Admits, Refuses, SameRest, HandlesData};
 
 use crate::gate::Gate;
-use crate::sending;
 use crate::session_list::SessionList;
-use crate::state::WorkerState;
-use exchange::{StorageSignals, WorkerEnd};
+use bytes::Bytes;
+use exchange::{Answered, StorageSignals, WorkerBatch, WorkerEnd};
 use proto::{Dialect, Posted};
-use session_book::{Book, EndCause, Settled, Task};
+use session_book::{Book, EndCause, Received, Settled, Task};
 use std::alloc::Global;
 use std::marker::Model;
 use worker_port::{Gone, Port, PortEvent, ToldHistory};
+
+/// What a worker holds. While it takes a step, these parts needn't agree.
+#[derive(Drop)]
+pub(crate) struct WorkerState<P> {
+    pub(crate) port: P,
+    /// The worker's end of its lane.
+    pub(crate) batch: WorkerBatch,
+    pub(crate) book: Book,
+    /// A request that has its number and isn't posted yet.
+    pub(crate) request: Option<Posted>,
+    pub(crate) sessions: SessionList,
+    pub(crate) unopened: u64,
+    pub(crate) strangers: u64,
+    /// The port has ended.
+    pub(crate) ended: bool,
+}
+
+impl<P: Port> WorkerState<P> {
+    /// Takes a session out of the book, and writes why it ended.
+    fn close(&mut self, session: u64, cause: EndCause)
+        ensures port { self.new.port ≡ self.old.port }
+        ensures leads { P.leads_to self.old.port self.new.port }
+        ensures closes { Closes self.old self.new session cause }
+    {
+        self.book.close(session);
+        self.sessions.close(session, cause);
+    }
+
+    fn shut(&mut self, session: u64, cause: EndCause)
+        requires { (trace : PortTrace) → P.told self.old.port ≡ Some trace
+            → is_open session trace.events ≡ true }
+        ensures shuts { Shuts P.told self.old self.new session cause }
+        ensures leads { P.leads_to self.old.port self.new.port }
+    {
+        self.port.shut(session);
+        self.close(session, cause);
+    }
+
+    /// Opens a session in the book, and writes its entry in the report; or shuts it, as there is no room for it.
+    fn admit(&mut self, session: u64)
+        requires { (trace : PortTrace) → P.told self.old.port ≡ Some trace
+            → is_open session trace.events ≡ true }
+        ensures leads { P.leads_to self.old.port self.new.port }
+        ensures rest { SameRest self.old self.new }
+        ensures admits { Admits P.told self.old self.new session ⊎ Refuses P.told self.old self.new session }
+    {
+        if self.book.open(session).is_err() {
+            self.port.shut(session);
+            self.unopened = self.unopened.saturating_add(1);
+            return;
+        }
+        self.sessions.open(session);
+    }
+
+    /// Feeds a piece of input that came, or holds it until it fits, and then pauses its session. Input of a session that
+    /// isn't open is dropped. At a port that tells, a session of which bytes are held is paused and has no data.
+    fn receive(&mut self, session: u64, bytes: Bytes)
+        requires open { (trace : PortTrace) → P.told self.old.port ≡ Some trace
+            → is_open session trace.events ≡ true }
+        requires resumed { (trace : PortTrace) → P.told self.old.port ≡ Some trace
+            → piece_of self.old.book session ≡ [] }
+        ensures receives { HandlesData P.told self.old session bytes self.new }
+        ensures leads { P.leads_to self.old.port self.new.port }
+        ensures drops { session_of self.old.book session ≡ None → self.new ≡ self.old }
+    {
+        match self.book.receive(session, bytes) {
+            Received::Fed | Received::Unknown => {}
+            Received::Held => self.port.pause(session),
+            Received::Refused => self.shut(session, EndCause::NoMemory),
+        }
+    }
+
+    /// The session's peer has gone. A session that isn't open keeps the cause that it has.
+    fn lose(&mut self, session: u64)
+        ensures port { self.new.port ≡ self.old.port }
+        ensures leads { P.leads_to self.old.port self.new.port }
+        ensures loses { IsSome (session_of self.old.book session) → Closes self.old self.new session EndCause.Gone }
+        ensures drops { session_of self.old.book session ≡ None → self.new ≡ self.old }
+    {
+        if self.book.is_open(session) {
+            self.close(session, EndCause::Gone);
+        }
+    }
+}
 
 /// A worker. Contracts see it as its state, of which all parts agree between its steps, with the port's trace too where the
 /// port tells it.
@@ -27,7 +112,7 @@ pub(crate) struct Worker<P: Port> {
 }
 
 impl<P: Port> Model for Worker<P> {
-    ghost use Rattle.worker.specs.declared.state.WorkerState.{WorkerState};
+    ghost use Rattle.worker.specs.declared.worker.WorkerState.{WorkerState};
     ghost use Rattle.worker.specs.Workers.{IsWorkerServing};
 
     ghost Value = { WorkerState P };
@@ -110,7 +195,7 @@ impl<P: Port> Worker<P> {
     }
 
     /// Reads up to the session's next request, which is held until it is posted. True where none is left for now.
-    pub(crate) fn ask(&mut self, session: u64) -> bool
+    fn ask(&mut self, session: u64) -> bool
         requires { self.old.request ≡ None }
         ensures { Continues P.told P.leads_to self.old self.new }
     {
@@ -207,7 +292,7 @@ impl<P: Port> Worker<P> {
     pub(crate) fn settle_next<G: Gate>(&mut self, gate: &G) -> bool
         ensures { Continues P.told P.leads_to self.old self.new }
     {
-        let Some(answered) = sending::take_answer(&mut self.state.batch) else {
+        let Some(answered) = take_answer(&mut self.state.batch) else {
             return false;
         };
         let session = answered.session;
@@ -223,7 +308,7 @@ impl<P: Port> Worker<P> {
 
     /// Offers the session's output in one call, where it is worth it. It answers whether that changed anything, and whether
     /// the session has finished.
-    pub(crate) fn offer(&mut self, session: u64) -> (bool, Option<EndCause>)
+    fn offer(&mut self, session: u64) -> (bool, Option<EndCause>)
         ensures goes_on { Continues P.told P.leads_to self.old self.new }
         ensures finished { result.1 ≡ option_and_then finished_by (session_of self.new.book session) }
         ensures read { HasReadAll (session_of self.new.book session) result.1 }
@@ -255,7 +340,7 @@ impl<P: Port> Worker<P> {
     }
 
     /// Shuts a session that has ended itself, or whose input has, once all was answered and given.
-    pub(crate) fn finish(&mut self, session: u64, finished: Option<EndCause>) -> bool
+    fn finish(&mut self, session: u64, finished: Option<EndCause>) -> bool
         requires finished { finished ≡ option_and_then finished_by (session_of self.old.book session) }
         requires read { HasReadAll (session_of self.old.book session) finished }
         ensures { Continues P.told P.leads_to self.old self.new }
@@ -267,5 +352,17 @@ impl<P: Port> Worker<P> {
             }
             None => false,
         }
+    }
+}
+
+/// The next answer: one that was seen before, or else one that is found by a look. The contract speaks of the end as it is
+/// once all that was put is flushed, so what was put counts as sent.
+fn take_answer(batch: &mut WorkerBatch) -> Option<Answered>
+    ensures { MatchOption result (TakesNone (once_flushed batch.old) (once_flushed batch.new))
+        (λ a. TakesBack (once_flushed batch.old) (once_flushed batch.new) a) }
+{
+    match batch.take_seen() {
+        Some(answered) => Some(answered),
+        None => batch.take(),
     }
 }

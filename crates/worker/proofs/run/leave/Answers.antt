@@ -2,7 +2,7 @@ use Rattle.std.proofs.Common.{◌≡◌, length, true, refl, sym, ap, subst, ◌
 use Rattle.std.proofs.lemmas.List.{take_all}
 use Rattle.proto.specs.History.{asked_posted}
 use Rattle.exchange.specs.Ends.{WorkerView}
-use Rattle.worker.specs.declared.state.WorkerState.{WorkerState}
+use Rattle.worker.specs.declared.worker.WorkerState.{WorkerState}
 use Rattle.worker.specs.Reports.{IsOver}
 use Rattle.worker.specs.Workers.{end_of, IsTraceKnown, IsDrained, run_view}
 use Rattle.worker.proofs.DrainSteps.{sent_posted}

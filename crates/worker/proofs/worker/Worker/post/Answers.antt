@@ -2,7 +2,7 @@ use Rattle.std.proofs.Common.{◌≡◌, ◌++◌, [], ◌∷◌, refl, sym, ap,
 use Rattle.proto.specs.declared.history.Posted.{Posted}
 use Rattle.exchange.specs.Ends.{WorkerBatchView}
 use Rattle.worker_port.specs.Ports.{PortTrace}
-use Rattle.worker.specs.declared.state.WorkerState.{WorkerState}
+use Rattle.worker.specs.declared.worker.WorkerState.{WorkerState}
 use Rattle.worker.specs.Workers.{end_of, once_flushed, posted_by, IsWorkerServing}
 use Rattle.worker.proofs.WorkerSteps.{WorkerGoesOn, continues}
 use Rattle.worker.proofs.AskSteps.{posted_goes_on}

@@ -1,6 +1,6 @@
 use Rattle.std.proofs.Common.{◌≡◌, length}
 use Rattle.session_book.proofs.Steps.{HasReadLocals}
-use Rattle.session_book.proofs.session.Session.read_ask.Given as goal
+use Rattle.session_book.proofs.session.Session.next_ask.Given as goal
 
 abbrev pub invariant-loop-alloc : goal.invariant-loop-alloc
 invariant-loop-alloc l = record {

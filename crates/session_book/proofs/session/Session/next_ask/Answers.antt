@@ -5,7 +5,7 @@ use Rattle.session_book.proofs.Answering.{begins_asked_by}
 use Rattle.session_book.proofs.Needing.{needs_one}
 use Rattle.session_book.proofs.Steps.{starts_locals, reads_refused, reads_none, reads_local, reads_ask, reads_stops, read_found, read_more, not_ask}
 use Rattle.session_book.proofs.Steps.{takes_less}
-use Rattle.session_book.proofs.session.Session.read_ask.Goals as goal
+use Rattle.session_book.proofs.session.Session.next_ask.Goals as goal
 
 pub loop-alloc-init : goal.loop-alloc-init
 loop-alloc-init c = record {

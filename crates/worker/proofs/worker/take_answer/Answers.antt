@@ -12,7 +12,7 @@ use Rattle.worker.specs.Workers.{TakesNone, TakesBack, WasToldOfHistory, IsLater
 use Rattle.worker.proofs.WorkerSteps.{later_view}
 use Rattle.proto.specs.declared.terms.Terms.{Terms}
 use Rattle.worker.proofs.SettleSteps.{at_append}
-use Rattle.worker.proofs.sending.take_answer.Goals as goal
+use Rattle.worker.proofs.worker.take_answer.Goals as goal
 
 -- what is told of an answer, or of none
 abbrev Takes : WorkerBatchView → Option Answered → WorkerBatchView → Type 0

@@ -10,14 +10,12 @@ mod line;
 mod player;
 mod port;
 mod reader;
-mod readings;
 mod recording_clock;
 mod records;
 mod remaining;
 mod sequential_replay;
 mod sequential_session;
 mod sessions;
-mod stage;
 mod worker_script;
 
 pub use clock::ScriptClock;

@@ -1,13 +1,30 @@
 //! A script's clock for a group.
+
 ghost use Rattle.std.specs.Prelude.{◌≡◌, ℕ, ◌+◌, ◌++◌, [], ◌∷◌, Option, None, ⊤};
 ghost use Rattle.proto.specs.declared.logged_clock.ClockStart.{ClockStart};
 ghost use Rattle.script.specs.Clocks.{answer_of};
 ghost use Rattle.script.specs.Readings.{readings_in_order};
 
 use crate::ScriptClock;
-use crate::readings::Readings;
 use engine::Clock;
 use proto::ClockAnswer;
+use std::snapshot::Snapshot;
+
+/// The readings that were given. Only the last one has bytes; those before it are for clauses alone.
+#[derive(Drop)]
+enum Readings {
+    None,
+    After(Snapshot<Readings>, u64),
+}
+
+impl Readings {
+    /// These readings, and one more.
+    fn and(&self, reading: u64) -> Readings
+        ensures { readings_in_order result ≡ readings_in_order self.now ++ reading ∷ [] }
+    {
+        Readings::After(Snapshot::of(self), reading)
+    }
+}
 
 /// A script's clock that tells the list of its readings. The list takes no memory.
 #[derive(Drop)]
@@ -24,7 +41,7 @@ impl RecordingClock {
     {
         RecordingClock {
             clock,
-            answers: Readings::none(),
+            answers: Readings::None,
         }
     }
 }

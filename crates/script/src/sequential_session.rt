@@ -3,7 +3,6 @@
 ghost use Rattle.std.specs.Prelude.{◌≡◌, ℕ, ◌≤◌, ◌++◌, [], false, length, take, drop, is_some, IsTrue, IfOk, OnOk};
 ghost use Rattle.proto.specs.declared.dialect.Dialect.TheVariants.{Strict};
 ghost use Rattle.proto.specs.Grammar.{SpellsNone};
-ghost use Rattle.proto.specs.Reading.{ends_session};
 ghost use Rattle.proto.specs.History.{max_moment};
 ghost use Rattle.script.specs.Execution.{Execution, AnswersBehind};
 ghost use Rattle.script.specs.SequentialSessions.{AnswersNext, AnswersAll, IsNewSession, Feeds};
@@ -70,16 +69,6 @@ impl<E: StorageEngine + Drop> Executor<E> {
     }
 }
 
-/// Whether nothing of the session is read after the message.
-fn ends(message: &Message) -> bool
-    ensures { result ≡ ends_session message.now }
-{
-    match message {
-        Message::Quit | Message::Fatal(_) => true,
-        Message::Ask(_, _) | Message::Wrong(_) => false,
-    }
-}
-
 /// Reads and answers the message with which the bytes begin, if there is one. It says how many bytes it
 /// has, and whether it ends the session.
 fn answer_next<E: StorageEngine + Drop>(
@@ -95,7 +84,7 @@ fn answer_next<E: StorageEngine + Drop>(
         Next::More => Ok(None),
         Next::Found(mut message, length) => {
             let answered = executor.answer(&mut message, output);
-            let ended = ends(&message);
+            let ended = matches!(message, Message::Quit | Message::Fatal(_));
             drop(message);
             answered?;
             Ok(Some((length, ended)))

@@ -54,16 +54,6 @@ impl Model for ScriptSession {
 }
 
 impl ScriptSession {
-    fn new(alloc: Global, number: u64) -> ScriptSession
-        ensures { result ≡ record { number = number; stage = Stage.Playing; output = [] } }
-    {
-        ScriptSession {
-            number,
-            stage: Stage::Playing,
-            output: Vec::new(alloc),
-        }
-    }
-
     pub fn number(&self) -> u64
         ensures { result ≡ self.now.number }
     {
@@ -171,8 +161,11 @@ impl Sessions {
         ensures err { OnErr result (self.new ≡ self.old) }
     {
         self.entries.reserve(1)?;
-        self.entries
-            .push_reserved(ScriptSession::new(self.alloc, number));
+        self.entries.push_reserved(ScriptSession {
+            number,
+            stage: Stage::Playing,
+            output: Vec::new(self.alloc),
+        });
         Ok(())
     }
 

@@ -1,5 +1,5 @@
-"""Tests of where a client's raw stream stands: in the few files of net/src/sockets, whose types have these calls and no others, so that
-nothing reads from a stream or writes to it beside its log. They take no time.
+"""Tests of where a client's raw stream stands: in the two files of net's module `sockets`, whose types have these calls and no others, so
+that nothing reads from a stream or writes to it beside its log. They take no time.
 
     python3 -m pytest tools/tests/test_raw_streams.py
 """
@@ -12,14 +12,16 @@ SOURCES = f"{TOP}/crates/net/src"
 
 # The calls of each type that has a raw stream, or makes one. A served stream's bytes are logged by `read` and `write`.
 CALLS = {
-    "acceptor.rt": {"bind", "port", "register", "accept"},
-    "new_stream.rt": {"new", "serve"},
-    "logged_stream.rt": {"new", "into_stream", "read", "write"},
-    "ended_stream.rt": {"of", "drain"},
+    "sockets.rt": {
+        "Acceptor": {"bind", "port", "register", "accept"},
+        "NewStream": {"serve"},
+        "EndedStream": {"of", "drain"},
+    },
+    "sockets/logged_stream.rt": {"LoggedStream": {"new", "into_stream", "read", "write"}},
 }
 
-# Calls that only the files beside them can make.
-PRIVATE = {"new_stream.rt": {"new"}, "logged_stream.rt": {"new", "into_stream"}}
+# Calls that only these two files can make.
+PRIVATE = {"sockets/logged_stream.rt": {"new", "into_stream"}}
 
 
 def read(path):
@@ -27,11 +29,14 @@ def read(path):
         return re.sub(r"//.*", "", file.read())
 
 
+def naming(word):
+    files = glob.glob(f"{SOURCES}/**/*.rt", recursive=True)
+    return {os.path.relpath(it, SOURCES) for it in files if re.search(rf"\b{word}\b", read(it))}
+
+
 def test_only_these_files_name_a_raw_stream():
-    named = {os.path.relpath(it, SOURCES) for it in glob.glob(f"{SOURCES}/**/*.rt", recursive=True) if re.search(r"\bTcpStream\b", read(it))}
-    assert named == {f"sockets/{it}" for it in ("ended_stream.rt", "logged_stream.rt", "new_stream.rt")}
-    accepting = {os.path.relpath(it, SOURCES) for it in glob.glob(f"{SOURCES}/**/*.rt", recursive=True) if re.search(r"\bTcpListener\b", read(it))}
-    assert accepting == {"sockets/acceptor.rt"}
+    assert naming("TcpStream") == set(CALLS)
+    assert naming("TcpListener") == {"sockets.rt"}
 
 
 def test_no_other_crate_names_one():
@@ -40,9 +45,12 @@ def test_no_other_crate_names_one():
 
 
 def test_they_have_these_calls_alone():
-    assert {os.path.basename(it) for it in glob.glob(f"{SOURCES}/sockets/*.rt")} == set(CALLS)
-    for name, calls in CALLS.items():
-        text = read(f"{SOURCES}/sockets/{name}")
-        assert set(re.findall(r"\bfn (\w+)", text)) == calls, name
+    assert {os.path.basename(it) for it in glob.glob(f"{SOURCES}/sockets/**/*", recursive=True)} == {"logged_stream.rt"}
+    for name, types in CALLS.items():
+        text = read(f"{SOURCES}/{name}")
+        blocks = re.findall(r"^impl(?:<[^{]*>)? (\w+)[^{]*\{(.*?)^\}", text, re.DOTALL | re.MULTILINE)
+        found = {it: set(re.findall(r"\bfn (\w+)", block)) for it, block in blocks if "fn " in block}
+        assert found == types, name
+        assert len(re.findall(r"\bfn ", text)) == sum(map(len, types.values())), name
         assert set(re.findall(r"pub\(super\) fn (\w+)", text)) == PRIVATE.get(name, set()), name
         assert not re.search(r"pub(\(\w+\))? (stream|listener):", text), name

@@ -2,7 +2,7 @@
 use Rattle.std.specs.Prelude.{◌≡◌, ℤ, pos, List, [], ◌∷◌, false}
 use Rattle.mio.specs.Net.{stream_fd}
 use Rattle.mio.specs.declared.net.stream.TcpStream.{TcpStream}
-use Rattle.net.specs.declared.sockets.new_stream.NewStream.{NewStream}
+use Rattle.net.specs.declared.sockets.NewStream.{NewStream}
 use Rattle.net.specs.declared.sockets.logged_stream.LoggedStream.{LoggedStream}
 
 -- the socket of an accepted stream

@@ -1,5 +1,5 @@
 -- What a port over sockets tells.
-use Rattle.std.specs.Prelude.{◌≡◌, ⊤, ℕ, ◌+◌, ◌<◌, true, false, List, [], length, Option}
+use Rattle.std.specs.Prelude.{◌≡◌, ⊤, ℕ, ◌+◌, ◌<◌, true, false, List, [], length, Option, MatchOption}
 use Rattle.proto.specs.declared.dialect.Dialect.{Dialect}
 use Rattle.proto.specs.Sizes.{Sizes}
 use Rattle.proto.specs.declared.terms.Terms.{Terms}
@@ -85,9 +85,17 @@ pub record Tells (before : PortTrace) (e : PortEvent) (after : PortTrace) : Type
   pub may : MayCome before e
   pub orders : IsInOrder before e
 
+-- the same where an event came; else nothing was told
+abbrev pub MayTell : PortTrace → Option PortEvent → PortTrace → Type 0
+MayTell before event after = MatchOption event (after ≡ before) (λ e. Tells before e after)
+
 -- no session was opened
 abbrev pub KeepsSockets : Streams → Streams → Type 0
 KeepsSockets before after = after.sockets.items ≡ before.sockets.items
+
+-- nothing was told, and no session was opened
+abbrev pub TellsNothing : Streams → Streams → Type 0
+TellsNothing before after = (trace_of after ≡ trace_of before) × KeepsSockets before after
 
 -- the sessions keep their sockets; after them stand those of the sessions that were opened meanwhile
 abbrev pub AddsSockets : Streams → Streams → Type 0

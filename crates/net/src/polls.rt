@@ -23,7 +23,7 @@ const STALLED_WAIT_MILLIS: u64 = 1;
 #[derive(Clone, Copy)]
 pub(crate) struct Polls {
     idle_calls: u32,
-    spin: Option<Duration>,
+    spin: Duration,
     // The first poll since the last event that would wait; none if there was none.
     since: Option<Instant>,
 }
@@ -33,18 +33,14 @@ impl Polls {
     pub(crate) fn new() -> Polls {
         Polls {
             idle_calls: 0,
-            spin: None,
+            spin: Duration::ZERO,
             since: None,
         }
     }
 
     // Polls don't wait until this many microseconds after an event.
     pub(crate) fn set_spin(&mut self, micros: u32) {
-        self.spin = if micros == 0 {
-            None
-        } else {
-            Some(Duration::from_micros(micros as u64))
-        };
+        self.spin = Duration::from_micros(micros as u64);
     }
 
     // Something came or went: idle calls are counted from here.
@@ -80,13 +76,13 @@ impl Polls {
 
     // Whether a poll is too early to wait. The clock is read only here, so that a busy port never reads it.
     fn spins<R: Clock>(&mut self, rt: &R) -> bool {
-        let Some(spin) = self.spin else {
+        if self.spin.is_zero() {
             return false;
-        };
+        }
         let Ok(now) = Instant::now(rt) else {
             return false;
         };
         let since = *self.since.get_or_insert(now);
-        now.duration_since(since) < spin
+        now.duration_since(since) < self.spin
     }
 }

@@ -5,7 +5,7 @@ ghost use Rattle.std.specs.Prelude.{◌≡◌, ◌≤◌, [], ◌∷◌, true, f
 ghost use Rattle.std.specs.Option.{option_map};
 ghost use Rattle.worker_port.specs.declared.events.PortRecord.TheVariants.{Shut};
 ghost use Rattle.worker_port.specs.Ports.{PortTrace, then_told, with_pause, event_records, then_gave, is_open, MayCome};
-ghost use Rattle.net.specs.Traces.{trace_of, IsNew, GoesOn, Tells, PausesAgree, KeepsSockets, AddsSockets};
+ghost use Rattle.net.specs.Traces.{trace_of, IsNew, GoesOn, Tells, MayTell, PausesAgree, TellsNothing, AddsSockets};
 ghost use Rattle.net.specs.Shown.{shown_stream};
 ghost use Rattle.net.specs.Ties.{OpenAgrees, BytesAgree, SocketsAgree};
 
@@ -87,21 +87,20 @@ impl<R: Wait + Clock + Drop> MioPort<R> {
         ensures sockets { SocketsAgree (shown_stream self.now.served.open.entries) self.now.served.sockets.items }
         ensures paused { PausesAgree (shown_stream self.now.served.open.entries) (trace_of self.now.served) }
     {
-        self.served.agrees();
+        let _served = &self.served;
     }
 
     /// Whether the session is open.
     pub fn is_open(&self, session: u64) -> bool
         ensures { is_open session (trace_of self.now.served).events ≡ result }
     {
-        self.served.is_open(session)
+        self.served.open.get(&session).is_some()
     }
 
     /// Has the port end idle sessions, as those whose peer has gone: a session that is owed nothing once it sent nothing for
     /// this many seconds, and one that is owed output once it took none of it for that long; each an eighth later at most.
     pub fn set_idle_limit(&mut self, seconds: u64)
-        ensures told { trace_of self.new.served ≡ trace_of self.old.served }
-        ensures sockets { KeepsSockets self.old.served self.new.served }
+        ensures { TellsNothing self.old.served self.new.served }
     {
         let millis = seconds.saturating_mul(LOOK_MILLIS);
         self.idle_looks = Some(Interval::of_millis(millis));
@@ -110,8 +109,7 @@ impl<R: Wait + Clock + Drop> MioPort<R> {
     /// Has the port look on for this many microseconds after an event, before it waits for the next one: until then its polls
     /// don't wait.
     pub fn set_spin(&mut self, micros: u32)
-        ensures told { trace_of self.new.served ≡ trace_of self.old.served }
-        ensures sockets { KeepsSockets self.old.served self.new.served }
+        ensures { TellsNothing self.old.served self.new.served }
     {
         self.polls.set_spin(micros);
     }
@@ -149,8 +147,7 @@ impl<R: Wait + Clock + Drop> MioPort<R> {
 
     // Polls the sockets, unless an event is known already, the end is to be told, or it is too early. False if there is no event.
     fn look(&mut self, may_wait: bool) -> bool
-        ensures told { trace_of self.new.served ≡ trace_of self.old.served }
-        ensures sockets { KeepsSockets self.old.served self.new.served }
+        ensures { TellsNothing self.old.served self.new.served }
     {
         let has_heard = !self.served.ready.is_empty() || self.has_idle;
         if has_heard || (self.has_streams && self.served.len() < OPEN_SESSIONS) {
@@ -184,8 +181,7 @@ impl<R: Wait + Clock + Drop> MioPort<R> {
     // Opens a session for the next stream that waits in the hand and can be served.
     fn open_next(&mut self) -> Option<PortEvent>
         requires { GoesOn (trace_of self.old.served) }
-        ensures told { MatchOption result (trace_of self.new.served ≡ trace_of self.old.served)
-            (λ event. Tells (trace_of self.old.served) event (trace_of self.new.served)) }
+        ensures told { MayTell (trace_of self.old.served) result (trace_of self.new.served) }
         ensures sockets { AddsSockets self.old.served self.new.served }
     {
         for _ in 0..EVENTS {

@@ -1,12 +1,109 @@
-//! The sockets: what accepts streams, and each stream as it is new, served and ended. A raw stream stands in the files of
-//! this module alone: nothing else can read from it or write to it.
+//! The sockets: what accepts streams, and each stream as it is new, served and ended. A raw stream stands in this file and
+//! in that of the served ones alone: nothing else can read from it or write to it.
 
-mod acceptor;
-mod ended_stream;
+ghost use Rattle.std.specs.Prelude.{◌≡◌, [], ◌∷◌, ◌++◌, OnErr, IfOk, IfSome};
+ghost use Rattle.net.specs.Sockets.{socket_of, IsNewLog};
+
 mod logged_stream;
-mod new_stream;
 
-pub(crate) use acceptor::Acceptor;
-pub(crate) use ended_stream::EndedStream;
+use logged_stream::LoggedStream;
 pub(crate) use logged_stream::ServedStream;
-pub(crate) use new_stream::NewStream;
+use mio::net::{TcpListener, TcpStream};
+use mio::{Interest, Poll, Token};
+use proto::{Noted, Trace};
+use std::io::{self, Read};
+use std::net::{Net, Shutdown, SocketAddr};
+
+/// A socket that accepts streams. For clauses alone it knows which it accepted.
+#[derive(Drop)]
+pub(crate) struct Acceptor {
+    listener: TcpListener,
+    pub(crate) accepted: Trace<i32>,
+}
+
+#[derive(Clone, Copy)]
+struct Accepted<'a> {
+    stream: &'a NewStream,
+}
+
+impl Noted<i32> for Accepted<'_> {
+    ghost noted = { λ x. socket_of x.stream.now ∷ [] };
+}
+
+impl Acceptor {
+    pub(crate) fn bind<R: Net>(rt: &R, addr: SocketAddr) -> io::Result<Acceptor>
+        ensures { IfOk result (λ acceptor. acceptor.accepted.items ≡ []) }
+    {
+        Ok(Acceptor {
+            listener: TcpListener::bind(rt, addr)?,
+            accepted: Trace::new(),
+        })
+    }
+
+    /// The port that it listens on.
+    pub(crate) fn port(&self) -> io::Result<u16> {
+        Ok(self.listener.local_addr()?.port())
+    }
+
+    /// Has the poll return when a stream waits.
+    pub(crate) fn register(&mut self, poll: &Poll) -> io::Result<()>
+        ensures { self.new.accepted.items ≡ self.old.accepted.items }
+    {
+        poll.registry()
+            .register(&mut self.listener, Token(0), Interest::READABLE)
+    }
+
+    /// The next stream that waits; `WouldBlock` if none does.
+    pub(crate) fn accept(&mut self) -> io::Result<NewStream>
+        ensures ok { IfOk result
+            (λ stream. self.new.accepted.items ≡ self.old.accepted.items ++ socket_of stream ∷ []) }
+        ensures err { OnErr result (self.new.accepted.items ≡ self.old.accepted.items) }
+    {
+        let (stream, _) = self.listener.accept()?;
+        let stream = NewStream { stream };
+        self.accepted.note_as(&Accepted { stream: &stream });
+        Ok(stream)
+    }
+}
+
+/// An accepted stream that nobody serves yet. It can be handed on, served or closed.
+#[derive(Drop)]
+pub(crate) struct NewStream {
+    stream: TcpStream,
+}
+
+impl NewStream {
+    /// Has the poll tell of the stream under the session's number from now on. None if the system refuses; the stream is
+    /// closed then.
+    pub(crate) fn serve(self, poll: &Poll, session: u64) -> Option<ServedStream>
+        ensures { IfSome result (IsNewLog (socket_of self)) }
+    {
+        let mut stream = self.stream;
+        stream.set_nodelay(true).ok()?;
+        let both = Interest::READABLE | Interest::WRITABLE;
+        poll.registry()
+            .register(&mut stream, Token(session as usize), both)
+            .ok()?;
+        Some(LoggedStream::new(stream))
+    }
+}
+
+/// A stream whose sending half is ended. It can be read to no purpose, or closed.
+#[derive(Drop)]
+pub(crate) struct EndedStream {
+    stream: TcpStream,
+}
+
+impl EndedStream {
+    /// Ends the sending half. None if the system refuses; the stream is closed then.
+    pub(crate) fn of(served: ServedStream) -> Option<EndedStream> {
+        let stream = served.into_stream();
+        stream.shutdown(Shutdown::Write).ok()?;
+        Some(EndedStream { stream })
+    }
+
+    /// Drops what came. It says how many bytes that were: 0 once the peer has ended the other half.
+    pub(crate) fn drain(&mut self, scratch: &mut [u8]) -> io::Result<usize> {
+        self.stream.read(scratch)
+    }
+}

@@ -3,19 +3,18 @@
 ghost use Rattle.std.specs.Prelude.{◌≡◌, ◌≤◌, ℕ, true, false, [], ◌∷◌, ◌++◌, length, vec_len, IsTrue, IfOk, MatchOption};
 ghost use Rattle.worker_port.specs.declared.events.PortEvent.TheVariants.{Opened, Gone as Left, Ended};
 ghost use Rattle.worker_port.specs.declared.events.PortRecord.TheVariants.{Shut};
-ghost use Rattle.worker_port.specs.Ports.{then_told, then_gave, with_pause, is_open};
+ghost use Rattle.worker_port.specs.Ports.{then_told, then_gave, with_pause};
 ghost use Rattle.worker_port.specs.Giving.{MayBeGiven};
 ghost use Rattle.net.specs.Shown.{shown_stream};
-ghost use Rattle.net.specs.Ties.{Ties, OpenAgrees, BytesAgree, SocketsAgree, SocketTies};
+ghost use Rattle.net.specs.Ties.{Ties, SocketTies};
 
 use crate::hand::WAKER;
 use crate::lingering::LingeringStreams;
 use crate::open_stream::{Heard, OpenStream, Reading};
 use crate::owner::Owner;
-use crate::port_note::{PortNote, SocketNote, given_by};
-use crate::sockets::NewStream;
+use crate::sockets::{NewStream, ServedStream};
 use mio::{Events, Poll};
-use proto::{Answered, Trace};
+use proto::{Answered, Noted, Trace};
 use std::alloc::{AllocError, Global};
 use std::collections::{HashMap, VecDeque};
 use std::snapshot::Snapshot;
@@ -24,6 +23,54 @@ use worker_port::{Gone, MAX_PIECE, PortEvent, PortRecord, ToldHistory};
 
 /// The most sessions of a port that are open at a time, with those that were shut and are read still.
 pub(crate) const OPEN_SESSIONS: usize = 1024;
+
+/// What is told, for clauses alone.
+#[derive(Clone, Copy)]
+enum PortNote<'a> {
+    Opened(u64),
+    Data(u64, &'a [u8]),
+    EndOfInput(u64),
+    Gone(u64),
+    Ended,
+    Accepted(u64, &'a [u8]),
+    Shut(u64),
+}
+
+impl Noted<PortRecord> for PortNote<'_> {
+    ghost use Rattle.net.specs.Notes.{told_by};
+
+    ghost noted = { told_by };
+}
+
+/// With which socket a session was opened, for clauses alone.
+#[derive(Clone, Copy)]
+struct SocketNote<'a> {
+    served: &'a Snapshot<ServedStream>,
+}
+
+impl Noted<i32> for SocketNote<'_> {
+    ghost use Rattle.net.specs.Sockets.{served_socket};
+
+    ghost noted = { λ note. served_socket note.served.now.value ∷ [] };
+}
+
+#[derive(Clone, Copy)]
+struct HistoryNote<'a> {
+    told: &'a ToldHistory,
+}
+
+impl Noted<Answered> for HistoryNote<'_> {
+    ghost noted = { λ note. note.told.now };
+}
+
+// The history by which bytes are given, for clauses alone.
+fn given_by(told: ToldHistory) -> Trace<Answered>
+    ensures { result.items ≡ told }
+{
+    let mut history = Trace::new();
+    history.note_as(&HistoryNote { told: &told });
+    history
+}
 
 /// The open streams, what was heard of those that may have something to read, and what was told.
 #[derive(Drop)]
@@ -53,7 +100,7 @@ pub(crate) struct Streams {
 }
 
 impl Streams {
-    ghost use Rattle.net.specs.Traces.{trace_of, IsNew, GoesOn, HasOpen, HasNoneOpen, Tells, KeepsSockets};
+    ghost use Rattle.net.specs.Traces.{trace_of, IsNew, GoesOn, HasOpen, HasNoneOpen, Tells, MayTell, KeepsSockets, TellsNothing};
     ghost use Rattle.net.specs.Sockets.{socket_of};
 
     pub(crate) fn new(alloc: Global, owner: Owner) -> Result<Streams, AllocError>
@@ -76,14 +123,6 @@ impl Streams {
         })
     }
 
-    pub(crate) fn agrees(&self)
-        ensures open { OpenAgrees (shown_stream self.now.open.entries) self.now.told.items }
-        ensures bytes { BytesAgree (shown_stream self.now.open.entries) self.now.told.items }
-        ensures sockets { SocketsAgree (shown_stream self.now.open.entries) self.now.sockets.items }
-    {
-        let _has_ended = self.has_ended;
-    }
-
     // Whether none is open or read still.
     pub(crate) fn is_empty(&self) -> bool
         ensures { IsTrue result → HasNoneOpen (trace_of self.now) }
@@ -94,12 +133,6 @@ impl Streams {
     // How many are open, or were shut and are read still.
     pub(crate) fn len(&self) -> usize {
         self.open.len().saturating_add(self.lingering.streams.len())
-    }
-
-    pub(crate) fn is_open(&self, session: u64) -> bool
-        ensures { is_open session (trace_of self.now).events ≡ result }
-    {
-        self.open.get(&session).is_some()
     }
 
     /// Opens a session for a stream, and tells of it. None if the stream can't be served; it is closed then.
@@ -124,8 +157,7 @@ impl Streams {
 
     // Lists what a poll brought, and says whether the hand woke it. What finds no memory is lost.
     pub(crate) fn hear_all(&mut self, events: &Events) -> bool
-        ensures told { trace_of self.new ≡ trace_of self.old }
-        ensures sockets { KeepsSockets self.old self.new }
+        ensures { TellsNothing self.old self.new }
     {
         let mut was_woken = false;
         for event in events {
@@ -140,8 +172,7 @@ impl Streams {
 
     // Reads those that were shut, and closes those that were read for long enough.
     pub(crate) fn drain<R: Clock>(&mut self, rt: &R)
-        ensures told { trace_of self.new ≡ trace_of self.old }
-        ensures sockets { KeepsSockets self.old self.new }
+        ensures { TellsNothing self.old self.new }
     {
         self.lingering.drain(rt, self.scratch.as_mut_slice());
     }
@@ -149,8 +180,7 @@ impl Streams {
     /// Reads from the streams that may have something, until there is an event to tell.
     pub(crate) fn next_input(&mut self) -> Option<PortEvent>
         requires { GoesOn (trace_of self.old) }
-        ensures told { MatchOption result (trace_of self.new ≡ trace_of self.old)
-            (λ event. Tells (trace_of self.old) event (trace_of self.new)) }
+        ensures told { MayTell (trace_of self.old) result (trace_of self.new) }
         ensures sockets { KeepsSockets self.old self.new }
     {
         for _ in 0..self.ready.len() {
@@ -166,8 +196,7 @@ impl Streams {
     // is of those that were shut.
     fn read(&mut self, heard: Heard) -> Option<PortEvent>
         requires { GoesOn (trace_of self.old) }
-        ensures told { MatchOption result (trace_of self.new ≡ trace_of self.old)
-            (λ event. Tells (trace_of self.old) event (trace_of self.new)) }
+        ensures told { MayTell (trace_of self.old) result (trace_of self.new) }
         ensures sockets { KeepsSockets self.old self.new }
     {
         let session = heard.session;
@@ -211,8 +240,7 @@ impl Streams {
     /// Closes a session that was idle for long enough, and tells that its peer has gone.
     pub(crate) fn end_idle(&mut self) -> Option<PortEvent>
         requires { GoesOn (trace_of self.old) }
-        ensures told { MatchOption result (trace_of self.new ≡ trace_of self.old)
-            (λ event. Tells (trace_of self.old) event (trace_of self.new)) }
+        ensures told { MayTell (trace_of self.old) result (trace_of self.new) }
         ensures sockets { KeepsSockets self.old self.new }
     {
         let session = self.idle_session()?;

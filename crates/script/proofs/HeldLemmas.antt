@@ -5,7 +5,7 @@ use Rattle.std.proofs.lemmas.List.Elements.{recursion_from_All}
 use Rattle.script.specs.declared.event.ScriptEvent.{ScriptEvent}
 use Rattle.worker_port.specs.PortFacts.{port_facts}
 use Rattle.script.specs.declared.player.Player.{Player}
-use Rattle.script.specs.declared.stage.Stage.{Stage}
+use Rattle.script.specs.declared.sessions.Stage.{Stage}
 use Rattle.script.specs.PortEvents.{event_session}
 use Rattle.script.specs.Remaining.{RemainingState, in_order}
 use Rattle.script.specs.PortSessions.{ScriptSessionState, newest, last_from, session_entry, is_session_open, is_closed}

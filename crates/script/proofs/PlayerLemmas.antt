@@ -15,8 +15,8 @@ use Rattle.worker_port.specs.Ports as list
 use Rattle.worker_port.specs.PortFacts.{PortFacts, port_facts}
 use Rattle.worker_port.proofs.Facts.{about, elsewhere, gone_here, shut_here, accepted_here}
 use Rattle.script.specs.declared.player.Player.{Player}
-use Rattle.script.specs.declared.stage.Stage.{Stage}
-use Rattle.script.specs.declared.stage.Stage.TheVariants.{Closed}
+use Rattle.script.specs.declared.sessions.Stage.{Stage}
+use Rattle.script.specs.declared.sessions.Stage.TheVariants.{Closed}
 use Rattle.script.specs.PortEvents.{event_session, events_without, plays_from, is_playable}
 use Rattle.script.specs.PortSessions.{ScriptSessionState, numbers, newest, last_from, session_entry, is_some_and}
 use Rattle.script.specs.PortSessions.{is_closed, is_waiting, was_closed, is_session_open}

@@ -8,7 +8,7 @@ use Rattle.std.proofs.lemmas.List.{get_or_default}
 use Rattle.std.proofs.lemmas.List.Sorted.{IsPartitionedBy-ltb}
 use Rattle.std.specs.List.Sorted.{IsNonDecreasingBy, IsPartitionedBy}
 use Rattle.std.specs.Prelude.{nat_lt}
-use Rattle.script.specs.declared.stage.Stage.{Stage}
+use Rattle.script.specs.declared.sessions.Stage.{Stage}
 use Rattle.script.specs.PortSessions.{ScriptSessionState, numbers, RisesFrom, last_from, session_entry, is_closed}
 use Rattle.script.specs.PortSessions.{is_session_open, is_some_and, with_stage}
 use Rattle.script.specs.PortSessions.{with_output, ChangesAt, AcceptsAt}

@@ -18,8 +18,8 @@ use Rattle.worker_port.specs.PortFacts.{PortFacts, port_facts}
 use Rattle.worker_port.proofs.Facts.{opened_here, fed_here}
 use Rattle.worker_port.proofs.Lists.{ended_same}
 use Rattle.script.specs.declared.player.Player.{Player}
-use Rattle.script.specs.declared.stage.Stage.TheVariants.{Playing, Paused, Closed}
-use Rattle.script.specs.declared.stage.Stage.{Stage}
+use Rattle.script.specs.declared.sessions.Stage.TheVariants.{Playing, Paused, Closed}
+use Rattle.script.specs.declared.sessions.Stage.{Stage}
 use Rattle.script.specs.PortEvents.{event_session, events_without, send_after, plays_from, is_playable}
 use Rattle.script.specs.Remaining.{RemainingState, in_order}
 use Rattle.script.specs.PortSessions.{ScriptSessionState, numbers, newest, session_entry, is_some_and, is_closed}
@@ -70,9 +70,14 @@ first_dropped old new e after is dropped =
 -- the first of the rest, where it may be played
 pub first_of_rest : (p : Player) (e : ScriptEvent) → p.events.rest ≡ e ∷ drop 1 p.events.rest
     → ((e : ScriptEvent) (after : List ScriptEvent) → p.events.rest ≡ e ∷ after → is_ready p.sessions e ≡ true)
-    → IsFirst p e
-first_of_rest p e is ready =
-    record { after = drop 1 p.events.rest; rest_is = is; ready = ready e (drop 1 p.events.rest) is }
+    → IsPlayerConsistent p → p.ended ≡ false → IsFirst p e
+first_of_rest p e is ready k running = record {
+  consistent = k;
+  running = running;
+  after = drop 1 p.events.rest;
+  rest_is = is;
+  ready = ready e (drop 1 p.events.rest) is;
+}
 
 -- ---- a session is opened
 

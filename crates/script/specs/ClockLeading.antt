@@ -2,7 +2,7 @@
 use Rattle.std.specs.Prelude.{◌≡◌, ℕ, zero, suc, ◌+◌, [], ◌∷◌, ◌++◌}
 use Rattle.std.proofs.Common.{sym, ap, ◌∙◌, arith, append_assoc, append-nil}
 use Rattle.script.specs.Clocks.{ClockState, answer_of, first_answers}
-use Rattle.script.specs.declared.recording_clock.RecordingClock.{RecordingClock}
+use Rattle.script.specs.declared.clock.RecordingClock.{RecordingClock}
 use Rattle.script.specs.Readings.{readings_in_order}
 
 -- The clock gave its next answers, as many as the count, and goes on after them.

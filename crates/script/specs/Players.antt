@@ -71,8 +71,10 @@ abbrev pub PlayerGoesOn : Player → Player → Type 0
 PlayerGoesOn old new = IsPlayerConsistent new × (new.script ≡ old.script) × (new.accept ≡ old.accept)
     × (new.can_fail ≡ old.can_fail)
 
--- the event in front of the rest may be played now, so it is the first that may
+-- the port hasn't ended, and the event in front of the rest may be played now, so it is the first that may
 pub record IsFirst (p : Player) (e : ScriptEvent) : Type 0 where
+  pub consistent : IsPlayerConsistent p
+  pub running : p.ended ≡ false
   pub after : List ScriptEvent
   pub rest_is : p.events.rest ≡ e ∷ after
   pub ready : is_ready p.sessions e ≡ true
@@ -94,6 +96,11 @@ pub record TellsNext (old : PlayerState) (result : PortEvent) (new : PlayerState
 abbrev pub Played : Player → PortEvent → Player → Type 0
 Played old result new = is_playable old.script.value.items ≡ true
     → TellsNext (player_state old) result (player_state new)
+
+-- the player goes on, and played what it answers
+pub record PlaysNext (old : Player) (result : PortEvent) (new : Player) : Type 0 where
+  pub goes_on : PlayerGoesOn old new
+  pub played : Played old result new
 
 -- a record with which a session ends
 abbrev pub EndsSession : ℕ → PortRecord → Type 0

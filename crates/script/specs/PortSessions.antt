@@ -2,8 +2,8 @@
 use Rattle.std.specs.Prelude.{◌≡◌, ◌≢◌, ℕ, ◌<◌, ⊤, Bool, true, false, not, ◌==◌, if◌then◌else◌, List, [], ◌∷◌, ◌++◌}
 use Rattle.std.specs.Prelude.{length, map, slice_index_or, Option}
 use Rattle.std.specs.Prelude.{Some, None, option_map, MatchOption}
-use Rattle.script.specs.declared.stage.Stage.{Stage}
-use Rattle.script.specs.declared.stage.Stage.TheVariants.{Playing, Paused, Closed}
+use Rattle.script.specs.declared.sessions.Stage.{Stage}
+use Rattle.script.specs.declared.sessions.Stage.TheVariants.{Playing, Paused, Closed}
 
 -- a session with the bytes that it was given
 pub record ScriptSessionState : Type 0 where

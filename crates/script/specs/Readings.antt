@@ -1,7 +1,7 @@
 -- The readings that a clock gave.
 use Rattle.std.specs.Prelude.{ℕ, List, [], ◌∷◌, ◌++◌}
-use Rattle.script.specs.declared.readings.Readings.{Readings}
-use Rattle.script.specs.declared.readings.Readings.TheBlock.{None, After'}
+use Rattle.script.specs.declared.clock.Readings.{Readings}
+use Rattle.script.specs.declared.clock.Readings.TheBlock.{None, After'}
 
 -- the first reading first
 abbrev pub readings_in_order : Readings → List ℕ

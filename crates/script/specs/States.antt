@@ -15,7 +15,7 @@ use Rattle.worker_port.specs.declared.events.PortEvent.TheVariants as event
 use Rattle.worker_port.specs.declared.events.PortRecord.{PortRecord}
 use Rattle.worker_port.specs.declared.events.Gone.{Gone}
 use Rattle.worker_port.specs.Giving.{by_any_clock}
-use Rattle.worker_port.specs.Ports.{PortTrace}
+use Rattle.worker_port.specs.Ports.{PortTrace, is_open}
 use Rattle.script.specs.PortEvents.{event_session, events_without, send_after, is_playable}
 use Rattle.script.specs.PortSessions.{ScriptSessionState, is_paused}
 
@@ -151,6 +151,10 @@ script_trace port = record {
 -- they are told where the events of the script may come as they stand
 abbrev pub trace_told : PortState → Option PortTrace
 trace_told port = if is_playable port.player.script then Some (script_trace port) else None
+
+-- where the port tells, the session is open
+abbrev pub IsOpenWhereTold : PortState → ℕ → Type 0
+IsOpenWhereTold port s = (trace : PortTrace) → trace_told port ≡ Some trace → is_open s trace.events ≡ true
 
 -- a port that plays the same script, accepts as much at once, and can fail where it could
 abbrev pub PlaysOn : PortState → PortState → Type 0

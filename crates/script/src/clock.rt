@@ -1,9 +1,14 @@
-//! A clock whose answers are known beforehand.
+//! A clock whose answers are known beforehand, and the same for a group, which tells them.
 
-ghost use Rattle.std.specs.Prelude.{◌≡◌, ℕ, ◌+◌};
+ghost use Rattle.std.specs.Prelude.{◌≡◌, ℕ, ◌+◌, ◌++◌, [], ◌∷◌, Option, None, ⊤};
+ghost use Rattle.proto.specs.declared.logged_clock.ClockStart.{ClockStart};
 ghost use Rattle.script.specs.Clocks.{clock_at, answer_of};
+ghost use Rattle.script.specs.Readings.{readings_in_order};
 
+use engine::Clock;
+use proto::ClockAnswer;
 use std::marker::Model;
+use std::snapshot::Snapshot;
 
 /// A clock that goes on by the same number of seconds with each answer.
 #[derive(Clone, Copy)]
@@ -38,5 +43,72 @@ impl ScriptClock {
         let answer = self.next;
         self.next = self.next.saturating_add(self.tick);
         answer
+    }
+}
+
+/// The readings that were given. Only the last one has bytes; those before it are for clauses alone.
+#[derive(Drop)]
+enum Readings {
+    None,
+    After(Snapshot<Readings>, u64),
+}
+
+impl Readings {
+    /// These readings, and one more.
+    fn and(&self, reading: u64) -> Readings
+        ensures { readings_in_order result ≡ readings_in_order self.now ++ reading ∷ [] }
+    {
+        Readings::After(Snapshot::of(self), reading)
+    }
+}
+
+/// A script's clock that tells the list of its readings. The list takes no memory.
+#[derive(Drop)]
+pub struct RecordingClock {
+    clock: ScriptClock,
+    answers: Readings,
+}
+
+impl RecordingClock {
+    /// It gave no answer yet.
+    pub fn new(clock: ScriptClock) -> RecordingClock
+        ensures clock { result.clock ≡ clock }
+        ensures answers { readings_in_order result.answers ≡ [] }
+    {
+        RecordingClock {
+            clock,
+            answers: Readings::None,
+        }
+    }
+}
+
+impl Clock for RecordingClock {
+    ghost use Rattle.std.specs.Prelude.{Some, None};
+    ghost use Rattle.script.specs.Readings.{readings_in_order};
+    ghost use Rattle.script.specs.ClockLeading.{GivesAnswers, gives_none, gives_more};
+
+    ghost told = { λ clock. Some (readings_in_order clock.answers) };
+
+    ghost leads_to = { GivesAnswers };
+
+    ghost start = { λ _. None };
+
+    ghost leads_reflexive = { gives_none };
+
+    ghost leads_transitive = { gives_more };
+
+    /// The next answer of the script's clock.
+    fn now(&mut self) -> ClockAnswer
+        ensures told { Some (readings_in_order self.new.answers)
+            ≡ Some (readings_in_order self.old.answers ++ result.seconds ∷ []) }
+        ensures start { ◌≡◌ {A = Option ClockStart} None None }
+        ensures read { ⊤ }
+        ensures leads { GivesAnswers self.old self.new }
+        ensures next { result.seconds ≡ answer_of self.old.clock 0 }
+        ensures later { (n : ℕ) → answer_of self.new.clock n ≡ answer_of self.old.clock (n + 1) }
+    {
+        let answer = self.clock.now();
+        self.answers = self.answers.and(answer);
+        ClockAnswer::given(answer)
     }
 }

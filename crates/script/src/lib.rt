@@ -4,28 +4,23 @@
 
 mod clock;
 mod event;
-mod executor;
 mod fault;
 mod line;
 mod player;
 mod port;
 mod reader;
-mod readings;
-mod recording_clock;
 mod records;
 mod remaining;
 mod sequential_replay;
 mod sequential_session;
 mod sessions;
-mod stage;
 mod worker_script;
 
-pub use clock::ScriptClock;
+pub use clock::{RecordingClock, ScriptClock};
 pub use event::ScriptEvent;
 pub use fault::{LineFault, ScriptFault};
 pub use port::ScriptPort;
 pub use reader::{MAX_SCRIPT, read_script};
-pub use recording_clock::RecordingClock;
 pub use sequential_replay::{SessionOutput, replay_sequentially};
 pub use sessions::ScriptSession;
 pub use worker_script::WorkerScript;

@@ -45,24 +45,13 @@ fn event(
     ensures { IfOk result (λ found. found ≡ event_in verb.now session (option_to_list (option_copied hex.entry))) }
 {
     match hex {
-        None => {
-            if verb == b"open".as_slice() {
-                return Ok(Some(ScriptEvent::Open(session)));
-            }
-            if verb == b"gone".as_slice() {
-                return Ok(Some(ScriptEvent::Gone(session)));
-            }
-            Ok(None)
-        }
-        Some(hex) => {
-            if verb != b"send".as_slice() {
-                return Ok(None);
-            }
-            match bytes_of(alloc, hex)? {
-                Some(bytes) => Ok(Some(ScriptEvent::Send(session, bytes))),
-                None => Ok(None),
-            }
-        }
+        None if verb == b"open".as_slice() => Ok(Some(ScriptEvent::Open(session))),
+        None if verb == b"gone".as_slice() => Ok(Some(ScriptEvent::Gone(session))),
+        Some(hex) if verb == b"send".as_slice() => match bytes_of(alloc, hex)? {
+            Some(bytes) => Ok(Some(ScriptEvent::Send(session, bytes))),
+            None => Ok(None),
+        },
+        _ => Ok(None),
     }
 }
 

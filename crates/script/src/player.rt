@@ -10,7 +10,7 @@ ghost use Rattle.script.specs.Remaining.{in_order};
 ghost use Rattle.script.specs.PortSessions.{is_closed, is_waiting};
 ghost use Rattle.script.specs.PortSessions as sessions;
 ghost use Rattle.script.specs.Players.{is_left, is_ready, events_left, NoneReady, player_state};
-ghost use Rattle.script.specs.Players.{IsPlayerConsistent, PlayerGoesOn, IsFirst, IsCausedAt, Played};
+ghost use Rattle.script.specs.Players.{IsPlayerConsistent, PlayerGoesOn, IsFirst, IsCausedAt, PlaysNext};
 ghost use Rattle.script.specs.Players.{RecordsClose, EndsSession, Keeps, SamePlayer, CountsOffer, GivesAs};
 ghost use Rattle.script.specs.States.{CountsGive, SetsHeld, most_accepted, new_player, with_faults};
 ghost use Rattle.worker_port.specs.Ports.{given};
@@ -18,8 +18,7 @@ ghost use Rattle.worker_port.specs.Ports.{given};
 use crate::ScriptEvent;
 use crate::records::Records;
 use crate::remaining::{Remaining, event_session};
-use crate::sessions::Sessions;
-use crate::stage::Stage;
+use crate::sessions::{Sessions, Stage};
 use bytes::Bytes;
 use std::alloc::{AllocError, Global};
 use std::snapshot::Snapshot;
@@ -157,11 +156,8 @@ impl Player {
 
     // Begins a session.
     fn open(&mut self, session: u64) -> PortEvent
-        requires consistent { IsPlayerConsistent self.old }
-        requires running { self.old.ended ≡ false }
-        requires first { IsFirst self.old (script.Open session) }
-        ensures goes_on { PlayerGoesOn self.old self.new }
-        ensures played { Played self.old result self.new }
+        requires { IsFirst self.old (script.Open session) }
+        ensures { PlaysNext self.old result self.new }
     {
         if session <= self.sessions.newest() {
             self.events.drop_first();
@@ -177,13 +173,9 @@ impl Player {
 
     // Gives the next piece of a send.
     fn send(&mut self, session: u64, piece: Bytes, copy: Bytes) -> PortEvent
-        requires consistent { IsPlayerConsistent self.old }
-        requires running { self.old.ended ≡ false }
-        requires first { (bytes : List ℕ) × IsFirst self.old (script.Send session bytes)
-            × (piece ≡ take 16384 bytes)
-            × (copy ≡ take 16384 bytes) }
-        ensures goes_on { PlayerGoesOn self.old self.new }
-        ensures played { Played self.old result self.new }
+        requires { (bytes : List ℕ) × IsFirst self.old (script.Send session bytes)
+            × (piece ≡ take 16384 bytes) × (copy ≡ take 16384 bytes) }
+        ensures { PlaysNext self.old result self.new }
     {
         self.records.write(PortRecord::Data(session, copy));
         self.events.take_piece();
@@ -192,11 +184,8 @@ impl Player {
 
     // Ends a session whose peer has gone.
     fn go(&mut self, session: u64) -> PortEvent
-        requires consistent { IsPlayerConsistent self.old }
-        requires running { self.old.ended ≡ false }
-        requires first { IsFirst self.old (script.Gone session) }
-        ensures goes_on { PlayerGoesOn self.old self.new }
-        ensures played { Played self.old result self.new }
+        requires { IsFirst self.old (script.Gone session) }
+        ensures { PlaysNext self.old result self.new }
     {
         self.close(session, PortRecord::Gone(session));
         self.events.drop_first();
@@ -209,8 +198,7 @@ impl Player {
         requires running { self.old.ended ≡ false }
         requires first { (e : ScriptEvent) (after : List ScriptEvent) → self.old.events.rest ≡ e ∷ after
             → is_ready self.old.sessions e ≡ true }
-        ensures goes_on { PlayerGoesOn self.old self.new }
-        ensures played { Played self.old result self.new }
+        ensures { PlaysNext self.old result self.new }
     {
         match self.events.front() {
             Some(ScriptEvent::Open(session)) => {
@@ -237,8 +225,7 @@ impl Player {
         requires consistent { IsPlayerConsistent self.old }
         requires running { self.old.ended ≡ false }
         requires none { in_order self.old.events ≡ [] }
-        ensures goes_on { PlayerGoesOn self.old self.new }
-        ensures played { Played self.old result self.new }
+        ensures { PlaysNext self.old result self.new }
     {
         self.records.write(PortRecord::Ended);
         self.ended = true;
@@ -249,8 +236,7 @@ impl Player {
     /// `Ended` was given, and where no memory is found.
     pub(crate) fn next(&mut self) -> PortEvent
         requires consistent { IsPlayerConsistent self.old }
-        ensures goes_on { PlayerGoesOn self.old self.new }
-        ensures played { Played self.old result self.new }
+        ensures { PlaysNext self.old result self.new }
     {
         if self.ended {
             return PortEvent::Idle;

@@ -3,20 +3,18 @@
 ghost use Rattle.std.specs.Prelude.{◌≡◌, ℕ, ◌++◌, [], ◌∷◌, ◌≤◌, ◌↔◌, length, true, false, IfOk, option_map, Some};
 ghost use Rattle.script.specs.Events.{IsPlayable};
 ghost use Rattle.worker_port.specs.declared.events.PortRecord.TheVariants.{Shut};
-ghost use Rattle.worker_port.specs.Ports.{PortTrace, then_told, with_pause, event_records, then_gave, is_open};
-ghost use Rattle.worker_port.specs.Ports.{MayCome, given};
+ghost use Rattle.worker_port.specs.Ports.{PortTrace, then_told, with_pause, event_records, then_gave, MayCome, given};
 ghost use Rattle.worker_port.specs.Giving.{MayBeGiven};
 ghost use Rattle.script.specs.PortEvents.{is_playable};
 ghost use Rattle.script.specs.PortSessions.{numbers};
 ghost use Rattle.script.specs.Records.{opened_sessions};
 ghost use Rattle.script.specs.Following.{IsPlayed};
 ghost use Rattle.script.specs.States.{trace_told, PlaysOn, Plays, Gives, PortGoesOn, CountsGive, SetsHeld};
-ghost use Rattle.script.specs.States.{DropsSession, IsNewPort, with_faults};
+ghost use Rattle.script.specs.States.{DropsSession, IsNewPort, IsOpenWhereTold, with_faults};
 
 use crate::ScriptEvent;
 use crate::player::Player;
-use crate::sessions::ScriptSession;
-use crate::stage::Stage;
+use crate::sessions::{ScriptSession, Stage};
 use proto::{Dialect, Geometry};
 use std::alloc::Global;
 use std::marker::Model;
@@ -128,8 +126,7 @@ impl Port for ScriptPort {
     }
 
     fn give(&mut self, session: u64, bytes: &[u8], history: ToldHistory) -> Result<usize, Gone>
-        requires open { (trace : PortTrace) → trace_told self.old ≡ Some trace
-            → is_open session trace.events ≡ true }
+        requires open { IsOpenWhereTold self.old session }
         requires said { (trace : PortTrace) → trace_told self.old ≡ Some trace
             → MayBeGiven trace history session bytes.now }
         ensures within { IfOk result (λ n. n ≤ length bytes.now) }
@@ -145,8 +142,7 @@ impl Port for ScriptPort {
     }
 
     fn pause(&mut self, session: u64)
-        requires { (trace : PortTrace) → trace_told self.old ≡ Some trace
-            → is_open session trace.events ≡ true }
+        requires { IsOpenWhereTold self.old session }
         ensures leads { PlaysOn self.old self.new }
         ensures told { trace_told self.new ≡ option_map (with_pause session true) (trace_told self.old) }
         ensures held { is_playable self.old.player.script ≡ true
@@ -156,8 +152,7 @@ impl Port for ScriptPort {
     }
 
     fn resume(&mut self, session: u64)
-        requires { (trace : PortTrace) → trace_told self.old ≡ Some trace
-            → is_open session trace.events ≡ true }
+        requires { IsOpenWhereTold self.old session }
         ensures leads { PlaysOn self.old self.new }
         ensures told { trace_told self.new ≡ option_map (with_pause session false) (trace_told self.old) }
         ensures held { is_playable self.old.player.script ≡ true
@@ -167,8 +162,7 @@ impl Port for ScriptPort {
     }
 
     fn shut(&mut self, session: u64)
-        requires { (trace : PortTrace) → trace_told self.old ≡ Some trace
-            → is_open session trace.events ≡ true }
+        requires { IsOpenWhereTold self.old session }
         ensures leads { PlaysOn self.old self.new }
         ensures told { trace_told self.new ≡ option_map (then_told (Shut session ∷ [])) (trace_told self.old) }
         ensures shuts { is_playable self.old.player.script ≡ true

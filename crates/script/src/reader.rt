@@ -61,16 +61,6 @@ fn checked(
     }
 }
 
-/// Adds the event at its worker, or changes nothing.
-fn add(workers: &mut [WorkerScript], said: ScriptLine) -> Result<(), NoMemory>
-    requires in_range { said.worker < length workers.old }
-    requires may_come { MayFollow (events_at workers.old said.worker) said.event }
-    ensures ok { OnOk result (workers.new ≡ with_line workers.old said) }
-    ensures err { OnErr result (workers.new ≡ workers.old) }
-{
-    workers[said.worker as usize].push(said.event)
-}
-
 /// Reads a script line by line, and keeps the events of each worker.
 #[derive(Drop)]
 pub struct ScriptReader<'a> {
@@ -150,7 +140,7 @@ impl<'a> ScriptReader<'a> {
                 });
             }
         };
-        add(self.workers.as_mut_slice(), said)?;
+        self.workers[said.worker as usize].push(said.event)?;
         self.rest = rest;
         self.read = number;
         Ok(true)

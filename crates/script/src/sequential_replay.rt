@@ -5,12 +5,11 @@ ghost use Rattle.proto.specs.Cache.{empty_cache};
 ghost use Rattle.script.specs.declared.event.ScriptEvent.{ScriptEvent};
 ghost use Rattle.script.specs.Events.{IsPlayable, MayFollow};
 ghost use Rattle.script.specs.declared.sequential_session.SequentialSession.{SequentialSession};
-ghost use Rattle.script.specs.SequentialSessions.{Setup, Feeds};
+ghost use Rattle.script.specs.SequentialSessions.{Setup};
 ghost use Rattle.script.specs.SequentialReplays.{FeedsAt, IsSessionAt, IsReplay, IsRising, RunsEvent};
 ghost use Rattle.script.specs.SequentialReplays.{numbers_of, output_of};
 
-use crate::executor::Executor;
-use crate::sequential_session::SequentialSession;
+use crate::sequential_session::{Executor, SequentialSession};
 use crate::{ScriptClock, ScriptEvent};
 use engine::StorageEngine;
 use proto::{ByteString, NoMemory};
@@ -34,20 +33,6 @@ fn place_of(sessions: &[SequentialSession], number: u64) -> Option<usize>
     }
 }
 
-/// Feeds the session at a place.
-fn feed_at<E: StorageEngine + Drop>(
-    alloc: Global,
-    executor: &mut Executor<E>,
-    sessions: &mut Vec<SequentialSession>,
-    at: usize,
-    piece: &[u8],
-) -> Result<(), NoMemory>
-    requires { at < length sessions.old.items }
-    ensures { OnOk result (FeedsAt sessions.old.items at executor.old piece.now sessions.new.items executor.new) }
-{
-    sessions[at].feed(alloc, executor, piece)
-}
-
 /// Plays the next event.
 fn play<E: StorageEngine + Drop>(
     alloc: Global,
@@ -62,7 +47,7 @@ fn play<E: StorageEngine + Drop>(
         ScriptEvent::Open(number) => sessions.push(SequentialSession::new(alloc, *number))?,
         ScriptEvent::Send(number, bytes) => {
             if let Some(at) = place_of(sessions.as_slice(), *number) {
-                feed_at(alloc, executor, sessions, at, bytes.as_slice())?;
+                sessions[at].feed(alloc, executor, bytes.as_slice())?;
             }
         }
         ScriptEvent::Gone(_) => {}

@@ -1,23 +1,71 @@
-//! One session of a run.
+//! One session of a run, and what executes its requests.
 
-ghost use Rattle.std.specs.Prelude.{◌≡◌, ℕ, ◌≤◌, [], false, length, take, drop, IfOk, OnOk};
+ghost use Rattle.std.specs.Prelude.{◌≡◌, ℕ, ◌≤◌, ◌++◌, [], false, length, take, drop, is_some, IsTrue, IfOk, OnOk};
 ghost use Rattle.proto.specs.declared.dialect.Dialect.TheVariants.{Strict};
 ghost use Rattle.proto.specs.Grammar.{SpellsNone};
-ghost use Rattle.proto.specs.Reading.{ends_session};
+ghost use Rattle.proto.specs.History.{max_moment};
+ghost use Rattle.script.specs.Execution.{Execution, AnswersBehind};
 ghost use Rattle.script.specs.SequentialSessions.{AnswersNext, AnswersAll, IsNewSession, Feeds};
 
-use crate::executor::Executor;
-use engine::StorageEngine;
-use proto::{Message, Next, NoMemory, next_message};
+use crate::ScriptClock;
+use engine::{MAX_MOMENT, StorageEngine};
+use proto::{Message, Next, NoMemory, next_message, show};
 use std::alloc::Global;
+use std::marker::Model;
 
-/// Whether nothing of the session is read after the message.
-fn ends(message: &Message) -> bool
-    ensures { result ≡ ends_session message.now }
-{
-    match message {
-        Message::Quit | Message::Fatal(_) => true,
-        Message::Ask(_, _) | Message::Wrong(_) => false,
+/// A store, and the clock that tells its moments.
+#[derive(Drop)]
+pub struct Executor<E: StorageEngine + Drop> {
+    engine: E,
+    clock: ScriptClock,
+}
+
+impl<E: StorageEngine + Drop> Model for Executor<E> {
+    ghost use Rattle.std.specs.Prelude.{◌≤◌};
+    ghost use Rattle.proto.specs.History.{max_moment};
+    ghost use Rattle.script.specs.Execution.{Execution, execution_code};
+
+    ghost Value = { Execution };
+
+    ghost coded = { execution_code };
+
+    ghost view = { λ x. record {
+      sizes = E.sizes x.engine;
+      cache = E.cache x.engine;
+      moment = E.moment x.engine;
+      clock = x.clock;
+    } };
+
+    ghost invariant = { λ x. E.moment x.engine ≤ max_moment };
+}
+
+impl<E: StorageEngine + Drop> Executor<E> {
+    pub fn new(engine: E, clock: ScriptClock) -> Self
+        requires { E.moment engine ≤ max_moment }
+        ensures { result ≡ record {
+          sizes = E.sizes engine;
+          cache = E.cache engine;
+          moment = E.moment engine;
+          clock = clock;
+        } }
+    {
+        Executor { engine, clock }
+    }
+
+    /// Executes the message at the clock's next moment, where it is a request, and appends its answer.
+    pub fn answer(&mut self, message: &mut Message, output: &mut Vec<u8>) -> Result<(), NoMemory>
+        ensures answers { OnOk result (AnswersBehind self.old message.old self.new output.old.items output.new.items) }
+        ensures same { message.new ≡ message.old }
+    {
+        match message {
+            Message::Ask(request, _) => {
+                let told = self.clock.now().min(MAX_MOMENT);
+                let moment = self.engine.last_moment().max(told);
+                let reply = self.engine.handle(moment, request);
+                show(message, Some(&reply), output)
+            }
+            _ => show(message, None, output),
+        }
     }
 }
 
@@ -36,7 +84,7 @@ fn answer_next<E: StorageEngine + Drop>(
         Next::More => Ok(None),
         Next::Found(mut message, length) => {
             let answered = executor.answer(&mut message, output);
-            let ended = ends(&message);
+            let ended = matches!(message, Message::Quit | Message::Fatal(_));
             drop(message);
             answered?;
             Ok(Some((length, ended)))

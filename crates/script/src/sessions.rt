@@ -3,11 +3,39 @@
 ghost use Rattle.std.specs.Prelude.{◌≡◌, ℕ, ◌+◌, ◌<◌, [], ◌∷◌, ◌++◌, length, map, true, false, Some, None, option_map};
 ghost use Rattle.std.specs.Prelude.{MatchOption, OnOk, OnErr, slice_index_or, if◌then◌else◌};
 ghost use Rattle.script.specs.PortSessions.{ScriptSessionState, numbers, RisesFrom, newest, session_entry};
-ghost use Rattle.script.specs.PortSessions.{is_session_open, ChangesAt, with_stage, IsPlaceOf, is_closed, AcceptsAt};
+ghost use Rattle.script.specs.PortSessions.{is_session_open, ChangesAt, with_stage, IsPlaceOf, is_closed, is_waiting, AcceptsAt};
 
-use crate::stage::Stage;
 use std::alloc::{AllocError, Global};
 use std::marker::Model;
+
+/// What has become of a session that was opened.
+#[derive(Clone, Copy)]
+pub enum Stage {
+    Playing,
+    Paused,
+    /// Its peer has gone, or it was shut.
+    Closed,
+}
+
+impl Stage {
+    pub(crate) fn is_closed(self) -> bool
+        ensures { result ≡ is_closed self }
+    {
+        match self {
+            Stage::Closed => true,
+            Stage::Playing | Stage::Paused => false,
+        }
+    }
+
+    pub(crate) fn is_paused(self) -> bool
+        ensures { result ≡ is_waiting self }
+    {
+        match self {
+            Stage::Paused => true,
+            Stage::Playing | Stage::Closed => false,
+        }
+    }
+}
 
 /// A session that was opened.
 #[derive(Drop)]
@@ -26,16 +54,6 @@ impl Model for ScriptSession {
 }
 
 impl ScriptSession {
-    fn new(alloc: Global, number: u64) -> ScriptSession
-        ensures { result ≡ record { number = number; stage = Stage.Playing; output = [] } }
-    {
-        ScriptSession {
-            number,
-            stage: Stage::Playing,
-            output: Vec::new(alloc),
-        }
-    }
-
     pub fn number(&self) -> u64
         ensures { result ≡ self.now.number }
     {
@@ -143,8 +161,11 @@ impl Sessions {
         ensures err { OnErr result (self.new ≡ self.old) }
     {
         self.entries.reserve(1)?;
-        self.entries
-            .push_reserved(ScriptSession::new(self.alloc, number));
+        self.entries.push_reserved(ScriptSession {
+            number,
+            stage: Stage::Playing,
+            output: Vec::new(self.alloc),
+        });
         Ok(())
     }
 

@@ -31,7 +31,7 @@ use Rattle.worker_port.specs.declared.events.PortRecord.TheVariants as was
 use Rattle.worker_port.specs.Ports.{PortTrace, fed, given, is_in}
 use Rattle.worker.specs.Sessions.{cause_of}
 use Rattle.worker.specs.Reports.{IsCauseOf, AreListed, IsSessionAnswered}
-use Rattle.script.specs.declared.recording_clock.RecordingClock.{RecordingClock}
+use Rattle.script.specs.declared.clock.RecordingClock.{RecordingClock}
 use Rattle.script.specs.Readings.{readings_in_order}
 use Rattle.script.specs.ClockLeading.{GivesAnswers}
 use Rattle.script.specs.PortEvents.{is_playable}

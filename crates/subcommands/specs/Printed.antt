@@ -11,7 +11,7 @@ use Rattle.script.specs.Clocks.{ClockState}
 use Rattle.script.specs.Scripts.{Workers, AreEventsOf}
 use Rattle.worker_port.specs.declared.events.PortRecord.{PortRecord}
 use Rattle.worker_port.specs.Ports.{given}
-use Rattle.script.specs.declared.recording_clock.RecordingClock.{RecordingClock}
+use Rattle.script.specs.declared.clock.RecordingClock.{RecordingClock}
 use Rattle.script.specs.Readings.{readings_in_order}
 use Rattle.script.specs.ClockLeading.{GivesAnswers}
 use Rattle.script.specs.PortEvents.{is_playable}

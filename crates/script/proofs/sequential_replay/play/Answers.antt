@@ -1,3 +1,4 @@
+use Rattle.std.proofs.Common.{refl}
 use Rattle.script.proofs.Running.{run_opened, run_fed, run_skipped, run_gone}
 use Rattle.script.proofs.sequential_replay.play.Goals as goal
 
@@ -7,14 +8,21 @@ returns-in_ok-push-in-Open g c =
     (λ setup events run may. run_opened setup events c.in-Open.number c.args.executor.now c.args.sessions.now.items
     c.new.result run may c.new.ensures)
 
-pub returns-in_ok-feed_at-in-Send : goal.returns-in_ok-feed_at-in-Send
-returns-in_ok-feed_at-in-Send g c =
+pub returns-in_ok-feed-in-Send : goal.returns-in_ok-feed-in-Send
+returns-in_ok-feed-in-Send g c =
     let place = rw c.as_slice.ensures.value at c.in-Some.ensures in
-    let feeding = rw c.as_slice-in-Some.ensures at c.in_ok-feed_at-in-Send.ensures in
+    let feeds = rw c.as_slice-in-Some.ensures at c.in_ok-feed-in-Send.ensures in
     rw c.in-Send.is
     (λ setup events run may.
     run_fed setup events c.in-Send.number c.in-Send.bytes c.args.executor.now c.args.sessions.now.items
-    c.in-Some.at c.feed_at.new.executor c.feed_at.new.sessions.items run may place.0 place.1 feeding)
+    c.in-Some.at c.feed.new.executor _ run may place.0 place.1
+    (record {
+      old = c.index_mut.result.now;
+      new = c.feed.new.self;
+      old_is = c.index_mut.ensures.value;
+      feeds = feeds;
+      after_is = refl;
+    }))
 
 pub returns-in_default : goal.returns-in_default
 returns-in_default g c =

@@ -1,6 +1,6 @@
 use Rattle.std.proofs.Common.{Some, refl, ◌∙◌}
 use Rattle.std.specs.Prelude.{map}
-use Rattle.script.specs.declared.recording_clock.RecordingClock.{RecordingClock}
+use Rattle.script.specs.declared.clock.RecordingClock.{RecordingClock}
 use Rattle.script.specs.Readings.{readings_in_order}
 use Rattle.script.specs.ClockLeading.{GivesAnswers}
 use Rattle.script.specs.States.{trace_told, PlaysOn}

@@ -6,7 +6,7 @@ use Rattle.worker_port.specs.Ports.{is_in, fed, is_entry}
 use Rattle.worker_port.specs.PortFacts.{port_facts}
 use Rattle.worker_port.proofs.Facts.{about}
 use Rattle.worker_port.proofs.Lists.{ended_same}
-use Rattle.script.specs.declared.stage.Stage.TheVariants.{Closed}
+use Rattle.script.specs.declared.sessions.Stage.TheVariants.{Closed}
 use Rattle.script.specs.PortSessions.{ScriptSessionState, newest, last_from, session_entry, is_session_open}
 use Rattle.script.specs.PortSessions.{is_some_and, is_closed, was_closed, is_waiting}
 use Rattle.script.specs.PortSessions.{with_stage}

@@ -13,9 +13,9 @@ opens : (c : goal.After-drop_first-2)
       sessions = c.open.new.self;
       records = c.write.new.self;
     })
-    c.args.session c.requires.first.after
+    c.args.session c.requires.after
 opens c =
-    let p = c.args.self.now in let s = c.args.session in let f = c.requires.first in
+    let p = c.args.self.now in let s = c.args.session in let f = c.requires in
     let added = ok_of (c.open.new.self ≡ p.sessions ++ fresh s ∷ []) c.open.result
     (sym c.is_err.ensures.value ∙ c.if-is_err.false) c.open.ensures.ok in
     record {
@@ -31,34 +31,28 @@ opens c =
           (Open s) f.after f.rest_is c.drop_first-2.ensures.rest;
     }
 
-pub returns-clause-goes_on : goal.returns-clause-goes_on
-returns-clause-goes_on c = (
-  open_consistent c.args.self.now _ c.args.session c.requires.consistent c.requires.first (opens c),
-  refl,
-  refl,
-  refl,
-)
+pub returns : goal.returns
+returns c = record {
+  goes_on = (open_consistent c.args.self.now _ c.args.session c.requires.consistent c.requires (opens c), refl, refl, refl);
+  played = λ tells. open_told c.args.self.now _ c.args.session c.requires.consistent
+      c.requires (opens c) c.requires.running tells;
+}
 
-pub returns-clause-played : goal.returns-clause-played
-returns-clause-played c tells = open_told c.args.self.now _ c.args.session c.requires.consistent
-    c.requires.first (opens c) c.requires.running tells
-
-pub returns-then-session-newest-clause-goes_on : goal.returns-then-session-newest-clause-goes_on
-returns-then-session-newest-clause-goes_on c = (
-  odd_consistent c.args.self.now _ c.requires.consistent
-      refl refl refl refl refl refl
-      (ap (λ (e : RemainingState). e.aside) (first_dropped c.args.self.now.events c.drop_first.new.self
-      (Open c.args.session) c.requires.first.after c.requires.first.rest_is c.drop_first.ensures.rest))
-      (λ over. absurd (true≢false (sym over ∙ c.requires.running)))
-      (λ tells. let lt = opens_new c.args.self.now c.args.session c.requires.consistent c.requires.first
-      tells in
-      omega (arith, lt, c.newest.ensures, c.if-session-newest.true)),
-  refl,
-  refl,
-  refl,
-)
-
-pub returns-then-session-newest-clause-played : goal.returns-then-session-newest-clause-played
-returns-then-session-newest-clause-played c tells =
-    let lt = opens_new c.args.self.now c.args.session c.requires.consistent c.requires.first tells in
-    absurd (omega (arith, lt, c.newest.ensures, c.if-session-newest.true))
+pub returns-then-session-newest : goal.returns-then-session-newest
+returns-then-session-newest c = record {
+  goes_on = (
+    odd_consistent c.args.self.now _ c.requires.consistent
+        refl refl refl refl refl refl
+        (ap (λ (e : RemainingState). e.aside) (first_dropped c.args.self.now.events c.drop_first.new.self
+        (Open c.args.session) c.requires.after c.requires.rest_is c.drop_first.ensures.rest))
+        (λ over. absurd (true≢false (sym over ∙ c.requires.running)))
+        (λ tells. let lt = opens_new c.args.self.now c.args.session c.requires.consistent c.requires tells in
+        omega (arith, lt, c.newest.ensures, c.if-session-newest.true)),
+    refl,
+    refl,
+    refl,
+  );
+  played = λ tells.
+      let lt = opens_new c.args.self.now c.args.session c.requires.consistent c.requires tells in
+      absurd (omega (arith, lt, c.newest.ensures, c.if-session-newest.true));
+}

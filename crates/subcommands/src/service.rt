@@ -40,28 +40,6 @@ fn cannot_listen(alloc: Global, options: &ServeOptions, fault: NetFault) -> Faul
     }
 }
 
-/// Has the port end silent sessions, if after a number of seconds they are to be ended.
-fn set_idle_limit<H>(port: &mut MioPort<H>, idle: Option<u64>)
-where
-    H: Wait + Net + time::Clock + Copy + Drop,
-    ensures { trace_of port.new.served ≡ trace_of port.old.served }
-{
-    if let Some(seconds) = idle {
-        port.set_idle_limit(seconds);
-    }
-}
-
-/// Has the port look for events for a number of microseconds before it sleeps, if one is given.
-fn set_spin<H>(port: &mut MioPort<H>, spin: Option<u32>)
-where
-    H: Wait + Net + time::Clock + Copy + Drop,
-    ensures { trace_of port.new.served ≡ trace_of port.old.served }
-{
-    if let Some(micros) = spin {
-        port.set_spin(micros);
-    }
-}
-
 /// A port with the limits of the options.
 fn new_port<H>(
     rt: H,
@@ -75,8 +53,12 @@ where
     ensures { IfOk result (λ port. IsNew owner.geometry owner.dialect owner.worker (trace_of port.served)) }
 {
     let mut port = MioPort::new(rt, alloc, hand, owner)?;
-    set_idle_limit(&mut port, options.idle);
-    set_spin(&mut port, options.spin);
+    if let Some(seconds) = options.idle {
+        port.set_idle_limit(seconds);
+    }
+    if let Some(micros) = options.spin {
+        port.set_spin(micros);
+    }
     Ok(port)
 }
 
@@ -135,10 +117,9 @@ fn announce<W: Write>(
         × Appends (W.contents out.old) (W.contents out.new) line) }
 {
     let line = listening_line(alloc, options, port)?;
-    if out.write_all(line.as_bytes()).is_err() || out.flush().is_err() {
-        return Err(Fault::CannotWrite);
-    }
-    Ok(())
+    out.write_all(line.as_bytes())
+        .map_err(|_| Fault::CannotWrite)?;
+    out.flush().map_err(|_| Fault::CannotWrite)
 }
 
 /// What is made before the line is printed: the listener with its ends of the hands, the workers' ports and the store.
@@ -164,14 +145,12 @@ where
     ensures ports { IfOk result (λ opened. AreNewPorts geometry options.entry.now.dialect opened.ports.items) }
     ensures count { IfOk result (λ opened. vec_len opened.ports ≡ options.entry.now.workers) }
 {
-    let listener = match Listener::bind(&rt, alloc, options.listen.as_str()) {
-        Ok(listener) => listener,
-        Err(fault) => return Err(cannot_listen(alloc, options, fault)),
-    };
-    let (hands, ports) = match make_ports(rt, alloc, geometry, options) {
-        Ok(made) => made,
-        Err(fault) => return Err(cannot_listen(alloc, options, fault)),
-    };
+    let listener = Listener::bind(&rt, alloc, options.listen.as_str()).map_err(
+        |fault| cannot_listen(alloc, options, fault),
+    )?;
+    let (hands, ports) = make_ports(rt, alloc, geometry, options).map_err(|fault| cannot_listen(
+        alloc, options, fault,
+    ))?;
     Ok(Opened {
         listener,
         hands,
@@ -191,14 +170,12 @@ fn start_listening<H>(
 where
     H: Threads + Wait + time::Clock + Eprint + Copy + Drop + Send + 'static,
 {
-    match thread::spawn(&rt, move || {
+    thread::spawn(&rt, move || {
         os::set_thread_name(b"listener");
         let mut operator = Operator { rt, watch };
         listener.run_heard(&rt, hands.as_mut_slice(), limit, &mut operator)
-    }) {
-        Ok(listening) => Ok(listening),
-        Err(_) => Err(Fault::NoThread),
-    }
+    })
+    .map_err(|_| Fault::NoThread)
 }
 
 /// Runs a worker for each port over the store, as the options say, until all have ended.
@@ -225,8 +202,7 @@ where
         spin: options.spin,
     };
     let clock = UnixClock::new(rt);
-    let report = run_group(&rt, alloc, ports, config, store, clock, &OpenGate)?;
-    Ok(report)
+    Ok(run_group(&rt, alloc, ports, config, store, clock, &OpenGate)?)
 }
 
 /// Accepts streams up to the options' limit, and runs the workers until they have ended.
@@ -292,23 +268,4 @@ where
     Operator::new(rt, alloc).serves_with(in_force.as_str());
     announce(alloc, options, opened.listener.port(), out)?;
     run(rt, alloc, opened, geometry, options)
-}
-
-/// Serves as `serve` does, and lets go of what the group leaves. The errors are the same.
-pub fn serve_to_end<H, W: Write>(
-    rt: H,
-    alloc: Global,
-    options: &ServeOptions,
-    geometry: Geometry,
-    seed: u64,
-    out: &mut W,
-) -> Result<(), Fault>
-where
-    H: Threads + Wait + Net + time::Clock + Eprint + Copy + Drop + Send + Sync + 'static,
-    ensures { OnOk result ((port : ℕ) × (line : List ℕ)
-        × IsListeningLine (string_bytes options.entry.now.listen) port line
-        × Appends (W.contents out.old) (W.contents out.new) line) }
-{
-    serve(rt, alloc, options, geometry, seed, out)?;
-    Ok(())
 }

@@ -96,7 +96,10 @@ fn write_lines<W: Write>(
     for worker in 0..workers.len() {
         write_worker(alloc, out, worker, &workers[worker].port)?;
     }
-    out.flush().map_err(|_| Fault::CannotWrite)
+    if out.flush().is_err() {
+        return Err(Fault::CannotWrite);
+    }
+    Ok(())
 }
 
 /// A port for the events of each worker, with the faults that the options ask for.

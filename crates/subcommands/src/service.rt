@@ -117,9 +117,10 @@ fn announce<W: Write>(
         × Appends (W.contents out.old) (W.contents out.new) line) }
 {
     let line = listening_line(alloc, options, port)?;
-    out.write_all(line.as_bytes())
-        .map_err(|_| Fault::CannotWrite)?;
-    out.flush().map_err(|_| Fault::CannotWrite)
+    if out.write_all(line.as_bytes()).is_err() || out.flush().is_err() {
+        return Err(Fault::CannotWrite);
+    }
+    Ok(())
 }
 
 /// What is made before the line is printed: the listener with its ends of the hands, the workers' ports and the store.
@@ -145,12 +146,14 @@ where
     ensures ports { IfOk result (λ opened. AreNewPorts geometry options.entry.now.dialect opened.ports.items) }
     ensures count { IfOk result (λ opened. vec_len opened.ports ≡ options.entry.now.workers) }
 {
-    let listener = Listener::bind(&rt, alloc, options.listen.as_str()).map_err(
-        |fault| cannot_listen(alloc, options, fault),
-    )?;
-    let (hands, ports) = make_ports(rt, alloc, geometry, options).map_err(|fault| cannot_listen(
-        alloc, options, fault,
-    ))?;
+    let listener = match Listener::bind(&rt, alloc, options.listen.as_str()) {
+        Ok(listener) => listener,
+        Err(fault) => return Err(cannot_listen(alloc, options, fault)),
+    };
+    let (hands, ports) = match make_ports(rt, alloc, geometry, options) {
+        Ok(made) => made,
+        Err(fault) => return Err(cannot_listen(alloc, options, fault)),
+    };
     Ok(Opened {
         listener,
         hands,
@@ -202,7 +205,8 @@ where
         spin: options.spin,
     };
     let clock = UnixClock::new(rt);
-    Ok(run_group(&rt, alloc, ports, config, store, clock, &OpenGate)?)
+    let report = run_group(&rt, alloc, ports, config, store, clock, &OpenGate)?;
+    Ok(report)
 }
 
 /// Accepts streams up to the options' limit, and runs the workers until they have ended.

@@ -222,24 +222,16 @@ fn command<'a>(alloc: Global) -> Result<Command<'a>, AllocError> {
     with_job(with_job(Ok(bare_command(alloc)), replay), serve)
 }
 
-/// That a number is out of its option's range.
-fn out_of_range(alloc: Global, option: &NumberOption, found: u64) -> WordsFault {
-    let (name, value_name) = (option.name, option.value_name);
-    let (least, most) = (option.least, option.most);
-    match format!(in alloc;
-        "error: invalid value '{found}' for '--{name} <{value_name}>': {found} is not in {least}..={most}\n"
-    ) {
-        Ok(text) => WordsFault::BadWords(text),
-        Err(_) => WordsFault::NoMemory,
-    }
-}
-
 /// The option's number, if it is in the option's range.
 fn in_range(alloc: Global, option: &NumberOption, found: u64) -> Result<u64, WordsFault>
     ensures { IfOk result (IsInRange option.now) }
 {
-    if found < option.least || option.most < found {
-        return Err(out_of_range(alloc, option, found));
+    let (name, value_name) = (option.name, option.value_name);
+    let (least, most) = (option.least, option.most);
+    if found < least || most < found {
+        return Err(WordsFault::BadWords(format!(in alloc;
+            "error: invalid value '{found}' for '--{name} <{value_name}>': {found} is not in {least}..={most}\n"
+        )?));
     }
     Ok(found)
 }

@@ -161,13 +161,12 @@ pub fn start_storage<
         clock: Snapshot::of(&clock),
         end: Snapshot::of(&end),
     };
-    match scope.spawn_with(
-        promise,
-        move || run_storage_thread(rt, context, store, clock, end),
-    ) {
-        Ok(handle) => Ok(handle),
-        Err(_) => Err(GroupFault::NoThread),
-    }
+    scope
+        .spawn_with(
+            promise,
+            move || run_storage_thread(rt, context, store, clock, end),
+        )
+        .map_err(|_| GroupFault::NoThread)
 }
 
 /// Starts the thread of one worker.
@@ -195,10 +194,9 @@ fn start_worker<
         port: Snapshot::of(&port),
         end: Snapshot::of(&end),
     };
-    match scope.spawn_with(promise, move || worker_thread(rt, context, port, end)) {
-        Ok(handle) => Ok(handle),
-        Err(_) => Err(GroupFault::NoThread),
-    }
+    scope
+        .spawn_with(promise, move || worker_thread(rt, context, port, end))
+        .map_err(|_| GroupFault::NoThread)
 }
 
 /// Starts a thread for each port, with the end at its place. The list of handles has room for them.

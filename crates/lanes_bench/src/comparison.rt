@@ -1,4 +1,4 @@
-//! The same requests through the lanes and through the queues.
+//! The same requests by single calls and in batches.
 
 use crate::checks::Checks;
 use crate::player::{Player, Workload};
@@ -12,20 +12,20 @@ use std::time::{Clock, Duration};
 /// The requests of each run, of all workers together: 16,000 in all, each way.
 const REQUESTS: u64 = 2_000;
 
-/// Through both a worker was given an answer to each of its requests, and the same ones.
-fn compare_player(checks: &mut Checks, lane: &Player, queue: &Player, each: u64) {
-    let answers = lane.answers.as_slice();
-    checks.check("counts of a lane", lane.end.counts() == (each, 0));
-    checks.check("counts of queues", queue.end.counts() == (each, 0));
+/// Both ways a worker was given an answer to each of its requests, and the same ones.
+fn compare_player(checks: &mut Checks, single: &Player, batch: &Player, each: u64) {
+    let answers = single.answers.as_slice();
+    checks.check("counts of single calls", single.end.counts() == (each, 0));
+    checks.check("counts of batches", batch.end.counts() == (each, 0));
     checks.check("an answer to each", answers.len() as u64 >= each);
-    checks.check("the same answers", answers == queue.answers.as_slice());
+    checks.check("the same answers", answers == batch.answers.as_slice());
 }
 
-fn compare_players(checks: &mut Checks, lanes: &[Player], queues: &[Player], each: u64) {
-    checks.check("players of lanes", lanes.len() == checks.workers);
-    checks.check("players of queues", queues.len() == checks.workers);
-    for (lane, queue) in lanes.iter().zip(queues.iter()) {
-        compare_player(checks, lane, queue, each);
+fn compare_players(checks: &mut Checks, singles: &[Player], batches: &[Player], each: u64) {
+    checks.check("players of single calls", singles.len() == checks.workers);
+    checks.check("players of batches", batches.len() == checks.workers);
+    for (single, batch) in singles.iter().zip(batches.iter()) {
+        compare_player(checks, single, batch, each);
     }
 }
 
@@ -35,20 +35,20 @@ fn compare_runs<R: Threads + Wait + Clock + Sync>(
     checks: &mut Checks,
     load: Workload,
 ) {
-    let lanes = run_load(rt, alloc, Way::Lanes, checks.workers, load);
-    let queues = run_load(rt, alloc, Way::Queues, checks.workers, load);
-    match (&lanes, &queues) {
-        (Some(lanes), Some(queues)) => compare_players(
+    let singles = run_load(rt, alloc, Way::Single, checks.workers, load);
+    let batches = run_load(rt, alloc, Way::Batches, checks.workers, load);
+    match (&singles, &batches) {
+        (Some(singles), Some(batches)) => compare_players(
             checks,
-            lanes.players.as_slice(),
-            queues.players.as_slice(),
+            singles.players.as_slice(),
+            batches.players.as_slice(),
             load.each,
         ),
         _ => checks.check("memory for a run", false),
     }
 }
 
-/// Runs one to eight workers through lanes and through queues.
+/// Runs one to eight workers both ways.
 pub(crate) fn compare<R: Threads + Wait + Clock + Sync>(
     rt: &R,
     alloc: Global,

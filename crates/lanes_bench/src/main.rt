@@ -1,8 +1,7 @@
-//! Requests a second through the lanes, singly and in batches, and through the exchange by queues, each to the plain
-//! store and back. The figures go to standard error, since they differ from run to run. `lanes_bench N` hands over N requests a run;
-//! `lanes_bench idle N` lets the storage thread wait N seconds for nothing, to be timed from outside. With no word it first
-//! tries how long an idle thread spins, a window of the queues, and whether lanes and queues give the same answers to the
-//! same requests.
+//! Requests a second through the lanes, singly and in batches, to the plain store and back. The figures go to standard error,
+//! since they differ from run to run. `lanes_bench N` hands over N requests a run; `lanes_bench idle N` lets the storage thread
+//! wait N seconds for nothing, to be timed from outside. With no word it first tries how long an idle thread spins, and
+//! whether single calls and batches give the same answers to the same requests.
 #![tactic(auto)]
 
 mod checks;
@@ -10,10 +9,8 @@ mod comparison;
 mod ends;
 mod player;
 mod runs;
-mod serving;
 mod spinning;
 mod stopped;
-mod window;
 
 ghost use Rattle.std.specs.Prelude.{◌<◌};
 
@@ -22,7 +19,6 @@ use crate::comparison::compare;
 use crate::player::Workload;
 use crate::runs::{Way, run_load};
 use crate::spinning::check_spinning;
-use crate::window::check_window;
 use std::env;
 use std::io::Eprint;
 use std::process::ExitCode;
@@ -86,7 +82,7 @@ fn idle<R: Threads + Wait + Clock + Sync + AllocGlobal>(rt: &R, seconds: u64) {
         kept: false,
         pause: Duration::from_secs(seconds),
     };
-    let _ = run_load(rt, rt.alloc(), Way::Lanes, 1, load);
+    let _ = run_load(rt, rt.alloc(), Way::Single, 1, load);
 }
 
 fn is_idle<R: Env + AllocGlobal>(rt: &R) -> bool {
@@ -100,27 +96,23 @@ fn is_idle<R: Env + AllocGlobal>(rt: &R) -> bool {
 fn measure<R: Threads + Wait + Clock + Sync + AllocGlobal + Eprint>(rt: &R, requests: u64) {
     for workers in [1, 2, 4] {
         for window in [1, 16, 64] {
-            let lanes = per_second(rt, Way::Lanes, requests, workers, window);
-            let batches = per_second(rt, Way::Batches, requests, workers, window);
-            let queues = per_second(rt, Way::Queues, requests, workers, window);
+            let singly = per_second(rt, Way::Single, requests, workers, window);
+            let batched = per_second(rt, Way::Batches, requests, workers, window);
             let _ = eprintln!(rt;
-                "{workers} workers, window {window}: lanes {lanes}, in batches {batches}, queues {queues} a second"
+                "{workers} workers, window {window}: singly {singly}, in batches {batched} a second"
             );
         }
     }
 }
 
-/// Whether the queues do what the lanes do. If not, says which check failed.
+/// Whether single calls and batches do the same. If not, says which check failed.
 fn is_same<R: Threads + Wait + Clock + Sync + AllocGlobal + Eprint>(rt: &R) -> bool {
     let mut checks = Checks {
         workers: 1,
         failed: None,
     };
     check_spinning(rt, &mut checks);
-    check_window(rt, rt.alloc(), &mut checks);
-    if checks.failed.is_none() {
-        compare(rt, rt.alloc(), &mut checks);
-    }
+    compare(rt, rt.alloc(), &mut checks);
     let Some((workers, name)) = checks.failed else {
         return true;
     };

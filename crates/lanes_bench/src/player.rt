@@ -83,11 +83,11 @@ impl Player {
     }
 
     /// Asks the request at this place, and says whether there was memory and room for it.
-    fn ask<R: Wait>(&mut self, rt: &R, place: u64) -> bool {
+    fn ask(&mut self, place: u64) -> bool {
         let Ok(request) = self.request(place) else {
             return false;
         };
-        match self.end.ask(rt, request) {
+        match self.end.ask(request) {
             Ok(()) => true,
             Err(back) => {
                 drop(back);
@@ -104,8 +104,8 @@ impl Player {
     }
 
     /// Takes an answer, and says whether there was one.
-    fn take<R: Wait>(&mut self, rt: &R) -> bool {
-        let Some(mut answered) = self.end.answer(rt) else {
+    fn take(&mut self) -> bool {
+        let Some(mut answered) = self.end.answer() else {
             return false;
         };
         if self.load.kept {
@@ -123,14 +123,14 @@ impl Player {
         for _ in rt.forever() {
             let (asked, outstanding) = self.end.counts();
             if asked >= self.load.each && outstanding == 0 {
-                self.end.finish(rt);
+                self.end.finish();
                 storage.unpark();
                 return;
             }
             let has_moved = if asked < self.load.each && outstanding < self.load.window {
-                self.ask(rt, asked)
+                self.ask(asked)
             } else {
-                self.take(rt)
+                self.take()
             };
             storage.unpark();
             if !has_moved {

@@ -1,15 +1,14 @@
-//! A run through one exchange: a thread for each worker, and one for storage over the plain store.
+//! A run through the lanes: a thread for each worker, and one for storage over the plain store.
 
 ghost use Rattle.std.specs.Prelude.{IfSome};
 ghost use Rattle.lanes_bench.specs.Serving.{IsUnusedEnd, IsFresh};
 
 use crate::ends::CallingEnd;
 use crate::player::{Player, Workload};
-use crate::serving::serve_queues;
 use crate::stopped::Stopped;
 use engine::PlainStore;
-use exchange::StorageSignals;
-use proto::{AskedClock, Geometry, Terms};
+use exchange::{StorageEnd, StorageSignals, WorkerEnd, make};
+use proto::{Geometry, Terms};
 use std::alloc::{AllocError, Global};
 use std::hash::FoldHasher;
 use std::sync::Wait;
@@ -18,19 +17,11 @@ use std::time::{Duration, Instant};
 use std::{thread, time};
 use storage_thread::run_storage;
 
-/// What the requests go through: the lanes, singly or in batches, or the queues.
+/// How a worker calls its end: for each request, or for many at once.
 #[derive(Clone, Copy)]
 pub(crate) enum Way {
-    Lanes,
+    Single,
     Batches,
-    Queues,
-}
-
-/// Storage's end of either exchange.
-#[derive(Drop)]
-enum ServedEnd {
-    Lanes(exchange::StorageEnd),
-    Queues(queue_exchange::StorageEnd),
 }
 
 /// The players of a run once all have had their answers, and how long that took, if the clock said so.
@@ -40,108 +31,42 @@ pub(crate) struct Run {
     pub elapsed: Option<Duration>,
 }
 
-// A player for each end of lanes.
-fn lane_players(
+// A player for each end.
+fn players_of(
     alloc: Global,
-    ends: Vec<exchange::WorkerEnd>,
-    are_batched: bool,
+    way: Way,
+    ends: Vec<WorkerEnd>,
     load: Workload,
 ) -> Result<Vec<Player>, AllocError> {
     let mut players = Vec::with_capacity(alloc, ends.len())?;
     for end in ends {
         let worker = end.worker();
-        let end = if are_batched {
-            CallingEnd::Batch(end.batched())
-        } else {
-            CallingEnd::Lane(end)
+        let end = match way {
+            Way::Single => CallingEnd::Single(end),
+            Way::Batches => CallingEnd::Batch(end.batched()),
         };
         players.push(Player::new(alloc, end, worker, load))?;
     }
     Ok(players)
 }
 
-// A player for each end of queues.
-fn queue_players(
-    alloc: Global,
-    ends: Vec<queue_exchange::WorkerEnd>,
-    load: Workload,
-) -> Result<Vec<Player>, AllocError> {
-    let mut players = Vec::with_capacity(alloc, ends.len())?;
-    for end in ends {
-        let worker = end.worker();
-        let end = CallingEnd::Queue(end);
-        players.push(Player::new(alloc, end, worker, load))?;
-    }
-    Ok(players)
-}
-
-// A player for each end of lanes, and storage's end.
-fn over_lanes(
-    alloc: Global,
-    workers: usize,
-    geometry: Geometry,
-    are_batched: bool,
-    load: Workload,
-) -> Option<(Vec<Player>, ServedEnd)>
-    ensures { IfSome result (λ r. IsUnusedEnd geometry r.1) }
-{
-    let terms = Terms {
-        geometry,
-        system_clock: false,
-    };
-    let (ends, storage) = exchange::make(alloc, workers, terms).ok()?;
-    let players = lane_players(alloc, ends, are_batched, load).ok()?;
-    Some((players, ServedEnd::Lanes(storage)))
-}
-
-// A player for each end of queues, and storage's end.
-fn over_queues(
-    alloc: Global,
-    workers: usize,
-    geometry: Geometry,
-    load: Workload,
-) -> Option<(Vec<Player>, ServedEnd)>
-    ensures { IfSome result (λ r. IsUnusedEnd geometry r.1) }
-{
-    let (ends, storage) = queue_exchange::make(alloc, workers, geometry).ok()?;
-    let players = queue_players(alloc, ends, load).ok()?;
-    Some((players, ServedEnd::Queues(storage)))
-}
-
-// A player for each end, and storage's end.
+// A player for each worker, and storage's end.
 fn opened(
     alloc: Global,
     way: Way,
     workers: usize,
     geometry: Geometry,
     load: Workload,
-) -> Option<(Vec<Player>, ServedEnd)>
+) -> Option<(Vec<Player>, StorageEnd)>
     ensures { IfSome result (λ r. IsUnusedEnd geometry r.1) }
 {
-    match way {
-        Way::Lanes => over_lanes(alloc, workers, geometry, false, load),
-        Way::Batches => over_lanes(alloc, workers, geometry, true, load),
-        Way::Queues => over_queues(alloc, workers, geometry, load),
-    }
-}
-
-// Serves until each worker has said bye.
-fn serve<R: Wait + time::Clock>(
-    rt: &R,
-    store: PlainStore,
-    storage: ServedEnd,
-    signals: &StorageSignals,
-)
-    requires { IsFresh store storage }
-{
-    match storage {
-        ServedEnd::Lanes(end) => {
-            run_storage(rt, store, Stopped, end, signals);
-        }
-        ServedEnd::Queues(end) => {
-            serve_queues(rt, store, AskedClock::new(Stopped), end);
-        }
-    }
+    let terms = Terms {
+        geometry,
+        system_clock: false,
+    };
+    let (ends, storage) = make(alloc, workers, terms).ok()?;
+    let players = players_of(alloc, way, ends, load).ok()?;
+    Some((players, storage))
 }
 
 // Each player in a thread, beside storage's.
@@ -149,14 +74,14 @@ fn play<R: Threads + Wait + time::Clock + Sync>(
     rt: &R,
     store: PlainStore,
     signals: &StorageSignals,
-    storage: ServedEnd,
+    storage: StorageEnd,
     players: &mut [Player],
 )
     requires { IsFresh store storage }
 {
     thread::join(
         rt,
-        move || serve(rt, store, storage, signals),
+        move || run_storage(rt, store, Stopped, storage, signals),
         || thread::for_each_mut(
             rt,
             players,
@@ -175,7 +100,7 @@ fn timed<R: Threads + Wait + time::Clock + Sync>(
     rt: &R,
     store: PlainStore,
     signals: &StorageSignals,
-    storage: ServedEnd,
+    storage: StorageEnd,
     mut players: Vec<Player>,
 ) -> Run
     requires { IsFresh store storage }

@@ -11,7 +11,7 @@ use std::process::ExitCode;
 use std::sync::Wait;
 use std::thread::Threads;
 use std::{env, fs, time};
-use subcommands::{Fault, cannot_read, replay, seed_of, serve_to_end};
+use subcommands::{Fault, cannot_read, replay, seed_of, serve};
 
 /// Replays the script in the file that the options name, with these threads.
 fn replay_file<H: Threads + Wait + time::Clock + Sync>(
@@ -21,10 +21,9 @@ fn replay_file<H: Threads + Wait + time::Clock + Sync>(
 ) -> Result<(), Fault> {
     let alloc = rt.alloc();
     let geometry = geometry_of(options.segment_size, options.segments).ok_or(Fault::BadGeometry)?;
-    let script: File = match fs::open(rt, options.file.as_str()) {
-        Ok(script) => script,
-        Err(error) => return Err(cannot_read(alloc, options, &error)),
-    };
+    let script: File = fs::open(rt, options.file.as_str()).map_err(|error| cannot_read(
+        alloc, options, &error,
+    ))?;
     let mut out = BufWriter::new(alloc, io::writer(rt)).map_err(|_| Fault::NoMemory)?;
     replay(threads, alloc, options, geometry, script, &mut out)?;
     Ok(())
@@ -39,17 +38,14 @@ fn serve_at<H: Threads + Wait + Net + time::Clock + Eprint + Copy + Drop + Send 
     let alloc = rt.alloc();
     let geometry = geometry_of(options.segment_size, options.segments).ok_or(Fault::BadGeometry)?;
     let mut out = BufWriter::new(alloc, io::writer(rt)).map_err(|_| Fault::NoMemory)?;
-    serve_to_end(*threads, alloc, options, geometry, seed_of(rt), &mut out)?;
+    serve(*threads, alloc, options, geometry, seed_of(rt), &mut out)?;
     Ok(())
 }
 
 /// What the words after the program's name ask for.
 fn job(rt: &HostRuntime) -> Result<Job, WordsFault> {
     let alloc = rt.alloc();
-    let words = match env::args(rt) {
-        Ok(words) => words,
-        Err(error) => return Err(unreadable_words(alloc, &error)),
-    };
+    let words = env::args(rt).map_err(|error| unreadable_words(alloc, &error))?;
     let words: Vec<String> = words.skip(1).collect(alloc)?;
     parse_words(alloc, words.as_slice())
 }

@@ -12,4 +12,4 @@ pub use fault::Fault;
 pub use reading::cannot_read;
 pub use replaying::replay;
 pub use seed::seed_of;
-pub use service::{Report, serve, serve_to_end};
+pub use service::{Report, serve};

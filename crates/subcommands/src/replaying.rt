@@ -34,10 +34,10 @@ fn read_events<R: Read + Drop>(
     ensures all { IfOk result (λ r. IfSome (R.remaining script) (λ text. r.1.items ≡ text)) }
 {
     let (bytes, text) = script_bytes(alloc, options, script)?;
-    match read_script(alloc, bytes.as_slice(), options.workers as usize) {
-        Ok(scripts) => Ok((scripts, text)),
-        Err(fault) => Err(Fault::Script(fault)),
-    }
+    let scripts = read_script(alloc, bytes.as_slice(), options.workers as usize).map_err(
+        Fault::Script,
+    )?;
+    Ok((scripts, text))
 }
 
 /// The bytes in hexadecimal, or `-` where there are none.
@@ -78,9 +78,8 @@ fn write_worker<W: Write>(
     for session in port.sessions() {
         let number = session.number();
         let line = line(alloc, worker, number, port.given(number))?;
-        if out.write_all(line.as_bytes()).is_err() {
-            return Err(Fault::CannotWrite);
-        }
+        out.write_all(line.as_bytes())
+            .map_err(|_| Fault::CannotWrite)?;
     }
     Ok(())
 }

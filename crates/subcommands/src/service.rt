@@ -40,28 +40,6 @@ fn cannot_listen(alloc: Global, options: &ServeOptions, fault: NetFault) -> Faul
     }
 }
 
-/// Has the port end silent sessions, if after a number of seconds they are to be ended.
-fn set_idle_limit<H>(port: &mut MioPort<H>, idle: Option<u64>)
-where
-    H: Wait + Net + time::Clock + Copy + Drop,
-    ensures { trace_of port.new.served ≡ trace_of port.old.served }
-{
-    if let Some(seconds) = idle {
-        port.set_idle_limit(seconds);
-    }
-}
-
-/// Has the port look for events for a number of microseconds before it sleeps, if one is given.
-fn set_spin<H>(port: &mut MioPort<H>, spin: Option<u32>)
-where
-    H: Wait + Net + time::Clock + Copy + Drop,
-    ensures { trace_of port.new.served ≡ trace_of port.old.served }
-{
-    if let Some(micros) = spin {
-        port.set_spin(micros);
-    }
-}
-
 /// A port with the limits of the options.
 fn new_port<H>(
     rt: H,
@@ -75,8 +53,12 @@ where
     ensures { IfOk result (λ port. IsNew owner.geometry owner.dialect owner.worker (trace_of port.served)) }
 {
     let mut port = MioPort::new(rt, alloc, hand, owner)?;
-    set_idle_limit(&mut port, options.idle);
-    set_spin(&mut port, options.spin);
+    if let Some(seconds) = options.idle {
+        port.set_idle_limit(seconds);
+    }
+    if let Some(micros) = options.spin {
+        port.set_spin(micros);
+    }
     Ok(port)
 }
 
@@ -191,14 +173,12 @@ fn start_listening<H>(
 where
     H: Threads + Wait + time::Clock + Eprint + Copy + Drop + Send + 'static,
 {
-    match thread::spawn(&rt, move || {
+    thread::spawn(&rt, move || {
         os::set_thread_name(b"listener");
         let mut operator = Operator { rt, watch };
         listener.run_heard(&rt, hands.as_mut_slice(), limit, &mut operator)
-    }) {
-        Ok(listening) => Ok(listening),
-        Err(_) => Err(Fault::NoThread),
-    }
+    })
+    .map_err(|_| Fault::NoThread)
 }
 
 /// Runs a worker for each port over the store, as the options say, until all have ended.
@@ -292,23 +272,4 @@ where
     Operator::new(rt, alloc).serves_with(in_force.as_str());
     announce(alloc, options, opened.listener.port(), out)?;
     run(rt, alloc, opened, geometry, options)
-}
-
-/// Serves as `serve` does, and lets go of what the group leaves. The errors are the same.
-pub fn serve_to_end<H, W: Write>(
-    rt: H,
-    alloc: Global,
-    options: &ServeOptions,
-    geometry: Geometry,
-    seed: u64,
-    out: &mut W,
-) -> Result<(), Fault>
-where
-    H: Threads + Wait + Net + time::Clock + Eprint + Copy + Drop + Send + Sync + 'static,
-    ensures { OnOk result ((port : ℕ) × (line : List ℕ)
-        × IsListeningLine (string_bytes options.entry.now.listen) port line
-        × Appends (W.contents out.old) (W.contents out.new) line) }
-{
-    serve(rt, alloc, options, geometry, seed, out)?;
-    Ok(())
 }

@@ -1,5 +1,0 @@
-pub mod Replies
-pub mod Requests
-pub mod Queues
-pub mod ReplySides
-pub mod Ends

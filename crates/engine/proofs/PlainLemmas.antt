@@ -1,5 +1,6 @@
 -- What changes of a map of pairs do to its live entries.
-use Rattle.std.proofs.Common.{◌≡◌, ℕ, Bool, true, false, cond, List, [], ◌∷◌, map, Ordering, Option, Some, None, refl, sym, ap, ◌∙◌, inl, inr}
+use Rattle.std.proofs.Common.{◌≡◌, ℕ, Bool, true, false, cond, List, [], ◌∷◌, map, Ordering, Option, Some, None, refl, sym, ap, ◌∙◌, inl}
+use Rattle.std.proofs.Common.{inr}
 use Rattle.std.specs.Prelude.{bytes_eq, Vec}
 use Rattle.std.specs.Global.{Global}
 use Rattle.std.specs.FinMap as finite

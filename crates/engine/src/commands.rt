@@ -13,13 +13,11 @@ ghost use Rattle.engine.specs.Keeping.{StaysKept};
 ghost use Rattle.engine.specs.AnswerSizes.{shown_size, answer_size};
 
 use crate::deadline::{deadline_of, has_arrived};
-use crate::entry_ref::EntryRef;
 use crate::hits::{hit_of_only, hits_of_keys};
-use crate::live_map::LiveMap;
+use crate::live_map::{EntryRef, LiveMap};
 use crate::number::{Change, number_of};
-use crate::size::is_too_large;
 use itoa::Buffer;
-use proto::{HitWriter, Keys, MAX_ANSWER, Put, Reply, Request};
+use proto::{HitWriter, Keys, MAX_ANSWER, MAX_KEY, Put, Reply, Request, item_size};
 
 /// A cache over a map of live entries.
 #[derive(Drop)]
@@ -195,14 +193,21 @@ impl<M: LiveMap> Engine<M> {
         }
     }
 
+    /// Whether the item would be larger than the map's limit, or its key is empty or too long.
     fn is_too_large(&self, item: &Put) -> bool
         ensures { result ≡ is_too_large (item_limit (M.sizes self.now.map)) item.now }
     {
-        is_too_large(self.map.item_limit(), item)
+        let limit = self.map.item_limit();
+        let key_length = item.key.as_slice().len();
+        let value_length = item.value.as_slice().len();
+        key_length == 0
+            || key_length > MAX_KEY
+            || value_length > limit as usize
+            || item_size(key_length, value_length) > limit
     }
 
-    /// Shows the entries at the keys, in the buffer that the keys were lent if that is large enough, and counts a read of each.
-    /// All hits are dropped, and no read is counted, if they take more than `MAX_ANSWER` bytes.
+    /// Shows the entries at the keys, in the buffer that the keys were lent if that is large enough, and counts a read
+    /// of each. All hits are dropped, and no read is counted, if they take more than `MAX_ANSWER` bytes.
     fn get(&mut self, keys: &mut Keys, with_cas: bool) -> Reply
         ensures limit { MAX_ANSWER < shown_size (hits_of with_cas (M.entries self.old.map) keys.old)
             → result ≡ Reply.NoMemory }

@@ -1,15 +1,66 @@
 //! Entries by their keys, as they are seen at the last moment.
 
-ghost use Rattle.std.specs.Prelude.{◌≡◌, ◌≤◌, ℕ, List, OnOk, OnErr, IfSome, false};
+ghost use Rattle.std.specs.Prelude.{◌≡◌, ◌≤◌, ℕ, List, OnOk, OnErr, IfSome, not, false};
 ghost use Rattle.std.specs.Option.{option_copied};
 ghost use Rattle.std.specs.FinMap as map;
 ghost use Rattle.proto.specs.Cache.{no_entries, live, has_arrived};
+ghost use Rattle.engine.specs.Shown.{entry_of};
 
-use crate::plain_entry::Entry;
-use proto::NoMemory;
+use crate::{EntryRef, has_arrived};
+use proto::{ByteString, NoMemory};
 use std::alloc::Global;
 use std::collections::BTreeMap;
 use std::marker::Model;
+
+/// What a cache has at a key.
+#[derive(Drop)]
+pub struct Entry {
+    value: ByteString,
+    flags: u32,
+    deadline: Option<u64>,
+    cas: u64,
+}
+
+impl Model for Entry {
+    ghost use Rattle.proto.specs.Cache.{Entry, entry_code};
+
+    ghost Value = { Entry };
+
+    ghost coded = { entry_code };
+
+    ghost view = { λ a. record { value = a.value; flags = a.flags; deadline = a.deadline; cas = a.cas } };
+}
+
+impl Entry {
+    pub fn new(value: ByteString, flags: u32, deadline: Option<u64>, cas: u64) -> Self
+        ensures { result ≡ record { value = value; flags = flags; deadline = deadline; cas = cas } }
+    {
+        Entry {
+            value,
+            flags,
+            deadline,
+            cas,
+        }
+    }
+
+    /// The entry, lent.
+    pub fn lent(&self) -> EntryRef<'_>
+        ensures { entry_of result ≡ self.now }
+    {
+        EntryRef {
+            value: self.value.as_slice(),
+            flags: self.flags,
+            deadline: self.deadline,
+            cas: self.cas,
+        }
+    }
+
+    fn is_live(&self, now: u64) -> bool
+        ensures { result ≡ not (has_arrived self.now.deadline now) }
+    {
+        !has_arrived(self.deadline, now)
+    }
+}
 
 /// The live entries at a moment. An entry whose deadline has come isn't seen any more, but it is dropped
 /// only when its key is written or deleted, or when all entries are.
@@ -59,12 +110,6 @@ impl LiveEntries {
         } else {
             None
         }
-    }
-
-    pub fn contains_key(&self, key: &[u8]) -> bool
-        ensures { result ≡ map.contains_key self.now.entries key.now }
-    {
-        self.get(key).is_some()
     }
 
     /// Moves on to this moment.

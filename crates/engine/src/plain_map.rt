@@ -1,10 +1,8 @@
 //! A map that evicts nothing and gives each entry exactly the deadline that it asks for, and the cache over it.
 
-ghost use Rattle.std.specs.Prelude.{◌≡◌, ⊤, true};
-ghost use Rattle.engine.specs.Shown.{entry_of};
+ghost use Rattle.std.specs.Prelude.{⊤, true};
 
-use crate::live_entries::LiveEntries;
-use crate::plain_entry::Entry;
+use crate::live_entries::{Entry, LiveEntries};
 use crate::{Engine, EntryRef, LiveMap, StoreMap};
 use proto::{ByteString, Geometry, NoMemory};
 use std::alloc::Global;
@@ -20,18 +18,6 @@ pub struct PlainMap {
 
 /// The plain cache.
 pub type PlainStore = Engine<PlainMap>;
-
-/// The entry, lent.
-fn lent(entry: &Entry) -> EntryRef<'_>
-    ensures { entry_of result ≡ entry.now }
-{
-    EntryRef {
-        value: entry.value(),
-        flags: entry.flags(),
-        deadline: entry.deadline(),
-        cas: entry.cas(),
-    }
-}
 
 impl LiveMap for PlainMap {
     ghost use Rattle.engine.specs.PlainWrites.{WritesPlainly, ReadsPlainly};
@@ -79,15 +65,11 @@ impl LiveMap for PlainMap {
     }
 
     fn get<'a>(&'a self, key: &[u8]) -> Option<(EntryRef<'a>, ())> {
-        Some((lent(self.live.get(key)?), ()))
+        Some((self.live.get(key)?.lent(), ()))
     }
 
     fn entry_at<'a>(&'a self, key: &[u8], _place: ()) -> EntryRef<'a> {
-        lent(self.live.get(key).unwrap())
-    }
-
-    fn contains_key(&self, key: &[u8]) -> bool {
-        self.live.contains_key(key)
+        self.live.get(key).unwrap().lent()
     }
 
     /// A plain map counts no reads.

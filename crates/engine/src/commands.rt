@@ -7,7 +7,6 @@ ghost use Rattle.proto.specs.Commands.{write, put, change, is_too_large, leaving
 ghost use Rattle.proto.specs.Sizes.{item_limit};
 ghost use Rattle.proto.specs.History.{max_moment};
 ghost use Rattle.engine.specs.Written.{MayBeWritten, IsChanged};
-ghost use Rattle.engine.specs.Shown.{entry_of};
 ghost use Rattle.engine.specs.Change.{changed_by};
 ghost use Rattle.engine.specs.Keeping.{StaysKept};
 ghost use Rattle.engine.specs.AnswerSizes.{shown_size, answer_size};

@@ -6,7 +6,6 @@ mod commands;
 mod deadline;
 mod hits;
 mod laws;
-mod live_entries;
 mod live_map;
 mod number;
 mod plain_map;

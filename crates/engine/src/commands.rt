@@ -3,7 +3,7 @@
 ghost use Rattle.std.specs.Prelude.{◌≡◌, ◌≤◌, ◌<◌, ◌&&◌, true, false};
 ghost use Rattle.std.specs.FinMap as map;
 ghost use Rattle.proto.specs.Cache.{found_at, has_arrived};
-ghost use Rattle.proto.specs.Commands.{write, put, change, is_too_large, leaving, hits_of, act};
+ghost use Rattle.proto.specs.Commands.{write, put, change, is_too_large, leaving, hits_of};
 ghost use Rattle.proto.specs.Sizes.{item_limit};
 ghost use Rattle.proto.specs.History.{max_moment};
 ghost use Rattle.engine.specs.Written.{MayBeWritten, IsChanged};
@@ -29,7 +29,7 @@ pub struct Engine<M> {
 }
 
 impl<M: LiveMap> Engine<M> {
-    ghost use Rattle.engine.specs.Engines.{cache_in, Leaves, tells_number};
+    ghost use Rattle.engine.specs.Engines.{cache_in, Leaves, Executes, tells_number};
 
     /// Stores an entry with the next cas number. NoCas if the greatest one was given out, NoMemory if memory is
     /// refused.
@@ -125,9 +125,7 @@ impl<M: LiveMap> Engine<M> {
     }
 
     fn delete(&mut self, key: &[u8]) -> Reply
-        ensures { Leaves M.LiveMap self.old self.new
-            (act (item_limit (M.sizes self.old.map)) (cache_in M.entries self.old) (M.moment self.old.map)
-            (Request.Delete key.now)) result }
+        ensures { Executes M.LiveMap self.old (Request.Delete key.now) result self.new }
     {
         if !self.map.contains_key(key) {
             return Reply::NotFound;
@@ -161,9 +159,7 @@ impl<M: LiveMap> Engine<M> {
 
     fn flush(&mut self, delay: u64) -> Reply
         requires { M.moment self.old.map ≤ max_moment }
-        ensures { Leaves M.LiveMap self.old self.new
-            (act (item_limit (M.sizes self.old.map)) (cache_in M.entries self.old) (M.moment self.old.map)
-            (Request.FlushAll delay)) result }
+        ensures { Executes M.LiveMap self.old (Request.FlushAll delay) result self.new }
     {
         if delay == 0 {
             self.map.clear();
@@ -228,9 +224,7 @@ impl<M: LiveMap> Engine<M> {
 
     fn set(&mut self, item: &Put) -> Reply
         requires { M.moment self.old.map ≤ max_moment }
-        ensures { Leaves M.LiveMap self.old self.new
-            (act (item_limit (M.sizes self.old.map)) (cache_in M.entries self.old) (M.moment self.old.map)
-            (Request.Set item.now)) result }
+        ensures { Executes M.LiveMap self.old (Request.Set item.now) result self.new }
     {
         if self.is_too_large(item) {
             return Reply::TooLarge;
@@ -240,9 +234,7 @@ impl<M: LiveMap> Engine<M> {
 
     fn add(&mut self, item: &Put) -> Reply
         requires { M.moment self.old.map ≤ max_moment }
-        ensures { Leaves M.LiveMap self.old self.new
-            (act (item_limit (M.sizes self.old.map)) (cache_in M.entries self.old) (M.moment self.old.map)
-            (Request.Add item.now)) result }
+        ensures { Executes M.LiveMap self.old (Request.Add item.now) result self.new }
     {
         if self.is_too_large(item) {
             return Reply::TooLarge;
@@ -255,9 +247,7 @@ impl<M: LiveMap> Engine<M> {
 
     fn replace(&mut self, item: &Put) -> Reply
         requires { M.moment self.old.map ≤ max_moment }
-        ensures { Leaves M.LiveMap self.old self.new
-            (act (item_limit (M.sizes self.old.map)) (cache_in M.entries self.old) (M.moment self.old.map)
-            (Request.Replace item.now)) result }
+        ensures { Executes M.LiveMap self.old (Request.Replace item.now) result self.new }
     {
         if self.is_too_large(item) {
             return Reply::TooLarge;
@@ -270,9 +260,7 @@ impl<M: LiveMap> Engine<M> {
 
     fn cas(&mut self, item: &Put, unique: u64) -> Reply
         requires { M.moment self.old.map ≤ max_moment }
-        ensures { Leaves M.LiveMap self.old self.new
-            (act (item_limit (M.sizes self.old.map)) (cache_in M.entries self.old) (M.moment self.old.map)
-            (Request.Cas item.now unique)) result }
+        ensures { Executes M.LiveMap self.old (Request.Cas item.now unique) result self.new }
     {
         if self.is_too_large(item) {
             return Reply::TooLarge;
@@ -290,9 +278,7 @@ impl<M: LiveMap> Engine<M> {
     pub(crate) fn execute(&mut self, request: &mut Request) -> Reply
         requires { M.moment self.old.map ≤ max_moment }
         ensures limit { MAX_ANSWER < answer_size (M.entries self.old.map) request.old → result ≡ Reply.NoMemory }
-        ensures leaves { Leaves M.LiveMap self.old self.new
-            (act (item_limit (M.sizes self.old.map)) (cache_in M.entries self.old)
-            (M.moment self.old.map) request.old) result }
+        ensures leaves { Executes M.LiveMap self.old request.old result self.new }
         ensures same { request.new ≡ request.old }
     {
         match request {

@@ -1,6 +1,6 @@
 -- Numbers, read digit by digit.
-use Rattle.std.proofs.Common.{◌≡◌, ℕ, suc, ◌+◌, ◌-◌, ◌*◌, ◌^◌, ◌<◌, ◌≤◌, true, false, eqb, ltb, List, length, drop, get_or, Some, None, refl, sym}
-use Rattle.std.proofs.Common.{ap, ◌∙◌, le-leb, drop-cons, arith}
+use Rattle.std.proofs.Common.{◌≡◌, ℕ, suc, ◌+◌, ◌-◌, ◌*◌, ◌^◌, ◌<◌, ◌≤◌, true, false, eqb, ltb, List, length, drop, get_or}
+use Rattle.std.proofs.Common.{Some, None, refl, sym, ap, ◌∙◌, le-leb, drop-cons, arith}
 use Rattle.std.specs.Char.{digit_value}
 use Rattle.std.proofs.lemmas.Bool.{le-ltb, lt-ltb, eqb-false, and_right}
 use Rattle.std.proofs.lemmas.List.{at_drop_all}

@@ -1,5 +1,6 @@
 -- A request that sets no deadline leaves entries that have none, or the one of the entry in their place.
-use Rattle.std.proofs.Common.{◌≡◌, ℕ, ◌+◌, ◌-◌, ◌%◌, ◌^◌, Bool, true, false, cond, List, Option, Some, None, refl, sym, ap, ◌∙◌, inl, inr}
+use Rattle.std.proofs.Common.{◌≡◌, ℕ, ◌+◌, ◌-◌, ◌%◌, ◌^◌, Bool, true, false, cond, List, Option, Some, None, refl, sym, ap, ◌∙◌}
+use Rattle.std.proofs.Common.{inl, inr}
 use Rattle.std.specs.Prelude.{◌⊎◌, bytes_eq, decimal, if◌then◌else◌, ◌==◌, pos}
 use Rattle.std.specs.Str.Parse.{digits_value}
 use Rattle.std.specs.Option.{option_map_or}
@@ -91,7 +92,8 @@ none_put cache t p sets =
 
 -- a put in place of an entry with a number
 none_same : (o : Option Entry) (cache : Cache) (t : ℕ) (p : Put) (unique : ℕ) → p.exptime ≡ pos 0
-    → AddsNone cache.entries (option_map_or (λ (e : Entry). if e.cas == unique then put cache t p else leaving cache Exists) o (leaving cache NotFound)).entries
+    → AddsNone cache.entries (option_map_or (λ (e : Entry). if e.cas == unique then put cache t p else leaving cache Exists) o
+    (leaving cache NotFound)).entries
 none_same None cache t p unique sets = none_stay cache.entries
 none_same (Some e) cache t p unique sets =
     none_if cache.entries (e.cas == unique) _ _ (none_put cache t p sets) (none_stay cache.entries)

@@ -1,6 +1,7 @@
 -- What changes of a map of pairs do to its live entries.
-use Rattle.std.proofs.Common.{◌≡◌, ℕ, Bool, true, false, cond, List, [], ◌∷◌, map, Ordering, Option, Some, None, refl, sym, ap, ◌∙◌, inl, inr}
-use Rattle.std.specs.Prelude.{bytes_eq, Vec}
+use Rattle.std.proofs.Common.{◌≡◌, ℕ, Bool, true, false, cond, List, [], ◌∷◌, map, Ordering, Option, Some, None, refl, sym, ap, ◌∙◌, inl}
+use Rattle.std.proofs.Common.{inr}
+use Rattle.std.specs.Prelude.{bytes_eq, not, Vec}
 use Rattle.std.specs.Global.{Global}
 use Rattle.std.specs.FinMap as finite
 use Rattle.std.specs.Ordering.{is_eq, nat_cmp, eq_by_cmp}
@@ -11,7 +12,7 @@ use Rattle.std.specs.Map.{lookup, IsKeyTest, AreApart, KeepsOthers}
 use Rattle.std.proofs.lemmas.Bool.{cases_Bool}
 use Rattle.std.proofs.lemmas.Map.Text.{is_eq-slice_cmp}
 use Rattle.std.proofs.lemmas.Slice.Eq.{bytes_eq-Decides}
-use Rattle.proto.specs.Cache.{Entry, no_entries, live}
+use Rattle.proto.specs.Cache.{Entry, no_entries, live, has_arrived}
 use Rattle.proto.proofs.CacheLemmas.{same_entries, is_live, get-insert, get-remove, if_live, get-live}
 use Rattle.engine.specs.PlainEntries.{entries_of}
 use Rattle.proto.proofs.StepLemmas.{live-empty}
@@ -139,3 +140,14 @@ pub live-remove : (t : ℕ) (bytes : List ℕ) (m n : BTreeMap (Vec ℕ Global) 
     → live (entries_of n.entries) t ≡ finite.remove (live (entries_of m.entries) t) bytes
 live-remove t bytes m n h = same_entries _ _
     (λ q. live-updated t bytes m n None h q ∙ sym (get-remove (live (entries_of m.entries) t) bytes q))
+
+-- an entry was written that isn't gone yet
+pub written_plainly : (t : ℕ) (bytes key : List ℕ) (m n : BTreeMap (Vec ℕ Global) Entry) (stored e : Entry)
+    → bytes ≡ key → stored ≡ e → has_arrived e.deadline t ≡ false
+    → UpdatesBy key_cmp (compare_to bytes) m n (Some stored)
+    → live (entries_of n.entries) t ≡ finite.insert (live (entries_of m.entries) t) key e
+written_plainly t bytes key m n stored e same is waits h =
+    let lives : is_live stored t ≡ true = ap (λ (x : Entry). is_live x t) is ∙ ap not waits in
+    live-insert t bytes m n stored lives h
+    ∙ ap (λ (k : List ℕ). finite.insert (live (entries_of m.entries) t) k stored) same
+    ∙ ap (λ (x : Entry). finite.insert (live (entries_of m.entries) t) key x) is

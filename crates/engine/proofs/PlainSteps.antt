@@ -10,6 +10,7 @@ use Rattle.engine.specs.declared.plain_map.PlainMap.{PlainMap}
 use Rattle.engine.specs.Members.{MapOf}
 use Rattle.engine.specs.Outcomes.{outcome_at}
 use Rattle.engine.specs.Engines.{Changes, Stores, IsHandled, tells_number}
+use Rattle.engine.specs.PlainEntries.{plain_entries}
 use Rattle.engine.specs.PlainState.{plain_sizes, plain_cache}
 use Rattle.engine.specs.Plain.{HandlesPlainly}
 use Rattle.engine.specs.PlainWrites.{WritesPlainly, ReadsPlainly}
@@ -20,8 +21,8 @@ abbrev members : MapOf PlainMap ⊤
 members =
     record {
       sizes = λ m. m.geometry;
-      entries = λ m. m.live.entries;
-      moment = λ m. m.live.moment;
+      entries = plain_entries;
+      moment = λ m. m.moment;
       may_refuse = true;
       stands = λ m key place. ⊤;
       writes = WritesPlainly;
@@ -33,7 +34,7 @@ members =
 
 -- the entries are exactly those asked for
 exact_entries : (in_place : Bool) (found : PlainMap) (done : Outcome) (stored : Option (List ℕ)) (after : PlainMap)
-    → Changes members in_place found done stored after → after.live.entries ≡ done.entries
+    → Changes members in_place found done stored after → plain_entries after ≡ done.entries
 exact_entries in_place found done None after is = is.entries
 exact_entries in_place found done (Some key) after s =
     both (tells_number done.reply && in_place) found key s.entry after s.exactly ∙ sym s.asked_is

@@ -5,7 +5,8 @@ use Rattle.proto.specs.declared.message.Request.{Request}
 use Rattle.proto.specs.declared.message.Reply.{Reply}
 use Rattle.proto.specs.declared.message.Reply.TheVariants.{NoMemory, Number}
 use Rattle.proto.specs.Cache.{Entry, Entries, Cache, has_arrived, found_at}
-use Rattle.proto.specs.Commands.{Outcome}
+use Rattle.proto.specs.Commands.{Outcome, act}
+use Rattle.proto.specs.Sizes.{item_limit}
 use Rattle.engine.specs.declared.commands.Engine.{Engine}
 use Rattle.engine.specs.Members.{MapOf}
 use Rattle.engine.specs.Written.{IsWritten}
@@ -72,6 +73,11 @@ pub record Leaves {M P : Type 0} (m : MapOf M P) (old new : Engine M) (done : Ou
   pub moment_same : m.moment new.map ≡ m.moment old.map
   pub in_place_same : new.in_place ≡ old.in_place
   pub gives : IsDone m old new done reply ⊎ IsDenied m old new done reply
+
+-- the request was executed at the map's last moment
+abbrev pub Executes : {M P : Type 0} → MapOf M P → Engine M → Request → Reply → Engine M → Type 0
+Executes m old q reply new =
+    Leaves m old new (act (item_limit (m.sizes old.map)) (cache_in m.entries old) (m.moment old.map) q) reply
 
 -- the engine went on to the moment, and the request was executed on what was found there
 pub record IsHandled {M P : Type 0} (m : MapOf M P) (old : Engine M) (t : ℕ) (q : Request) (reply : Reply)

@@ -3,10 +3,11 @@ use Rattle.std.specs.Prelude.{◌≡◌, ℕ, List}
 use Rattle.std.specs.FinMap as map
 use Rattle.proto.specs.Cache.{Entry}
 use Rattle.engine.specs.declared.plain_map.PlainMap.{PlainMap}
+use Rattle.engine.specs.PlainEntries.{plain_entries}
 
 -- the entry as it is, and nothing forgotten
 abbrev pub WritesPlainly : PlainMap → List ℕ → Entry → PlainMap → Type 0
-WritesPlainly old key entry new = new.live.entries ≡ map.insert old.live.entries key entry
+WritesPlainly old key entry new = plain_entries new ≡ map.insert (plain_entries old) key entry
 
 -- no read is counted
 abbrev pub ReadsPlainly : PlainMap → List ℕ → PlainMap → Type 0

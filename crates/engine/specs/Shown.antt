@@ -1,5 +1,5 @@
 -- The entry that a view of it stands for.
-use Rattle.engine.specs.declared.entry_ref.EntryRef.{EntryRef}
+use Rattle.engine.specs.declared.live_map.EntryRef.{EntryRef}
 use Rattle.proto.specs.Cache.{Entry}
 
 abbrev pub entry_of : EntryRef → Entry

@@ -3,23 +3,20 @@
 ghost use Rattle.std.specs.Prelude.{◌≡◌, ◌≤◌, ◌<◌, ◌&&◌, true, false};
 ghost use Rattle.std.specs.FinMap as map;
 ghost use Rattle.proto.specs.Cache.{found_at, has_arrived};
-ghost use Rattle.proto.specs.Commands.{write, put, change, is_too_large, leaving, hits_of, act};
+ghost use Rattle.proto.specs.Commands.{write, put, change, is_too_large, leaving, hits_of};
 ghost use Rattle.proto.specs.Sizes.{item_limit};
 ghost use Rattle.proto.specs.History.{max_moment};
 ghost use Rattle.engine.specs.Written.{MayBeWritten, IsChanged};
-ghost use Rattle.engine.specs.Shown.{entry_of};
 ghost use Rattle.engine.specs.Change.{changed_by};
 ghost use Rattle.engine.specs.Keeping.{StaysKept};
 ghost use Rattle.engine.specs.AnswerSizes.{shown_size, answer_size};
 
 use crate::deadline::{deadline_of, has_arrived};
-use crate::entry_ref::EntryRef;
 use crate::hits::{hit_of_only, hits_of_keys};
-use crate::live_map::LiveMap;
+use crate::live_map::{EntryRef, LiveMap};
 use crate::number::{Change, number_of};
-use crate::size::is_too_large;
 use itoa::Buffer;
-use proto::{HitWriter, Keys, MAX_ANSWER, Put, Reply, Request};
+use proto::{HitWriter, Keys, MAX_ANSWER, MAX_KEY, Put, Reply, Request, item_size};
 
 /// A cache over a map of live entries.
 #[derive(Drop)]
@@ -32,7 +29,7 @@ pub struct Engine<M> {
 }
 
 impl<M: LiveMap> Engine<M> {
-    ghost use Rattle.engine.specs.Engines.{cache_in, Leaves, tells_number};
+    ghost use Rattle.engine.specs.Engines.{cache_in, Leaves, Executes, tells_number};
 
     /// Stores an entry with the next cas number. NoCas if the greatest one was given out, NoMemory if memory is
     /// refused.
@@ -128,9 +125,7 @@ impl<M: LiveMap> Engine<M> {
     }
 
     fn delete(&mut self, key: &[u8]) -> Reply
-        ensures { Leaves M.LiveMap self.old self.new
-            (act (item_limit (M.sizes self.old.map)) (cache_in M.entries self.old) (M.moment self.old.map)
-            (Request.Delete key.now)) result }
+        ensures { Executes M.LiveMap self.old (Request.Delete key.now) result self.new }
     {
         if !self.map.contains_key(key) {
             return Reply::NotFound;
@@ -164,9 +159,7 @@ impl<M: LiveMap> Engine<M> {
 
     fn flush(&mut self, delay: u64) -> Reply
         requires { M.moment self.old.map ≤ max_moment }
-        ensures { Leaves M.LiveMap self.old self.new
-            (act (item_limit (M.sizes self.old.map)) (cache_in M.entries self.old) (M.moment self.old.map)
-            (Request.FlushAll delay)) result }
+        ensures { Executes M.LiveMap self.old (Request.FlushAll delay) result self.new }
     {
         if delay == 0 {
             self.map.clear();
@@ -195,14 +188,21 @@ impl<M: LiveMap> Engine<M> {
         }
     }
 
+    /// Whether the item would be larger than the map's limit, or its key is empty or too long.
     fn is_too_large(&self, item: &Put) -> bool
         ensures { result ≡ is_too_large (item_limit (M.sizes self.now.map)) item.now }
     {
-        is_too_large(self.map.item_limit(), item)
+        let limit = self.map.item_limit();
+        let key_length = item.key.as_slice().len();
+        let value_length = item.value.as_slice().len();
+        key_length == 0
+            || key_length > MAX_KEY
+            || value_length > limit as usize
+            || item_size(key_length, value_length) > limit
     }
 
-    /// Shows the entries at the keys, in the buffer that the keys were lent if that is large enough, and counts a read of each.
-    /// All hits are dropped, and no read is counted, if they take more than `MAX_ANSWER` bytes.
+    /// Shows the entries at the keys, in the buffer that the keys were lent if that is large enough, and counts a read
+    /// of each. All hits are dropped, and no read is counted, if they take more than `MAX_ANSWER` bytes.
     fn get(&mut self, keys: &mut Keys, with_cas: bool) -> Reply
         ensures limit { MAX_ANSWER < shown_size (hits_of with_cas (M.entries self.old.map) keys.old)
             → result ≡ Reply.NoMemory }
@@ -224,9 +224,7 @@ impl<M: LiveMap> Engine<M> {
 
     fn set(&mut self, item: &Put) -> Reply
         requires { M.moment self.old.map ≤ max_moment }
-        ensures { Leaves M.LiveMap self.old self.new
-            (act (item_limit (M.sizes self.old.map)) (cache_in M.entries self.old) (M.moment self.old.map)
-            (Request.Set item.now)) result }
+        ensures { Executes M.LiveMap self.old (Request.Set item.now) result self.new }
     {
         if self.is_too_large(item) {
             return Reply::TooLarge;
@@ -236,9 +234,7 @@ impl<M: LiveMap> Engine<M> {
 
     fn add(&mut self, item: &Put) -> Reply
         requires { M.moment self.old.map ≤ max_moment }
-        ensures { Leaves M.LiveMap self.old self.new
-            (act (item_limit (M.sizes self.old.map)) (cache_in M.entries self.old) (M.moment self.old.map)
-            (Request.Add item.now)) result }
+        ensures { Executes M.LiveMap self.old (Request.Add item.now) result self.new }
     {
         if self.is_too_large(item) {
             return Reply::TooLarge;
@@ -251,9 +247,7 @@ impl<M: LiveMap> Engine<M> {
 
     fn replace(&mut self, item: &Put) -> Reply
         requires { M.moment self.old.map ≤ max_moment }
-        ensures { Leaves M.LiveMap self.old self.new
-            (act (item_limit (M.sizes self.old.map)) (cache_in M.entries self.old) (M.moment self.old.map)
-            (Request.Replace item.now)) result }
+        ensures { Executes M.LiveMap self.old (Request.Replace item.now) result self.new }
     {
         if self.is_too_large(item) {
             return Reply::TooLarge;
@@ -266,9 +260,7 @@ impl<M: LiveMap> Engine<M> {
 
     fn cas(&mut self, item: &Put, unique: u64) -> Reply
         requires { M.moment self.old.map ≤ max_moment }
-        ensures { Leaves M.LiveMap self.old self.new
-            (act (item_limit (M.sizes self.old.map)) (cache_in M.entries self.old) (M.moment self.old.map)
-            (Request.Cas item.now unique)) result }
+        ensures { Executes M.LiveMap self.old (Request.Cas item.now unique) result self.new }
     {
         if self.is_too_large(item) {
             return Reply::TooLarge;
@@ -286,9 +278,7 @@ impl<M: LiveMap> Engine<M> {
     pub(crate) fn execute(&mut self, request: &mut Request) -> Reply
         requires { M.moment self.old.map ≤ max_moment }
         ensures limit { MAX_ANSWER < answer_size (M.entries self.old.map) request.old → result ≡ Reply.NoMemory }
-        ensures leaves { Leaves M.LiveMap self.old self.new
-            (act (item_limit (M.sizes self.old.map)) (cache_in M.entries self.old)
-            (M.moment self.old.map) request.old) result }
+        ensures leaves { Executes M.LiveMap self.old request.old result self.new }
         ensures same { request.new ≡ request.old }
     {
         match request {

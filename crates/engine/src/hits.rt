@@ -1,7 +1,7 @@
 //! What a `get` shows.
 
-ghost use Rattle.std.specs.Prelude.{◌≡◌, ◌+◌, ◌<◌, ◌≤◌, ◌^◌, ◌∷◌, [], length, sum_by, nat_lt, if◌then◌else◌, Some, None, IfOk, IfSome};
-ghost use Rattle.std.specs.Prelude.{OnOk, OnErr};
+ghost use Rattle.std.specs.Prelude.{◌≡◌, ◌+◌, ◌<◌, ◌≤◌, ◌^◌, ◌∷◌, [], length, decimal, sum_by, nat_lt, if◌then◌else◌};
+ghost use Rattle.std.specs.Prelude.{Some, None, IfOk, IfSome, OnOk, OnErr, MatchOption};
 ghost use Rattle.proto.specs.Commands.{hits_of};
 ghost use Rattle.proto.specs.Hits.{hit_bytes, hit_room};
 ghost use Rattle.proto.specs.SeenHits.{seen_hit};
@@ -9,12 +9,43 @@ ghost use Rattle.engine.specs.Finding.{AreFound, HasFound, keys_found};
 ghost use Rattle.engine.specs.AnswerSizes.{shown_size};
 ghost use Rattle.engine.specs.Showing.{HasShown};
 
-use crate::answer_size::left_after;
 use crate::live_map::LiveMap;
+use itoa::Buffer;
 use proto::{HitRef, HitWriter, Keys, MAX_ANSWER, NoMemory};
 use std::hash::Hasher;
 
-/// A hit of these parts of an entry, which shows its cas number or doesn't. Its room is enough for the bytes that show it.
+/// How many digits the number has in decimal.
+fn digits(n: u64) -> usize
+    ensures value { result ≡ length (decimal n) }
+    ensures few { result ≤ 20 }
+{
+    Buffer::new().format(n).len()
+}
+
+/// The bytes that show the hit, beside those of its key and its value.
+fn frame_size(hit: HitRef) -> usize
+    ensures { let h = seen_hit hit.entry in result + length h.key + length h.value ≡ length (hit_bytes h) }
+{
+    let line = "VALUE  \r\n".len()
+        + digits(u64::from(hit.flags))
+        + " ".len()
+        + digits(hit.value.len() as u64);
+    let cas = hit.cas.map_or(0, |cas| " ".len() + digits(cas));
+    line + cas + "\r\n".len()
+}
+
+/// What is left of the bytes once the hit is shown; None if the hit takes more.
+pub fn left_after(left: usize, hit: HitRef) -> Option<usize>
+    ensures { MatchOption result (left < length (hit_bytes (seen_hit hit.entry)))
+        (λ n. n + length (hit_bytes (seen_hit hit.entry)) ≡ left) }
+{
+    left.checked_sub(frame_size(hit))?
+        .checked_sub(hit.key.len())?
+        .checked_sub(hit.value.len())
+}
+
+/// A hit of these parts of an entry, which shows its cas number or doesn't. Its room is enough for the bytes that show
+/// it.
 fn hit_with<'a>(key: &'a [u8], value: &'a [u8], flags: u32, cas: u64, with_cas: bool) -> HitRef<'a>
     requires { length value.now < 2 ^ 64 }
     ensures hit { seen_hit result

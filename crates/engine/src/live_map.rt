@@ -12,9 +12,17 @@ ghost use Rattle.engine.specs.Written.{MayBeWritten, IsWritten, IsChanged};
 ghost use Rattle.engine.specs.Keeping.{StaysKept, KeepsEntry};
 ghost use Rattle.engine.specs.Counting.{StaysAlike};
 
-use crate::entry_ref::EntryRef;
 use proto::NoMemory;
 use std::hash::FoldHasher;
+
+/// An entry whose value is borrowed: from the map that has it, or from the caller that writes it.
+#[derive(Clone, Copy)]
+pub struct EntryRef<'a> {
+    pub value: &'a [u8],
+    pub flags: u32,
+    pub deadline: Option<u64>,
+    pub cas: u64,
+}
 
 /// Entries by their keys, as they are seen at the last moment.
 pub trait LiveMap {
@@ -90,7 +98,10 @@ pub trait LiveMap {
         ensures { Some (entry_of result) ≡ map.get (entries self.now) key.now };
 
     fn contains_key(&self, key: &[u8]) -> bool
-        ensures { result ≡ map.contains_key (entries self.now) key.now };
+        ensures { result ≡ map.contains_key (entries self.now) key.now }
+    {
+        self.get(key).is_some()
+    }
 
     /// Counts a read of the entry at the key, which stands at the place. All entries stand where they stood.
     fn count_read(&mut self, key: &[u8], place: Self::Place)

@@ -2,36 +2,71 @@
 
 ghost use Rattle.std.specs.Prelude.{◌≡◌, ⊤, true};
 ghost use Rattle.engine.specs.Shown.{entry_of};
+ghost use Rattle.engine.specs.PlainEntries.{plain_entries};
 
-use crate::live_entries::LiveEntries;
-use crate::plain_entry::Entry;
-use crate::{Engine, EntryRef, LiveMap, StoreMap};
+use crate::{Engine, EntryRef, LiveMap, StoreMap, has_arrived};
 use proto::{ByteString, Geometry, NoMemory};
 use std::alloc::Global;
+use std::collections::BTreeMap;
 use std::hash::FoldHasher;
+use std::marker::Model;
 
-/// A plain map of live entries. It is there to be compared with.
+/// What a cache has at a key.
+#[derive(Drop)]
+struct Entry {
+    value: ByteString,
+    flags: u32,
+    deadline: Option<u64>,
+    cas: u64,
+}
+
+impl Model for Entry {
+    ghost use Rattle.proto.specs.Cache.{Entry, entry_code};
+
+    ghost Value = { Entry };
+
+    ghost coded = { entry_code };
+
+    ghost view = { λ a. record { value = a.value; flags = a.flags; deadline = a.deadline; cas = a.cas } };
+}
+
+impl Entry {
+    fn new(value: ByteString, flags: u32, deadline: Option<u64>, cas: u64) -> Self
+        ensures { result ≡ record { value = value; flags = flags; deadline = deadline; cas = cas } }
+    {
+        Entry {
+            value,
+            flags,
+            deadline,
+            cas,
+        }
+    }
+
+    /// The entry, lent.
+    fn lent(&self) -> EntryRef<'_>
+        ensures { entry_of result ≡ self.now }
+    {
+        EntryRef {
+            value: self.value.as_slice(),
+            flags: self.flags,
+            deadline: self.deadline,
+            cas: self.cas,
+        }
+    }
+}
+
+/// A plain map of live entries. It is there to be compared with. An entry whose deadline has come isn't seen any more,
+/// but it is dropped only when its key is written or deleted, or when all entries are.
 #[derive(Drop)]
 pub struct PlainMap {
     alloc: Global,
     geometry: Geometry,
-    live: LiveEntries,
+    map: BTreeMap<Vec<u8>, Entry>,
+    moment: u64,
 }
 
 /// The plain cache.
 pub type PlainStore = Engine<PlainMap>;
-
-/// The entry, lent.
-fn lent(entry: &Entry) -> EntryRef<'_>
-    ensures { entry_of result ≡ entry.now }
-{
-    EntryRef {
-        value: entry.value(),
-        flags: entry.flags(),
-        deadline: entry.deadline(),
-        cas: entry.cas(),
-    }
-}
 
 impl LiveMap for PlainMap {
     ghost use Rattle.engine.specs.PlainWrites.{WritesPlainly, ReadsPlainly};
@@ -41,9 +76,9 @@ impl LiveMap for PlainMap {
 
     ghost sizes = { λ m. m.geometry };
 
-    ghost entries = { λ m. m.live.entries };
+    ghost entries = { plain_entries };
 
-    ghost moment = { λ m. m.live.moment };
+    ghost moment = { λ m. m.moment };
 
     ghost may_refuse = { true };
 
@@ -64,7 +99,7 @@ impl LiveMap for PlainMap {
     }
 
     fn last_moment(&self) -> u64 {
-        self.live.moment()
+        self.moment
     }
 
     /// A plain map finds no key by its hash, and reads nothing ahead.
@@ -75,19 +110,19 @@ impl LiveMap for PlainMap {
     fn prefetch(&self, _hash: u64) {}
 
     fn advance(&mut self, now: u64) {
-        self.live.advance(now);
+        self.moment = now;
     }
 
     fn get<'a>(&'a self, key: &[u8]) -> Option<(EntryRef<'a>, ())> {
-        Some((lent(self.live.get(key)?), ()))
+        let entry = self.map.get(key)?.lent();
+        if has_arrived(entry.deadline, self.moment) {
+            return None;
+        }
+        Some((entry, ()))
     }
 
     fn entry_at<'a>(&'a self, key: &[u8], _place: ()) -> EntryRef<'a> {
-        lent(self.live.get(key).unwrap())
-    }
-
-    fn contains_key(&self, key: &[u8]) -> bool {
-        self.live.contains_key(key)
+        self.get(key).unwrap().0
     }
 
     /// A plain map counts no reads.
@@ -96,10 +131,11 @@ impl LiveMap for PlainMap {
     fn write(&mut self, key: &[u8], entry: EntryRef) -> Result<(), NoMemory> {
         let value = ByteString::from_vec(Vec::from_slice(self.alloc, entry.value)?);
         let key = Vec::from_slice(self.alloc, key)?;
-        self.live.insert(
+        self.map.insert(
             key,
             Entry::new(value, entry.flags, entry.deadline, entry.cas),
-        )
+        )?;
+        Ok(())
     }
 
     /// A plain map writes it anew.
@@ -108,11 +144,11 @@ impl LiveMap for PlainMap {
     }
 
     fn remove(&mut self, key: &[u8]) {
-        self.live.remove(key);
+        self.map.remove(key);
     }
 
     fn clear(&mut self) {
-        self.live.clear();
+        self.map.clear();
     }
 }
 
@@ -128,7 +164,8 @@ impl StoreMap for PlainMap {
         Ok(PlainMap {
             alloc,
             geometry,
-            live: LiveEntries::new(alloc),
+            map: BTreeMap::new(alloc),
+            moment: 0,
         })
     }
 

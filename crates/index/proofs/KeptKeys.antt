@@ -1,7 +1,7 @@
 -- Slots whose places keep their keys, and how many slots can be used.
 use Rattle.std.proofs.Common.{◌≡◌, ℕ, ◌<◌, true, List, length, refl, sym, ap, ◌∙◌, Some}
 use Rattle.std.specs.Prelude.{IsSome}
-use Rattle.index.specs.declared.slot.Slot.{Slot}
+use Rattle.index.specs.declared.slots.Slot.{Slot}
 use Rattle.segments.specs.declared.place.Place.{Place}
 use Rattle.index.specs.Keys.{KeysOf}
 use Rattle.index.specs.Slots.{is_used, place_of, slot_at}

@@ -1,9 +1,10 @@
 -- The home of a key that is found, by the lowest bits of its hash: those of the home itself.
-use Rattle.std.proofs.Common.{◌≡◌, ◌⊎◌, ℕ, ◌+◌, ◌-◌, ◌*◌, ◌/◌, ◌%◌, ◌^◌, ◌<◌, ◌≤◌, List, length, sym, ap, ◌∙◌, inl, inr, arith}
+use Rattle.std.proofs.Common.{◌≡◌, ◌⊎◌, ℕ, ◌+◌, ◌-◌, ◌*◌, ◌/◌, ◌%◌, ◌^◌, ◌<◌, ◌≤◌, List, length, sym, ap}
+use Rattle.std.proofs.Common.{◌∙◌, inl, inr, arith}
 use Rattle.std.proofs.Math.Nat.{add-mul-mod_self_left}
 use Rattle.std.proofs.lemmas.Nat.{mod_below, div-add-mod', mul-le, pow_pos}
 use Rattle.std.proofs.lemmas.Bool.Decides.{leb_tells}
-use Rattle.index.specs.declared.slot.Slot.{Slot}
+use Rattle.index.specs.declared.slots.Slot.{Slot}
 use Rattle.index.specs.Keys.{KeysOf}
 use Rattle.index.specs.Slots.{distance}
 use Rattle.index.specs.Searches.{HasGap}

@@ -1,12 +1,13 @@
 -- Slots that are kept in one number, and places that go into it.
-use Rattle.std.proofs.Common.{◌≡◌, ℕ, ◌+◌, ◌-◌, ◌*◌, ◌/◌, ◌%◌, ◌^◌, ◌<◌, ◌≤◌, true, refl, sym, ap, ◌∙◌, inl, inr, arith, subst}
+use Rattle.std.proofs.Common.{◌≡◌, ℕ, ◌+◌, ◌-◌, ◌*◌, ◌/◌, ◌%◌, ◌^◌, ◌<◌, ◌≤◌, true, refl, sym, ap, ◌∙◌, inl}
+use Rattle.std.proofs.Common.{inr, arith, subst}
 use Rattle.std.specs.Prelude.{nat_le, bit_and}
 use Rattle.std.proofs.Math.Nat.{mod-eq_of_lt, pow-le-pow_right, div-le_self, min-le_left, min-le_right}
 use Rattle.std.proofs.lemmas.Nat.{pow_pos, pow-add, one_shl, and_mask, div-mul-add, mod-mul-add, mod_below, shr_below, mul-le, div_below}
 use Rattle.std.proofs.lemmas.Bool.{cases_Bool}
 use Rattle.std.proofs.lemmas.Bool.Decides.{leb_tells, eqb_tells}
 use Rattle.segments.specs.declared.place.Place.{Place}
-use Rattle.index.specs.declared.slot.Slot.{Slot}
+use Rattle.index.specs.declared.slots.Slot.{Slot}
 use Rattle.index.specs.declared.layout.Layout.{Layout}
 use Rattle.index.specs.Slots.{slot_with}
 use Rattle.index.specs.Layouts.{IsLayout, IsInLayout, CanHold, packed_limit, tag_shift, tag_of, home_bits, low_in, slot_of, packed_of}

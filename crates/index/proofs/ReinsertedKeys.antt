@@ -8,7 +8,7 @@ use Rattle.std.proofs.lemmas.Nat.{mul-add-lt}
 use Rattle.std.proofs.lemmas.Bool.{cases_Bool}
 use Rattle.std.proofs.lemmas.Bool.Decides.{leb_tells, eqb_tells}
 use Rattle.std.proofs.lemmas.List.Sums.{sum_by-cons, sum_by-set}
-use Rattle.index.specs.declared.slot.Slot.{Slot}
+use Rattle.index.specs.declared.slots.Slot.{Slot}
 use Rattle.segments.specs.declared.place.Place.{Place}
 use Rattle.index.specs.Keys.{KeysOf}
 use Rattle.index.specs.Slots.{is_used, place_of, slot_at, used_in, empty_slot, distance, behind, AreUsedUpTo}

@@ -8,7 +8,7 @@ use Rattle.segments.specs.declared.place.Place.{Place}
 use Rattle.segments.specs.declared.place.Move.{Move}
 use Rattle.segments.specs.Places.{same_place}
 use Rattle.segments.proofs.MovedPlaces.{same_place_is, same_place_itself}
-use Rattle.index.specs.declared.slot.Slot.{Slot}
+use Rattle.index.specs.declared.slots.Slot.{Slot}
 use Rattle.index.specs.Keys.{KeysOf}
 use Rattle.index.specs.Table.{Table, IsIndex, HasPlace, IsSameSize, places_in, place_at}
 use Rattle.index.specs.Relocating.{IsRelocated, forget_place, forget_lost}

@@ -2,7 +2,7 @@
 use Rattle.std.proofs.Common.{◌≡◌, ℕ, true, false, List, [], ◌∷◌, ◌++◌, refl, ap, ◌∙◌}
 use Rattle.std.specs.Prelude.{nat_le, map, slice_set}
 use Rattle.std.proofs.lemmas.List.{map-set, map-append}
-use Rattle.index.specs.declared.slot.Slot.{Slot}
+use Rattle.index.specs.declared.slots.Slot.{Slot}
 use Rattle.index.specs.declared.layout.Layout.{Layout}
 use Rattle.index.specs.Slots.{empty_slot}
 use Rattle.index.specs.Layouts.{slot_array_of, slot_of}

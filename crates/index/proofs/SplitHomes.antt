@@ -1,5 +1,6 @@
 -- The homes of hashes where the row has one slot more.
-use Rattle.std.proofs.Common.{◌≡◌, ◌⊎◌, ℕ, zero, suc, ◌+◌, ◌-◌, ◌*◌, ◌/◌, ◌%◌, ◌^◌, ◌<◌, ◌≤◌, refl, sym, ap, ◌∙◌, inl, inr, arith, subst}
+use Rattle.std.proofs.Common.{◌≡◌, ◌⊎◌, ℕ, zero, suc, ◌+◌, ◌-◌, ◌*◌, ◌/◌, ◌%◌, ◌^◌, ◌<◌, ◌≤◌, refl, sym, ap}
+use Rattle.std.proofs.Common.{◌∙◌, inl, inr, arith, subst}
 use Rattle.std.specs.Prelude.{bit_and}
 use Rattle.std.proofs.Math.Nat.{pow-le-pow_right, pow-succ', add-mul-mod_self_left}
 use Rattle.std.proofs.lemmas.Nat.{pow_pos, pow-add, mod-mul-add, mod_below, div-add-mod', and_mask}

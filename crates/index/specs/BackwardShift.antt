@@ -1,7 +1,7 @@
 -- How a slot is emptied by backward shift: each place after it is still found.
 use Rattle.std.specs.Prelude.{◌≡◌, ℕ, ◌+◌, List}
 use Rattle.std.specs.FinMap as map
-use Rattle.index.specs.declared.slot.Slot.{Slot}
+use Rattle.index.specs.declared.slots.Slot.{Slot}
 use Rattle.index.specs.Keys.{KeysOf}
 use Rattle.index.specs.Slots.{used_in}
 use Rattle.index.specs.Table.{Hashing, AreIndexed, places_in}

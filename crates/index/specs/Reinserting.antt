@@ -1,7 +1,7 @@
 -- Rows in which some keys aren't found from their homes, and are inserted again.
 use Rattle.std.specs.Prelude.{◌≡◌, ◌⊎◌, ℕ, ◌<◌, ◌≤◌, true, false, List, length, Some}
-use Rattle.index.specs.declared.slot.Slot.{Slot}
-use Rattle.index.specs.declared.reinserting.Stretch.{Stretch}
+use Rattle.index.specs.declared.slots.Slot.{Slot}
+use Rattle.index.specs.declared.growing.Stretch.{Stretch}
 use Rattle.index.specs.Keys.{KeysOf}
 use Rattle.index.specs.Slots.{is_used, place_of, slot_at, distance, AreUsedUpTo}
 use Rattle.index.specs.Table.{Hashing}

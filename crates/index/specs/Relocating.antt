@@ -1,6 +1,6 @@
 -- Tables whose places moved or were forgotten, many at once.
-use Rattle.std.specs.Prelude.{◌≡◌, ◌≢◌, ℕ, ⊤, true, false, List, [], ◌∷◌, Option, Some, None, if◌then◌else◌, option_and_then, All, IfSome, IsSome}
-use Rattle.std.specs.Prelude.{is_some, not, ◌&&◌}
+use Rattle.std.specs.Prelude.{◌≡◌, ◌≢◌, ℕ, ⊤, true, false, List, [], ◌∷◌, Option, Some, None, if◌then◌else◌, option_and_then, All}
+use Rattle.std.specs.Prelude.{IfSome, IsSome, is_some, not, ◌&&◌}
 use Rattle.std.specs.List.{list_any}
 use Rattle.std.specs.Option.{option_map_or}
 use Rattle.segments.specs.declared.place.Place.{Place}

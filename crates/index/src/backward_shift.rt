@@ -9,8 +9,7 @@ ghost use Rattle.index.specs.BackwardShift.{IsWithout};
 
 use crate::hash::{hash_of, home_of};
 use crate::search::has_gap;
-use crate::slot::{Slot, behind, distance};
-use crate::slots::Slots;
+use crate::slots::{Slot, Slots, behind, distance};
 use segments::Pool;
 use std::hash::FoldHasher;
 

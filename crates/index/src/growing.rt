@@ -1,13 +1,19 @@
-//! Linear hashing: a row gets longer by a slot at a time, and the keys of one home are split.
+//! How many slots there are: memory for so many, of which linear hashing uses one more at a time. The keys of one home
+//! are then split, and keys move to where their searches find them.
 
 ghost use Rattle.std.specs.Prelude.{◌≡◌, ◌⊎◌, ◌+◌, ◌*◌, ◌<◌, ◌≤◌, length};
+ghost use Rattle.std.specs.Int.{IsNextPowerOfTwo};
 ghost use Rattle.segments.specs.Pools.{key_at};
+ghost use Rattle.index.specs.Sizing.{most_items};
 ghost use Rattle.index.specs.Slots.{used_in};
+ghost use Rattle.index.specs.Reinserting.{AreNear, IsFirstStop, IsStretch};
 ghost use Rattle.index.specs.Table.{hashing, AreIndexed, places_in};
 
+use crate::backward_shift::home_at;
 use crate::hash::split_home;
-use crate::reinserting::reinsert;
-use crate::slots::Slots;
+use crate::search::first_gap_before;
+use crate::slots::{Slots, behind, distance};
+use proto::{Geometry, MIN_ITEM_SIZE};
 use segments::Pool;
 use std::hash::FoldHasher;
 
@@ -16,6 +22,78 @@ const MOST_AT_ONCE: usize = 3;
 
 /// The most slots for each key.
 const SLOTS_FOR_EACH: usize = 3;
+
+/// The slots of the index for a pool of these sizes. The items of a full pool use at most half of them.
+pub fn slots_for(geometry: Geometry) -> usize
+    ensures { IsNextPowerOfTwo (2 * most_items geometry) result }
+{
+    let items = geometry.segments() as usize * (geometry.segment_size() / MIN_ITEM_SIZE) as usize;
+    (2 * items).next_power_of_two()
+}
+
+/// Slots that are known to be used: from the first one up to the end, which itself may be empty.
+#[derive(Clone, Copy)]
+struct Stretch {
+    first: usize,
+    end: usize,
+}
+
+/// The first empty slot of the search from a home, or another slot that comes before it, as the end of a stretch. If
+/// the home is in a stretch that is known, and that doesn't go past the other slot, the search goes on from its end.
+fn search(slots: &Slots, known: Stretch, home: usize, at: usize) -> Stretch
+    requires known { IsStretch slots.now.slots known }
+    requires home { home < length slots.now.slots }
+    requires at { at < length slots.now.slots }
+    requires gap { used_in slots.now.slots < length slots.now.slots }
+    ensures first { result.first < length slots.now.slots }
+    ensures used { IsFirstStop slots.now.slots result.first at result.end }
+    ensures stop { IsFirstStop slots.now.slots home at result.end }
+{
+    let count = slots.len();
+    let reach = distance(count, known.first, known.end);
+    if distance(count, known.first, home) <= reach && reach <= distance(count, known.first, at) {
+        return Stretch {
+            first: known.first,
+            end: first_gap_before(slots, known.end, at),
+        };
+    }
+    Stretch {
+        first: home,
+        end: first_gap_before(slots, home, at),
+    }
+}
+
+/// Reinserts the keys of a cluster's slots from one on, up to the first empty slot: a key that isn't found there from
+/// its home of `count` slots goes to the first empty slot of its search. A cluster is a run of used slots.
+fn reinsert(slots: &mut Slots, from: usize, count: usize, hasher: FoldHasher, pool: &Pool)
+    requires from { from < length slots.old.slots }
+    requires some { 1 ≤ count }
+    requires count { count ≤ length slots.old.slots }
+    requires gap { used_in slots.old.slots < length slots.old.slots }
+    requires near { AreNear (hashing count slots.old.layout hasher) (key_at pool.now) slots.old.slots from }
+    ensures indexed { AreIndexed (hashing count slots.old.layout hasher) (key_at pool.now) slots.new.slots }
+    ensures places { places_in (key_at pool.now) slots.new.slots ≡ places_in (key_at pool.now) slots.old.slots }
+    ensures used { used_in slots.new.slots ≡ used_in slots.old.slots }
+    ensures layout { slots.new.layout ≡ slots.old.layout }
+    ensures room { slots.new.room ≡ slots.old.room }
+    ensures count { length slots.new.slots ≡ length slots.old.slots }
+{
+    let mut at = from;
+    let mut known = Stretch {
+        first: from,
+        end: from,
+    };
+    'cluster: while slots.get(at).is_used() {
+        let home = home_at(slots.get(at), count, hasher, pool);
+        known = search(slots, known, home, at);
+        let gap = known.end;
+        if gap != at {
+            slots.copy(at, gap);
+            slots.empty(at);
+        }
+        at = behind(slots.len(), at);
+    }
+}
 
 /// Adds a slot. The keys move that had gone over the end, because the last slot was used, and those of the home that is
 /// split whose home is the new slot.

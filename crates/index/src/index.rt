@@ -1,7 +1,6 @@
 //! The index.
 
-ghost use Rattle.std.specs.Prelude.{◌≡◌, ◌≢◌, ◌+◌, ◌*◌, ◌<◌, ◌≤◌, List, ℕ, length, IfOk, Some, None};
-ghost use Rattle.std.specs.Prelude.{◌⊎◌, ◌∷◌, [], IfSome, IsSome};
+ghost use Rattle.std.specs.Prelude.{◌≡◌, ◌≢◌, ◌+◌, ◌*◌, ◌≤◌, length, IfOk, Some, ◌⊎◌, ◌∷◌, [], IfSome, IsSome};
 ghost use Rattle.std.specs.FinMap as map;
 ghost use Rattle.segments.specs.declared.place.Place.{Place as Spot};
 ghost use Rattle.segments.specs.Pools.{item_in};
@@ -17,8 +16,7 @@ use crate::growing::grow_for;
 use crate::hash::{hash_of, home_of, seeded};
 use crate::layout::Layout;
 use crate::search::{find_key, find_place, first_gap};
-use crate::slot::Slot;
-use crate::slots::Slots;
+use crate::slots::{Slot, Slots};
 use proto::NoMemory;
 use segments::{Place, Pool};
 use std::alloc::Global;
@@ -39,23 +37,13 @@ pub struct Index {
 }
 
 impl Model for Index {
-    ghost use Rattle.index.specs.Table.{Table, IsTable, AreSlotsCounted};
+    ghost use Rattle.index.specs.Table.{Table, AreSlotsCounted, table_of};
 
     ghost Value = { Table };
 
-    ghost view = { λ a. record {
-      slots = a.slots.slots;
-      hasher = a.hasher;
-      layout = a.slots.layout;
-      room = a.slots.room;
-    } };
+    ghost view = { λ a. table_of a.slots a.hasher };
 
-    ghost invariant = { λ a. AreSlotsCounted (record {
-      slots = a.slots.slots;
-      hasher = a.hasher;
-      layout = a.slots.layout;
-      room = a.slots.room;
-    }) a.used };
+    ghost invariant = { λ a. AreSlotsCounted (table_of a.slots a.hasher) a.used };
 }
 
 impl Index {

@@ -1,10 +1,10 @@
 //! How a slot is packed into one number.
 
 ghost use Rattle.std.specs.Prelude.{◌≡◌, ◌<◌, ◌≤◌, ◌^◌, nat_le};
-ghost use Rattle.index.specs.Layouts.{IsLayout, IsLayoutOf, CanHold, packed_limit, home_bits, tag_of, low_in};
-ghost use Rattle.index.specs.Layouts.{slot_of, packed_of};
+ghost use Rattle.index.specs.Layouts.{IsLayout, IsLayoutOf, CanHold, packed_limit, home_bits, tag_of, low_in, slot_of};
+ghost use Rattle.index.specs.Layouts.{packed_of};
 
-use crate::slot::{EMPTY, Slot};
+use crate::slots::{EMPTY, Slot};
 use proto::Geometry;
 use segments::Place;
 

@@ -8,13 +8,10 @@ mod hash;
 mod index;
 mod laws;
 mod layout;
-mod reinserting;
 mod relocating;
 mod search;
-mod sizing;
-mod slot;
 mod slots;
 
+pub use growing::slots_for;
 pub use index::Index;
 pub use layout::layout_for;
-pub use sizing::slots_for;

@@ -1,14 +1,62 @@
-//! The slots of a table, each packed into one number.
+//! The slots of a table, each packed into one number, and the steps from slot to slot.
 
 ghost use Rattle.std.specs.Prelude.{◌≡◌, ◌<◌, ◌≤◌, ◌∷◌, [], ◌++◌, IfOk, length, slice_set};
-ghost use Rattle.index.specs.Slots.{empty_slot, slot_at};
+ghost use Rattle.index.specs.Slots.{is_used, distance, behind, empty_slot, slot_at};
 ghost use Rattle.index.specs.Layouts.{IsLayout, CanHold, slot_of, packed_limit};
 
 use crate::layout::Layout;
-use crate::slot::Slot;
 use proto::NoMemory;
+use segments::Place;
 use std::alloc::Global;
 use std::marker::Model;
+
+/// A place, and bits of the hash of its key, by which a search passes most slots of other keys. A slot with the tag 0
+/// is empty.
+#[derive(Clone, Copy)]
+pub struct Slot {
+    pub tag: u64,
+    pub place: Place,
+}
+
+/// A slot without a place.
+pub const EMPTY: Slot = Slot {
+    tag: 0,
+    place: Place {
+        segment: 0,
+        offset: 0,
+    },
+};
+
+impl Slot {
+    pub fn is_used(self) -> bool
+        ensures { result ≡ is_used self }
+    {
+        self.tag != 0
+    }
+}
+
+/// The slot after a slot; after the last of `count` comes the first.
+pub fn behind(count: usize, at: usize) -> usize
+    requires { at < count }
+    ensures value { result ≡ behind count at }
+    ensures in_range { result < count }
+{
+    if at + 1 == count { 0 } else { at + 1 }
+}
+
+/// How many steps lead from one slot to another, where the first of `count` comes after the last.
+#[tactic(auto, unfolding(crate::specs::Slots::distance))]
+pub fn distance(count: usize, from: usize, to: usize) -> usize
+    requires from { from < count }
+    requires to { to < count }
+    ensures { result ≡ distance count from to }
+{
+    if from <= to {
+        to - from
+    } else {
+        count - (from - to)
+    }
+}
 
 /// Slots in a row, which never take more memory than they were made with. Only one of the two lists is used, so that a
 /// slot has four bytes where its layout lets it.

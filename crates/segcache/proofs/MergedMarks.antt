@@ -1,6 +1,6 @@
 -- What ties pool, index and marks together, after a merge by which the index was relocated and the marks carried.
-use Rattle.std.proofs.Common.{◌≡◌, ℕ, zero, suc, ◌*◌, ◌/◌, ◌<◌, ◌≤◌, Bool, true, false, List, [], ◌∷◌, length, get_or, Option, Some, None, refl, sym, ap}
-use Rattle.std.proofs.Common.{subst, ◌∙◌, inl, inr, arith}
+use Rattle.std.proofs.Common.{◌≡◌, ℕ, zero, suc, ◌*◌, ◌/◌, ◌<◌, ◌≤◌, Bool, true, false, List, [], ◌∷◌, length, get_or, Option}
+use Rattle.std.proofs.Common.{Some, None, refl, sym, ap, subst, ◌∙◌, inl, inr, arith}
 use Rattle.std.specs.Prelude.{IsSome, IfSome, All, option_map, option_and_then, if◌then◌else◌}
 use Rattle.std.specs.List.{list_any}
 use Rattle.std.specs.Option.{option_map_or}
@@ -15,8 +15,7 @@ use Rattle.segments.specs.declared.place.Move.{Move}
 use Rattle.segments.specs.Items.{Item, with_reads_halved}
 use Rattle.segments.specs.Pools.{PoolState, Plan, IsPool, Liveness, item_in, place_deadline}
 use Rattle.segments.specs.Places.{same_place, moved_by, IsCarriedOut}
-use Rattle.segments.specs.Merges.{IsPlan, with_merge_planned, carried_out, planned_moves, merged_segments}
-use Rattle.segments.specs.Merges.{contains_number}
+use Rattle.segments.specs.Merges.{IsPlan, with_merge_planned, carried_out, planned_moves, merged_segments, contains_number}
 use Rattle.segments.proofs.MovedPlaces.{carried, moved_other, live_source, same_place_is, same_place_itself}
 use Rattle.segments.specs.Marks.{Marks, is_marked, is_mark_of, mark_at, lives_by, carried_marks}
 use Rattle.segments.proofs.MarkedPlaces.{carried_at, is_target_of, mark_found, knows_carried, sources_within, targets_within}

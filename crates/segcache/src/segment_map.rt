@@ -1,12 +1,11 @@
 //! The map of live entries that stand in segments.
 
-ghost use Rattle.std.specs.Prelude.{◌≡◌, ◌≤◌, ◌<◌, Some, None, false, IfSome, IsSome, MatchOption};
+ghost use Rattle.std.specs.Prelude.{◌≡◌, false, IsSome};
 ghost use Rattle.std.specs.FinMap as map;
-ghost use Rattle.proto.specs.Cache.{has_arrived};
 ghost use Rattle.proto.specs.Buckets.{time_to_live};
 ghost use Rattle.segments.specs.Pools.{item_in, place_deadline};
 ghost use Rattle.engine.specs.Shown.{entry_of};
-ghost use Rattle.segcache.specs.Shown.{current, entry_at, shown_entries};
+ghost use Rattle.segcache.specs.Shown.{entry_at, shown_entries};
 
 use engine::{EntryRef, LiveMap, StoreMap, has_arrived};
 use index::{Index, layout_for, slots_for};
@@ -123,10 +122,6 @@ impl LiveMap for SegmentMap {
 
     fn entry_at<'a>(&'a self, _key: &[u8], place: Place) -> EntryRef<'a> {
         entry_at(&self.pool, place)
-    }
-
-    fn contains_key(&self, key: &[u8]) -> bool {
-        self.get(key).is_some()
     }
 
     fn count_read(&mut self, _key: &[u8], place: Place) {

@@ -8,23 +8,22 @@ use Rattle.std.proofs.Math.ListN.{set}
 use Rattle.std.proofs.lemmas.List.{length-set, length-replicate, get_or-set_same, get_or-set_other, get_or_past}
 use Rattle.std.proofs.lemmas.List.Elements.{All-set, All-head, All-tail, All-replicate}
 use Rattle.std.proofs.lemmas.List.Folds.{list_any_none, list_any_at, Any-from_list_any}
-use Rattle.std.proofs.lemmas.Bool.{cases_lt, cases_Bool, cases_eq, eq-eqb, ne_eqb, eqb-true, lt-ltb, le-ltb, false≢true, and_parts, and_from, or_left, or_right}
+use Rattle.std.proofs.lemmas.Bool.{cases_lt, cases_Bool, cases_eq, eq-eqb, ne_eqb, eqb-true, lt-ltb, le-ltb, false≢true, and_parts, and_from, or_left}
+use Rattle.std.proofs.lemmas.Bool.{or_right}
 use Rattle.proto.specs.Sizes.{Sizes}
 use Rattle.segments.specs.declared.place.Place.{Place}
 use Rattle.segments.specs.declared.place.Move.{Move}
 use Rattle.segments.specs.Items.{Item, with_reads_halved}
 use Rattle.segments.specs.Pools.{PoolState, Plan, IsPool, Standing, Liveness, item_in, items_of, segment_at, standing, has_live, place_deadline, deadline_in}
 use Rattle.segments.specs.Changes.{IsGivenBack, without_segment, with_change}
-use Rattle.segments.specs.Merges.{IsPlan, carried_out, planned_moves, with_merge_planned, without_plan, contains_number}
-use Rattle.segments.specs.Merges.{merged_segments}
+use Rattle.segments.specs.Merges.{IsPlan, carried_out, planned_moves, with_merge_planned, without_plan, contains_number, merged_segments}
 use Rattle.segments.specs.Places.{IsAppended, IsCarriedOut, same_place}
 use Rattle.segments.proofs.Places.{standing_by, live_stays, live_given, mark_within, cleared_item, changed_item}
 use Rattle.segments.proofs.ItemChanges.{KeepsSize}
 use Rattle.segments.proofs.MovedPlaces.{carried, same_place_is, same_place_itself, live_source, moved_other}
 use Rattle.segments.proofs.PlanLemmas.{found_from}
 use Rattle.segments.proofs.AgreeingTests.{in_segment}
-use Rattle.segments.specs.Marks.{Marks, mark_count, row_of, mark_at, is_mark_of, is_marked, with_mark, without_marks}
-use Rattle.segments.specs.Marks.{unmarked_sources}
+use Rattle.segments.specs.Marks.{Marks, mark_count, row_of, mark_at, is_mark_of, is_marked, with_mark, without_marks, unmarked_sources}
 use Rattle.segments.specs.Marks.{mark_target, marked_targets, carried_marks, no_marks, lives_by, IsWithin, AreMarksSized, has_mark, KnowsPool}
 use Rattle.segments.proofs.MarkCounts.{marked_at, marked_some}
 use Rattle.proto.proofs.Options.{value_there}

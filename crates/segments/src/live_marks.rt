@@ -1,14 +1,33 @@
-//! Marks at the places of items, in all segments of a pool.
+//! Which items are live: the test that a merge asks, and marks at the places of items, in all segments of a pool.
 
-ghost use Rattle.std.specs.Prelude.{◌≡◌, ◌<◌, ◌≤◌, ◌/◌, true, false, length, replicate, slice_index_or, All, IfOk, IfSome};
+ghost use Rattle.std.specs.Prelude.{◌≡◌, ℕ, ◌<◌, ◌≤◌, Bool, true, false, replicate, All, Option, IfOk, IfSome};
+ghost use Rattle.segments.specs.declared.place.Place.{Place as Spot};
+ghost use Rattle.segments.specs.Items.{Item};
+ghost use Rattle.segments.specs.Pools.{PoolState, has_live};
+ghost use Rattle.segments.specs.Shown.{item_of};
 ghost use Rattle.segments.specs.Marks.{no_marks, is_marked, mark_count, row_of, with_mark, without_marks};
 ghost use Rattle.segments.specs.Marks.{carried_marks, IsWithin};
 
+use crate::place::{ItemRef, Move, Place};
 use crate::segment_marks::SegmentMarks;
-use crate::{ItemRef, Live, Move, Place};
 use proto::{Geometry, MIN_ITEM_SIZE, NoMemory};
 use std::alloc::Global;
 use std::marker::Model;
+
+/// The caller's test of which items are live, and of which segments have a live item.
+pub trait Live {
+    ghost lives_at: { Self → Spot → Item → Option ℕ → Bool };
+
+    /// The pools of whose segments it knows whether they have a live item.
+    ghost knows: { Self → PoolState → Type 0 };
+
+    fn lives(&self, place: Place, item: &ItemRef) -> bool
+        ensures { result ≡ lives_at self.now place (item_of item.now) item.now.deadline };
+
+    /// Whether a segment has a live item.
+    fn has_live(&self, segment: u32) -> bool
+        ensures { (p : PoolState) → knows self.now p → result ≡ has_live (lives_at self.now) p segment };
+}
 
 /// The marks of each segment: a bit for each 32 bytes.
 #[derive(Drop)]

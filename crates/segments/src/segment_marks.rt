@@ -1,7 +1,7 @@
 //! The marks of one segment.
 
-ghost use Rattle.std.specs.Prelude.{◌≡◌, ◌==◌, ℕ, ◌*◌, ◌<◌, ◌≤◌, false, true, length, replicate, slice_index_or, slice_set};
-ghost use Rattle.std.specs.Prelude.{IfOk, if◌then◌else◌};
+ghost use Rattle.std.specs.Prelude.{◌≡◌, ◌==◌, ℕ, ◌*◌, ◌<◌, ◌≤◌, false, true, length, replicate, slice_index_or};
+ghost use Rattle.std.specs.Prelude.{slice_set, IfOk, if◌then◌else◌};
 ghost use Rattle.segments.specs.Marks.{mark_count};
 ghost use Rattle.segments.specs.MarkBits.{bit_of, bits_of};
 

@@ -1,5 +1,5 @@
 use Rattle.std.proofs.Common.{◌≡◌, ℕ, ◌+◌, ◌*◌, ◌%◌, ◌^◌, ◌≤◌, length, sym, ap, ◌∙◌, arith}
-use Rattle.index.specs.declared.slot.Slot.{Slot}
+use Rattle.index.specs.declared.slots.Slot.{Slot}
 use Rattle.index.specs.declared.layout.Layout.{Layout}
 use Rattle.index.specs.Keys.{KeysOf, hash_of}
 use Rattle.segments.specs.Pools.{key_at}

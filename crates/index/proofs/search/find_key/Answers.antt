@@ -1,7 +1,7 @@
 use Rattle.std.proofs.Common.{◌≡◌, true, false, sym, ◌∙◌, Some, refl, arith}
 use Rattle.std.proofs.lemmas.Bool.Decides.{nat_tests}
 use Rattle.std.proofs.Common.{ap}
-use Rattle.index.specs.declared.slot.Slot.{Slot}
+use Rattle.index.specs.declared.slots.Slot.{Slot}
 use Rattle.segments.specs.Pools.{key_at}
 use Rattle.index.specs.Slots.{is_used, place_of, slot_at}
 use Rattle.index.proofs.SearchesUpToGap.{way_begins, way_goes_on, way_shortens, way_keeps, none_passed, other_key}

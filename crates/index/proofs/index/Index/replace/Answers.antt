@@ -2,7 +2,7 @@ use Rattle.std.proofs.Common.{◌≡◌, ap, ◌∙◌, List, length, Some, refl
 use Rattle.std.specs.Prelude.{slice_set, MatchOption}
 use Rattle.std.specs.FinMap as map
 use Rattle.std.proofs.lemmas.List.{length-set}
-use Rattle.index.specs.declared.slot.Slot.{Slot}
+use Rattle.index.specs.declared.slots.Slot.{Slot}
 use Rattle.index.specs.Keys.{home_of, hash_of, KeysOf}
 use Rattle.index.specs.Slots.{slot_with, slot_at, place_of}
 use Rattle.index.specs.Table.{AreIndexed, hashing, Hashing, places_in}

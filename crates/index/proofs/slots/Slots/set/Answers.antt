@@ -1,6 +1,6 @@
 use Rattle.std.proofs.Common.{◌≡◌, ap, ◌∙◌, List}
 use Rattle.std.specs.Prelude.{slice_set}
-use Rattle.index.specs.declared.slot.Slot.{Slot}
+use Rattle.index.specs.declared.slots.Slot.{Slot}
 use Rattle.index.specs.Layouts.{SlotArray, slot_of, packed_of}
 use Rattle.index.proofs.PackedSlots.{word_slot}
 use Rattle.index.proofs.slots.Slots.set.Goals as goal

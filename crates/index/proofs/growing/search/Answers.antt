@@ -3,8 +3,8 @@ use Rattle.index.specs.Slots.{distance}
 use Rattle.index.specs.Reinserting.{IsFirstStop}
 use Rattle.index.proofs.RowDistances.{distance_itself}
 use Rattle.index.proofs.ReinsertedKeys.{stop_further}
-use Rattle.index.proofs.reinserting.search.Goals as goal
-use Rattle.index.proofs.reinserting.search.Goals.{After-first_gap_before}
+use Rattle.index.proofs.growing.search.Goals as goal
+use Rattle.index.proofs.growing.search.Goals.{After-first_gap_before}
 
 -- what is found from the end of the stretch is found from each of its slots
 goes_on : (c : After-first_gap_before) (home : ℕ) → home < length c.args.slots.now.slots

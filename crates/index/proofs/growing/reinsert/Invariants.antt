@@ -4,7 +4,7 @@ use Rattle.index.specs.Slots.{used_in, distance}
 use Rattle.index.specs.Reinserting.{AreNear, IsStretch}
 use Rattle.index.specs.Table.{hashing, places_in}
 use Rattle.index.proofs.ReinsertedKeys.{spread, gap_index}
-use Rattle.index.proofs.reinserting.reinsert.Given as goal
+use Rattle.index.proofs.growing.reinsert.Given as goal
 
 abbrev pub invariant-cluster : goal.invariant-cluster
 invariant-cluster l = record {

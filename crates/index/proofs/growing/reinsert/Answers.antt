@@ -1,6 +1,6 @@
 use Rattle.std.proofs.Common.{◌≡◌, ℕ, ◌+◌, ◌*◌, ◌<◌, true, false, List, length, refl, sym, ap, ◌∙◌, arith, subst}
 use Rattle.std.specs.Prelude.{slice_set}
-use Rattle.index.specs.declared.slot.Slot.{Slot}
+use Rattle.index.specs.declared.slots.Slot.{Slot}
 use Rattle.index.specs.Layouts.{SlotArray}
 use Rattle.index.specs.Keys.{KeysOf}
 use Rattle.segments.specs.Pools.{key_at}
@@ -9,8 +9,8 @@ use Rattle.index.specs.Reinserting.{IsFirstStop}
 use Rattle.index.specs.Table.{hashing, Hashing}
 use Rattle.index.proofs.ShiftedSlots.{homes_in_row}
 use Rattle.index.proofs.ReinsertedKeys.{IsStep, step_stays, step_moves, stretch_begins, stretch_stays, cluster_ends, spread, gap_index}
-use Rattle.index.proofs.reinserting.reinsert.Goals as goal
-use Rattle.index.proofs.reinserting.reinsert.Goals.{then-gap-at, else-gap-at}
+use Rattle.index.proofs.growing.reinsert.Goals as goal
+use Rattle.index.proofs.growing.reinsert.Goals.{then-gap-at, else-gap-at}
 
 -- how the keys are hashed
 abbrev hashing_of : goal.After-behind-at → Hashing

@@ -1,5 +1,0 @@
-use Rattle.engine.proofs.PlainLemmas.{live-of-nil}
-use Rattle.engine.proofs.live_entries.LiveEntries.clear.Goals as goal
-
-pub returns-clause-entries : goal.returns-clause-entries
-returns-clause-entries c = live-of-nil c.clear.new.self.entries c.self.inside.moment c.clear.ensures.empty

@@ -64,16 +64,11 @@ impl IdleTurns {
         }
     }
 
-    /// Whether the thread has spun long enough in this row.
+    /// Whether the thread has spun often or long enough in this row. One that can't read the clock doesn't spin for a time.
     fn has_spun<R: Clock>(&mut self, rt: &R) -> bool {
-        match self.spin {
-            Some(spin) => self.has_spun_for(rt, spin),
-            None => self.turns >= self.most,
-        }
-    }
-
-    /// Whether the first idle turn of the row was that long ago. A thread that can't read the clock doesn't spin.
-    fn has_spun_for<R: Clock>(&mut self, rt: &R, spin: Duration) -> bool {
+        let Some(spin) = self.spin else {
+            return self.turns >= self.most;
+        };
         let Ok(now) = Instant::now(rt) else {
             return true;
         };

@@ -85,14 +85,10 @@ impl WorkerBatch {
         ensures counts { (result.1 ≡ length self.end.sent) × (result.2 ≡ length self.end.back) }
     {
         let WorkerBatch {
-            lane_table: _,
             seat,
-            worker: _,
             sent,
-            put: _,
             back,
-            known: _,
-            said_bye: _,
+            ..
         } = self;
         (seat, sent, back)
     }

@@ -33,38 +33,20 @@ pub struct StorageReport<C: Clock> {
     pub executed: u64,
 }
 
-/// For how many of the next messages that was done, where hints are left at all.
-#[derive(Drop)]
-struct ReadAhead {
-    has_hints: bool,
-    left: u64,
-}
-
-impl ReadAhead {
-    fn new(has_hints: bool) -> ReadAhead {
-        ReadAhead { has_hints, left: 0 }
+// Reads ahead for a message that was taken and for those seen after it, unless that was done when one before it was taken. It
+// is handed, and says, for how many of the next messages that is done.
+fn read_ahead<S: StorageEngine>(
+    done: u64,
+    store: &S,
+    end: &StorageBatch,
+    signals: &StorageSignals,
+) -> u64 {
+    if done > 0 {
+        return done - 1;
     }
-
-    /// A message was taken. Where it isn't one of those, storage reads ahead for it and for those seen after it.
-    fn note_taken<S: StorageEngine>(
-        &mut self,
-        store: &S,
-        end: &StorageBatch,
-        signals: &StorageSignals,
-    ) {
-        if self.left > 0 {
-            self.left -= 1;
-        } else if self.has_hints {
-            self.left = read_ahead(store, end, signals);
-        }
-    }
-}
-
-// Reads ahead for the messages seen, and says how many of them there are after the first one.
-fn read_ahead<S: StorageEngine>(store: &S, end: &StorageBatch, signals: &StorageSignals) -> u64 {
     let (lane, first, seen) = end.seen();
     let count = seen.min(MESSAGES_AHEAD);
-    if count < 2 {
+    if count < 2 || !signals.has_hints() {
         return 0;
     }
     for place in 0..count {
@@ -209,7 +191,7 @@ pub fn run_storage<R: Wait + time::Clock, S: StorageEngine + Drop, C: Clock>(
     let mut executed = 0u64;
     let mut left = end.workers();
     let mut idle = IdleTurns::new(IDLE_TURNS, signals.spin());
-    let mut ahead = ReadAhead::new(signals.has_hints());
+    let mut ahead = 0;
     for _ in rt.forever() {
         if left == 0 {
             tell(&mut end, signals);
@@ -221,7 +203,7 @@ pub fn run_storage<R: Wait + time::Clock, S: StorageEngine + Drop, C: Clock>(
         }
         match take_next(&mut end, &clock, executed, signals) {
             Some(Taken::Asked { worker, posted }) => {
-                ahead.note_taken(&store, &end, signals);
+                ahead = read_ahead(ahead, &store, &end, signals);
                 let told = execute(&mut store, &mut clock, &mut end, worker, posted);
                 if let Some(told) = told {
                     signals.unpark(told);

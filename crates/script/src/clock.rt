@@ -53,15 +53,6 @@ enum Readings {
     After(Snapshot<Readings>, u64),
 }
 
-impl Readings {
-    /// These readings, and one more.
-    fn and(&self, reading: u64) -> Readings
-        ensures { readings_in_order result ≡ readings_in_order self.now ++ reading ∷ [] }
-    {
-        Readings::After(Snapshot::of(self), reading)
-    }
-}
-
 /// A script's clock that tells the list of its readings. The list takes no memory.
 #[derive(Drop)]
 pub struct RecordingClock {
@@ -108,7 +99,7 @@ impl Clock for RecordingClock {
         ensures later { (n : ℕ) → answer_of self.new.clock n ≡ answer_of self.old.clock (n + 1) }
     {
         let answer = self.clock.now();
-        self.answers = self.answers.and(answer);
+        self.answers = Readings::After(Snapshot::of(&self.answers), answer);
         ClockAnswer::given(answer)
     }
 }

@@ -12,7 +12,7 @@ ghost use Rattle.script.specs.PortSessions as sessions;
 ghost use Rattle.script.specs.Players.{is_left, is_ready, events_left, NoneReady, player_state};
 ghost use Rattle.script.specs.Players.{IsPlayerConsistent, PlayerGoesOn, IsFirst, IsCausedAt, PlaysNext};
 ghost use Rattle.script.specs.Players.{RecordsClose, EndsSession, Keeps, SamePlayer, CountsOffer, GivesAs};
-ghost use Rattle.script.specs.States.{CountsGive, SetsHeld, most_accepted, new_player, with_faults};
+ghost use Rattle.script.specs.States.{CountsGive, SetsHeld, new_player, with_faults};
 ghost use Rattle.worker_port.specs.Ports.{given};
 
 use crate::ScriptEvent;
@@ -99,18 +99,6 @@ fn next_piece(bytes: &Bytes) -> Result<(Bytes, Bytes), AllocError>
     let piece = bytes.slice(0..bytes.len().min(MAX_PIECE))?;
     let copy = piece.clone()?;
     Ok((piece, copy))
-}
-
-// The most bytes of these that a `give` accepts.
-fn most_accepted(accept: usize, bytes: &[u8]) -> usize
-    ensures most { result ≡ most_accepted accept bytes.now }
-    ensures within { result ≤ length bytes.now }
-{
-    if accept == 0 {
-        bytes.len()
-    } else {
-        accept.min(bytes.len())
-    }
 }
 
 impl Player {
@@ -334,7 +322,11 @@ impl Player {
             self.close(session, PortRecord::Gone(session));
             return Err(Gone);
         }
-        let most = most_accepted(self.accept, bytes);
+        let most = if self.accept == 0 {
+            bytes.len()
+        } else {
+            self.accept.min(bytes.len())
+        };
         if most > 0 && self.keep(session, &bytes[..most]) {
             return Ok(most);
         }

@@ -1,7 +1,6 @@
 //! The list of a port's events, which takes no memory.
 
 ghost use Rattle.std.specs.Prelude.{◌≡◌, [], ◌∷◌, ◌++◌};
-ghost use Rattle.script.specs.Records.{records_of_entries};
 
 use std::marker::Model;
 use std::snapshot::Snapshot;
@@ -12,15 +11,6 @@ use worker_port::PortRecord;
 enum Entries {
     None,
     After(Snapshot<Entries>, PortRecord),
-}
-
-impl Entries {
-    // These entries, and one more.
-    fn and(&self, entry: PortRecord) -> Entries
-        ensures { records_of_entries result ≡ records_of_entries self.now ++ entry ∷ [] }
-    {
-        Entries::After(Snapshot::of(self), entry)
-    }
 }
 
 /// The list of events, as clauses see it.
@@ -52,6 +42,6 @@ impl Records {
     pub(crate) fn write(&mut self, entry: PortRecord)
         ensures { self.new ≡ self.old ++ entry ∷ [] }
     {
-        self.entries = self.entries.and(entry);
+        self.entries = Entries::After(Snapshot::of(&self.entries), entry);
     }
 }

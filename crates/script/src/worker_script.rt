@@ -75,22 +75,13 @@ impl WorkerScript {
     pub fn fault(&self, event: &ScriptEvent) -> Option<LineFault>
         ensures { MatchOption result (MayFollow self.now event.now) (IsOutOfPlace self.now event.now) }
     {
-        match event {
-            ScriptEvent::Open(session) => {
-                if *session > self.newest {
-                    None
-                } else {
-                    Some(LineFault::NotAboveLast)
-                }
-            }
+        let (may_come, fault) = match event {
+            ScriptEvent::Open(session) => (*session > self.newest, LineFault::NotAboveLast),
             ScriptEvent::Send(session, _) | ScriptEvent::Gone(session) => {
-                if self.sessions.contains(session) {
-                    None
-                } else {
-                    Some(LineFault::NotOpen)
-                }
+                (self.sessions.contains(session), LineFault::NotOpen)
             }
-        }
+        };
+        if may_come { None } else { Some(fault) }
     }
 
     /// Adds the event.
@@ -115,6 +106,7 @@ impl WorkerScript {
     {
         self.events.as_slice()
     }
+
     /// The events, in order.
     pub fn into_events(self) -> Vec<ScriptEvent>
         ensures events { result.items ≡ self }

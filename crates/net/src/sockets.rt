@@ -1,5 +1,5 @@
-//! The sockets: what accepts streams, and each stream as it is new, served and ended. A raw stream stands in this file and
-//! in that of the served ones alone: nothing else can read from it or write to it.
+//! The sockets: what accepts streams, and each stream as it is new, served and ended. A raw stream stands in this file
+//! and in that of the served ones alone: nothing else can read from it or write to it.
 
 ghost use Rattle.std.specs.Prelude.{◌≡◌, [], ◌∷◌, ◌++◌, OnErr, IfOk, IfSome};
 ghost use Rattle.net.specs.Sockets.{socket_of, IsNewLog};

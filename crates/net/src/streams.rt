@@ -100,7 +100,8 @@ pub(crate) struct Streams {
 }
 
 impl Streams {
-    ghost use Rattle.net.specs.Traces.{trace_of, IsNew, GoesOn, HasOpen, HasNoneOpen, Tells, MayTell, KeepsSockets, TellsNothing};
+    ghost use Rattle.net.specs.Traces.{trace_of, IsNew, GoesOn, HasOpen, HasNoneOpen};
+    ghost use Rattle.net.specs.Traces.{Tells, MayTell, TellsNothing, KeepsSockets};
     ghost use Rattle.net.specs.Sockets.{socket_of};
 
     pub(crate) fn new(alloc: Global, owner: Owner) -> Result<Streams, AllocError>

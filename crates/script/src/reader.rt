@@ -1,10 +1,9 @@
 //! Reads a script line by line.
 
-ghost use Rattle.std.specs.Prelude.{◌≡◌, ◌+◌, ◌<◌, ◌≤◌, ◌↔◌, [], ◌∷◌, length, replicate, IfOk, IfErr, OnOk, OnErr};
+ghost use Rattle.std.specs.Prelude.{◌≡◌, ◌+◌, ◌<◌, ◌≤◌, ◌↔◌, [], ◌∷◌, length, replicate, IfOk, IfErr, OnErr};
 ghost use Rattle.std.specs.Prelude.{MatchResult, MatchOption, MatchBool, IfSome};
 ghost use Rattle.script.specs.Lines.{lines_of};
-ghost use Rattle.script.specs.Events.{MayFollow};
-ghost use Rattle.script.specs.Scripts.{MayAdd, HasLineFault, events_at, with_line, no_events, max_script, first_position};
+ghost use Rattle.script.specs.Scripts.{MayAdd, HasLineFault, no_events, max_script, first_position};
 ghost use Rattle.script.specs.Scripts.{ReadsLine, IsNextFault, AreEventsOf, IsFaultOf};
 
 use crate::event::ScriptLine;

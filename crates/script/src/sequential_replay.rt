@@ -6,7 +6,7 @@ ghost use Rattle.script.specs.declared.event.ScriptEvent.{ScriptEvent};
 ghost use Rattle.script.specs.Events.{IsPlayable, MayFollow};
 ghost use Rattle.script.specs.declared.sequential_session.SequentialSession.{SequentialSession};
 ghost use Rattle.script.specs.SequentialSessions.{Setup};
-ghost use Rattle.script.specs.SequentialReplays.{FeedsAt, IsSessionAt, IsReplay, IsRising, RunsEvent};
+ghost use Rattle.script.specs.SequentialReplays.{IsSessionAt, IsReplay, IsRising, RunsEvent};
 ghost use Rattle.script.specs.SequentialReplays.{numbers_of, output_of};
 
 use crate::sequential_session::{Executor, SequentialSession};

@@ -1,6 +1,6 @@
 //! One session of a run, and what executes its requests.
 
-ghost use Rattle.std.specs.Prelude.{◌≡◌, ℕ, ◌≤◌, ◌++◌, [], false, length, take, drop, is_some, IsTrue, IfOk, OnOk};
+ghost use Rattle.std.specs.Prelude.{◌≡◌, ℕ, ◌≤◌, ◌++◌, [], false, length, take, drop, IfOk, OnOk};
 ghost use Rattle.proto.specs.declared.dialect.Dialect.TheVariants.{Strict};
 ghost use Rattle.proto.specs.Grammar.{SpellsNone};
 ghost use Rattle.proto.specs.History.{max_moment};

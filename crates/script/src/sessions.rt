@@ -3,7 +3,8 @@
 ghost use Rattle.std.specs.Prelude.{◌≡◌, ℕ, ◌+◌, ◌<◌, [], ◌∷◌, ◌++◌, length, map, true, false, Some, None, option_map};
 ghost use Rattle.std.specs.Prelude.{MatchOption, OnOk, OnErr, slice_index_or, if◌then◌else◌};
 ghost use Rattle.script.specs.PortSessions.{ScriptSessionState, numbers, RisesFrom, newest, session_entry};
-ghost use Rattle.script.specs.PortSessions.{is_session_open, ChangesAt, with_stage, IsPlaceOf, is_closed, is_waiting, AcceptsAt};
+ghost use Rattle.script.specs.PortSessions.{is_session_open, is_closed, is_waiting, with_stage};
+ghost use Rattle.script.specs.PortSessions.{IsPlaceOf, ChangesAt, AcceptsAt};
 
 use std::alloc::{AllocError, Global};
 use std::marker::Model;

@@ -345,13 +345,11 @@ impl<P: Port> Worker<P> {
         requires read { HasReadAll (session_of self.old.book session) finished }
         ensures { Continues P.told P.leads_to self.old self.new }
     {
-        match finished {
-            Some(cause) => {
-                self.state.shut(session, cause);
-                true
-            }
-            None => false,
-        }
+        let Some(cause) = finished else {
+            return false;
+        };
+        self.state.shut(session, cause);
+        true
     }
 }
 

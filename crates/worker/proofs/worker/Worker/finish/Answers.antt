@@ -12,8 +12,8 @@ invariant_of-self g c = (finish_goes_on g.P.Port.told c.self.inside.state c.shut
     c.shut.ensures.shuts c.self.invariant (rw c.self.view_is (sym c.requires.finished ∙ c.in-Some.is))
     (rw c.self.view_is (rw c.in-Some.is at c.requires.read))).serving
 
-pub returns-in-Some : goal.returns-in-Some
-returns-in-Some g c =
+pub returns : goal.returns
+returns g c =
     continues c.self.view_is c.shut.ensures.leads
     (finish_goes_on g.P.Port.told c.self.inside.state c.shut.new.self c.args.session c.in-Some.cause
     c.shut.ensures.shuts c.self.invariant (rw c.self.view_is (sym c.requires.finished ∙ c.in-Some.is))

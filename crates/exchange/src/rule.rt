@@ -1,8 +1,7 @@
 //! The table: what its seats know, its rule, and what each step tells. No value of what a seat knows is made.
 ghost use Rattle.exchange.specs.Steps.{tells_begin, request_put, tells_post, seen_taken, bye_posted, done_loaded};
-ghost use Rattle.exchange.specs.Steps.{slot_returned};
-ghost use Rattle.exchange.specs.Steps.{posted_loaded, tells_answer, told_done, seen_opened, settle_bye, with_one_more};
-ghost use Rattle.exchange.specs.Steps.{new_worker, comparing, tells_comparison};
+ghost use Rattle.exchange.specs.Steps.{slot_returned, posted_loaded, tells_answer, told_done, seen_opened, settle_bye};
+ghost use Rattle.exchange.specs.Steps.{with_one_more, new_worker, comparing, tells_comparison};
 
 use crate::messages::{LaneKey, LaneMessage};
 use atomic_table::{Join, Play, Seat, Split, Table, TableRule};

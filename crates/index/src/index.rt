@@ -3,9 +3,8 @@
 ghost use Rattle.std.specs.Prelude.{◌≡◌, ◌≢◌, ◌+◌, ◌*◌, ◌≤◌, length, IfOk, Some, ◌⊎◌, ◌∷◌, [], IfSome, IsSome};
 ghost use Rattle.std.specs.FinMap as map;
 ghost use Rattle.segments.specs.declared.place.Place.{Place as Spot};
-ghost use Rattle.segments.specs.Pools.{item_in};
+ghost use Rattle.segments.specs.Pools.{item_in, key_at};
 ghost use Rattle.index.specs.Keys.{KeysOf, seeded_hasher};
-ghost use Rattle.segments.specs.Pools.{key_at};
 ghost use Rattle.index.specs.Slots.{used_in, empty_slot};
 ghost use Rattle.index.specs.Layouts.{IsLayout, IsInLayout};
 ghost use Rattle.index.specs.Relocating.{IsRelocated, forget_place};

@@ -1,10 +1,9 @@
 //! Changes of many places at once.
 
 ghost use Rattle.std.specs.Prelude.{◌≡◌, None, All, IsSome};
-ghost use Rattle.segments.specs.Pools.{item_in};
+ghost use Rattle.segments.specs.Pools.{item_in, key_at};
 ghost use Rattle.segments.specs.Merges.{planned_moves};
 ghost use Rattle.segments.specs.Places.{moved_by};
-ghost use Rattle.segments.specs.Pools.{key_at};
 ghost use Rattle.index.specs.Table.{IsIndex, IsSameSize, HasPlace};
 ghost use Rattle.index.specs.Relocating.{IsRelocated, CanRelocate, forget_lost, keys_behind};
 

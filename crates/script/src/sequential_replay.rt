@@ -6,8 +6,7 @@ ghost use Rattle.script.specs.declared.event.ScriptEvent.{ScriptEvent};
 ghost use Rattle.script.specs.Events.{IsPlayable, MayFollow};
 ghost use Rattle.script.specs.declared.sequential_session.SequentialSession.{SequentialSession};
 ghost use Rattle.script.specs.SequentialSessions.{Setup};
-ghost use Rattle.script.specs.SequentialReplays.{IsSessionAt, IsReplay, IsRising, RunsEvent};
-ghost use Rattle.script.specs.SequentialReplays.{numbers_of, output_of};
+ghost use Rattle.script.specs.SequentialReplays.{IsSessionAt, IsReplay, IsRising, RunsEvent, numbers_of, output_of};
 
 use crate::sequential_session::{Executor, SequentialSession};
 use crate::{ScriptClock, ScriptEvent};

@@ -1,7 +1,6 @@
 //! Bytes that come in at the back and go out in front, and the memory of buffers that are empty.
 
-ghost use Rattle.std.specs.Prelude.{◌≡◌, ◌++◌, [], length, drop, ◌≤◌, OnOk, OnErr};
-ghost use Rattle.std.specs.Prelude.{is_some, IsOk, IsTrue};
+ghost use Rattle.std.specs.Prelude.{◌≡◌, ◌++◌, [], length, drop, ◌≤◌, OnOk, OnErr, is_some, IsOk, IsTrue};
 ghost use Rattle.std.specs.Option.{option_copied_mut};
 ghost use Rattle.proto.specs.Answers.{answer, is_ask, is_silent};
 

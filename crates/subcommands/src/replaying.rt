@@ -6,8 +6,7 @@ ghost use Rattle.std.specs.Io.KnownBytes.{Appends};
 ghost use Rattle.script.specs.Clocks.{clock_at};
 ghost use Rattle.script.specs.Scripts.{AreEventsOf};
 ghost use Rattle.subcommands.specs.Printed.{in_hexadecimal, printed_line, printed_lines, lines_from, events_of};
-ghost use Rattle.subcommands.specs.Printed.{ArePorts};
-ghost use Rattle.subcommands.specs.Printed.{IsPlayedAt, ArePlayed, IsPrinted};
+ghost use Rattle.subcommands.specs.Printed.{ArePorts, IsPlayedAt, ArePlayed, IsPrinted};
 ghost use Rattle.subcommands.specs.Replayed.{IsReplayOf};
 
 use crate::fault::Fault;

@@ -24,7 +24,7 @@ pub(crate) struct Acceptor {
     pub(crate) accepted: Trace<i32>,
 }
 
-/// Which socket was accepted, and a session opened with, for clauses alone.
+/// The socket of a stream that was accepted, or that a session was opened with, for clauses alone.
 #[derive(Clone, Copy)]
 pub(crate) struct SocketNote<'a> {
     pub(crate) stream: &'a Snapshot<NewStream>,

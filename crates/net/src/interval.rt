@@ -23,10 +23,9 @@ impl Interval {
         let Ok(now) = Instant::now(rt) else {
             return false;
         };
-        if let Some(last) = self.last {
-            if now.duration_since(last) < self.least {
-                return false;
-            }
+        let Interval { least, last } = *self;
+        if last.is_some_and(|last| now.duration_since(last) < least) {
+            return false;
         }
         self.last = Some(now);
         true

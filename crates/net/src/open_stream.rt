@@ -7,7 +7,7 @@ ghost use Rattle.net.specs.Shown.{seen_of, Arrives};
 ghost use Rattle.worker_port.specs.Giving.{MayBeSent, by_system_clock};
 
 use crate::owner::Owner;
-use crate::sockets::{EndedStream, ServedStream};
+use crate::sockets::ServedStream;
 use bytes::Bytes;
 use mio::event::Event;
 use std::alloc::Global;
@@ -43,7 +43,7 @@ enum Output {
 }
 
 /// What an event told of a session's stream.
-#[derive(Clone, Copy)]
+#[derive(Clone, Copy, Default)]
 pub(crate) struct Heard {
     pub(crate) session: u64,
     is_readable: bool,
@@ -62,16 +62,6 @@ impl Heard {
             is_readable: has_closed || event.is_readable(),
             has_closed,
             has_room: has_failed || event.is_writable(),
-        }
-    }
-
-    // The session is to be read on, and no event told of it.
-    fn nothing(session: u64) -> Heard {
-        Heard {
-            session,
-            is_readable: false,
-            has_closed: false,
-            has_room: false,
         }
     }
 }
@@ -108,27 +98,15 @@ impl OpenStream {
         }
     }
 
-    // The stream with its sending half ended, to be read a little longer; none if all of its input was read.
-    pub(crate) fn into_ended(self) -> Option<EndedStream> {
-        if self.stream.has_ended {
-            return None;
-        }
-        EndedStream::of(self.stream)
-    }
-
     // Takes note of what was heard of the stream, which is to be read then if something may be there. True if it has room that
     // it had not.
     pub(crate) fn hear(&mut self, heard: Heard) -> bool
         ensures { seen_of self.new ≡ seen_of self.old }
     {
+        let has_input = heard.is_readable && !self.stream.has_ended;
         match self.input {
-            Input::Waiting if heard.is_readable && !self.stream.has_ended => {
-                self.input = if heard.has_closed {
-                    Input::Draining
-                } else {
-                    Input::Listed
-                };
-            }
+            Input::Waiting if has_input && heard.has_closed => self.input = Input::Draining,
+            Input::Waiting if has_input => self.input = Input::Listed,
             Input::Listed if heard.has_closed => self.input = Input::Draining,
             _ => {}
         }
@@ -139,13 +117,17 @@ impl OpenStream {
         is_freed
     }
 
-    // Puts the stream in the list of those to read, if it is to be read. Without memory it waits for another event.
+    // Puts the stream in the list of those to read, if it is to be read, though no event told of it. Without memory it waits
+    // for another event.
     pub(crate) fn list(&mut self, session: u64, ready: &mut VecDeque<Heard>)
         ensures { seen_of self.new ≡ seen_of self.old }
     {
-        if matches!(self.input, Input::Listed | Input::Draining)
-            && ready.push_back(Heard::nothing(session)).is_err()
-        {
+        let heard = Heard {
+            session,
+            ..Heard::default()
+        };
+        let is_wanted = matches!(self.input, Input::Listed | Input::Draining);
+        if is_wanted && ready.push_back(heard).is_err() {
             self.input = Input::Waiting;
         }
     }
@@ -201,24 +183,20 @@ impl OpenStream {
         if matches!(self.output, Output::Blocked) || bytes.is_empty() {
             return Ok(0);
         }
-        match self.stream.write(owner, session, bytes, history) {
-            Ok(count) => {
-                self.output = if count < bytes.len() {
-                    Output::Blocked
-                } else {
-                    Output::Free
-                };
-                if count > 0 {
-                    self.active = looks;
-                }
-                Ok(count)
-            }
-            Err(error) if error.kind() == ErrorKind::WouldBlock => {
-                self.output = Output::Blocked;
-                Ok(0)
-            }
-            Err(_) => Err(Gone),
+        let count = match self.stream.write(owner, session, bytes, history) {
+            Ok(count) => count,
+            Err(error) if error.kind() == ErrorKind::WouldBlock => 0,
+            Err(_) => return Err(Gone),
+        };
+        self.output = if count < bytes.len() {
+            Output::Blocked
+        } else {
+            Output::Free
+        };
+        if count > 0 {
+            self.active = looks;
         }
+        Ok(count)
     }
 
     pub(crate) fn pause(&mut self)

@@ -20,24 +20,16 @@ const DRAINING_WAIT_MILLIS: u64 = 5;
 const STALLED_WAIT_MILLIS: u64 = 1;
 
 /// The calls in a row that found no event, and the time after the last event for which polls don't wait.
-#[derive(Clone, Copy)]
+#[derive(Clone, Copy, Default)]
 pub(crate) struct Polls {
     idle_calls: u32,
+    // Zero at first: each poll waits then, if the worker may.
     spin: Duration,
     // The first poll since the last event that would wait; none if there was none.
     since: Option<Instant>,
 }
 
 impl Polls {
-    // Each poll waits, if the worker may.
-    pub(crate) fn new() -> Polls {
-        Polls {
-            idle_calls: 0,
-            spin: Duration::ZERO,
-            since: None,
-        }
-    }
-
     // Polls don't wait until this many microseconds after an event.
     pub(crate) fn set_spin(&mut self, micros: u32) {
         self.spin = Duration::from_micros(micros as u64);
@@ -58,18 +50,13 @@ impl Polls {
     ) -> Option<Duration> {
         let calls = self.idle_calls;
         self.idle_calls = calls.saturating_add(1);
-        let millis = if may_wait && self.spins(rt) {
-            0
-        } else if may_wait && is_draining {
-            DRAINING_WAIT_MILLIS
-        } else if may_wait {
-            WAIT_MILLIS
-        } else if calls % CALLS_EACH_POLL < CALLS_EACH_POLL - 1 {
-            return None;
-        } else if calls < STALLED_CALLS {
-            0
-        } else {
-            STALLED_WAIT_MILLIS
+        let millis = match may_wait {
+            true if self.spins(rt) => 0,
+            true if is_draining => DRAINING_WAIT_MILLIS,
+            true => WAIT_MILLIS,
+            false if calls % CALLS_EACH_POLL < CALLS_EACH_POLL - 1 => return None,
+            false if calls < STALLED_CALLS => 0,
+            false => STALLED_WAIT_MILLIS,
         };
         Some(Duration::from_millis(millis))
     }

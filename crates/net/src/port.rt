@@ -57,19 +57,15 @@ impl<R: Wait + Clock + Net + Drop> MioPort<R> {
     pub fn new(rt: R, alloc: Global, mut hand: Hand, owner: Owner) -> Result<MioPort<R>, NetFault>
         ensures { IfOk result (λ port. IsNew owner.geometry owner.dialect owner.worker (trace_of port.served)) }
     {
-        let Ok(poll) = Poll::new(&rt) else {
-            return Err(NetFault::Poll);
-        };
-        if hand.register(&poll).is_err() {
-            return Err(NetFault::Poll);
-        }
+        let poll = Poll::new(&rt).map_err(|_| NetFault::Poll)?;
+        hand.register(&poll).map_err(|_| NetFault::Poll)?;
         Ok(MioPort {
             rt,
             hand,
             poll,
             events: Events::with_capacity(alloc, EVENTS)?,
             served: Streams::new(alloc, owner)?,
-            polls: Polls::new(),
+            polls: Polls::default(),
             idle_looks: None,
             has_streams: true,
             has_idle: false,
@@ -102,8 +98,7 @@ impl<R: Wait + Clock + Drop> MioPort<R> {
     pub fn set_idle_limit(&mut self, seconds: u64)
         ensures { TellsNothing self.old.served self.new.served }
     {
-        let millis = seconds.saturating_mul(LOOK_MILLIS);
-        self.idle_looks = Some(Interval::of_millis(millis));
+        self.idle_looks = Some(Interval::of_millis(seconds.saturating_mul(LOOK_MILLIS)));
     }
 
     /// Has the port look on for this many microseconds after an event, before it waits for the next one: until then its polls
@@ -150,10 +145,8 @@ impl<R: Wait + Clock + Drop> MioPort<R> {
         ensures { TellsNothing self.old.served self.new.served }
     {
         let has_heard = !self.served.ready.is_empty() || self.has_idle;
-        if has_heard || (self.has_streams && self.served.len() < OPEN_SESSIONS) {
-            return true;
-        }
-        if self.served.is_empty() && self.hand.is_drained() {
+        let may_open = self.has_streams && self.served.len() < OPEN_SESSIONS;
+        if has_heard || may_open || (self.served.is_empty() && self.hand.is_drained()) {
             return true;
         }
         let is_draining = self.served.lingering.is_ready;

@@ -13,36 +13,37 @@ use mio::{Interest, Poll, Token};
 use proto::{Noted, Trace};
 use std::io::{self, Read};
 use std::net::{Net, Shutdown, SocketAddr};
+use std::snapshot::Snapshot;
 
 /// A socket that accepts streams. For clauses alone it knows which it accepted.
 #[derive(Drop)]
 pub(crate) struct Acceptor {
     listener: TcpListener,
+    /// The port that it listens on.
+    pub(crate) port: u16,
     pub(crate) accepted: Trace<i32>,
 }
 
+/// The socket of a stream that was accepted, or that a session was opened with, for clauses alone.
 #[derive(Clone, Copy)]
-struct Accepted<'a> {
-    stream: &'a NewStream,
+pub(crate) struct SocketNote<'a> {
+    pub(crate) stream: &'a Snapshot<NewStream>,
 }
 
-impl Noted<i32> for Accepted<'_> {
-    ghost noted = { λ x. socket_of x.stream.now ∷ [] };
+impl Noted<i32> for SocketNote<'_> {
+    ghost noted = { λ note. socket_of note.stream.now.value ∷ [] };
 }
 
 impl Acceptor {
     pub(crate) fn bind<R: Net>(rt: &R, addr: SocketAddr) -> io::Result<Acceptor>
         ensures { IfOk result (λ acceptor. acceptor.accepted.items ≡ []) }
     {
+        let listener = TcpListener::bind(rt, addr)?;
         Ok(Acceptor {
-            listener: TcpListener::bind(rt, addr)?,
+            port: listener.local_addr()?.port(),
+            listener,
             accepted: Trace::new(),
         })
-    }
-
-    /// The port that it listens on.
-    pub(crate) fn port(&self) -> io::Result<u16> {
-        Ok(self.listener.local_addr()?.port())
     }
 
     /// Has the poll return when a stream waits.
@@ -61,7 +62,8 @@ impl Acceptor {
     {
         let (stream, _) = self.listener.accept()?;
         let stream = NewStream { stream };
-        self.accepted.note_as(&Accepted { stream: &stream });
+        let accepted = Snapshot::of(&stream);
+        self.accepted.note_as(&SocketNote { stream: &accepted });
         Ok(stream)
     }
 }
@@ -95,8 +97,11 @@ pub(crate) struct EndedStream {
 }
 
 impl EndedStream {
-    /// Ends the sending half. None if the system refuses; the stream is closed then.
+    /// Ends the sending half. None if all of the stream's input was read, or if the system refuses; it is closed then.
     pub(crate) fn of(served: ServedStream) -> Option<EndedStream> {
+        if served.has_ended {
+            return None;
+        }
         let stream = served.into_stream();
         stream.shutdown(Shutdown::Write).ok()?;
         Some(EndedStream { stream })

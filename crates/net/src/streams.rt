@@ -12,7 +12,7 @@ use crate::hand::WAKER;
 use crate::lingering::LingeringStreams;
 use crate::open_stream::{Heard, OpenStream, Reading};
 use crate::owner::Owner;
-use crate::sockets::{NewStream, ServedStream};
+use crate::sockets::{EndedStream, NewStream, SocketNote};
 use mio::{Events, Poll};
 use proto::{Answered, Noted, Trace};
 use std::alloc::{AllocError, Global};
@@ -40,18 +40,6 @@ impl Noted<PortRecord> for PortNote<'_> {
     ghost use Rattle.net.specs.Notes.{told_by};
 
     ghost noted = { told_by };
-}
-
-/// With which socket a session was opened, for clauses alone.
-#[derive(Clone, Copy)]
-struct SocketNote<'a> {
-    served: &'a Snapshot<ServedStream>,
-}
-
-impl Noted<i32> for SocketNote<'_> {
-    ghost use Rattle.net.specs.Sockets.{served_socket};
-
-    ghost noted = { λ note. served_socket note.served.now.value ∷ [] };
 }
 
 #[derive(Clone, Copy)]
@@ -146,12 +134,12 @@ impl Streams {
     {
         let session = self.last.checked_add(1)?;
         self.ready.reserve(OPEN_SESSIONS).ok()?;
+        let accepted = Snapshot::of(&stream);
         let stream = stream.serve(poll, session)?;
-        let served = Snapshot::of(&stream);
         let open = OpenStream::new(stream, self.looks);
         self.open.insert(session, open).ok()?;
         self.last = session;
-        self.sockets.note_as(&SocketNote { served: &served });
+        self.sockets.note_as(&SocketNote { stream: &accepted });
         self.told.note_as(&PortNote::Opened(session));
         Some(session)
     }
@@ -228,23 +216,15 @@ impl Streams {
         }
     }
 
-    // A session that was idle for long enough.
-    fn idle_session(&self) -> Option<u64> {
-        for (session, open) in self.open.iter() {
-            if open.is_idle(self.looks) {
-                return Some(*session);
-            }
-        }
-        None
-    }
-
     /// Closes a session that was idle for long enough, and tells that its peer has gone.
     pub(crate) fn end_idle(&mut self) -> Option<PortEvent>
         requires { GoesOn (trace_of self.old) }
         ensures told { MayTell (trace_of self.old) result (trace_of self.new) }
         ensures sockets { KeepsSockets self.old self.new }
     {
-        let session = self.idle_session()?;
+        let mut entries = self.open.iter();
+        let idle = entries.find(|(_, open)| open.is_idle(self.looks));
+        let session = idle.map(|(session, _)| *session)?;
         let _ = self.open.remove(&session)?;
         self.told.note_as(&PortNote::Gone(session));
         Some(PortEvent::Gone(session))
@@ -320,7 +300,8 @@ impl Streams {
         ensures told { trace_of self.new ≡ then_told (Shut session ∷ []) (trace_of self.old) }
         ensures sockets { KeepsSockets self.old self.new }
     {
-        if let Some(ended) = self.open.remove(&session).and_then(OpenStream::into_ended) {
+        let removed = self.open.remove(&session);
+        if let Some(ended) = removed.and_then(|open| EndedStream::of(open.stream)) {
             self.lingering.add(rt, ended);
         }
         self.told.note_as(&PortNote::Shut(session));

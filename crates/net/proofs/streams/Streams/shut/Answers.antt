@@ -9,15 +9,15 @@ use Rattle.net.proofs.streams.Streams.shut.Goals as goal
 
 pub invariant_of-self-clause-ties : goal.invariant_of-self-clause-ties
 invariant_of-self-clause-ties g c =
-    let old = c.args.self.now in let after = c.remove.new.self.entries in let s = c.args.session in
+    let old = c.args.self.now in let after = c.remove-removed.new.self.entries in let s = c.args.session in
     let closed : IsSet s None (shown_stream old.open.entries) (shown_stream after) =
-    set_shown old.open.entries after s None c.remove.ensures.updates.0 in
+    set_shown old.open.entries after s None c.remove-removed.ensures.updates.0 in
     agree_shut old after s c.note_as.new.self.items c.requires c.note_as.ensures closed
 
 pub returns-clause-told : goal.returns-clause-told
 returns-clause-told g c =
-    let old = c.args.self.now in let after = c.remove.new.self.entries in let s = c.args.session in
+    let old = c.args.self.now in let after = c.remove-removed.new.self.entries in let s = c.args.session in
     let closed : IsSet s None (shown_stream old.open.entries) (shown_stream after) =
-    set_shown old.open.entries after s None c.remove.ensures.updates.0 in
+    set_shown old.open.entries after s None c.remove-removed.ensures.updates.0 in
     (λ i. trace (whose_of old) (shown_stream after) (c.note_as.ensures i))
     ∙ tells_shut (whose_of old) (shown_stream old.open.entries) (shown_stream after) old.told.items s closed

@@ -15,10 +15,7 @@ use std::alloc::Global;
 fn session(word: &[u8]) -> Option<u64>
     ensures { result ≡ session_in word.now }
 {
-    match number(word, u64::MAX) {
-        Some(0) => None,
-        found => found,
-    }
+    number(word, u64::MAX).filter(|number| *number > 0)
 }
 
 /// The bytes of which the word is the digits.
@@ -59,29 +56,22 @@ fn event(
 fn line_of(alloc: Global, mut words: Words) -> Result<Option<ScriptLine>, NoMemory>
     ensures { IfOk result (λ found. found ≡ line_in words.entry) }
 {
-    let Some(verb) = words.next() else {
-        return Ok(None);
-    };
-    let Some(worker_word) = words.next() else {
-        return Ok(None);
-    };
-    let Some(session_word) = words.next() else {
+    let (Some(verb), Some(worker_word), Some(session_word)) = (
+        words.next(),
+        words.next(),
+        words.next(),
+    ) else {
         return Ok(None);
     };
     let hex = words.next();
     if !words.is_empty() {
         return Ok(None);
     }
-    let Some(worker) = number(worker_word, 9_999_999_999) else {
+    let (Some(worker), Some(session)) = (number(worker_word, 9_999_999_999), session(session_word))
+    else {
         return Ok(None);
     };
-    let Some(session) = session(session_word) else {
-        return Ok(None);
-    };
-    match event(alloc, verb, session, hex)? {
-        Some(event) => Ok(Some(ScriptLine { worker, event })),
-        None => Ok(None),
-    }
+    Ok(event(alloc, verb, session, hex)?.map(|event| ScriptLine { worker, event }))
 }
 
 /// What the line, which has no line feed, says.

@@ -46,10 +46,9 @@ pub(crate) struct Player {
 fn is_left(sessions: &Sessions, event: &ScriptEvent) -> bool
     ensures { result ≡ is_left sessions.now event.now }
 {
-    match sessions.get(event_session(event)) {
-        Some(session) => !session.stage().is_closed(),
-        None => true,
-    }
+    sessions
+        .get(event_session(event))
+        .is_none_or(|session| !session.stage().is_closed())
 }
 
 // Whether it may be played now.
@@ -131,17 +130,6 @@ impl Player {
         self.can_fail |= fail_give > 0;
     }
 
-    /// The bytes given to a session.
-    pub(crate) fn given(&self, session: u64) -> &[u8]
-        requires { IsPlayerConsistent self.now }
-        ensures { result.now ≡ given session self.now.records }
-    {
-        match self.sessions.get(session) {
-            Some(session) => session.given(),
-            None => &[],
-        }
-    }
-
     // Begins a session.
     fn open(&mut self, session: u64) -> PortEvent
         requires { IsFirst self.old (script.Open session) }
@@ -159,27 +147,6 @@ impl Player {
         PortEvent::Opened(session)
     }
 
-    // Gives the next piece of a send.
-    fn send(&mut self, session: u64, piece: Bytes, copy: Bytes) -> PortEvent
-        requires { (bytes : List ℕ) × IsFirst self.old (script.Send session bytes)
-            × (piece ≡ take 16384 bytes) × (copy ≡ take 16384 bytes) }
-        ensures { PlaysNext self.old result self.new }
-    {
-        self.records.write(PortRecord::Data(session, copy));
-        self.events.take_piece();
-        PortEvent::Data(session, piece)
-    }
-
-    // Ends a session whose peer has gone.
-    fn go(&mut self, session: u64) -> PortEvent
-        requires { IsFirst self.old (script.Gone session) }
-        ensures { PlaysNext self.old result self.new }
-    {
-        self.close(session, PortRecord::Gone(session));
-        self.events.drop_first();
-        PortEvent::Gone(session)
-    }
-
     // Plays the first of the rest, if there is one.
     fn play(&mut self) -> PortEvent
         requires consistent { IsPlayerConsistent self.old }
@@ -189,20 +156,20 @@ impl Player {
         ensures { PlaysNext self.old result self.new }
     {
         match self.events.front() {
-            Some(ScriptEvent::Open(session)) => {
-                let session = *session;
-                self.open(session)
-            }
+            Some(&ScriptEvent::Open(session)) => self.open(session),
             Some(ScriptEvent::Send(session, bytes)) => {
                 let session = *session;
-                match next_piece(bytes) {
-                    Ok((piece, copy)) => self.send(session, piece, copy),
-                    Err(_) => PortEvent::Idle,
-                }
+                let Ok((piece, copy)) = next_piece(bytes) else {
+                    return PortEvent::Idle;
+                };
+                self.records.write(PortRecord::Data(session, copy));
+                self.events.take_piece();
+                PortEvent::Data(session, piece)
             }
-            Some(ScriptEvent::Gone(session)) => {
-                let session = *session;
-                self.go(session)
+            Some(&ScriptEvent::Gone(session)) => {
+                self.close(session, PortRecord::Gone(session));
+                self.events.drop_first();
+                PortEvent::Gone(session)
             }
             None => PortEvent::Idle,
         }
@@ -232,15 +199,10 @@ impl Player {
         drop_closed(&self.sessions, &mut self.events);
         settle(&self.sessions, &mut self.events);
         self.events.give_back();
-        match self.events.front() {
-            Some(_) => self.play(),
-            None => {
-                if self.events.is_empty() {
-                    self.end()
-                } else {
-                    PortEvent::Idle
-                }
-            }
+        if self.events.is_empty() {
+            self.end()
+        } else {
+            self.play()
         }
     }
 

@@ -89,7 +89,10 @@ impl ScriptPort {
     pub fn given(&self, session: u64) -> &[u8]
         ensures { result.now ≡ given session self.now.player.records }
     {
-        self.player.given(session)
+        match self.player.sessions.get(session) {
+            Some(session) => session.given(),
+            None => &[],
+        }
     }
 
     /// The sessions that were opened, in order. The list tells what the script says of them.

@@ -29,13 +29,8 @@ fn first_line(script: &[u8]) -> Option<(&[u8], &[u8])>
             let (line, behind) = script.split_at(at);
             Some((line, behind.split_at(1).1))
         }
-        None => {
-            if script.is_empty() {
-                None
-            } else {
-                Some(script.split_at(script.len()))
-            }
-        }
+        None if script.is_empty() => None,
+        None => Some(script.split_at(script.len())),
     }
 }
 
@@ -126,30 +121,18 @@ impl<'a> ScriptReader<'a> {
         ensures fault { IfErr result (IsNextFault self.old) }
         ensures err { OnErr result (self.new ≡ self.old) }
     {
-        let Some((line, rest)) = first_line(self.rest) else {
+        let Some((text, rest)) = first_line(self.rest) else {
             return Ok(false);
         };
-        let number = self.read + 1;
-        let said = match checked(self.alloc, self.workers.as_slice(), line)? {
+        let line = self.read + 1;
+        let said = match checked(self.alloc, self.workers.as_slice(), text)? {
             Ok(said) => said,
-            Err(fault) => {
-                return Err(ScriptFault::Line {
-                    line: number,
-                    fault,
-                });
-            }
+            Err(fault) => return Err(ScriptFault::Line { line, fault }),
         };
         self.workers[said.worker as usize].push(said.event)?;
         self.rest = rest;
-        self.read = number;
+        self.read = line;
         Ok(true)
-    }
-
-    /// The events of each worker, as far as they were read.
-    pub fn into_workers(self) -> Vec<WorkerScript>
-        ensures { result.items ≡ self.entry.workers }
-    {
-        self.workers
     }
 }
 
@@ -171,5 +154,5 @@ pub fn read_script(
     }
     let mut reader = ScriptReader::new(alloc, script, workers)?;
     while reader.next_line()? {}
-    Ok(reader.into_workers())
+    Ok(reader.workers)
 }

@@ -22,19 +22,13 @@ impl Stage {
     pub(crate) fn is_closed(self) -> bool
         ensures { result ≡ is_closed self }
     {
-        match self {
-            Stage::Closed => true,
-            Stage::Playing | Stage::Paused => false,
-        }
+        matches!(self, Stage::Closed)
     }
 
     pub(crate) fn is_paused(self) -> bool
         ensures { result ≡ is_waiting self }
     {
-        match self {
-            Stage::Paused => true,
-            Stage::Playing | Stage::Closed => false,
-        }
+        matches!(self, Stage::Paused)
     }
 }
 

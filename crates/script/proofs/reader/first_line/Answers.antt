@@ -10,18 +10,18 @@ returns-in-Some-clause-lines c =
     (lines_at c.args.script.now c.in-Some.at c.in-Some.ensures.0.high c.in-Some.ensures.1
     (λ k lt. false_from_ne_true _ (c.in-Some.ensures.0.before k (omega arith) lt)))
 
-pub returns-else-is_empty-clause-lines : goal.returns-else-is_empty-clause-lines
-returns-else-is_empty-clause-lines c =
+pub returns-in-None-2-clause-lines : goal.returns-in-None-2-clause-lines
+returns-in-None-2-clause-lines c =
     let text = c.args.script.now in
     let some : 0 < length text = omega (
       arith,
       eqb-false (length text) 0 (sym c.is_empty.ensures ∙ c.if-is_empty.false),
     ) in
     rw (
-      c.split_at-else-is_empty.ensures.front,
-      c.split_at-else-is_empty.ensures.back,
+      c.split_at-in-None-2.ensures.front,
+      c.split_at-in-None-2.ensures.back,
       take_all (length text) text
           (omega arith),
       drop_all (length text) text (omega arith),
     )
-    (lines_whole text some (λ k lt. false_from_ne_true _ (c.in-None.ensures k (omega arith) lt)))
+    (lines_whole text some (λ k lt. false_from_ne_true _ (c.in-None-2.ensures k (omega arith) lt)))

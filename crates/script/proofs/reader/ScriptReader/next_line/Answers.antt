@@ -10,7 +10,7 @@ returns-in-Err-clause-fault c =
     let fault = rw c.in-Err.is at c.in_ok-said.ensures in
     subst (λ (p : Position). NextHasFault p (c.self.inside.read + 1) c.in-Err.fault) c.self.view_is
     (record {
-      line = c.in-Some.line.now;
+      line = c.in-Some.text.now;
       rest = lines_of c.in-Some.rest.now;
       first = c.in-Some.ensures.lines;
       number_is = refl;
@@ -28,7 +28,7 @@ returns-clause-read c =
     ap (slice_set workers line.worker) (c.in_ok-push.ensures.ok ∙ ap (λ events. events ++ line.event ∷ []) was) in
     rw (← c.self.view_is)
     (record {
-      line = c.in-Some.line.now;
+      line = c.in-Some.text.now;
       first = c.in-Some.ensures.lines;
       adds = (line, may, added);
       counted = refl;

@@ -1,10 +1,11 @@
 //! The threads of a group: each waits for the start, and promises what it leaves.
-ghost use Rattle.std.specs.Prelude.{◌≡◌, ℕ, Some, IsSome, ◌<◌, ◌≤◌, [], true, None, All, IfOk, IfErr, map, length, vec_len, vec_capacity};
+ghost use Rattle.std.specs.Prelude.{◌≡◌, ℕ, ◌<◌, ◌≤◌, [], true, None, All, IfOk, IfErr, map, length, vec_len, vec_capacity};
 ghost use Rattle.worker.specs.declared.run.WorkerReport.{WorkerReport};
 ghost use Rattle.storage_thread.specs.Serving.{IsUnused};
 ghost use Rattle.exchange.specs.Ends.{WorkerView};
 ghost use Rattle.group.specs.declared.fault.GroupFault.TheVariants.{NoThread};
-ghost use Rattle.group.specs.Threads.{IsFinished, HasSentNothing, IsNewStore, IsPortAt, KeepsWorker, KeepsStorage, AreEach};
+ghost use Rattle.group.specs.Threads.{IsFinished, HasSentNothing, IsNewStore, IsPortAt};
+ghost use Rattle.group.specs.Threads.{KeepsWorker, KeepsStorage, AreEach};
 
 use crate::context::GroupContext;
 use crate::fault::GroupFault;

@@ -4,6 +4,9 @@ use mathlib.Core.Option.{some}
 use lib.ListN.{get_elem?}
 use Rattle.proto.specs.declared.dialect.Dialect.{Dialect}
 use Rattle.proto.specs.declared.terms.Terms.{Terms}
+use Rattle.proto.specs.declared.logged_clock.ClockStart.{ClockStart}
+use Rattle.proto.specs.Cache.{Cache, empty_cache}
+use Rattle.proto.specs.Sizes.{Sizes}
 use Rattle.exchange.specs.Ends.{WorkerView, StorageView, new_worker_view, new_storage_view}
 use Rattle.storage_thread.specs.Keeping.{MayForgetNothing}
 use Rattle.storage_thread.specs.Serving.{IsSameExchange}
@@ -63,6 +66,14 @@ pub record IsPortAt {P : Type 0} (told : P → Option PortTrace) (d : Dialect) (
   pub silent : (trace : PortTrace) → told port ≡ Some trace → trace.events ≡ []
   pub whose : (trace : PortTrace) → told port ≡ Some trace → IsTraceOf trace end
   pub spelled : (trace : PortTrace) → told port ≡ Some trace → trace.dialect ≡ d
+
+-- a store of these sizes that has no entry and was asked nothing, and a clock by these terms, which was asked nothing
+-- where it says what it starts from
+abbrev pub IsNewStore : {E C : Type 0} → (E → Cache) → (E → ℕ) → (E → Sizes) → (C → Option (List ℕ))
+    → (C → Option ClockStart) → Terms → E → C → Type 0
+IsNewStore cache moment sizes told start terms store clock =
+    (cache store ≡ empty_cache 0) × (moment store ≡ 0) × (sizes store ≡ terms.geometry)
+    × (terms.system_clock ≡ true → IsSome (start clock)) × (IsSome (start clock) → told clock ≡ Some [])
 
 -- two lists of one length, whose elements go together place by place
 abbrev pub AreEach : {A B : Type 0} → (A → B → Type 0) → List A → List B → Type 0

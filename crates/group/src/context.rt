@@ -6,6 +6,7 @@ use std::alloc::Global;
 use std::sync::OnceLock;
 
 /// What all threads of a group are given, beside what is each one's own.
+#[derive_where(Clone, Copy)]
 pub struct GroupContext<'a, G> {
     pub alloc: Global,
     /// Says once to all threads whether to begin.
@@ -13,16 +14,4 @@ pub struct GroupContext<'a, G> {
     pub config: Config,
     pub gate: &'a G,
     pub signals: &'a StorageSignals,
-}
-
-impl<G> Drop for GroupContext<'_, G> {
-    fn drop(self) {
-        let GroupContext {
-            alloc: _,
-            start: _,
-            config: _,
-            gate: _,
-            signals: _,
-        } = self;
-    }
 }

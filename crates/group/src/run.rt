@@ -3,8 +3,8 @@ ghost use Rattle.std.specs.Prelude.{◌≡◌, ℕ, Some, IsSome, ◌<◌, ◌�
 ghost use Rattle.proto.specs.declared.terms.Terms.{Terms};
 ghost use Rattle.proto.specs.Cache.{empty_cache};
 ghost use Rattle.exchange.specs.Ends.{AreTogether, IsCount};
-ghost use Rattle.group.specs.declared.fault.GroupFault.TheVariants.{BadConfig, NoMemory};
-ghost use Rattle.group.specs.Threads.{ArePortsOf, AreJoined, IsLeftByStorage, ends_of, workers_of};
+ghost use Rattle.group.specs.declared.fault.GroupFault.TheVariants.{BadConfig};
+ghost use Rattle.group.specs.Threads.{ArePortsOf, AreJoined, IsLeftByStorage, IsNewStore, ends_of, workers_of};
 ghost use Rattle.group.specs.Headline.{IsRun};
 
 use crate::context::GroupContext;
@@ -34,22 +34,14 @@ fn split_reports<P: Port>(
     ensures { (result.0.items ≡ workers_of reports.items) × (result.1.items ≡ ends_of reports.items) }
 {
     for report in reports {
-        let WorkerReport {
-            port,
-            worker_end,
-            sessions,
-            unopened,
-            strangers,
-        } = report;
-        let sent = worker_end.sent_list();
         workers.push_reserved(GroupWorker {
-            port,
-            sent,
-            sessions,
-            unopened,
-            strangers,
+            port: report.port,
+            sent: report.worker_end.sent_list(),
+            sessions: report.sessions,
+            unopened: report.unopened,
+            strangers: report.strangers,
         });
-        ends.push_reserved(worker_end);
+        ends.push_reserved(report.worker_end);
     }
     (workers, ends)
 }
@@ -70,40 +62,12 @@ fn gather_report<P: Port, E: StorageEngine, C: Clock>(
         → IsRun P.told P.leads_to C.told C.leads_to (E.keeps store []) terms.geometry ports clock result }
 {
     let (workers, ends) = split_reports(reports, workers, ends);
-    let StorageReport {
-        clock,
-        storage_end,
-        executed,
-    } = storage;
-    let gathered = gather(ends, storage_end);
     GroupReport {
         workers,
-        clock,
-        executed,
-        gathered,
+        clock: storage.clock,
+        executed: storage.executed,
+        gathered: gather(ends, storage.storage_end),
     }
-}
-
-/// Room for what joining a group leaves.
-#[derive(Drop)]
-struct Room<P> {
-    reports: Vec<WorkerReport<P>>,
-    workers: Vec<GroupWorker<P>>,
-    ends: Vec<WorkerEnd>,
-}
-
-/// Room for a group of `count` workers.
-fn make_room<P: Port>(alloc: Global, count: usize) -> Result<Room<P>, GroupFault>
-    ensures reports { IfOk result (λ room. (room.reports.items ≡ []) × (count ≤ vec_capacity room.reports)) }
-    ensures workers { IfOk result (λ room. (room.workers.items ≡ []) × (count ≤ vec_capacity room.workers)) }
-    ensures ends { IfOk result (λ room. (room.ends.items ≡ []) × (count ≤ vec_capacity room.ends)) }
-    ensures fault { IfErr result (λ fault. fault ≡ NoMemory) }
-{
-    Ok(Room {
-        reports: Vec::with_capacity(alloc, count)?,
-        workers: Vec::with_capacity(alloc, count)?,
-        ends: Vec::with_capacity(alloc, count)?,
-    })
 }
 
 /// Makes the ends and all room that joining needs, starts the threads, and joins them.
@@ -124,10 +88,7 @@ fn run_in<
     clock: C,
 ) -> Result<GroupReport<P, C>, GroupFault>
     requires ports { ArePortsOf P.told context.now.config.terms context.now.config.dialect ports.items }
-    requires empty { (E.cache store ≡ empty_cache 0) × (E.moment store ≡ 0) }
-    requires sizes { E.sizes store ≡ context.now.config.terms.geometry }
-    requires system_clock { context.now.config.terms.system_clock ≡ true → IsSome (C.start clock) }
-    requires unasked { IsSome (C.start clock) → C.told clock ≡ Some [] }
+    requires store { IsNewStore E.cache E.moment E.sizes C.told C.start context.now.config.terms store clock }
     requires count { IsCount (vec_len ports) }
     ensures run { IfOk result (λ report. IsRun P.told P.leads_to C.told C.leads_to (E.keeps store []) (E.sizes store)
         ports.items clock report) }
@@ -136,7 +97,9 @@ fn run_in<
     let count = ports.len();
     let (ends, storage_end) = make(context.alloc, count, context.config.terms)?;
     let handles = Vec::with_capacity(context.alloc, count)?;
-    let room = make_room(context.alloc, count)?;
+    let reports = Vec::with_capacity(context.alloc, count)?;
+    let workers = Vec::with_capacity(context.alloc, count)?;
+    let gathered_ends = Vec::with_capacity(context.alloc, count)?;
     let storage = start_storage(rt, scope, context, store, clock, storage_end)?;
     match start_workers(rt, scope, context, ports, ends, handles) {
         Ok(handles) => {
@@ -144,9 +107,9 @@ fn run_in<
             if !*context.start.value(&told) {
                 return Err(GroupFault::NoThread);
             }
-            let reports = join_workers(rt, &told, handles, room.reports);
+            let reports = join_workers(rt, &told, handles, reports);
             let storage = join_storage(rt, &told, storage);
-            let report = gather_report::<P, E, C>(reports, storage, room.workers, room.ends);
+            let report = gather_report::<P, E, C>(reports, storage, workers, gathered_ends);
             Ok(report)
         }
         Err(fault) => {
@@ -210,10 +173,7 @@ pub fn run_group<
         move |scope| -> Result<GroupReport<P, C>, GroupFault>
             requires count { IsCount (vec_len ports) }
             requires ports { ArePortsOf P.told context.now.config.terms context.now.config.dialect ports.items }
-            requires store { (E.cache store ≡ empty_cache 0) × (E.moment store ≡ 0)
-                × (E.sizes store ≡ context.now.config.terms.geometry) }
-            requires system_clock { context.now.config.terms.system_clock ≡ true → IsSome (C.start clock) }
-            requires unasked { IsSome (C.start clock) → C.told clock ≡ Some [] }
+            requires store { IsNewStore E.cache E.moment E.sizes C.told C.start context.now.config.terms store clock }
             ensures run { IfOk result (λ report. IsRun P.told P.leads_to C.told C.leads_to (E.keeps store [])
                 (E.sizes store) ports.items clock report) }
             ensures fault { IfErr result (λ fault. fault ≢ BadConfig) }

@@ -1,11 +1,11 @@
 //! The threads of a group: each waits for the start, and promises what it leaves.
-ghost use Rattle.std.specs.Prelude.{◌≡◌, ℕ, Some, IsSome, ◌<◌, ◌≤◌, [], true, None, All, IfOk, IfErr, map, length, vec_len, vec_capacity};
-ghost use Rattle.proto.specs.Cache.{empty_cache};
+ghost use Rattle.std.specs.Prelude.{◌≡◌, ℕ, ◌<◌, ◌≤◌, [], true, None, All, IfOk, IfErr, map, length, vec_len, vec_capacity};
 ghost use Rattle.worker.specs.declared.run.WorkerReport.{WorkerReport};
 ghost use Rattle.storage_thread.specs.Serving.{IsUnused};
 ghost use Rattle.exchange.specs.Ends.{WorkerView};
 ghost use Rattle.group.specs.declared.fault.GroupFault.TheVariants.{NoThread};
-ghost use Rattle.group.specs.Threads.{IsFinished, HasSentNothing, IsPortAt, KeepsWorker, KeepsStorage, AreEach};
+ghost use Rattle.group.specs.Threads.{IsFinished, HasSentNothing, IsNewStore, IsPortAt};
+ghost use Rattle.group.specs.Threads.{KeepsWorker, KeepsStorage, AreEach};
 
 use crate::context::GroupContext;
 use crate::fault::GroupFault;
@@ -108,10 +108,7 @@ fn run_storage_thread<'a, E: StorageEngine + Drop, C: Clock, G, R: Wait + time::
     clock: C,
     end: StorageEnd,
 ) -> Finished<'a, StorageReport<C>>
-    requires empty { (E.cache store ≡ empty_cache 0) × (E.moment store ≡ 0) }
-    requires sizes { E.sizes store ≡ end.terms.geometry }
-    requires system_clock { end.terms.system_clock ≡ true → IsSome (C.start clock) }
-    requires unasked { IsSome (C.start clock) → C.told clock ≡ Some [] }
+    requires store { IsNewStore E.cache E.moment E.sizes C.told C.start end.terms store clock }
     requires unused { IsUnused end }
     ensures { IsFinished context.now.start.now.id (KeepsStorage C.told C.leads_to (E.keeps store []) clock end) result }
 {
@@ -145,10 +142,7 @@ pub fn start_storage<
     clock: C,
     end: StorageEnd,
 ) -> Result<StorageHandle<'s, E, C>, GroupFault>
-    requires empty { (E.cache store ≡ empty_cache 0) × (E.moment store ≡ 0) }
-    requires sizes { E.sizes store ≡ end.terms.geometry }
-    requires system_clock { end.terms.system_clock ≡ true → IsSome (C.start clock) }
-    requires unasked { IsSome (C.start clock) → C.told clock ≡ Some [] }
+    requires store { IsNewStore E.cache E.moment E.sizes C.told C.start end.terms store clock }
     requires unused { IsUnused end }
     ensures fault { IfErr result (λ fault. fault ≡ NoThread) }
     ensures start { IfOk result (λ h. h.promise.start.now.id ≡ context.now.start.now.id) }

@@ -13,7 +13,6 @@ ghost use Rattle.script.specs.Players.{is_left, is_ready, events_left, NoneReady
 ghost use Rattle.script.specs.Players.{IsPlayerConsistent, PlayerGoesOn, IsFirst, IsCausedAt, PlaysNext};
 ghost use Rattle.script.specs.Players.{RecordsClose, EndsSession, Keeps, SamePlayer, CountsOffer, GivesAs};
 ghost use Rattle.script.specs.States.{CountsGive, SetsHeld, new_player, with_faults};
-ghost use Rattle.worker_port.specs.Ports.{given};
 
 use crate::ScriptEvent;
 use crate::records::Records;

@@ -6,8 +6,8 @@ use Rattle.exchange.specs.Ends.{WorkerView, AreTogether, AreCounted}
 use Rattle.group.proofs.Runs.{run}
 use Rattle.group.proofs.run.gather_report.Goals as goal
 
-pub gather-gathered-requires : goal.gather-gathered-requires
-gather-gathered-requires g c = subst (λ (l : List WorkerView). AreTogether l c.args.storage.storage_end)
+pub gather-requires : goal.gather-requires
+gather-requires g c = subst (λ (l : List WorkerView). AreTogether l c.args.storage.storage_end)
     (sym c.split_reports-workers.ensures.1) c.requires.together
 
 pub returns : goal.returns
@@ -16,6 +16,6 @@ returns g c = λ store sizes ports clock stored joined.
     (g.E.StorageEngine.keeps store []) sizes ports clock c.args.reports.items c.args.storage _ stored joined
     c.split_reports-workers.ensures.0 refl refl
     (subst (λ (l : List WorkerView). (i : _) (v : WorkerView) → get_elem? l i ≡ some v
-    → AreCounted c.args.storage.storage_end v (slice_index c.gather-gathered.result.sent v.worker)
-    (slice_index c.gather-gathered.result.back v.worker)) c.split_reports-workers.ensures.1 c.gather-gathered.ensures.counted)
-    c.gather-gathered.ensures.beyond
+    → AreCounted c.args.storage.storage_end v (slice_index c.gather.result.sent v.worker)
+    (slice_index c.gather.result.back v.worker)) c.split_reports-workers.ensures.1 c.gather.ensures.counted)
+    c.gather.ensures.beyond

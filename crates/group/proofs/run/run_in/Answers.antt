@@ -39,7 +39,7 @@ returns-else-not-value-clause-run g c =
     let keeps = g.E.StorageEngine.keeps c.args.store [] in
     subst (λ sizes. IsRun g.P.Port.told g.P.Port.leads_to g.C.Clock.told g.C.Clock.leads_to keeps sizes
     c.args.ports.items
-    c.args.clock c.gather_report-report.result) (sym c.requires.sizes)
+    c.args.clock c.gather_report-report.result) (sym c.requires.store.2)
     (c.gather_report-report.ensures c.args.store c.args.context.now.config.terms c.args.ports.items c.args.clock
     (stored g.P.Port.told g.P.Port.leads_to g.C.Clock.told g.C.Clock.leads_to keeps _ c.args.context.now.config.terms
     c.in_ok-ends.ends.items c.in_ok-ends.storage_end made c.args.ports.items (search rules)

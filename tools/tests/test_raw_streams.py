@@ -13,7 +13,7 @@ SOURCES = f"{TOP}/crates/net/src"
 # The calls of each type that has a raw stream, or makes one. A served stream's bytes are logged by `read` and `write`.
 CALLS = {
     "sockets.rt": {
-        "Acceptor": {"bind", "port", "register", "accept"},
+        "Acceptor": {"bind", "register", "accept"},
         "NewStream": {"serve"},
         "EndedStream": {"of", "drain"},
     },
@@ -53,4 +53,4 @@ def test_they_have_these_calls_alone():
         assert found == types, name
         assert len(re.findall(r"\bfn ", text)) == sum(map(len, types.values())), name
         assert set(re.findall(r"pub\(super\) fn (\w+)", text)) == PRIVATE.get(name, set()), name
-        assert not re.search(r"pub(\(\w+\))? (stream|listener):", text), name
+        assert not re.search(r"pub(\(\w+\))? \w+:[^,]*\bTcp(Stream|Listener)\b", text), name

@@ -75,8 +75,8 @@ pub record Leaves {M P : Type 0} (m : MapOf M P) (old new : Engine M) (done : Ou
   pub gives : IsDone m old new done reply ⊎ IsDenied m old new done reply
 
 -- the request was executed at the map's last moment
-abbrev pub Executes : {M P : Type 0} → MapOf M P → Engine M → Request → Reply → Engine M → Type 0
-Executes m old q reply new =
+abbrev pub LeavesExecuted : {M P : Type 0} → MapOf M P → Engine M → Request → Reply → Engine M → Type 0
+LeavesExecuted m old q reply new =
     Leaves m old new (act (item_limit (m.sizes old.map)) (cache_in m.entries old) (m.moment old.map) q) reply
 
 -- the engine went on to the moment, and the request was executed on what was found there

@@ -29,7 +29,7 @@ pub struct Engine<M> {
 }
 
 impl<M: LiveMap> Engine<M> {
-    ghost use Rattle.engine.specs.Engines.{cache_in, Leaves, Executes, tells_number};
+    ghost use Rattle.engine.specs.Engines.{cache_in, Leaves, LeavesExecuted, tells_number};
 
     /// Stores an entry with the next cas number. NoCas if the greatest one was given out, NoMemory if memory is
     /// refused.
@@ -125,7 +125,7 @@ impl<M: LiveMap> Engine<M> {
     }
 
     fn delete(&mut self, key: &[u8]) -> Reply
-        ensures { Executes M.LiveMap self.old (Request.Delete key.now) result self.new }
+        ensures { LeavesExecuted M.LiveMap self.old (Request.Delete key.now) result self.new }
     {
         if !self.map.contains_key(key) {
             return Reply::NotFound;
@@ -159,7 +159,7 @@ impl<M: LiveMap> Engine<M> {
 
     fn flush(&mut self, delay: u64) -> Reply
         requires { M.moment self.old.map ≤ max_moment }
-        ensures { Executes M.LiveMap self.old (Request.FlushAll delay) result self.new }
+        ensures { LeavesExecuted M.LiveMap self.old (Request.FlushAll delay) result self.new }
     {
         if delay == 0 {
             self.map.clear();
@@ -224,7 +224,7 @@ impl<M: LiveMap> Engine<M> {
 
     fn set(&mut self, item: &Put) -> Reply
         requires { M.moment self.old.map ≤ max_moment }
-        ensures { Executes M.LiveMap self.old (Request.Set item.now) result self.new }
+        ensures { LeavesExecuted M.LiveMap self.old (Request.Set item.now) result self.new }
     {
         if self.is_too_large(item) {
             return Reply::TooLarge;
@@ -234,7 +234,7 @@ impl<M: LiveMap> Engine<M> {
 
     fn add(&mut self, item: &Put) -> Reply
         requires { M.moment self.old.map ≤ max_moment }
-        ensures { Executes M.LiveMap self.old (Request.Add item.now) result self.new }
+        ensures { LeavesExecuted M.LiveMap self.old (Request.Add item.now) result self.new }
     {
         if self.is_too_large(item) {
             return Reply::TooLarge;
@@ -247,7 +247,7 @@ impl<M: LiveMap> Engine<M> {
 
     fn replace(&mut self, item: &Put) -> Reply
         requires { M.moment self.old.map ≤ max_moment }
-        ensures { Executes M.LiveMap self.old (Request.Replace item.now) result self.new }
+        ensures { LeavesExecuted M.LiveMap self.old (Request.Replace item.now) result self.new }
     {
         if self.is_too_large(item) {
             return Reply::TooLarge;
@@ -260,7 +260,7 @@ impl<M: LiveMap> Engine<M> {
 
     fn cas(&mut self, item: &Put, unique: u64) -> Reply
         requires { M.moment self.old.map ≤ max_moment }
-        ensures { Executes M.LiveMap self.old (Request.Cas item.now unique) result self.new }
+        ensures { LeavesExecuted M.LiveMap self.old (Request.Cas item.now unique) result self.new }
     {
         if self.is_too_large(item) {
             return Reply::TooLarge;
@@ -278,7 +278,7 @@ impl<M: LiveMap> Engine<M> {
     pub(crate) fn execute(&mut self, request: &mut Request) -> Reply
         requires { M.moment self.old.map ≤ max_moment }
         ensures limit { MAX_ANSWER < answer_size (M.entries self.old.map) request.old → result ≡ Reply.NoMemory }
-        ensures leaves { Executes M.LiveMap self.old request.old result self.new }
+        ensures leaves { LeavesExecuted M.LiveMap self.old request.old result self.new }
         ensures same { request.new ≡ request.old }
     {
         match request {

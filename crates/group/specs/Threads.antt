@@ -69,9 +69,9 @@ pub record IsPortAt {P : Type 0} (told : P → Option PortTrace) (d : Dialect) (
 
 -- a store of these sizes that has no entry and was asked nothing, and a clock by these terms, which was asked nothing
 -- where it says what it starts from
-abbrev pub IsNewStore : {E C : Type 0} → (E → Cache) → (E → ℕ) → (E → Sizes) → (C → Option (List ℕ))
+abbrev pub StartsEmpty : {E C : Type 0} → (E → Cache) → (E → ℕ) → (E → Sizes) → (C → Option (List ℕ))
     → (C → Option ClockStart) → Terms → E → C → Type 0
-IsNewStore cache moment sizes told start terms store clock =
+StartsEmpty cache moment sizes told start terms store clock =
     (cache store ≡ empty_cache 0) × (moment store ≡ 0) × (sizes store ≡ terms.geometry)
     × (terms.system_clock ≡ true → IsSome (start clock)) × (IsSome (start clock) → told clock ≡ Some [])
 

@@ -4,7 +4,7 @@ ghost use Rattle.proto.specs.declared.terms.Terms.{Terms};
 ghost use Rattle.proto.specs.Cache.{empty_cache};
 ghost use Rattle.exchange.specs.Ends.{AreTogether, IsCount};
 ghost use Rattle.group.specs.declared.fault.GroupFault.TheVariants.{BadConfig};
-ghost use Rattle.group.specs.Threads.{ArePortsOf, AreJoined, IsLeftByStorage, IsNewStore, ends_of, workers_of};
+ghost use Rattle.group.specs.Threads.{ArePortsOf, AreJoined, IsLeftByStorage, StartsEmpty, ends_of, workers_of};
 ghost use Rattle.group.specs.Headline.{IsRun};
 
 use crate::context::GroupContext;
@@ -88,7 +88,7 @@ fn run_in<
     clock: C,
 ) -> Result<GroupReport<P, C>, GroupFault>
     requires ports { ArePortsOf P.told context.now.config.terms context.now.config.dialect ports.items }
-    requires store { IsNewStore E.cache E.moment E.sizes C.told C.start context.now.config.terms store clock }
+    requires store { StartsEmpty E.cache E.moment E.sizes C.told C.start context.now.config.terms store clock }
     requires count { IsCount (vec_len ports) }
     ensures run { IfOk result (λ report. IsRun P.told P.leads_to C.told C.leads_to (E.keeps store []) (E.sizes store)
         ports.items clock report) }
@@ -173,7 +173,7 @@ pub fn run_group<
         move |scope| -> Result<GroupReport<P, C>, GroupFault>
             requires count { IsCount (vec_len ports) }
             requires ports { ArePortsOf P.told context.now.config.terms context.now.config.dialect ports.items }
-            requires store { IsNewStore E.cache E.moment E.sizes C.told C.start context.now.config.terms store clock }
+            requires store { StartsEmpty E.cache E.moment E.sizes C.told C.start context.now.config.terms store clock }
             ensures run { IfOk result (λ report. IsRun P.told P.leads_to C.told C.leads_to (E.keeps store [])
                 (E.sizes store) ports.items clock report) }
             ensures fault { IfErr result (λ fault. fault ≢ BadConfig) }

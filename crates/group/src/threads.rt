@@ -4,7 +4,7 @@ ghost use Rattle.worker.specs.declared.run.WorkerReport.{WorkerReport};
 ghost use Rattle.storage_thread.specs.Serving.{IsUnused};
 ghost use Rattle.exchange.specs.Ends.{WorkerView};
 ghost use Rattle.group.specs.declared.fault.GroupFault.TheVariants.{NoThread};
-ghost use Rattle.group.specs.Threads.{IsFinished, HasSentNothing, IsNewStore, IsPortAt};
+ghost use Rattle.group.specs.Threads.{IsFinished, HasSentNothing, StartsEmpty, IsPortAt};
 ghost use Rattle.group.specs.Threads.{KeepsWorker, KeepsStorage, AreEach};
 
 use crate::context::GroupContext;
@@ -108,7 +108,7 @@ fn run_storage_thread<'a, E: StorageEngine + Drop, C: Clock, G, R: Wait + time::
     clock: C,
     end: StorageEnd,
 ) -> Finished<'a, StorageReport<C>>
-    requires store { IsNewStore E.cache E.moment E.sizes C.told C.start end.terms store clock }
+    requires store { StartsEmpty E.cache E.moment E.sizes C.told C.start end.terms store clock }
     requires unused { IsUnused end }
     ensures { IsFinished context.now.start.now.id (KeepsStorage C.told C.leads_to (E.keeps store []) clock end) result }
 {
@@ -142,7 +142,7 @@ pub fn start_storage<
     clock: C,
     end: StorageEnd,
 ) -> Result<StorageHandle<'s, E, C>, GroupFault>
-    requires store { IsNewStore E.cache E.moment E.sizes C.told C.start end.terms store clock }
+    requires store { StartsEmpty E.cache E.moment E.sizes C.told C.start end.terms store clock }
     requires unused { IsUnused end }
     ensures fault { IfErr result (λ fault. fault ≡ NoThread) }
     ensures start { IfOk result (λ h. h.promise.start.now.id ≡ context.now.start.now.id) }

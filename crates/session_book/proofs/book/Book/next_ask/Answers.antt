@@ -49,7 +49,8 @@ invariant_of-self-in_default-2 c =
     let p = placed c.self.inside.sessions c.in-Some.place c.args.session _ s e.unique e.value c.in-Some.ensures.at in
     stays_unsettled _ _ c.args.session s t c.self.invariant p.there (p.only t) refl c.next_ask-read.ensures.kept
     (λ asked. fits_unasked s t c.self.inside.looks c.next_ask-read.new.looks c.next_ask-read.result
-    (reads_to _ _ _ _ _ _ c.join_queues.ensures c.next_ask-read.ensures.reads) (ap given_request (c.in_ok-request.was ∙ ap (λ (o : Option Request). Ok o) c.in_default-2.is)))
+    (reads_to _ _ _ _ _ _ c.join_queues.ensures c.next_ask-read.ensures.reads)
+    (ap given_request (c.in_ok-request.was ∙ ap (λ (o : Option Request). Ok o) c.in_default-2.is)))
 
 pub returns-in_default-2-clause-open : goal.returns-in_default-2-clause-open
 returns-in_default-2-clause-open c =
